@@ -1,0 +1,15 @@
+-- Blanks (0x20) round an identifier and behind it.
+use Rattle.std.specs.Prelude.{ℕ, Bool, List, ◌++◌, ◌-◌, ◌==◌, length, take, replicate}
+use Rattle.std.specs.List.{suffix_len}
+
+-- a blank (profile)
+abbrev pub is_blank_byte : ℕ → Bool
+is_blank_byte byte = byte == 32
+
+-- the bytes without the blanks at their end (profile)
+abbrev pub without_trailing_blanks : List ℕ → List ℕ
+without_trailing_blanks bytes = take (length bytes - suffix_len is_blank_byte bytes) bytes
+
+-- the bytes filled with blanks to a width (profile)
+abbrev pub fill : ℕ → List ℕ → List ℕ
+fill width bytes = bytes ++ replicate (width - length bytes) 32

@@ -1,0 +1,18 @@
+-- The characters of identifiers.
+use Rattle.std.specs.Prelude.{ℕ, Bool, ◌&&◌, ◌||◌, nat_le}
+
+-- one of A-Z (profile)
+abbrev pub is_capital : ℕ → Bool
+is_capital byte = nat_le 65 byte && nat_le byte 90
+
+-- one of 0-9 (profile)
+abbrev pub is_digit : ℕ → Bool
+is_digit byte = nat_le 48 byte && nat_le byte 57
+
+-- one of A-Z and 0-9 (profile)
+abbrev pub is_capital_or_digit : ℕ → Bool
+is_capital_or_digit byte = is_capital byte || is_digit byte
+
+-- printable ASCII, 0x20 to 0x7E (profile)
+abbrev pub is_printable : ℕ → Bool
+is_printable byte = nat_le 32 byte && nat_le byte 126

@@ -1,0 +1,4 @@
+pub mod Blanks
+pub mod Characters
+pub mod SenderKey
+pub mod WorkNumber

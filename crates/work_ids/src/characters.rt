@@ -1,0 +1,29 @@
+ghost use Rattle.std.specs.Prelude.{◌≡◌};
+ghost use Rattle.std.specs.List.{list_all};
+ghost use Rattle.work_ids.specs.Characters.{is_capital_or_digit, is_printable};
+
+fn is_capital_or_digit(byte: u8) -> bool
+    ensures { result ≡ is_capital_or_digit byte }
+{
+    (b'A' <= byte && byte <= b'Z') || (b'0' <= byte && byte <= b'9')
+}
+
+/// Whether each byte is one of A-Z and 0-9.
+pub fn are_capitals_or_digits(bytes: &[u8]) -> bool
+    ensures { result ≡ list_all is_capital_or_digit bytes.now }
+{
+    bytes.iter().all(|byte| is_capital_or_digit(*byte))
+}
+
+fn is_printable(byte: u8) -> bool
+    ensures { result ≡ is_printable byte }
+{
+    b' ' <= byte && byte <= b'~'
+}
+
+/// Whether each byte is printable ASCII, 0x20 to 0x7E.
+pub fn are_printable(bytes: &[u8]) -> bool
+    ensures { result ≡ list_all is_printable bytes.now }
+{
+    bytes.iter().all(|byte| is_printable(*byte))
+}
