@@ -1,5 +1,5 @@
-ghost use Rattle.std.specs.Prelude.{◌≡◌};
-ghost use Rattle.work_ids.specs.Blanks.{without_trailing_blanks};
+ghost use Rattle.std.specs.Prelude.{◌≡◌, ◌≤◌, length};
+ghost use Rattle.work_ids.specs.Blanks.{fill, without_trailing_blanks};
 
 /// The bytes without the blanks (0x20) at their end.
 pub fn without_trailing_blanks(bytes: &[u8]) -> &[u8]
@@ -10,4 +10,14 @@ pub fn without_trailing_blanks(bytes: &[u8]) -> &[u8]
         end -= 1;
     }
     &bytes[..end]
+}
+
+/// The bytes, at most `WIDTH` of them, filled with blanks to `WIDTH`.
+pub fn filled<const WIDTH: usize>(bytes: &[u8]) -> [u8; WIDTH]
+    requires { length bytes.now ≤ WIDTH }
+    ensures { result ≡ fill WIDTH bytes.now }
+{
+    let mut filled = [b' '; WIDTH];
+    filled[..bytes.len()].copy_from_slice(bytes);
+    filled
 }

@@ -8,6 +8,8 @@ mod fault;
 mod sender_key;
 mod work_number;
 
+pub use blanks::filled;
+pub use characters::are_printable;
 pub use fault::IdFault;
 pub use sender_key::SenderKey;
 pub use work_number::WorkNumber;

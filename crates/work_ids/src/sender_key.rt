@@ -1,4 +1,4 @@
-ghost use Rattle.std.specs.Prelude.{◌≡◌, take, drop};
+ghost use Rattle.std.specs.Prelude.{◌≡◌, length, take, drop};
 ghost use Rattle.work_ids.specs.SenderKey.{sender_key_of};
 
 use crate::IdFault;
@@ -46,21 +46,24 @@ impl SenderKey {
 
     /// The eleven bytes.
     pub fn as_bytes(&self) -> &[u8]
-        ensures { result.now ≡ self.now }
+        ensures bytes { result.now ≡ self.now }
+        ensures len { length result.now ≡ 11 }
     {
         &self.bytes
     }
 
     /// Sender type: the first two bytes.
     pub fn sender_type(&self) -> &[u8]
-        ensures { result.now ≡ take 2 self.now }
+        ensures bytes { result.now ≡ take 2 self.now }
+        ensures len { length result.now ≡ 2 }
     {
         &self.bytes[..SENDER_TYPE_LENGTH]
     }
 
     /// Sender ID: the last nine bytes.
     pub fn sender_id(&self) -> &[u8]
-        ensures { result.now ≡ drop 2 self.now }
+        ensures bytes { result.now ≡ drop 2 self.now }
+        ensures len { length result.now ≡ 9 }
     {
         &self.bytes[SENDER_TYPE_LENGTH..]
     }

@@ -1,9 +1,9 @@
-ghost use Rattle.std.specs.Prelude.{◌≡◌, ◌≤◌, length};
-ghost use Rattle.work_ids.specs.Blanks.{fill, without_trailing_blanks};
+ghost use Rattle.std.specs.Prelude.{◌≡◌};
+ghost use Rattle.work_ids.specs.Blanks.{without_trailing_blanks};
 ghost use Rattle.work_ids.specs.WorkNumber.{work_number_of};
 
 use crate::IdFault;
-use crate::blanks::without_trailing_blanks;
+use crate::blanks::{filled, without_trailing_blanks};
 use crate::characters::are_printable;
 use std::marker::Model;
 
@@ -25,15 +25,6 @@ impl Model for WorkNumber {
     ghost view = { λ n. n.bytes };
 
     ghost inverse = { λ bytes. record { bytes = bytes } };
-}
-
-fn filled(number: &[u8]) -> [u8; 14]
-    requires { length number.now ≤ 14 }
-    ensures { result ≡ fill 14 number.now }
-{
-    let mut bytes = [b' '; 14];
-    bytes[..number.len()].copy_from_slice(number);
-    bytes
 }
 
 impl WorkNumber {

@@ -1,0 +1,8 @@
+//! The acknowledgement of a transmission, as a file of lines.
+#![tactic(auto)]
+
+mod acknowledgement;
+mod digits;
+mod lines;
+
+pub use acknowledgement::write_ack;

@@ -1,0 +1,12 @@
+pub mod Dates
+pub mod RecordTypes
+pub mod File
+pub mod Sizes
+pub mod LineFaults
+pub mod FileFault
+pub mod Counts
+pub mod Contents
+pub mod Reading
+pub use Rattle.cwr_records.specs.Lines
+pub use Rattle.cwr_records.specs.Records
+pub use Rattle.work_ids.specs.Characters

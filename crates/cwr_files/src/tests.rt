@@ -1,0 +1,217 @@
+//! Table tests: the faults of changed files, and what a right one tells.
+use super::*;
+use cwr_records::TransactionKind;
+use std::alloc::{AllocError, Global};
+use std::test::Fail;
+use work_ids::SenderKey;
+
+/// A file of one work, without its line ends.
+const SONG: [&[u8]; 11] = [
+    b"HDRPB000000012EXAMPLE MUSIC                                01.102026010510150020260106",
+    b"GRHNWR0000102.200000000000",
+    b"NWR0000000000000000FIRST SONG                                                    W1            T0345246801",
+    b"SPU000000000000000101P1       EXAMPLE MUSIC                                 E          00000000199                 05000   10000   10000",
+    b"SPT0000000000000002P1             050001000010000I2136 001",
+    b"SWR0000000000000003A1       WRITER                                       ANNA                           CA         00000000295   05000   00000   00000",
+    b"SWT0000000000000004A1       050000000000000I2136 001",
+    b"PWR0000000000000005P1       EXAMPLE MUSIC                                                            A1",
+    b"REC0000000000000006                                                                                                                                                                                                                                      ATABC2600001",
+    b"GRT000010000000100000009",
+    b"TRL000010000000100000011",
+];
+
+/// The first three lines of a file with a group that is not read; the other file's group follows.
+const AGREEMENT: [&[u8]; 3] = [
+    b"GRHAGR0000102.200000000000",
+    b"AGRXXXXXXXX00000005",
+    b"GRT000010000000100000003",
+];
+
+fn sender() -> Option<SenderKey> {
+    SenderKey::from_bytes(b"PB000000012").ok()
+}
+
+/// These lines, each with its line end.
+fn joined(alloc: Global, lines: &[&[u8]], end: &[u8]) -> Result<Vec<u8>, AllocError> {
+    let mut body = Vec::new(alloc);
+    for line in lines {
+        body.extend_from_slice(line)?;
+        body.extend_from_slice(end)?;
+    }
+    Ok(body)
+}
+
+/// The file with one of its lines, from 1, replaced by these; no line is taken out for a number past the last.
+fn changed(alloc: Global, number: usize, by: &[&[u8]]) -> Result<Vec<u8>, AllocError> {
+    let mut lines: Vec<&[u8]> = Vec::new(alloc);
+    for (index, line) in SONG.iter().enumerate() {
+        if index + 1 == number {
+            for other in by {
+                lines.push(*other)?;
+            }
+        } else {
+            lines.push(*line)?;
+        }
+    }
+    if number > SONG.len() {
+        for other in by {
+            lines.push(*other)?;
+        }
+    }
+    joined(alloc, lines.as_slice(), b"\r\n")
+}
+
+/// A line, the lines that stand for it, and the fault, as number and line.
+type Row = (usize, &'static [&'static [u8]], (u8, usize));
+
+const ROWS: [Row; 17] = [
+    (
+        1,
+        &[
+            b"HDRPB000000012EXAMPLE MUSIC                                01.102026010510150020260230",
+        ],
+        (3, 1),
+    ),
+    (
+        1,
+        &[
+            b"HDRPB000000012EXAMPLE MUSIC                                01.102026010524600020260106",
+        ],
+        (3, 1),
+    ),
+    (
+        1,
+        &[
+            b"XXXPB000000012EXAMPLE MUSIC                                01.102026010510150020260106",
+        ],
+        (1, 1),
+    ),
+    (2, &[b"XXX"], (4, 2)),
+    (2, &[b"GRHNWR0000202.200000000000"], (5, 2)),
+    (2, &[b"GRHN_R0000102.200000000000"], (13, 2)),
+    (2, &[b"GRHN_R0000202.200000000000"], (5, 2)),
+    (3, &[], (6, 3)),
+    (4, &[b"HDR"], (6, 4)),
+    (
+        5,
+        &[b"SPT0000000000000003P1             050001000010000I2136 001"],
+        (7, 5),
+    ),
+    (
+        5,
+        &[b"S_T0000000000000003P1             050001000010000I2136 001"],
+        (7, 5),
+    ),
+    (
+        5,
+        &[b"S_T0000000000000002P1             050001000010000I2136 001"],
+        (13, 5),
+    ),
+    (10, &[b"GRT000010000000100000008"], (8, 10)),
+    (11, &[], (10, 11)),
+    (11, &[b"TRL000010000000100000010"], (9, 11)),
+    (11, &[b"TRL000020000000100000011"], (9, 11)),
+    (12, &[b"X"], (11, 12)),
+];
+
+#[test]
+fn changed_files(rt: HostRuntime) -> Result<(), Fail> {
+    let key = sender().ok_or("a key")?;
+    for (number, by, (fault, line)) in ROWS {
+        let body = changed(rt.alloc(), number, by)?;
+        assert_eq!(rt;
+            find_fault(body.as_slice(), &key),
+            Some(FileFault {
+                number: fault,
+                line
+            })
+        );
+    }
+    Ok(())
+}
+
+#[test]
+fn another_sender(rt: HostRuntime) -> Result<(), Fail> {
+    let other = SenderKey::from_bytes(b"PB000000034").ok().ok_or("a key")?;
+    let body = joined(rt.alloc(), SONG.as_slice(), b"\r\n")?;
+    assert_eq!(rt;
+        find_fault(body.as_slice(), &other),
+        Some(FileFault { number: 2, line: 1 })
+    );
+    assert_eq!(rt;
+        find_fault(b"", &other),
+        Some(FileFault { number: 1, line: 1 })
+    );
+    Ok(())
+}
+
+/// A file without groups, its first line filled with so many blanks.
+fn filled(alloc: Global, blanks: u32) -> Result<Vec<u8>, AllocError> {
+    let mut body = Vec::from_slice(alloc, SONG[0])?;
+    for _ in 0..blanks {
+        body.push(b' ')?;
+    }
+    body.extend_from_slice(b"\r\nTRL000000000000000000002\r\n")?;
+    Ok(body)
+}
+
+#[test]
+fn long_lines(rt: HostRuntime) -> Result<(), Fail> {
+    let key = sender().ok_or("a key")?;
+    let widest = filled(rt.alloc(), 2_000 - 86)?;
+    assert_eq!(rt; find_fault(widest.as_slice(), &key), None);
+    let wider = filled(rt.alloc(), 2_001 - 86)?;
+    assert_eq!(rt;
+        find_fault(wider.as_slice(), &key),
+        Some(FileFault {
+            number: 12,
+            line: 1
+        })
+    );
+    Ok(())
+}
+
+#[test]
+fn cut_files(rt: HostRuntime) -> Result<(), Fail> {
+    let key = sender().ok_or("a key")?;
+    let body = joined(rt.alloc(), SONG.as_slice(), b"\r\n")?;
+    let mut whole = 0u32;
+    for end in 0..body.len() + 1 {
+        if let Some(front) = body.as_slice().get(..end)
+            && find_fault(front, &key).is_none()
+        {
+            whole = whole.saturating_add(1);
+        }
+    }
+    assert_eq!(rt; whole, 3);
+    Ok(())
+}
+
+#[test]
+fn group_that_is_not_read(rt: HostRuntime) -> Result<(), Fail> {
+    let key = sender().ok_or("a key")?;
+    let mut lines: Vec<&[u8]> = Vec::new(rt.alloc());
+    lines.push(SONG[0])?;
+    lines.extend_from_slice(AGREEMENT.as_slice())?;
+    lines.push(b"GRHNWR0000202.200000000000")?;
+    for line in SONG.iter().skip(2).take(7) {
+        lines.push(*line)?;
+    }
+    lines.push(b"GRT000020000000100000009")?;
+    lines.push(b"TRL000020000000200000014")?;
+    let body = joined(rt.alloc(), lines.as_slice(), b"\n")?;
+    let transmission = read_transmission(rt.alloc(), body.as_slice(), &key)?;
+    let [unread, songs] = transmission.groups.as_slice() else {
+        return Err(Fail::from("two groups"));
+    };
+    assert_eq!(rt; unread.transactions.as_slice().len(), 0);
+    let [song] = songs.transactions.as_slice() else {
+        return Err(Fail::from("one song"));
+    };
+    assert_eq!(rt;
+        (song.kind, song.group, song.sequence),
+        (TransactionKind::Nwr, 2, 0)
+    );
+    assert_eq!(rt; song.records.as_slice().len(), 7);
+    Ok(())
+}

@@ -1,0 +1,121 @@
+//! A transmission, lent out of its body: header, groups, transactions, records.
+ghost use Rattle.std.specs.Prelude.{◌≡◌};
+
+use cwr_records::{GroupHeader, Record, TransactionKind, TransmissionHeader};
+use std::marker::Model;
+
+/// The records of a transaction, one for each line, in order.
+#[derive(Drop)]
+pub struct Records<'a> {
+    list: Vec<Record<'a>>,
+}
+
+impl<'a> Model for Records<'a> {
+    ghost use Rattle.std.specs.Prelude.{List};
+    ghost use Rattle.cwr_records.specs.declared.record.Record.{Record};
+
+    ghost Value = { List Record };
+
+    ghost view = { λ r. r.list.items };
+}
+
+impl<'a> Records<'a> {
+    /// These records.
+    pub fn from_vec(list: Vec<Record<'a>>) -> Records<'a>
+        ensures { result ≡ list.entry.items }
+    {
+        Records { list }
+    }
+
+    /// The records, lent.
+    pub fn as_slice(&self) -> &[Record<'a>]
+        ensures { result.now ≡ self.now }
+    {
+        self.list.as_slice()
+    }
+}
+
+/// A transaction: its kind, the ID of its group from 1, its transaction sequence number from 0, and its records.
+#[derive(Drop)]
+pub struct Transaction<'a> {
+    pub kind: TransactionKind,
+    pub group: u32,
+    pub sequence: u32,
+    pub records: Records<'a>,
+}
+
+/// The transactions of a group, in order.
+#[derive(Drop)]
+pub struct Transactions<'a> {
+    list: Vec<Transaction<'a>>,
+}
+
+impl<'a> Model for Transactions<'a> {
+    ghost use Rattle.std.specs.Prelude.{List};
+    ghost use Rattle.cwr_files.specs.declared.transmission.Transaction.{Transaction};
+
+    ghost Value = { List Transaction };
+
+    ghost view = { λ t. t.list.items };
+}
+
+impl<'a> Transactions<'a> {
+    /// These transactions.
+    pub fn from_vec(list: Vec<Transaction<'a>>) -> Transactions<'a>
+        ensures { result ≡ list.entry.items }
+    {
+        Transactions { list }
+    }
+
+    /// The transactions, lent.
+    pub fn as_slice(&self) -> &[Transaction<'a>]
+        ensures { result.now ≡ self.now }
+    {
+        self.list.as_slice()
+    }
+}
+
+/// A group: its header's fields, and its transactions; none where its type is neither NWR nor REV.
+#[derive(Drop)]
+pub struct Group<'a> {
+    pub header: GroupHeader<'a>,
+    pub transactions: Transactions<'a>,
+}
+
+/// The groups of a transmission, in order.
+#[derive(Drop)]
+pub struct Groups<'a> {
+    list: Vec<Group<'a>>,
+}
+
+impl<'a> Model for Groups<'a> {
+    ghost use Rattle.std.specs.Prelude.{List};
+    ghost use Rattle.cwr_files.specs.declared.transmission.Group.{Group};
+
+    ghost Value = { List Group };
+
+    ghost view = { λ g. g.list.items };
+}
+
+impl<'a> Groups<'a> {
+    /// These groups.
+    pub fn from_vec(list: Vec<Group<'a>>) -> Groups<'a>
+        ensures { result ≡ list.entry.items }
+    {
+        Groups { list }
+    }
+
+    /// The groups, lent.
+    pub fn as_slice(&self) -> &[Group<'a>]
+        ensures { result.now ≡ self.now }
+    {
+        self.list.as_slice()
+    }
+}
+
+/// A transmission: its header's fields, and its groups.
+#[derive(Drop)]
+pub struct Transmission<'a> {
+    pub header: TransmissionHeader<'a>,
+    pub groups: Groups<'a>,
+}

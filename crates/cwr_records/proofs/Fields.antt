@@ -1,0 +1,160 @@
+-- Facts on fields: blanks, fills and digits.
+use Rattle.std.proofs.Common.{◌≡◌, ℕ, ◌+◌, ◌-◌, ◌*◌, ◌^◌, ◌<◌, ◌≤◌, Bool, true, false, eqb, not, ◌&&◌, List, [], ◌∷◌, ◌++◌, length, take, drop, replicate, get_or, Some, None, refl, ap, sym, ◌∙◌, arith, suc, zero, min, IsTrue, ◌↔◌}
+use Rattle.std.specs.List.{prefix_len, suffix_len}
+use Rattle.cwr_records.specs.Blanks.{is_blank_byte, without_trailing_blanks}
+use Rattle.std.proofs.lemmas.Bool.Decides.{nat_tests}
+use Rattle.std.specs.Char.{is_ascii_digit}
+use Rattle.std.specs.List.{list_all}
+use Rattle.std.proofs.lemmas.List.{append-nil, append_assoc, replicate-append-replicate, take-append-le, reverse-append, take_at, drop_at, take-append-drop, length-append, length-replicate, length-drop, length-take, take_min, drop_min}
+use Rattle.std.proofs.lemmas.List.Folds.{list_all-append, list_all_at}
+use Rattle.std.proofs.lemmas.List.{take_all}
+use Rattle.std.proofs.Math.Nat.{pow-le-pow_right}
+use Rattle.cwr_records.specs.Lines.{is_blank, fill, field, number_of, value_of_digits}
+
+and-true : (b : Bool) → (b && true) ≡ b
+and-true true = refl
+and-true false = refl
+
+and-false : (b : Bool) → (b && false) ≡ false
+and-false true = refl
+and-false false = refl
+
+-- blanks are blank
+pub is_blank-replicate : (n : ℕ) → is_blank (replicate n 32) ≡ true
+unfolding is_blank
+is_blank-replicate zero = refl
+is_blank-replicate (suc n) = is_blank-replicate n
+
+blank-cons : (b : ℕ) (t : Bool) → (eqb b 32 && t) ≡ true → (b ≡ 32) × (t ≡ true)
+blank-cons b t h = (grind (arith, nat_tests), grind (arith, nat_tests))
+
+-- bytes that are blank are as many blanks
+pub blanks : (bs : List ℕ) → is_blank bs ≡ true → bs ≡ replicate (length bs) 32
+unfolding is_blank
+blanks [] h = refl
+blanks (b ∷ bs) h =
+    let parts = blank-cons b (is_blank bs) h in
+    let more = blanks bs parts.1 in
+    let head = parts.0 in
+    cc
+
+-- blanks after bytes change nothing about whether they are blank
+pub is_blank-filled : (present : List ℕ) (n : ℕ) → is_blank present ≡ is_blank (present ++ replicate n 32)
+unfolding is_blank
+is_blank-filled present n =
+    sym (list_all-append (λ b. eqb b 32) present (replicate n 32) ∙ ap (λ (t : Bool). list_all (λ b. eqb b 32) present && t) (is_blank-replicate n) ∙ and-true _)
+
+-- a text is what is there and then blanks, where it begins with it and goes on with blanks
+pub filled-same : (present text : List ℕ) (width : ℕ) → length present ≤ width → length text ≡ width → take (length present) text ≡ present → is_blank (drop (length present) text) ≡ true → present ++ replicate (width - length present) 32 ≡ text
+filled-same present text width within full front rest =
+    let more = blanks _ rest in
+    let n : length (drop (length present) text) ≡ width - length present = omega (arith, length-drop (length present) text) in
+    let joined = take-append-drop (length present) text in
+    cc
+
+-- what a text that is so filled begins with
+pub filled-front : (present text : List ℕ) (n : ℕ) → present ++ replicate n 32 ≡ text → take (length present) text ≡ present
+filled-front present text n same = rw (← same) (take_at present (replicate n 32) (length present) refl)
+
+pub filled-rest : (present text : List ℕ) (n : ℕ) → present ++ replicate n 32 ≡ text → is_blank (drop (length present) text) ≡ true
+filled-rest present text n same = rw (← same, drop_at present (replicate n 32) (length present) refl) (is_blank-replicate n)
+
+pub filled-length : (present : List ℕ) (width : ℕ) → length present ≤ width → length (present ++ replicate (width - length present) 32) ≡ width
+filled-length present width within = omega (arith, length-append present (replicate (width - length present) 32), length-replicate {A = ℕ} (width - length present) 32)
+
+-- a text whose front is right is what is there, filled up, exactly where it goes on with blanks
+pub filled-decides : (present text now : List ℕ) (width : ℕ) (r : Bool) → length present ≤ width → length text ≡ width → present ++ replicate (width - length present) 32 ≡ now → take (length present) text ≡ present → r ≡ list_all (λ b. eqb b 32) (drop (length present) text) → IsTrue r ↔ (now ≡ text)
+unfolding is_blank
+filled-decides present text now width r within full view front rest = (
+  λ t. sym view ∙ filled-same present text width within full front (sym rest ∙ t),
+  λ e. rest ∙ filled-rest present text (width - length present) (view ∙ e),
+)
+
+-- and a text with another front is not
+pub filled-differs : (present text now : List ℕ) (n : ℕ) → present ++ replicate n 32 ≡ now → (take (length present) text ≡ present → ⊥) → IsTrue false ↔ (now ≡ text)
+filled-differs present text now n view other = (λ t. cc, λ e. absurd (other (filled-front present text n (view ∙ e))))
+
+-- what is blank at its end is no number
+pub number_of-blank : (present : List ℕ) (n : ℕ) → 0 < n → None ≡ number_of (present ++ replicate n 32)
+unfolding number_of
+number_of-blank present zero some = absurd (omega arith)
+number_of-blank present (suc n) some =
+    rw (list_all-append is_ascii_digit present (replicate (suc n) 32), and-false (list_all is_ascii_digit present), and-false _) refl
+
+-- a field is what the line has there, filled up
+pub field-clipped : (line piece : List ℕ) (first last : ℕ) → 1 ≤ first → first ≤ last → piece ≡ take (min (last - (first - 1)) (length (drop (min (first - 1) (length line)) line))) (drop (min (first - 1) (length line)) line) → fill (last - (first - 1)) piece ≡ field line first last
+unfolding field
+field-clipped line piece first last one order p =
+    let w : last + 1 - first ≡ last - (first - 1) = omega arith in
+    rw (w, p, take_min (last - (first - 1)) (drop (min (first - 1) (length line)) line), drop_min (first - 1) line) refl
+
+-- bytes with one that is no digit are no number
+pub number_of-other : (bs : List ℕ) (i : ℕ) → i < length bs → is_ascii_digit (get_or bs i 0) ≡ false → None ≡ number_of bs
+unfolding number_of
+number_of-other bs i within other =
+    rw (list_all_at is_ascii_digit bs i 0 within other, and-false (not (eqb (length bs) 0))) refl
+
+-- no bytes are no number
+pub number_of-none : (bs : List ℕ) → eqb (length bs) 0 ≡ true → None ≡ number_of bs
+unfolding number_of
+number_of-none bs none = rw none refl
+
+-- digits alone are the number of their value
+pub number_of-digits : (bs : List ℕ) (n : ℕ) → 0 < length bs → length bs ≤ n → list_all is_ascii_digit (take n bs) ≡ true → Some (value_of_digits (take n bs)) ≡ number_of bs
+unfolding number_of
+number_of-digits bs n some whole digits =
+    let all = take_all n bs whole in
+    let more : eqb (length bs) 0 ≡ false = grind (arith, nat_tests) in
+    let every = rw all at digits in
+    rw (all, more, every) refl
+
+-- one more digit on a number of fewer than 19 of them fits 64 bits
+pub digit_fits : (value digit i n : ℕ) → value < 10 ^ i → i < n → n ≤ 19 → digit < 10 → 10 * value + digit < 2 ^ 64
+digit_fits value digit i n room within few small =
+    let few_before : i ≤ 18 = omega arith in
+    let ten : 0 < 10 = omega arith in
+    let below = pow-le-pow_right {n = 10} ten few_before in
+    omega arith
+
+-- as many bytes as the width stay as they are
+pub fill-whole : (bs : List ℕ) → fill (length bs) bs ≡ bs
+unfolding fill
+fill-whole bs =
+    let none : length bs - length bs ≡ 0 = omega arith in
+    rw (none, append-nil bs) refl
+
+-- a filled list that is not too long has its width
+pub length-fill : (width : ℕ) (bs : List ℕ) → length bs ≤ width → length (fill width bs) ≡ width
+unfolding fill
+length-fill width bs within = filled-length bs width within
+
+-- a field has as many bytes as its positions say, however short its line is
+pub length-field : (line : List ℕ) (first last : ℕ) → length (field line first last) ≡ last + 1 - first
+unfolding field
+length-field line first last =
+    length-fill (last + 1 - first) (take (last + 1 - first) (drop (first - 1) line)) (omega (arith, length-take (last + 1 - first) (drop (first - 1) line)))
+
+trailing-one : (bs : List ℕ) → without_trailing_blanks (bs ++ 32 ∷ []) ≡ without_trailing_blanks bs
+trailing-one bs =
+    let last : List ℕ = 32 ∷ [] in
+    let n : ℕ = suffix_len is_blank_byte bs in
+    let more : suffix_len is_blank_byte (bs ++ last) ≡ 1 + n = ap (prefix_len is_blank_byte) (reverse-append bs last) in
+    let size : length (bs ++ last) ≡ length bs + 1 = length-append bs last in
+    let left : length bs + 1 - (1 + n) ≡ length bs - n = omega arith in
+    let within : length bs - n ≤ length bs = omega arith in
+    ap (λ (k : ℕ). take (length (bs ++ last) - k) (bs ++ last)) more ∙ ap (λ (k : ℕ). take (k - (1 + n)) (bs ++ last)) size ∙ ap (λ (k : ℕ). take k (bs ++ last)) left ∙ take-append-le (length bs - n) bs last within
+
+-- blanks at the end change nothing about the bytes in front of the blanks at the end
+pub trailing-filled : (bs : List ℕ) (n : ℕ) → without_trailing_blanks (bs ++ replicate n 32) ≡ without_trailing_blanks bs
+trailing-filled bs zero = ap without_trailing_blanks (append-nil bs)
+trailing-filled bs (suc n) =
+    let one : List ℕ = 32 ∷ [] in
+    ap without_trailing_blanks (sym (append_assoc bs one (replicate n 32))) ∙ trailing-filled (bs ++ one) n ∙ trailing-one bs
+
+-- a filled list is filled further as the list itself is
+pub fill-filled : (width more : ℕ) (bs : List ℕ) → length bs ≤ width → width ≤ more → fill more bs ≡ fill more (bs ++ replicate (width - length bs) 32)
+unfolding fill
+fill-filled width more bs within wider =
+    let size = filled-length bs width within in
+    let parts : more - length bs ≡ (width - length bs) + (more - width) = omega arith in
+    rw (size, append_assoc, replicate-append-replicate, parts) refl

@@ -1,0 +1,19 @@
+-- Blanks (0x20) round the bytes of a field.
+use Rattle.std.specs.Prelude.{ℕ, Bool, List, ◌-◌, ◌==◌, length, take, drop}
+use Rattle.std.specs.List.{prefix_len, suffix_len}
+
+-- a blank (profile)
+abbrev pub is_blank_byte : ℕ → Bool
+is_blank_byte byte = byte == 32
+
+-- the bytes without the blanks at their end (profile)
+abbrev pub without_trailing_blanks : List ℕ → List ℕ
+without_trailing_blanks bytes = take (length bytes - suffix_len is_blank_byte bytes) bytes
+
+-- the bytes without the blanks in front (profile)
+abbrev pub without_leading_blanks : List ℕ → List ℕ
+without_leading_blanks bytes = drop (prefix_len is_blank_byte bytes) bytes
+
+-- the bytes without the blanks at both ends (profile)
+unfoldable pub trimmed : List ℕ → List ℕ
+trimmed bytes = without_leading_blanks (without_trailing_blanks bytes)

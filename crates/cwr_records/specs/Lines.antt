@@ -1,0 +1,56 @@
+-- Lines of a transmission and fields of a line.
+use Rattle.std.specs.Prelude.{◌≡◌, ℕ, ◌+◌, ◌-◌, ◌*◌, ◌<◌, Bool, cond, ◌&&◌, not, eqb, List, [], ◌∷◌, ◌++◌, map, length, get_or, take, drop, replicate, fold, Option, Some, None}
+use Rattle.std.specs.Char.{is_ascii_digit}
+use Rattle.std.specs.List.{list_all}
+
+-- a byte in front of the first of some pieces, where there is none as a piece of its own (profile)
+abbrev pub onto_first : ℕ → List (List ℕ) → List (List ℕ)
+onto_first b [] = (b ∷ []) ∷ []
+onto_first b (p ∷ ps) = (b ∷ p) ∷ ps
+
+-- the pieces of a body, cut after each LF, which stays with its piece (CISAC CWR 2.2)
+abbrev pub pieces : List ℕ → List (List ℕ)
+pieces [] = []
+pieces (b ∷ bs) = cond (eqb b 10) ((b ∷ []) ∷ pieces bs) (onto_first b (pieces bs))
+
+-- bytes without their last one, where that is b (profile)
+abbrev pub without_last : ℕ → List ℕ → List ℕ
+without_last b bs = cond (eqb (get_or bs (length bs - 1) 0) b) (take (length bs - 1) bs) bs
+
+-- the line of a piece: without its LF, then without one CR at its end (profile)
+unfoldable pub line_of : List ℕ → List ℕ
+line_of piece = without_last 13 (without_last 10 piece)
+
+-- the lines of a body (CISAC CWR 2.2)
+abbrev pub lines : List ℕ → List (List ℕ)
+lines body = map line_of (pieces body)
+
+-- bytes with blanks after them, up to a width (CISAC CWR 2.2)
+unfoldable pub fill : ℕ → List ℕ → List ℕ
+fill width bs = bs ++ replicate (width - length bs) 32
+
+-- the field of a line from one position to another, both counted from 1, with blanks past the line's end (CISAC CWR 2.2)
+unfoldable pub field : List ℕ → ℕ → ℕ → List ℕ
+unfolding fill
+field line first last = fill (last + 1 - first) (take (last + 1 - first) (drop (first - 1) line))
+
+-- whether all bytes are blanks (profile)
+unfoldable pub is_blank : List ℕ → Bool
+is_blank bs = list_all (λ b. eqb b 32) bs
+
+-- the decimal value of digits (profile)
+abbrev pub value_of_digits : List ℕ → ℕ
+value_of_digits bs = fold (λ n b. 10 * n + (b - 48)) 0 bs
+
+-- the decimal value of bytes that are digits alone, at least one (profile)
+unfoldable pub number_of : List ℕ → Option ℕ
+number_of bs = cond (not (eqb (length bs) 0) && list_all is_ascii_digit bs) (Some (value_of_digits bs)) None
+
+-- what a body begins with: its first piece, as a line, and the rest of the body (profile)
+pub record IsFirstLine (body line rest : List ℕ) : Type 0 where
+  pub piece : List ℕ
+  pub joined : body ≡ piece ++ rest
+  pub pieces_are : pieces body ≡ piece ∷ pieces rest
+  pub line_is : line ≡ line_of piece
+  pub lines_are : lines body ≡ line ∷ lines rest
+  pub shorter : length rest < length body

@@ -1,0 +1,23 @@
+-- What the fields with a type of their own say.
+use Rattle.std.specs.Prelude.{ℕ, cond, leb, List, Option, Some, None, codes, bytes_eq}
+use Rattle.cwr_records.specs.Lines.{is_blank, number_of}
+use Rattle.cwr_records.specs.Blanks.{trimmed}
+use Rattle.cwr_records.specs.declared.indicator.Indicator.{Indicator}
+use Rattle.cwr_records.specs.declared.indicator.Indicator.TheVariants.{Included, Excluded}
+
+-- a number that is not above a limit (profile)
+abbrev pub up_to : ℕ → Option ℕ → Option ℕ
+up_to limit None = None
+up_to limit (Some n) = cond (leb n limit) (Some n) None
+
+-- the share of a field, in hundredths of a percent up to 10000: digits alone, or blanks for 0 (CISAC CWR 2.2)
+unfoldable pub share_of : List ℕ → Option ℕ
+share_of bs = cond (is_blank bs) (Some 0) (up_to 10000 (number_of bs))
+
+-- whether a territory row includes or excludes its territory (CISAC CWR 2.2)
+unfoldable pub indicator_of : List ℕ → Option Indicator
+indicator_of bs = cond (bytes_eq bs (codes "I")) (Some Included) (cond (bytes_eq bs (codes "E")) (Some Excluded) None)
+
+-- the territory that a TIS code names: digits alone once the blanks at both ends are off (CISAC CWR 2.2)
+unfoldable pub territory_of : List ℕ → Option ℕ
+territory_of bs = number_of (trimmed bs)

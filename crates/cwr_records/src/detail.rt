@@ -1,0 +1,179 @@
+//! Further titles and recordings of a work.
+use crate::field::Field;
+use crate::fixed::Fixed;
+use crate::kind::RecordKind;
+use crate::layout::{Layout, LineFields, Position};
+
+/// ALT, a further title of a work.
+#[derive(Drop)]
+pub struct AlternateTitle<'a> {
+    pub transaction_sequence: Fixed<'a, 8>,
+    pub record_sequence: Fixed<'a, 8>,
+    pub title: Fixed<'a, 60>,
+    pub title_type: Fixed<'a, 2>,
+    pub language: Fixed<'a, 2>,
+}
+
+const ALTERNATE_TITLE: [Position; 6] = [
+    // record type
+    Position { from: 1, to: 3 },
+    // transaction sequence number
+    Position { from: 4, to: 11 },
+    // record sequence number
+    Position { from: 12, to: 19 },
+    // title
+    Position { from: 20, to: 79 },
+    // title type
+    Position { from: 80, to: 81 },
+    // language
+    Position { from: 82, to: 83 },
+];
+
+impl<'a> Layout for AlternateTitle<'a> {
+    ghost use Rattle.std.specs.Prelude.{◌≡◌, refl};
+    ghost use Rattle.cwr_records.specs.Layouts.{positions_of};
+    ghost use Rattle.cwr_records.specs.Places.{alternate_title_places};
+    ghost use Rattle.cwr_records.specs.Records.{alternate_title_of, alternate_title_contents};
+    ghost use Rattle.cwr_records.specs.ReadBack.{alternate_title_read_back};
+    ghost use Rattle.cwr_records.specs.declared.record.Record.TheVariants as variant;
+
+    ghost places = { alternate_title_places };
+
+    ghost of_line = { alternate_title_of };
+
+    ghost contents = { alternate_title_contents };
+
+    ghost as_record = { variant.AlternateTitle };
+
+    fn positions() -> &'static [Position]
+        ensures { result.now ≡ positions_of alternate_title_places }
+    {
+        &ALTERNATE_TITLE
+    }
+
+    ghost in_order = { refl };
+
+    ghost counted = { λ _. refl };
+
+    ghost read_back = { alternate_title_read_back };
+}
+
+impl<'a> RecordKind<'a> for AlternateTitle<'a> {
+    fn from_fields(fields: &LineFields<'a>) -> AlternateTitle<'a> {
+        AlternateTitle {
+            transaction_sequence: fields.at(1),
+            record_sequence: fields.at(2),
+            title: fields.at(3),
+            title_type: fields.at(4),
+            language: fields.at(5),
+        }
+    }
+
+    fn content(&self, index: usize) -> Field<'a> {
+        match index {
+            0 => Field::whole(b"ALT"),
+            1 => self.transaction_sequence.field(),
+            2 => self.record_sequence.field(),
+            3 => self.title.field(),
+            4 => self.title_type.field(),
+            _ => self.language.field(),
+        }
+    }
+}
+
+/// REC, a recording of a work.
+#[derive(Drop)]
+pub struct RecordingDetail<'a> {
+    pub transaction_sequence: Fixed<'a, 8>,
+    pub record_sequence: Fixed<'a, 8>,
+    pub release_date: Fixed<'a, 8>,
+    pub release_duration: Fixed<'a, 6>,
+    pub album_title: Fixed<'a, 60>,
+    pub label: Fixed<'a, 60>,
+    pub catalogue_number: Fixed<'a, 18>,
+    pub ean: Fixed<'a, 13>,
+    pub isrc: Fixed<'a, 12>,
+}
+
+const RECORDING: [Position; 10] = [
+    // record type
+    Position { from: 1, to: 3 },
+    // transaction sequence number
+    Position { from: 4, to: 11 },
+    // record sequence number
+    Position { from: 12, to: 19 },
+    // release date
+    Position { from: 20, to: 27 },
+    // release duration
+    Position { from: 88, to: 93 },
+    // album title
+    Position { from: 99, to: 158 },
+    // label
+    Position { from: 159, to: 218 },
+    // catalogue number
+    Position { from: 219, to: 236 },
+    // EAN
+    Position { from: 237, to: 249 },
+    // ISRC
+    Position { from: 250, to: 261 },
+];
+
+impl<'a> Layout for RecordingDetail<'a> {
+    ghost use Rattle.std.specs.Prelude.{◌≡◌, refl};
+    ghost use Rattle.cwr_records.specs.Layouts.{positions_of};
+    ghost use Rattle.cwr_records.specs.Places.{recording_places};
+    ghost use Rattle.cwr_records.specs.Records.{recording_of, recording_contents};
+    ghost use Rattle.cwr_records.specs.ReadBack.{recording_read_back};
+    ghost use Rattle.cwr_records.specs.declared.record.Record.TheVariants as variant;
+
+    ghost places = { recording_places };
+
+    ghost of_line = { recording_of };
+
+    ghost contents = { recording_contents };
+
+    ghost as_record = { variant.Recording };
+
+    fn positions() -> &'static [Position]
+        ensures { result.now ≡ positions_of recording_places }
+    {
+        &RECORDING
+    }
+
+    ghost in_order = { refl };
+
+    ghost counted = { λ _. refl };
+
+    ghost read_back = { recording_read_back };
+}
+
+impl<'a> RecordKind<'a> for RecordingDetail<'a> {
+    fn from_fields(fields: &LineFields<'a>) -> RecordingDetail<'a> {
+        RecordingDetail {
+            transaction_sequence: fields.at(1),
+            record_sequence: fields.at(2),
+            release_date: fields.at(3),
+            release_duration: fields.at(4),
+            album_title: fields.at(5),
+            label: fields.at(6),
+            catalogue_number: fields.at(7),
+            ean: fields.at(8),
+            isrc: fields.at(9),
+        }
+    }
+
+    fn content(&self, index: usize) -> Field<'a> {
+        match index {
+            0 => Field::whole(b"REC"),
+            1 => self.transaction_sequence.field(),
+            2 => self.record_sequence.field(),
+            3 => self.release_date.field(),
+            4 => self.release_duration.field(),
+            5 => self.album_title.field(),
+            6 => self.label.field(),
+            7 => self.catalogue_number.field(),
+            8 => self.ean.field(),
+            _ => self.isrc.field(),
+        }
+    }
+}

@@ -1,0 +1,68 @@
+//! The layouts of the record types: where each field stands.
+ghost use Rattle.std.specs.Prelude.{◌≡◌, ◌<◌, length, get_or, IsTrue};
+ghost use Rattle.cwr_records.specs.Layouts.{is_wide, field_at, nowhere};
+
+use crate::fixed::Fixed;
+use crate::line::Line;
+
+/// Where a field stands in its line, both ends counted from 1.
+#[derive(Clone, Copy)]
+pub struct Position {
+    pub from: usize,
+    pub to: usize,
+}
+
+/// A record type's layout: the places of its fields, the record that a line is by them, and what a record has there.
+pub trait Layout: Sized {
+    ghost use Rattle.std.specs.Prelude.{◌≡◌, ℕ, List, length, IsTrue};
+    ghost use Rattle.cwr_records.specs.Layouts.{Place, positions_of, fields_at, is_layout};
+    ghost use Rattle.cwr_records.specs.Records.{record_of};
+    ghost use Rattle.cwr_records.specs.declared.record.Record.{Record};
+
+    ghost places: { List Place };
+
+    ghost of_line: { List ℕ → Self };
+
+    ghost contents: { Self → List (List ℕ) };
+
+    ghost as_record: { Self → Record };
+
+    /// The positions of the fields, in order.
+    fn positions() -> &'static [Position]
+        ensures { result.now ≡ positions_of places };
+
+    // The places come one after another and do not overlap.
+    ghost in_order: { IsTrue (is_layout places) };
+
+    // A record has as many contents as there are places.
+    ghost counted: { (r : Self) → length (contents r) ≡ length places };
+
+    // A line with a record's contents at the places is read as that record.
+    ghost read_back: { (r : Self) (line : List ℕ) → fields_at (positions_of places) line ≡ contents r → record_of line ≡ as_record r };
+}
+
+/// The fields of a line at the positions of a layout.
+#[derive(Drop)]
+pub struct LineFields<'a> {
+    pub line: Line<'a>,
+    pub positions: &'static [Position],
+}
+
+impl<'a> LineFields<'a> {
+    /// The field at an index of the layout.
+    pub fn at<const WIDTH: usize>(&self, index: usize) -> Fixed<'a, WIDTH>
+        requires { IsTrue (is_wide self.now.positions.now index WIDTH) }
+        ensures { result ≡ field_at self.now.positions.now index self.now.line }
+    {
+        let position = position_at(self.positions, index);
+        self.line.field(position.from, position.to).fixed()
+    }
+}
+
+/// The position at an index.
+fn position_at(positions: &[Position], index: usize) -> Position
+    requires { index < length positions.now }
+    ensures { result ≡ get_or positions.now index nowhere }
+{
+    positions[index]
+}

@@ -1,0 +1,277 @@
+//! The records of a publisher.
+use crate::field::Field;
+use crate::fixed::Fixed;
+use crate::kind::RecordKind;
+use crate::layout::{Layout, LineFields, Position};
+
+/// Whether a publisher is controlled by the submitter.
+#[derive(Clone, Copy, Debug, PartialEq, Eq)]
+pub enum PublisherRole {
+    /// SPU.
+    Controlled,
+    /// OPU.
+    Other,
+}
+
+impl PublisherRole {
+    ghost use Rattle.std.specs.Prelude.{◌≡◌, length};
+    ghost use Rattle.cwr_records.specs.Records.{publisher_role_of, publisher_role_code};
+
+    /// The record type that says so.
+    pub fn code<'a>(self) -> Field<'a>
+        ensures value { result ≡ publisher_role_code self }
+        ensures width { length result ≡ 3 }
+    {
+        match self {
+            PublisherRole::Controlled => Field::whole(b"SPU"),
+            PublisherRole::Other => Field::whole(b"OPU"),
+        }
+    }
+
+    /// What a record type says, which is one of the two.
+    fn of(code: &Fixed<'_, 3>) -> PublisherRole
+        ensures { result ≡ publisher_role_of code.now }
+    {
+        if code.field().is(b"OPU") {
+            PublisherRole::Other
+        } else {
+            PublisherRole::Controlled
+        }
+    }
+}
+
+/// SPU or OPU, a publisher of a work with its ownership shares.
+#[derive(Drop)]
+pub struct PublisherRecord<'a> {
+    pub role: PublisherRole,
+    pub transaction_sequence: Fixed<'a, 8>,
+    pub record_sequence: Fixed<'a, 8>,
+    pub publisher_sequence: Fixed<'a, 2>,
+    pub party: Fixed<'a, 9>,
+    pub name: Fixed<'a, 45>,
+    pub unknown_indicator: Fixed<'a, 1>,
+    pub publisher_type: Fixed<'a, 2>,
+    pub tax_id: Fixed<'a, 9>,
+    pub ipi_name: Fixed<'a, 11>,
+    pub submitter_agreement: Fixed<'a, 14>,
+    pub pr_society: Fixed<'a, 3>,
+    pub pr_share: Fixed<'a, 5>,
+    pub mr_society: Fixed<'a, 3>,
+    pub mr_share: Fixed<'a, 5>,
+    pub sr_society: Fixed<'a, 3>,
+    pub sr_share: Fixed<'a, 5>,
+}
+
+const PUBLISHER: [Position; 17] = [
+    // record type
+    Position { from: 1, to: 3 },
+    // transaction sequence number
+    Position { from: 4, to: 11 },
+    // record sequence number
+    Position { from: 12, to: 19 },
+    // publisher sequence
+    Position { from: 20, to: 21 },
+    // IP #
+    Position { from: 22, to: 30 },
+    // name
+    Position { from: 31, to: 75 },
+    // unknown indicator
+    Position { from: 76, to: 76 },
+    // publisher type
+    Position { from: 77, to: 78 },
+    // tax ID
+    Position { from: 79, to: 87 },
+    // IPI name number
+    Position { from: 88, to: 98 },
+    // submitter agreement number
+    Position { from: 99, to: 112 },
+    // PR society
+    Position { from: 113, to: 115 },
+    // PR share
+    Position { from: 116, to: 120 },
+    // MR society
+    Position { from: 121, to: 123 },
+    // MR share
+    Position { from: 124, to: 128 },
+    // SR society
+    Position { from: 129, to: 131 },
+    // SR share
+    Position { from: 132, to: 136 },
+];
+
+impl<'a> Layout for PublisherRecord<'a> {
+    ghost use Rattle.std.specs.Prelude.{◌≡◌, refl};
+    ghost use Rattle.cwr_records.specs.Layouts.{positions_of};
+    ghost use Rattle.cwr_records.specs.Places.{publisher_places};
+    ghost use Rattle.cwr_records.specs.Records.{publisher_of, publisher_contents};
+    ghost use Rattle.cwr_records.specs.ReadBack.{publisher_read_back};
+    ghost use Rattle.cwr_records.specs.declared.record.Record.TheVariants as variant;
+
+    ghost places = { publisher_places };
+
+    ghost of_line = { publisher_of };
+
+    ghost contents = { publisher_contents };
+
+    ghost as_record = { variant.Publisher };
+
+    fn positions() -> &'static [Position]
+        ensures { result.now ≡ positions_of publisher_places }
+    {
+        &PUBLISHER
+    }
+
+    ghost in_order = { refl };
+
+    ghost counted = { λ _. refl };
+
+    ghost read_back = { publisher_read_back };
+}
+
+impl<'a> RecordKind<'a> for PublisherRecord<'a> {
+    fn from_fields(fields: &LineFields<'a>) -> PublisherRecord<'a> {
+        PublisherRecord {
+            role: PublisherRole::of(&fields.at(0)),
+            transaction_sequence: fields.at(1),
+            record_sequence: fields.at(2),
+            publisher_sequence: fields.at(3),
+            party: fields.at(4),
+            name: fields.at(5),
+            unknown_indicator: fields.at(6),
+            publisher_type: fields.at(7),
+            tax_id: fields.at(8),
+            ipi_name: fields.at(9),
+            submitter_agreement: fields.at(10),
+            pr_society: fields.at(11),
+            pr_share: fields.at(12),
+            mr_society: fields.at(13),
+            mr_share: fields.at(14),
+            sr_society: fields.at(15),
+            sr_share: fields.at(16),
+        }
+    }
+
+    fn content(&self, index: usize) -> Field<'a> {
+        match index {
+            0 => self.role.code(),
+            1 => self.transaction_sequence.field(),
+            2 => self.record_sequence.field(),
+            3 => self.publisher_sequence.field(),
+            4 => self.party.field(),
+            5 => self.name.field(),
+            6 => self.unknown_indicator.field(),
+            7 => self.publisher_type.field(),
+            8 => self.tax_id.field(),
+            9 => self.ipi_name.field(),
+            10 => self.submitter_agreement.field(),
+            11 => self.pr_society.field(),
+            12 => self.pr_share.field(),
+            13 => self.mr_society.field(),
+            14 => self.mr_share.field(),
+            15 => self.sr_society.field(),
+            _ => self.sr_share.field(),
+        }
+    }
+}
+
+/// SPT, the collection shares of a publisher in a territory.
+#[derive(Drop)]
+pub struct PublisherTerritory<'a> {
+    pub transaction_sequence: Fixed<'a, 8>,
+    pub record_sequence: Fixed<'a, 8>,
+    pub party: Fixed<'a, 9>,
+    pub pr_share: Fixed<'a, 5>,
+    pub mr_share: Fixed<'a, 5>,
+    pub sr_share: Fixed<'a, 5>,
+    pub indicator: Fixed<'a, 1>,
+    pub territory: Fixed<'a, 4>,
+    pub shares_change: Fixed<'a, 1>,
+    pub sequence: Fixed<'a, 3>,
+}
+
+const PUBLISHER_TERRITORY: [Position; 11] = [
+    // record type
+    Position { from: 1, to: 3 },
+    // transaction sequence number
+    Position { from: 4, to: 11 },
+    // record sequence number
+    Position { from: 12, to: 19 },
+    // IP #
+    Position { from: 20, to: 28 },
+    // PR share
+    Position { from: 35, to: 39 },
+    // MR share
+    Position { from: 40, to: 44 },
+    // SR share
+    Position { from: 45, to: 49 },
+    // indicator
+    Position { from: 50, to: 50 },
+    // TIS code
+    Position { from: 51, to: 54 },
+    // shares change
+    Position { from: 55, to: 55 },
+    // sequence
+    Position { from: 56, to: 58 },
+];
+
+impl<'a> Layout for PublisherTerritory<'a> {
+    ghost use Rattle.std.specs.Prelude.{◌≡◌, refl};
+    ghost use Rattle.cwr_records.specs.Layouts.{positions_of};
+    ghost use Rattle.cwr_records.specs.Places.{publisher_territory_places};
+    ghost use Rattle.cwr_records.specs.Records.{publisher_territory_of, publisher_territory_contents};
+    ghost use Rattle.cwr_records.specs.ReadBack.{publisher_territory_read_back};
+    ghost use Rattle.cwr_records.specs.declared.record.Record.TheVariants as variant;
+
+    ghost places = { publisher_territory_places };
+
+    ghost of_line = { publisher_territory_of };
+
+    ghost contents = { publisher_territory_contents };
+
+    ghost as_record = { variant.PublisherTerritory };
+
+    fn positions() -> &'static [Position]
+        ensures { result.now ≡ positions_of publisher_territory_places }
+    {
+        &PUBLISHER_TERRITORY
+    }
+
+    ghost in_order = { refl };
+
+    ghost counted = { λ _. refl };
+
+    ghost read_back = { publisher_territory_read_back };
+}
+
+impl<'a> RecordKind<'a> for PublisherTerritory<'a> {
+    fn from_fields(fields: &LineFields<'a>) -> PublisherTerritory<'a> {
+        PublisherTerritory {
+            transaction_sequence: fields.at(1),
+            record_sequence: fields.at(2),
+            party: fields.at(3),
+            pr_share: fields.at(4),
+            mr_share: fields.at(5),
+            sr_share: fields.at(6),
+            indicator: fields.at(7),
+            territory: fields.at(8),
+            shares_change: fields.at(9),
+            sequence: fields.at(10),
+        }
+    }
+
+    fn content(&self, index: usize) -> Field<'a> {
+        match index {
+            0 => Field::whole(b"SPT"),
+            1 => self.transaction_sequence.field(),
+            2 => self.record_sequence.field(),
+            3 => self.party.field(),
+            4 => self.pr_share.field(),
+            5 => self.mr_share.field(),
+            6 => self.sr_share.field(),
+            7 => self.indicator.field(),
+            8 => self.territory.field(),
+            9 => self.shares_change.field(),
+            _ => self.sequence.field(),
+        }
+    }
+}

@@ -1,0 +1,86 @@
+-- A sender's front is the only number up to which all are there and after which there is a gap.
+use Rattle.std.proofs.Common.{◌≡◌, ℕ, zero, suc, ◌+◌, ◌<◌, ◌≤◌, max, Bool, true, false, cond, ◌&&◌, ◌||◌, List, [], ◌∷◌, Option, Some, refl, ap, sym, subst, ◌∙◌, arith, is_some, ⊎_elim}
+use Rattle.std.specs.List.{list_any}
+use Rattle.std.specs.Ordering.{is_eq, eq_by_cmp}
+use Rattle.std.specs.declared.cmp.Ordering.{Ordering}
+use Rattle.std.specs.declared.cmp.Ordering.TheVariants.{Less, Equal, Greater}
+use Rattle.std.specs.FinMap as finite
+use Rattle.std.proofs.lemmas.Bool.{false≢true, cases_lt, cases_Bool}
+use Rattle.society_core.specs.Book.{Book, body_at, is_there, has_all, greatest_to, greatest_of, greatest_number, front}
+use Rattle.society_core.specs.Slot.{slot_of, slot_cmp}
+use Rattle.society_core.specs.declared.slot.Slot.{Slot}
+use Rattle.society_core.proofs.Slots.{exact_slots}
+
+pub tied : (o : Ordering) → is_eq o ≡ true → o ≡ Equal
+tied Less h = absurd (false≢true h)
+tied Equal h = refl
+tied Greater h = absurd (false≢true h)
+
+-- both parts of a test that holds
+pub first_holds : (a b : Bool) → (a && b) ≡ true → a ≡ true
+first_holds true b h = refl
+first_holds false b h = absurd (false≢true h)
+
+pub second_holds : (a b : Bool) → (a && b) ≡ true → b ≡ true
+second_holds true b h = h
+second_holds false b h = absurd (false≢true h)
+
+-- two tests that hold
+pub both_hold : (a b : Bool) → a ≡ true → b ≡ true → (a && b) ≡ true
+both_hold a b h g = cc
+
+below_either : (b rest : Bool) (n k m : ℕ) → (b ≡ true → n ≤ k) → (rest ≡ true → n ≤ m) → (b || rest) ≡ true → n ≤ max k m
+below_either true rest n k m here there h = let bound : n ≤ k = here refl in omega arith
+below_either false rest n k m here there h = let bound : n ≤ m = there h in omega arith
+
+-- a slot that is among some is at most their greatest number
+within_greatest : (slots : List Slot) (q : Slot) → list_any (eq_by_cmp slot_cmp q) slots ≡ true → q.number ≤ greatest_of slots
+within_greatest [] q h = absurd (false≢true h)
+within_greatest (k ∷ slots) q h =
+    below_either (eq_by_cmp slot_cmp q k) (list_any (eq_by_cmp slot_cmp q) slots) q.number k.number (greatest_of slots)
+    (λ e. let same : q.number ≡ k.number = ap (λ (s : Slot). s.number) (exact_slots q k (tied (slot_cmp q k) e)) in omega arith)
+    (within_greatest slots q) h
+
+-- a transmission that is there has at most the greatest number
+pub there_within : (b : Book) (s : List ℕ) (n : ℕ) → is_there b s n ≡ true → n ≤ greatest_number b
+there_within b s n h =
+    within_greatest (finite.keys b.transmissions) (slot_of s n) (sym (finite.contains_key-keys b.transmissions (slot_of s n)) ∙ h)
+
+-- where 1 to n are all there, each of them is
+pub there_at : (b : Book) (s : List ℕ) (n k : ℕ) → has_all b s n ≡ true → 0 < k → k ≤ n → is_there b s k ≡ true
+there_at b s zero k h low high = absurd (omega arith)
+there_at b s (suc n) k h low high =
+    ⊎_elim
+    (λ (below : k < suc n). there_at b s n k (second_holds (is_there b s (suc n)) (has_all b s n) h) low (omega arith))
+    (λ (reached : suc n ≤ k).
+        let same : suc n ≡ k = omega arith in
+        subst (λ (m : ℕ). is_there b s m ≡ true) same (first_holds (is_there b s (suc n)) (has_all b s n) h))
+    (cases_lt k (suc n))
+
+-- behind a gap not all are there
+has_all_gap : (b : Book) (s : List ℕ) (n k : ℕ) → is_there b s (n + 1) ≡ false → n < k → has_all b s k ≡ false
+has_all_gap b s n k gap after =
+    ⊎_elim
+    (λ (all : has_all b s k ≡ true). absurd (false≢true (sym gap ∙ there_at b s k (n + 1) all (omega arith) (omega arith))))
+    (λ (none : has_all b s k ≡ false). none)
+    (cases_Bool (has_all b s k))
+
+greatest_only : (p : ℕ → Bool) (limit n : ℕ) → p n ≡ true → ((k : ℕ) → n < k → p k ≡ false) → n ≤ limit → n ≡ greatest_to limit p
+greatest_only p zero n h gap le = omega arith
+greatest_only p (suc m) n h gap le =
+    ⊎_elim
+    (λ (below : n < suc m). greatest_only p m n h gap (omega arith) ∙ sym (ap (λ (b : Bool). cond b (suc m) (greatest_to m p)) (gap (suc m) below)))
+    (λ (reached : suc m ≤ n).
+        let same : n ≡ suc m = omega arith in
+        same ∙ sym (ap (λ (b : Bool). cond b (suc m) (greatest_to m p)) (subst (λ (k : ℕ). p k ≡ true) same h)))
+    (cases_lt n (suc m))
+
+at_most_greatest : (b : Book) (s : List ℕ) (n : ℕ) → has_all b s n ≡ true → n ≤ greatest_number b
+at_most_greatest b s zero h = omega arith
+at_most_greatest b s (suc n) h = there_within b s (suc n) (first_holds (is_there b s (suc n)) (has_all b s n) h)
+
+-- the front is the only number up to which all are there and after which there is a gap
+pub front_only : (b : Book) (s : List ℕ) (n : ℕ) → has_all b s n ≡ true → is_there b s (n + 1) ≡ false → n ≡ front b s
+unfolding front
+front_only b s n h gap =
+    greatest_only (has_all b s) (greatest_number b) n h (λ k after. has_all_gap b s n k gap after) (at_most_greatest b s n h)

@@ -1,0 +1,6 @@
+pub mod Slots
+pub mod Fronts
+pub mod Books
+pub mod RunLemmas
+pub mod HeadlineLemmas
+pub mod Lines

@@ -1,0 +1,8 @@
+use Rattle.std.proofs.Common.{subst, sym, ap}
+use Rattle.society_core.specs.Book.{IsSound}
+use Rattle.society_core.specs.Plain.{book_with}
+use Rattle.society_core.proofs.Books.{empty_book_sound}
+use Rattle.society_core.proofs.plain_store.PlainStore.new.Goals as goal
+
+pub invariant_of-result : goal.invariant_of-result
+invariant_of-result c = record { sound = rw c.new.ensures empty_book_sound }

@@ -1,0 +1,11 @@
+use Rattle.std.proofs.Common.{◌≡◌}
+use Rattle.society_core.specs.Book.{transmissions_to}
+use Rattle.society_core.specs.Plain.{book_with}
+use Rattle.works_core.specs.Line.{line_of}
+use Rattle.society_core.proofs.plain_store.line_to.Given as goal
+
+abbrev pub invariant-loop-applied : goal.invariant-loop-applied
+invariant-loop-applied l = record {
+  office : l.line.office ≡ l.office;
+  judged : l.line.judged ≡ line_of l.office (transmissions_to (book_with l.bodies) l.sender l.applied);
+}

@@ -1,0 +1,28 @@
+-- Steps and runs: what is answered to a list of requests, one after another.
+use Rattle.std.specs.Prelude.{List, [], ◌∷◌, ◌++◌, ◌≡◌, ◌⊎◌, map, length, IsTrue, Bool, true}
+use Rattle.share_rules.specs.declared.office.Office.{Office}
+use Rattle.society_core.specs.Book.{Book}
+use Rattle.society_core.specs.Requests.{Query, Reply, Refused, query_of, reply_of}
+use Rattle.society_core.specs.Answers.{answer, next}
+use Rattle.society_core.specs.declared.request.Refusal.TheVariants.{Unavailable}
+use Rattle.society_core.specs.declared.request.Request.{Request}
+use Rattle.society_core.specs.declared.request.Answer.{Answer}
+
+-- one request is answered as the book says and the book goes on, or the office is unavailable and the book stays
+abbrev pub Step : Office → Book → Query → Reply → Book → Type 0
+Step office book query reply after =
+    ((reply ≡ answer office book query) × (after ≡ next book query)) ⊎ ((reply ≡ Refused Unavailable) × (after ≡ book))
+
+-- each request of a list is answered by a step, one after another
+abbrev pub Run : Office → Book → List Query → List Reply → Book → Type 0
+Run office book [] [] after = after ≡ book
+Run office book (query ∷ queries) (reply ∷ replies) after = (middle : Book) × Step office book query reply middle × Run office middle queries replies after
+Run office book [] (reply ∷ replies) after = ⊥
+Run office book (query ∷ queries) [] after = ⊥
+
+-- the answers to requests are appended: as many as the requests, and a run where the store is clean at the end
+pub record AppendsRun (office : Office) (before after : Book) (is_clean : Bool) (requests : List Request) (old new : List Answer) : Type 0 where
+  pub more : List Answer
+  pub appended : new ≡ old ++ more
+  pub count : length more ≡ length requests
+  pub run : IsTrue is_clean → Run office before (map query_of requests) (map reply_of more) after

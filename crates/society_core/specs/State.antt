@@ -1,0 +1,43 @@
+-- What a store shows of itself: whose it is, its book, and what a crash may leave.
+use Rattle.std.specs.Prelude.{ℕ, ◌≡◌, ◌≤◌, ◌<◌, ◌-◌, ◌^◌, ◌⊎◌, Bool, true, IsTrue}
+use Rattle.share_rules.specs.declared.office.Office.{Office}
+use Rattle.society_core.specs.Book.{Book, IsSound}
+use Rattle.society_core.specs.declared.store.StoreFault.{StoreFault}
+use Rattle.society_core.specs.declared.store.StoreFault.TheVariants.{Memory, Refused}
+
+-- a store: its office and book, how often its medium failed, whether the medium still works and has told the truth, and the books that a crash may leave
+pub record State : Type 1 where
+  pub office : Office
+  pub book : Book
+  pub failures : ℕ
+  pub is_clean : Bool
+  pub is_honest : Bool
+  pub left : Book → Type 0
+
+-- what holds of every store: a clean one is honest, a crash at rest leaves its book, and its book is sound
+pub record IsState (s : State) : Type 0 where
+  pub honest : IsTrue s.is_clean → IsTrue s.is_honest
+  pub at_rest : IsTrue s.is_clean → (book : Book) → s.left book → book ≡ s.book
+  pub sound : IsTrue s.is_clean → IsSound s.book
+
+-- a call keeps the office; clean and honest only fall, failures only rise, and a crash may leave what it could before or what the call commits
+pub record Goes (old new : State) (Commits : Book → Type 0) : Type 0 where
+  pub office : new.office ≡ old.office
+  pub clean : IsTrue new.is_clean → IsTrue old.is_clean
+  pub honest : IsTrue new.is_honest → IsTrue old.is_honest
+  pub failures : old.failures ≤ new.failures
+  pub crash : IsTrue new.is_honest → (book : Book) → new.left book → old.left book ⊎ (IsTrue old.is_clean × Commits book)
+
+-- a question changes nothing
+pub record Asks (old new : State) : Type 0 where
+  pub goes : Goes old new (λ _. ⊥)
+  pub same : IsTrue new.is_clean → new.book ≡ old.book
+
+-- a count of failures rose, or stood at the greatest number of 64 bits
+abbrev pub Rises : ℕ → ℕ → Type 0
+Rises old new = (old < new) ⊎ (old ≡ 2 ^ 64 - 1)
+
+-- a store refuses only where its medium failed in that call
+abbrev pub HasCause : State → State → StoreFault → Type 0
+HasCause old new Memory = Unit {0}
+HasCause old new Refused = Rises old.failures new.failures

@@ -1,0 +1,19 @@
+//! The office: its book, the stores that keep it, the desk that answers requests over one, and runs.
+#![tactic(auto)]
+
+pub mod bodies;
+pub mod desk;
+pub mod laws;
+pub mod plain_store;
+pub mod request;
+pub mod runs;
+pub mod slot;
+pub mod store;
+
+pub use desk::Desk;
+pub use laws::{book_holds_what_came, order_of_arrival_is_free};
+pub use plain_store::PlainStore;
+pub use request::{Answer, Arrival, Refusal, Request, Standing};
+pub use runs::{answer, run};
+pub use slot::{MAX_NUMBER, Slot};
+pub use store::{Known, Store, StoreFault};

@@ -1,0 +1,7 @@
+pub mod Verdicts
+pub mod Line
+pub mod LineValue
+pub mod Kept
+pub mod Tracks
+
+pub use Rattle.share_rules.specs.Fault
