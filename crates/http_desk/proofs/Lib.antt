@@ -1,0 +1,8 @@
+pub mod CuttingLemmas
+pub mod FieldLemmas
+pub mod HeadLemmas
+pub mod Known
+pub mod NextLemmas
+pub mod PathLemmas
+pub mod ServeLemmas
+pub mod TextLemmas

@@ -1,0 +1,20 @@
+use Rattle.std.proofs.Common.{◌∙◌, sym}
+use Rattle.std.proofs.lemmas.Str.{IsUtf8-from_ascii}
+use Rattle.http_desk.proofs.PathLemmas.{route_text, ascii_from_path}
+use Rattle.http_desk.proofs.requests.request_for.Goals as goal
+
+pub returns-in_default-clause-asks : goal.returns-in_default-clause-asks
+returns-in_default-clause-asks c =
+    absurd (c.in_default.ensures.cases.0 (IsUtf8-from_ascii _ (ascii_from_path c.args.target.now (sym c.is_path.ensures ∙ c.if-not-is_path.false))))
+
+pub sender_in_path-requires-clause-text : goal.sender_in_path-requires-clause-text
+sender_in_path-requires-clause-text c =
+    let found = rw c.requires.routes at c.in-Ok-at.ensures.found in
+    let plain = ascii_from_path c.args.target.now (sym c.is_path.ensures ∙ c.if-not-is_path.false) in
+    rw c.in-Ok-at.ensures.path (route_text _ _ found (rw c.in-Ok.ensures.cases.0 plain))
+
+pub number_in_path-requires-clause-text : goal.number_in_path-requires-clause-text
+number_in_path-requires-clause-text c =
+    let found = rw c.requires.routes at c.in-Ok-at.ensures.found in
+    let plain = ascii_from_path c.args.target.now (sym c.is_path.ensures ∙ c.if-not-is_path.false) in
+    rw c.in-Ok-at.ensures.path (route_text _ _ found (rw c.in-Ok.ensures.cases.0 plain))

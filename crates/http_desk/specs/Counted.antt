@@ -1,0 +1,32 @@
+-- A reader or a writer whose failures are counted.
+use Rattle.std.specs.Prelude.{◌≡◌, ◌⊎◌, ℕ, ◌-◌, ◌^◌, ◌<◌, ◌≤◌, List, ◌++◌, length, Option, Result, MatchResult}
+use Rattle.std.specs.Io.KnownBytes.{Appends, Consumes}
+use Rattle.http_desk.specs.declared.counted.Counted.{Counted}
+
+-- what is wrapped
+abbrev pub inner_of : {T : Type 0} → Counted T → T
+inner_of counted = counted.inner
+
+-- how often it failed
+abbrev pub failures_of : {T : Type 0} → Counted T → ℕ
+failures_of counted = counted.failures
+
+-- a count of failures rose, or stood at the greatest u64
+abbrev pub Rises : ℕ → ℕ → Type 0
+Rises old new = (old < new) ⊎ (old ≡ 2 ^ 64 - 1)
+
+-- a front of these bytes was appended
+abbrev pub AppendsFront : Option (List ℕ) → Option (List ℕ) → List ℕ → Type 0
+AppendsFront old new bytes = (front : List ℕ) × (back : List ℕ) × (bytes ≡ front ++ back) × Appends old new front
+
+-- all bytes were appended, or after a failure a front of them
+abbrev pub Writes : {T E : Type 0} → Result T E → Option (List ℕ) → Option (List ℕ) → List ℕ → Type 0
+Writes result old new bytes = MatchResult result (λ _. Appends old new bytes) (λ _. AppendsFront old new bytes)
+
+-- at most so many bytes were read
+abbrev pub TakesAtMost : Option (List ℕ) → Option (List ℕ) → ℕ → Type 0
+TakesAtMost old new count = (taken : List ℕ) × Consumes old new taken × (length taken ≤ count)
+
+-- at least so many bytes were read
+abbrev pub TakesAtLeast : Option (List ℕ) → Option (List ℕ) → ℕ → Type 0
+TakesAtLeast old new count = (taken : List ℕ) × Consumes old new taken × (count ≤ length taken)

@@ -1,0 +1,30 @@
+-- Bytes that were read and not taken yet, and what reading on does to them.
+use Rattle.std.specs.Prelude.{◌≡◌, ℕ, ◌+◌, ◌*◌, ◌≤◌, List, ◌++◌, length, drop, Option}
+use Rattle.std.specs.Io.KnownBytes.{Consumes}
+use Rattle.http_desk.specs.declared.fault.FaultKind.{FaultKind}
+use Rattle.http_desk.specs.declared.fault.FaultKind.TheVariants.{Read, Write, Turns, Memory}
+use Rattle.http_desk.specs.declared.input.Input.{Input}
+use Rattle.http_desk.specs.Counted.{Rises}
+
+-- the bytes that were read and not taken yet
+abbrev pub unread : Input → List ℕ
+unread input = drop input.start input.bytes.items
+
+-- the most bytes that one read gives
+abbrev pub max_piece : ℕ
+max_piece = 4096
+
+-- bytes that the reader gave went to the end of those not taken yet; each turn that is gone gave 1 to 4,096 of them
+pub record ReadsOn (old new : Input) (known new_known : Option (List ℕ)) : Type 0 where
+  pub more : List ℕ
+  pub grown : unread new ≡ unread old ++ more
+  pub consumed : Consumes known new_known more
+  pub most : length more + new.turns * max_piece ≤ old.turns * max_piece
+  pub least : old.turns ≤ new.turns + length more
+
+-- why reading failed: the reader did, or no turn was left
+abbrev pub FailsBy : FaultKind → ℕ → ℕ → ℕ → Type 0
+FailsBy Read turns failures new_failures = Rises failures new_failures
+FailsBy Turns turns failures new_failures = turns ≡ 0
+FailsBy Write turns failures new_failures = ⊥
+FailsBy Memory turns failures new_failures = ⊥

@@ -1,0 +1,16 @@
+pub mod Counted
+pub mod Fields
+pub mod Framing
+pub mod Head
+pub mod Input
+pub mod Next
+pub mod Parameters
+pub mod Part
+pub mod Path
+pub mod Reads
+pub mod Room
+pub mod Serves
+pub mod Text
+pub use Rattle.httparse.specs.Grammar
+pub use Rattle.society_core.specs.Requests
+pub use Rattle.society_core.specs.Runs

@@ -1,0 +1,13 @@
+-- What the parameters of a match took, and what decoding one leaves in the scratch.
+use Rattle.std.specs.Prelude.{◌≡◌, ℕ, Bool, true, false, List, Option, Some, None}
+use Rattle.matchit.specs.Params.{walk}
+use Rattle.matchit.specs.declared.params.Params.{Params}
+
+-- there is a parameter, and these are its bytes, or there is none
+abbrev pub IsDecoded : Bool → List ℕ → Option (List ℕ) → Type 0
+IsDecoded true bytes value = value ≡ Some bytes
+IsDecoded false bytes value = value ≡ None
+
+-- the parts of the path that the parameters of a match took, each with its name
+abbrev pub parts_of : Params → List (List ℕ × List ℕ)
+parts_of params = walk params.pattern.now params.text.now params.path.now params.names.now 0 0

@@ -1,0 +1,163 @@
+//! What the fields of a head say of its body and of the connection.
+ghost use Rattle.std.specs.Prelude.{◌≡◌, ◌≤◌, ◌+◌, ◌==◌, ◌∷◌, [], length, map, min, All, IsTrue};
+ghost use Rattle.std.specs.List.{list_all};
+ghost use Rattle.std.specs.Str.{str_eq_ignore_ascii_case};
+ghost use Rattle.std.specs.Str.Parse.{digits_value};
+ghost use Rattle.httparse.specs.Spans.{IsHeaderWithin, header_bytes};
+ghost use Rattle.http_desk.specs.Fields.{IsFound};
+ghost use Rattle.http_desk.specs.Framing.{is_digit, is_number, is_named, values_of, framing_by, framing_of, closes_by, says_close, is_put};
+
+use httparse::spans::HeaderSpan;
+
+/// The greatest body, in bytes.
+pub(crate) const MAX_BODY: u32 = 1_048_576;
+
+/// How the body after a head is delimited.
+#[derive(Clone, Copy, Debug, PartialEq, Eq)]
+pub(crate) enum Framing {
+    /// A body of so many bytes.
+    Sized(u32),
+    /// The method or the fields are at fault.
+    Faulty,
+    /// A body above the greatest.
+    Large,
+}
+
+/// The values of the fields of one name: none, one, or more.
+#[derive(Clone, Copy, Drop)]
+pub(crate) enum Found<'b> {
+    Nothing,
+    One(&'b [u8]),
+    Several,
+}
+
+// Whether two texts are the same but for the case of letters.
+fn is_same_word(left: &[u8], right: &[u8]) -> bool
+    ensures { result ≡ str_eq_ignore_ascii_case left.now right.now }
+{
+    left.eq_ignore_ascii_case(right)
+}
+
+// Whether a field has this name.
+fn has_name(bytes: &[u8], header: &HeaderSpan, name: &[u8]) -> bool
+    requires { IsHeaderWithin (length bytes.now) header.now }
+    ensures { result ≡ is_named name.now (header_bytes bytes.now header.now) }
+{
+    is_same_word(header.name.of(bytes), name)
+}
+
+/// The value of the only field of this name.
+pub(crate) fn lone_value<'b>(bytes: &'b [u8], headers: &[HeaderSpan], name: &[u8]) -> Found<'b>
+    requires { All (IsHeaderWithin (length bytes.now)) headers.now }
+    ensures { IsFound result (values_of name.now (map (header_bytes bytes.now) headers.now)) }
+{
+    let mut found = None;
+    for header in headers {
+        if has_name(bytes, header, name) {
+            if found.is_some() {
+                return Found::Several;
+            }
+            found = Some(header.value.of(bytes));
+        }
+    }
+    match found {
+        Some(value) => Found::One(value),
+        None => Found::Nothing,
+    }
+}
+
+// Whether a field says that the connection ends.
+fn is_closing(bytes: &[u8], header: &HeaderSpan) -> bool
+    requires { IsHeaderWithin (length bytes.now) header.now }
+    ensures { result ≡ says_close (header_bytes bytes.now header.now) }
+{
+    has_name(bytes, header, b"connection") && is_same_word(header.value.of(bytes), b"close")
+}
+
+/// Whether the connection ends after the answer.
+pub(crate) fn closes(bytes: &[u8], headers: &[HeaderSpan], minor: u8) -> bool
+    requires { All (IsHeaderWithin (length bytes.now)) headers.now }
+    ensures { result ≡ closes_by minor (map (header_bytes bytes.now) headers.now) }
+{
+    if minor == 0 {
+        return true;
+    }
+    for header in headers {
+        if is_closing(bytes, header) {
+            return true;
+        }
+    }
+    false
+}
+
+fn is_digit(byte: u8) -> bool
+    ensures { result ≡ is_digit byte }
+{
+    b'0' <= byte && byte <= b'9'
+}
+
+fn are_digits(bytes: &[u8]) -> bool
+    ensures { result ≡ list_all is_digit bytes.now }
+{
+    bytes.iter().all(|byte| is_digit(*byte))
+}
+
+/// Whether the bytes are one or more decimal digits.
+pub(crate) fn is_number(bytes: &[u8]) -> bool
+    ensures { result ≡ is_number bytes.now }
+{
+    !bytes.is_empty() && are_digits(bytes)
+}
+
+/// The number that decimal digits spell, or one more than `most` where it is above that.
+pub(crate) fn number_up_to(digits: &[u8], most: u32) -> u32
+    requires digits { IsTrue (list_all is_digit digits.now) }
+    requires most { most ≤ 1048576 }
+    ensures { result ≡ min (digits_value 10 digits.now) (most + 1) }
+{
+    let mut number = 0;
+    for digit in digits {
+        number = (number * 10 + u32::from(*digit - b'0')).min(most + 1);
+    }
+    number
+}
+
+// The framing by the value of a Content-Length field.
+fn framing_by_value(value: &[u8]) -> Framing
+    ensures { result ≡ framing_by (value.now ∷ []) }
+{
+    if !is_number(value) {
+        return Framing::Faulty;
+    }
+    let size = number_up_to(value, MAX_BODY);
+    if size > MAX_BODY {
+        Framing::Large
+    } else {
+        Framing::Sized(size)
+    }
+}
+
+/// Whether the method is PUT.
+pub(crate) fn is_put(method: &[u8]) -> bool
+    ensures { result ≡ is_put method.now }
+{
+    method == b"PUT".as_slice()
+}
+
+/// The framing by method and fields.
+pub(crate) fn framing_by_fields(bytes: &[u8], headers: &[HeaderSpan], method: &[u8]) -> Framing
+    requires { All (IsHeaderWithin (length bytes.now)) headers.now }
+    ensures { result ≡ framing_of method.now (map (header_bytes bytes.now) headers.now) }
+{
+    if method != b"GET".as_slice() && !is_put(method) {
+        return Framing::Faulty;
+    }
+    let Found::Nothing = lone_value(bytes, headers, b"transfer-encoding") else {
+        return Framing::Faulty;
+    };
+    match lone_value(bytes, headers, b"content-length") {
+        Found::Nothing => Framing::Sized(0),
+        Found::One(value) => framing_by_value(value),
+        Found::Several => Framing::Faulty,
+    }
+}

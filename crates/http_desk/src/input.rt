@@ -1,0 +1,119 @@
+//! The bytes of a connection that were read and not taken yet.
+ghost use Rattle.std.specs.Prelude.{◌≤◌, vec_len, vec_capacity};
+
+use crate::counted::Counted;
+use crate::fault::FaultKind;
+use std::alloc::{AllocError, Global};
+use std::io::Read;
+
+/// The most bytes that one read gives.
+const PIECE: usize = 4096;
+
+/// Room for requests that is taken before the first read, in bytes.
+const FIRST_ROOM: usize = 12_288;
+
+/// Bytes that were read and not taken yet, and the turns that are left.
+#[derive(Drop)]
+pub(crate) struct Input {
+    bytes: Vec<u8>,
+    start: usize,
+    turns: u64,
+    ghost ordered: { start ≤ vec_len bytes },
+    ghost roomy: { 16384 ≤ vec_capacity bytes },
+}
+
+impl Input {
+    ghost use Rattle.std.specs.Prelude.{◌≡◌, ◌<◌, ◌≤◌, ◌+◌, ◌^◌, [], true, false, length, drop, vec_capacity, IfOk, IfErr, OnOk, OnErr};
+    ghost use Rattle.std.specs.Io.KnownBytes.{IsAtEnd};
+    ghost use Rattle.http_desk.specs.Counted.{inner_of, failures_of};
+    ghost use Rattle.http_desk.specs.Input.{unread, ReadsOn, FailsBy, max_piece};
+    ghost use Rattle.http_desk.specs.Reads.{first_room};
+
+    /// No byte yet, with room for heads.
+    pub(crate) fn new(alloc: Global, turns: u64) -> Result<Input, AllocError>
+        ensures empty { IfOk result (λ input. unread input ≡ []) }
+        ensures turns { IfOk result (λ input. input.turns ≡ turns) }
+    {
+        let bytes = Vec::with_capacity(alloc, FIRST_ROOM + PIECE)?;
+        Ok(Input {
+            bytes,
+            start: 0,
+            turns,
+        })
+    }
+
+    /// The bytes, lent.
+    pub(crate) fn unread(&self) -> &[u8]
+        ensures { result.now ≡ unread self.now }
+    {
+        &self.bytes[self.start..]
+    }
+
+    /// Takes bytes off the front.
+    pub(crate) fn take(&mut self, count: usize)
+        requires { count ≤ length (unread self.old) }
+        ensures bytes { unread self.new ≡ drop count (unread self.old) }
+        ensures turns { self.new.turns ≡ self.old.turns }
+    {
+        self.start += count;
+    }
+
+    // Drops the bytes that were taken.
+    fn compact(&mut self)
+        ensures bytes { self.new.bytes.items ≡ unread self.old }
+        ensures start { self.new.start ≡ 0 }
+        ensures room { vec_capacity self.new.bytes ≡ vec_capacity self.old.bytes }
+        ensures turns { self.new.turns ≡ self.old.turns }
+    {
+        let start = self.start;
+        let rest = self.bytes.len() - start;
+        self.start = 0;
+        self.bytes.as_mut_slice().rotate_left(start);
+        self.bytes.truncate(rest);
+    }
+
+    /// Makes room for so many bytes and a further piece; refused only where the first room is too small.
+    pub(crate) fn reserve(&mut self, size: usize) -> Result<(), AllocError>
+        requires { size < 2 ^ 40 }
+        ensures bytes { unread self.new ≡ unread self.old }
+        ensures turns { self.new.turns ≡ self.old.turns }
+        ensures ok { OnOk result (size + max_piece ≤ vec_capacity self.new.bytes) }
+        ensures full { OnErr result (first_room < size) }
+    {
+        self.compact();
+        let room = size + PIECE;
+        if room > self.bytes.len() {
+            self.bytes.reserve(room - self.bytes.len())?;
+        }
+        Ok(())
+    }
+
+    /// One read: whether it gave bytes. An error changes none of the bytes.
+    pub(crate) fn read_more<R: Read>(&mut self, reader: &mut Counted<R>) -> Result<bool, FaultKind>
+        requires { length (unread self.old) + max_piece ≤ vec_capacity self.old.bytes }
+        ensures reads { ReadsOn self.old self.new (R.remaining (inner_of reader.old))
+            (R.remaining (inner_of reader.new)) }
+        ensures room { vec_capacity self.old.bytes ≤ vec_capacity self.new.bytes }
+        ensures turn { IfOk result (λ gave. gave ≡ true → self.new.turns < self.old.turns) }
+        ensures end { IfOk result (λ gave. gave ≡ false
+            → (unread self.new ≡ unread self.old) × IsAtEnd (R.remaining (inner_of reader.new))) }
+        ensures kept { OnOk result (failures_of reader.new ≡ failures_of reader.old) }
+        ensures fault { IfErr result (λ kind.
+            FailsBy kind self.new.turns (failures_of reader.old) (failures_of reader.new)) }
+    {
+        if self.turns == 0 {
+            return Err(FaultKind::Turns);
+        }
+        self.compact();
+        let mut piece = [0; PIECE];
+        match reader.read(&mut piece) {
+            Ok(0) => Ok(false),
+            Ok(count) => {
+                self.turns -= 1;
+                self.bytes.extend_from_slice(&piece[..count]).unwrap();
+                Ok(true)
+            }
+            Err(_) => Err(FaultKind::Read),
+        }
+    }
+}

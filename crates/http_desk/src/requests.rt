@@ -1,0 +1,137 @@
+//! The requests of the office, by method, target and body.
+ghost use Rattle.std.specs.Prelude.{◌≡◌, ◌≤◌, length, true, vec_capacity};
+ghost use Rattle.matchit.specs.Params.{AllText};
+ghost use Rattle.percent_encoding.specs.Percent.{percent_decode};
+ghost use Rattle.society_core.specs.Requests.{query_of, is_numbered};
+ghost use Rattle.http_desk.specs.Path.{office_routes, is_path_byte, is_path, parameter, sender_in, number_in, number_of, query_for};
+ghost use Rattle.http_desk.specs.Parameters.{IsDecoded, parts_of};
+
+use crate::framing::{is_number, number_up_to};
+use crate::routes::Route;
+use matchit::{Params, Router};
+use percent_encoding::percent_decode;
+use society_core::{MAX_NUMBER, Request};
+use std::str;
+use work_ids::SenderKey;
+
+fn is_path_byte(byte: u8) -> bool
+    ensures { result ≡ is_path_byte byte }
+{
+    byte < 128 && !(byte == b'?' || byte == b'#')
+}
+
+// Whether a target can be a path of the office.
+fn is_path(target: &[u8]) -> bool
+    ensures { result ≡ is_path target.now }
+{
+    target.iter().all(|byte| is_path_byte(*byte))
+}
+
+// Decodes a parameter into the scratch.
+fn decode(scratch: &mut Vec<u8>, raw: &[u8])
+    requires { length raw.now ≤ vec_capacity scratch.old }
+    ensures value { scratch.new.items ≡ percent_decode raw.now }
+    ensures room { vec_capacity scratch.old ≤ vec_capacity scratch.new }
+{
+    scratch.clear();
+    for byte in percent_decode(raw) {
+        scratch.push(byte).unwrap();
+    }
+}
+
+// Decodes the parameter of this name into the scratch; whether there is one.
+fn take_parameter(scratch: &mut Vec<u8>, params: &Params<'_, '_>, name: &str) -> bool
+    requires text { AllText (parts_of params.now) }
+    requires room { length params.now.path.now ≤ vec_capacity scratch.old }
+    ensures value { IsDecoded result scratch.new.items (parameter name.now (parts_of params.now)) }
+    ensures room { vec_capacity scratch.old ≤ vec_capacity scratch.new }
+{
+    match params.get(name) {
+        Some(raw) => {
+            decode(scratch, raw.as_bytes());
+            true
+        }
+        None => false,
+    }
+}
+
+// The number that decimal digits without a leading zero spell, where it is one of a transmission.
+fn number_in_text(text: &[u8]) -> Option<u32>
+    ensures { result ≡ number_of text.now }
+{
+    if !is_number(text) || text[0] == b'0' {
+        return None;
+    }
+    let number = number_up_to(text, MAX_NUMBER);
+    if 1 <= number && number <= MAX_NUMBER {
+        Some(number)
+    } else {
+        None
+    }
+}
+
+// The sender in the parameters.
+fn sender_in_path(scratch: &mut Vec<u8>, params: &Params<'_, '_>) -> Option<SenderKey>
+    requires text { AllText (parts_of params.now) }
+    requires room { length params.now.path.now ≤ vec_capacity scratch.old }
+    ensures value { result ≡ sender_in (parts_of params.now) }
+    ensures room { vec_capacity scratch.old ≤ vec_capacity scratch.new }
+{
+    if !take_parameter(scratch, params, "sender") {
+        return None;
+    }
+    SenderKey::from_bytes(scratch).ok()
+}
+
+// The number in the parameters.
+fn number_in_path(scratch: &mut Vec<u8>, params: &Params<'_, '_>) -> Option<u32>
+    requires text { AllText (parts_of params.now) }
+    requires room { length params.now.path.now ≤ vec_capacity scratch.old }
+    ensures value { result ≡ number_in (parts_of params.now) }
+    ensures room { vec_capacity scratch.old ≤ vec_capacity scratch.new }
+{
+    if !take_parameter(scratch, params, "n") {
+        return None;
+    }
+    number_in_text(scratch)
+}
+
+/// What is asked by a method, a target and a body; a parameter is decoded in the scratch.
+pub(crate) fn request_for<'b>(
+    router: &Router<Route>,
+    scratch: &mut Vec<u8>,
+    put: bool,
+    target: &[u8],
+    body: &'b [u8],
+) -> Request<'b>
+    requires routes { router.now ≡ office_routes }
+    requires room { length target.now ≤ vec_capacity scratch.old }
+    ensures asks { query_of result ≡ query_for put target.now body.now }
+    ensures numbered { is_numbered (query_of result) ≡ true }
+    ensures room { vec_capacity scratch.old ≤ vec_capacity scratch.new }
+{
+    if !is_path(target) {
+        return Request::Elsewhere;
+    }
+    let Ok(path) = str::from_utf8(target) else {
+        return Request::Elsewhere;
+    };
+    let Ok(found) = router.at(path) else {
+        return Request::Elsewhere;
+    };
+    let Some(sender) = sender_in_path(scratch, &found.params) else {
+        return Request::Elsewhere;
+    };
+    let Some(number) = number_in_path(scratch, &found.params) else {
+        return Request::Elsewhere;
+    };
+    match (put, *found.value) {
+        (true, Route::Transmission) => Request::PutTransmission {
+            sender,
+            number,
+            body,
+        },
+        (false, Route::Acknowledgement) => Request::Acknowledgement { sender, number },
+        _ => Request::Elsewhere,
+    }
+}

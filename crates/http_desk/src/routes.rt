@@ -1,0 +1,43 @@
+//! The routes of the office.
+ghost use Rattle.std.specs.Prelude.{◌≡◌, IfOk, OnOk};
+ghost use Rattle.http_desk.specs.Path.{with_route, office_routes};
+
+use matchit::Router;
+use std::alloc::{AllocError, Global};
+
+/// What a path leads to.
+#[derive(Clone, Copy, Debug, PartialEq, Eq)]
+pub(crate) enum Route {
+    /// A transmission of a sender.
+    Transmission,
+    /// The acknowledgement of a transmission.
+    Acknowledgement,
+}
+
+/// The routes of the office.
+#[tactic(auto, unfolding(crate::specs::Path::office_routes))]
+pub(crate) fn routes(alloc: Global) -> Result<Router<Route>, AllocError>
+    ensures { IfOk result (λ router. router ≡ office_routes) }
+{
+    let mut router = Router::new(alloc);
+    add(
+        &mut router,
+        "/v1/senders/{sender}/transmissions/{n}",
+        Route::Transmission,
+    )?;
+    add(
+        &mut router,
+        "/v1/senders/{sender}/acks/{n}",
+        Route::Acknowledgement,
+    )?;
+    Ok(router)
+}
+
+fn add(router: &mut Router<Route>, text: &str, route: Route) -> Result<(), AllocError>
+    ensures { OnOk result (router.new ≡ with_route text.now route router.old) }
+{
+    match router.insert(text, route) {
+        Ok(()) => Ok(()),
+        Err(_) => Err(AllocError),
+    }
+}
