@@ -51,10 +51,7 @@ fn append_ack_header(
 }
 
 /// Appends the header of an acknowledgement's group.
-fn append_ack_group_header(
-    original: &GroupHeader<'_>,
-    out: &mut Vec<u8>,
-) -> Result<(), AllocError>
+fn append_ack_group_header(original: &GroupHeader<'_>, out: &mut Vec<u8>) -> Result<(), AllocError>
     ensures { OnOk result (out.new.items ≡ out.old.items ++ group_header_line (ack_group_header original.now)) }
 {
     let group_id = digits::<5>(1);

@@ -9,10 +9,7 @@ use std::alloc::AllocError;
 
 /// Appends the line of an HDR record.
 #[tactic(auto, unfolding(crate::specs::Lines::header_line))]
-pub fn append_header(
-    header: &TransmissionHeader<'_>,
-    out: &mut Vec<u8>,
-) -> Result<(), AllocError>
+pub fn append_header(header: &TransmissionHeader<'_>, out: &mut Vec<u8>) -> Result<(), AllocError>
     ensures { OnOk result (out.new.items ≡ out.old.items ++ header_line header.now) }
 {
     write_record(header, out)

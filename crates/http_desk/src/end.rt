@@ -1,6 +1,6 @@
 /// How a connection ends.
 #[derive(Clone, Copy, Debug, PartialEq, Eq)]
-pub(crate) enum End {
+pub enum End {
     /// With no byte of a further request.
     Quiet,
     /// After a request that ends it.

@@ -18,6 +18,7 @@ mod text;
 
 pub use connection::{Served, serve};
 pub use counted::Counted;
+pub use end::End;
 pub use fault::{DeskFault, FaultKind};
 pub use laws::one_cutting;
 

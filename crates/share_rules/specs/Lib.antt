@@ -1,5 +1,4 @@
 pub mod Office
 pub mod Fault
-
 pub use Rattle.work_ids.specs.Blanks
 pub use Rattle.work_ids.specs.WorkNumber

@@ -46,12 +46,12 @@ sound_with b s n body sound entry = record {
   transmissions = λ t m other there.
       ⊎_elim
       (λ (same : eq_by_cmp slot_cmp (slot_of t m) (slot_of s n) ≡ true).
-          let slots = same_slot t s m n same in
-          let bodies : body ≡ other = now_there (body_at b t m) other same (sym (body_at-with b s n body t m) ∙ there) in
-          subst (λ (x : List ℕ). is_entry t m x ≡ true) bodies
-          (subst (λ (x : List ℕ). is_entry x m body ≡ true) (sym slots.0) (subst (λ (x : ℕ). is_entry s x body ≡ true) (sym slots.1) entry)))
+      let slots = same_slot t s m n same in
+      let bodies : body ≡ other = now_there (body_at b t m) other same (sym (body_at-with b s n body t m) ∙ there) in
+      subst (λ (x : List ℕ). is_entry t m x ≡ true) bodies
+      (subst (λ (x : List ℕ). is_entry x m body ≡ true) (sym slots.0) (subst (λ (x : ℕ). is_entry s x body ≡ true) (sym slots.1) entry)))
       (λ (apart : eq_by_cmp slot_cmp (slot_of t m) (slot_of s n) ≡ false).
-          sound.transmissions t m other (as_before body (body_at b t m) other apart (sym (body_at-with b s n body t m) ∙ there)))
+      sound.transmissions t m other (as_before body (body_at b t m) other apart (sym (body_at-with b s n body t m) ∙ there)))
       (cases_Bool (eq_by_cmp slot_cmp (slot_of t m) (slot_of s n)));
 }
 

@@ -53,8 +53,8 @@ there_at b s (suc n) k h low high =
     ⊎_elim
     (λ (below : k < suc n). there_at b s n k (second_holds (is_there b s (suc n)) (has_all b s n) h) low (omega arith))
     (λ (reached : suc n ≤ k).
-        let same : suc n ≡ k = omega arith in
-        subst (λ (m : ℕ). is_there b s m ≡ true) same (first_holds (is_there b s (suc n)) (has_all b s n) h))
+    let same : suc n ≡ k = omega arith in
+    subst (λ (m : ℕ). is_there b s m ≡ true) same (first_holds (is_there b s (suc n)) (has_all b s n) h))
     (cases_lt k (suc n))
 
 -- behind a gap not all are there
@@ -71,8 +71,8 @@ greatest_only p (suc m) n h gap le =
     ⊎_elim
     (λ (below : n < suc m). greatest_only p m n h gap (omega arith) ∙ sym (ap (λ (b : Bool). cond b (suc m) (greatest_to m p)) (gap (suc m) below)))
     (λ (reached : suc m ≤ n).
-        let same : n ≡ suc m = omega arith in
-        same ∙ sym (ap (λ (b : Bool). cond b (suc m) (greatest_to m p)) (subst (λ (k : ℕ). p k ≡ true) same h)))
+    let same : n ≡ suc m = omega arith in
+    same ∙ sym (ap (λ (b : Bool). cond b (suc m) (greatest_to m p)) (subst (λ (k : ℕ). p k ≡ true) same h)))
     (cases_lt n (suc m))
 
 at_most_greatest : (b : Book) (s : List ℕ) (n : ℕ) → has_all b s n ≡ true → n ≤ greatest_number b

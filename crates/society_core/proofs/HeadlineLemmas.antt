@@ -36,11 +36,11 @@ added_keeps b s n y (Some fault) free t m x there = there
 added_keeps b s n y None free t m x there =
     ⊎_elim
     (λ (same : eq_by_cmp slot_cmp (slot_of t m) (slot_of s n) ≡ true).
-        let slots = same_slot t s m n same in
-        let gone : body_at b t m ≡ None = subst (λ (z : List ℕ). body_at b z m ≡ None) (sym slots.0) (subst (λ (k : ℕ). body_at b s k ≡ None) (sym slots.1) free) in
-        absurd (none_or_some x (sym gone ∙ there)))
+    let slots = same_slot t s m n same in
+    let gone : body_at b t m ≡ None = subst (λ (z : List ℕ). body_at b z m ≡ None) (sym slots.0) (subst (λ (k : ℕ). body_at b s k ≡ None) (sym slots.1) free) in
+    absurd (none_or_some x (sym gone ∙ there)))
     (λ (apart : eq_by_cmp slot_cmp (slot_of t m) (slot_of s n) ≡ false).
-        body_at-with b s n y t m ∙ ap (λ (z : Bool). cond z (Some y) (body_at b t m)) apart ∙ there)
+    body_at-with b s n y t m ∙ ap (λ (z : Bool). cond z (Some y) (body_at b t m)) apart ∙ there)
     (cases_Bool (eq_by_cmp slot_cmp (slot_of t m) (slot_of s n)))
   where
     none_or_some : (x : List ℕ) → ◌≡◌ {A = Option (List ℕ)} None (Some x) → ⊥
@@ -76,8 +76,8 @@ added_from b s n y None is t m x there =
     let now = sym (body_at-with b s n y t m) ∙ there in
     ⊎_elim
     (λ (same : eq_by_cmp slot_cmp (slot_of t m) (slot_of s n) ≡ true).
-        let slots = same_slot t s m n same in
-        inr (sym slots.0, sym slots.1, now_there (body_at b t m) x same now, is, λ e. cc))
+    let slots = same_slot t s m n same in
+    inr (sym slots.0, sym slots.1, now_there (body_at b t m) x same now, is, λ e. cc))
     (λ (apart : eq_by_cmp slot_cmp (slot_of t m) (slot_of s n) ≡ false). inl (as_before y (body_at b t m) x apart now))
     (cases_Bool (eq_by_cmp slot_cmp (slot_of t m) (slot_of s n)))
 
@@ -94,8 +94,8 @@ step_from : (o : Office) (b : Book) (q : Query) (r : Reply) (c : Book) → Step 
 step_from o b q r c step t m x there =
     ⊎_elim
     (λ (done : (r ≡ answer o b q) × (c ≡ next b q)).
-        subst (λ (a : Reply). (body_at b t m ≡ Some x) ⊎ Brings q a t m x) (sym done.0)
-        (next_from o b q t m x (subst (λ (d : Book). body_at d t m ≡ Some x) done.1 there)))
+    subst (λ (a : Reply). (body_at b t m ≡ Some x) ⊎ Brings q a t m x) (sym done.0)
+    (next_from o b q t m x (subst (λ (d : Book). body_at d t m ≡ Some x) done.1 there)))
     (λ (busy : (r ≡ Refused Unavailable) × (c ≡ b)). inl (subst (λ (d : Book). body_at d t m ≡ Some x) busy.1 there))
     step
 
@@ -110,9 +110,9 @@ brought_there : (o : Office) (b : Book) (q : Query) (r : Reply) (c : Book) → S
 brought_there o b (Puts s n y) r c step t m x brings =
     ⊎_elim
     (λ (done : (r ≡ answer o b (Puts s n y)) × (c ≡ next b (Puts s n y))).
-        subst (λ (z : List ℕ). is_there c z m ≡ true) brings.0
-        (subst (λ (k : ℕ). is_there c s k ≡ true) brings.1
-        (subst (λ (d : Book). is_there d s n ≡ true) (sym done.1) (put_there b s n y (body_at b s n) refl brings.3))))
+    subst (λ (z : List ℕ). is_there c z m ≡ true) brings.0
+    (subst (λ (k : ℕ). is_there c s k ≡ true) brings.1
+    (subst (λ (d : Book). is_there d s n ≡ true) (sym done.1) (put_there b s n y (body_at b s n) refl brings.3))))
     (λ (busy : (r ≡ Refused Unavailable) × (c ≡ b)). absurd (brings.4 busy.0))
     step
 brought_there o b (AsksAck s n) r c step t m x brings = absurd brings
@@ -132,10 +132,10 @@ run_from o b [] [] c run t m x there = inl (subst (λ (d : Book). body_at d t m 
 run_from o b (q ∷ qs) (r ∷ rs) c run t m x there =
     ⊎_elim
     (λ (before : body_at run.0 t m ≡ Some x).
-        ⊎_elim
-        (λ (first : body_at b t m ≡ Some x). inl first)
-        (λ (brings : Brings q r t m x). inr (inl brings))
-        (step_from o b q r run.0 run.1 t m x before))
+    ⊎_elim
+    (λ (first : body_at b t m ≡ Some x). inl first)
+    (λ (brings : Brings q r t m x). inr (inl brings))
+    (step_from o b q r run.0 run.1 t m x before))
     (λ (later : IsBrought qs rs t m x). inr (inr later))
     (run_from o run.0 qs rs c run.2 t m x there)
 run_from o b [] (r ∷ rs) c run t m x there = absurd run
@@ -151,20 +151,22 @@ run_there o b [] rs c run t m x brought = absurd brought
 run_there o b (q ∷ qs) (r ∷ rs) c run t m x brought =
     ⊎_elim
     (λ (brings : Brings q r t m x).
-        let there = some_there (body_at run.0 t m) (brought_there o b q r run.0 run.1 t m x brings) in
-        (there.0, run_keeps o run.0 qs rs c run.2 t m there.0 there.1))
+    let there = some_there (body_at run.0 t m) (brought_there o b q r run.0 run.1 t m x brings) in
+    (there.0, run_keeps o run.0 qs rs c run.2 t m there.0 there.1))
     (λ (later : IsBrought qs rs t m x). run_there o run.0 qs rs c run.2 t m x later)
     brought
 run_there o b (q ∷ qs) [] c run t m x brought = absurd brought
 
 -- where no number came with two contents, the book holds exactly what came
 pub holds_what_came : (o : Office) (b : Book) (qs : List Query) (rs : List Reply) (c : Book) → Run o b qs rs c → OneContent b qs rs → HoldsWhatCame b qs rs c
-holds_what_came o b qs rs c run one s n x =
-    (run_from o b qs rs c run s n x, ⊎_elim
-    (λ (first : body_at b s n ≡ Some x). run_keeps o b qs rs c run s n x first)
-    (λ (brought : IsBrought qs rs s n x).
-        let there = run_there o b qs rs c run s n x brought in
-        there.1 ∙ ap (λ (y : List ℕ). Some y) (one s n there.0 x (run_from o b qs rs c run s n there.0 there.1) (inr brought))))
+holds_what_came o b qs rs c run one s n x = (
+  run_from o b qs rs c run s n x,
+  ⊎_elim
+      (λ (first : body_at b s n ≡ Some x). run_keeps o b qs rs c run s n x first)
+      (λ (brought : IsBrought qs rs s n x).
+      let there = run_there o b qs rs c run s n x brought in
+      there.1 ∙ ap (λ (y : List ℕ). Some y) (one s n there.0 x (run_from o b qs rs c run s n there.0 there.1) (inr brought))),
+)
 
 same_option : (o p : Option (List ℕ)) → ((x : List ℕ) → o ≡ Some x → p ≡ Some x) → ((x : List ℕ) → p ≡ Some x → o ≡ Some x) → o ≡ p
 same_option None None to from = refl
@@ -178,9 +180,9 @@ order_is_free o b qs rs c ps ss d run other one alike =
     let one' : OneContent b ps ss = λ s n x y f g. one s n x y ((alike s n x).1 f) ((alike s n y).1 g) in
     let holds' = holds_what_came o b ps ss d other one' in
     let maps : c.transmissions ≡ d.transmissions = finite.same_map slots_total exact_slots c.transmissions d.transmissions (λ (q : Slot).
-        same_option (body_at c q.sender q.number) (body_at d q.sender q.number)
-        (λ x there. (holds' q.sender q.number x).1 ((alike q.sender q.number x).0 ((holds q.sender q.number x).0 there)))
-        (λ x there. (holds q.sender q.number x).1 ((alike q.sender q.number x).1 ((holds' q.sender q.number x).0 there)))) in
+    same_option (body_at c q.sender q.number) (body_at d q.sender q.number)
+    (λ x there. (holds' q.sender q.number x).1 ((alike q.sender q.number x).0 ((holds q.sender q.number x).0 there)))
+    (λ x there. (holds q.sender q.number x).1 ((alike q.sender q.number x).1 ((holds' q.sender q.number x).0 there)))) in
     ap (λ (m : finite.FinMap slot_cmp (List ℕ)). let book : Book = record { transmissions = m } in book) maps
 
 -- the answers that were appended to a list of requests tell what the book holds

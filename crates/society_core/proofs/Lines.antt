@@ -13,4 +13,4 @@ line_of-next o b s n x there =
     ap (λ (k : ℕ). line_of o (transmissions_to b s k)) (add-one n)
     ∙ map_push (judged_in o) (transmissions_to b s n) (transmission_in (unwrap_or (body_at b s (suc n)) []))
     ∙ ap (λ (y : List ℕ). line_of o (transmissions_to b s n) ++ judged_in o (transmission_in y) ∷ [])
-      (ap (λ (p : Option (List ℕ)). unwrap_or p []) (sym (there ∙ ap (body_at b s) (add-one n))))
+    (ap (λ (p : Option (List ℕ)). unwrap_or p []) (sym (there ∙ ap (body_at b s) (add-one n))))

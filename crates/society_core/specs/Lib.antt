@@ -7,7 +7,6 @@ pub mod Runs
 pub mod State
 pub mod Faults
 pub mod Headline
-
 pub use Rattle.ack_files.specs.Acknowledgement
 pub use Rattle.cwr_files.specs.Contents
 pub use Rattle.cwr_files.specs.FileFault

@@ -79,9 +79,9 @@ impl<S: Store> Desk<S> {
             Known::Other => Err(Refusal::Reused),
             Known::Absent => {
                 let transmission = read_transmission(alloc, body, sender)?;
-                let front =
-                    self.store
-                        .add_transmission(alloc, sender, number, body, &transmission)?;
+                let front = self
+                    .store
+                    .add_transmission(alloc, sender, number, body, &transmission)?;
                 Ok(arrival(false, number, front))
             }
         }
@@ -109,12 +109,6 @@ impl<S: Store> Desk<S> {
         let Ok(transmission) = read_transmission(alloc, &body, sender) else {
             return Err(Refusal::Unavailable);
         };
-        Ok(write_ack(
-            alloc,
-            self.store.office(),
-            sender,
-            &transmission,
-            &verdicts,
-        )?)
+        Ok(write_ack(alloc, self.store.office(), sender, &transmission, &verdicts)?)
     }
 }

@@ -12,13 +12,11 @@ ghost use Rattle.society_core.specs.Runs.{Run};
 /// Where no number came with two contents, the book after any list of requests holds exactly what came.
 pub fn book_holds_what_came()
     ensures { (office : Office) (before : Book) (queries : List Query) (replies : List Reply) (after : Book) → Run office before queries replies after → OneContent before queries replies → HoldsWhatCame before queries replies after }
-{
-}
+{}
 
 /// Two lists that brought the same bodies, whatever was repeated, reordered or asked between, leave the same
 /// book, and so every later request is answered alike.
 pub fn order_of_arrival_is_free()
     ensures same_book { (office : Office) (before : Book) (queries : List Query) (replies : List Reply) (after : Book) (others : List Query) (answers : List Reply) (end : Book) → Run office before queries replies after → Run office before others answers end → OneContent before queries replies → BroughtAlike before queries replies others answers → after ≡ end }
     ensures same_answers { (office : Office) (before : Book) (queries : List Query) (replies : List Reply) (after : Book) (others : List Query) (answers : List Reply) (end : Book) → Run office before queries replies after → Run office before others answers end → OneContent before queries replies → BroughtAlike before queries replies others answers → (query : Query) → answer office after query ≡ answer office end query }
-{
-}
+{}

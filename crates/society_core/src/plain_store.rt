@@ -1,4 +1,4 @@
-ghost use Rattle.std.specs.Prelude.{◌≡◌, IfOk, option_map};
+ghost use Rattle.std.specs.Prelude.{◌≡◌, IfOk, option_map, true};
 ghost use Rattle.society_core.specs.Answers.{known_as};
 ghost use Rattle.society_core.specs.Book.{IsSound, body_at, front, transmissions_to, verdicts_in};
 ghost use Rattle.society_core.specs.Plain.{book_with};
@@ -26,8 +26,9 @@ impl PlainStore {
 
     /// The store of an office to which nothing has come.
     pub fn new(alloc: Global, office: &Office) -> PlainStore
-        ensures office { result.office ≡ office.now }
-        ensures empty { book_with result.bodies ≡ empty_book }
+        ensures office { (⟦<PlainStore as Store>⟧.state result).office ≡ office.now }
+        ensures empty { (⟦<PlainStore as Store>⟧.state result).book ≡ empty_book }
+        ensures clean { (⟦<PlainStore as Store>⟧.state result).is_clean ≡ true }
     {
         PlainStore {
             office: *office,
@@ -153,13 +154,7 @@ impl Store for PlainStore {
         sender: &SenderKey,
         number: u32,
     ) -> Result<Vec<Verdict>, StoreFault> {
-        Ok(verdicts_of(
-            alloc,
-            &self.office,
-            &self.bodies,
-            sender,
-            number,
-        )?)
+        Ok(verdicts_of(alloc, &self.office, &self.bodies, sender, number)?)
     }
 
     fn add_transmission(

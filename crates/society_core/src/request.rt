@@ -83,7 +83,10 @@ pub enum Request<'a> {
         body: &'a [u8],
     },
     /// Show the acknowledgement of a sender's transmission.
-    Acknowledgement { sender: SenderKey, number: u32 },
+    Acknowledgement {
+        sender: SenderKey,
+        number: u32,
+    },
     /// Something that the office does not have.
     Elsewhere,
 }

@@ -82,6 +82,7 @@ some_version w (Clean Nwr u ∷ past) h =
   where
     here : is_registered w past ≡ false → (bytes_eq u w || is_registered w past) ≡ true → bytes_eq u w ≡ true
     here first t = ⊎_elim (λ (e : bytes_eq u w ≡ true). e) (λ (e : is_registered w past ≡ true). absurd (false≢true (sym first ∙ e))) (or_cases (bytes_eq u w) (is_registered w past) t)
+
     begun : (a b : Bool) → is_registered w past ≡ false → bytes_eq u w ≡ true → 1 ≤ versions_of w (Clean Nwr u ∷ past)
     begun a b first e =
         let free : is_registered u past ≡ false = subst (λ (z : List ℕ). is_registered z past ≡ false) (sym (same_bytes u w e)) first in
@@ -120,7 +121,7 @@ pub known_of-revised : (past : List Judged) (u w : List ℕ) → is_registered u
 known_of-revised past u w there =
     revises (bytes_eq u w) (is_registered w past) (is_registered u past) (ordinal_of w past) (works_in (Clean Rev u ∷ past)) (versions_of w past) (ordinal_of u past) (versions_of u past) there
     (λ e. let same = same_bytes u w e in
-        (subst (λ (z : List ℕ). is_registered z past ≡ true) same there, ap (λ (z : List ℕ). ordinal_of z past) (sym same), ap (λ (z : List ℕ). versions_of z past) (sym same)))
+    (subst (λ (z : List ℕ). is_registered z past ≡ true) same there, ap (λ (z : List ℕ). ordinal_of z past) (sym same), ap (λ (z : List ℕ). versions_of z past) (sym same)))
     ∙ ap (λ (z : Bool). cond z (Some (record { ordinal = ordinal_of u past; revision = versions_of u past })) (known_of w past)) (texts_ties u w)
 
 none_is_none : (k : Known) → ◌≡◌ {A = Option Known} None (Some k) → ⊥

@@ -3,5 +3,4 @@ pub mod Line
 pub mod LineValue
 pub mod Kept
 pub mod Tracks
-
 pub use Rattle.share_rules.specs.Fault

@@ -2,12 +2,10 @@
 #![tactic(auto)]
 
 mod judged;
-
 mod sender_line;
 mod verdict;
 mod works;
 
 pub use judged::Judged;
-
 pub use sender_line::SenderLine;
 pub use verdict::Verdict;

@@ -31,8 +31,8 @@ loop-request-preserved g c =
           (appends_more (state first).office (state first).book (state before).book (state after).book (state before).is_clean (state after).is_clean (take index requests) c.reserve.new.self.items c.loop-request.answers.items c.push.new.self.items request c.answer-answer.result c.loop-request.invariant.ran
           c.answer-answer.ensures.goes.clean
           (λ still.
-              subst (λ (x : Office). Step x (state before).book (query_of request) (reply_of c.answer-answer.result) (state after).book) c.loop-request.invariant.office
-              (c.answer-answer.ensures.step still))
+          subst (λ (x : Office). Step x (state before).book (query_of request) (reply_of c.answer-answer.result) (state after).book) c.loop-request.invariant.office
+          (c.answer-answer.ensures.step still))
           items_are);
     }
 
@@ -44,10 +44,10 @@ returns-clause-headline g c = λ still.
     let requests = c.args.requests.now in
     let all = take_all c.loop-request.request-index requests c.loop-request-test.false in
     let ran =
-            subst
-            (λ (xs : List Request). AppendsRun (state first).office (state first).book (state last).book (state last).is_clean xs c.reserve.new.self.items c.loop-request.answers.items) all
-            c.loop-request.invariant.ran in
+    subst
+    (λ (xs : List Request). AppendsRun (state first).office (state first).book (state last).book (state last).is_clean xs c.reserve.new.self.items c.loop-request.answers.items) all
+    c.loop-request.invariant.ran in
     let from_old =
-            subst
-            (λ (xs : List Answer). AppendsRun (state first).office (state first).book (state last).book (state last).is_clean requests xs c.loop-request.answers.items) c.reserve.ensures.items ran in
+    subst
+    (λ (xs : List Answer). AppendsRun (state first).office (state first).book (state last).book (state last).is_clean requests xs c.loop-request.answers.items) c.reserve.ensures.items ran in
     tells_what_came (state first).office (state first).book (state last).book (state last).is_clean requests c.args.answers.now.items c.loop-request.answers.items from_old still

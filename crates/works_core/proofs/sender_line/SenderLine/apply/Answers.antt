@@ -21,9 +21,9 @@ invariant_of-self-2 c =
     let line = judged_are ∙ ap (λ (xs : List (Vec Judged Global)). xs ++ fresh ∷ []) c.reserve.ensures.items in
     let kept_verdicts = verdicts_are ∙ ap (λ (xs : List (Vec Verdict Global)). xs ++ verdicts ∷ []) c.reserve-2.ensures.items in
     let told =
-            c.in_ok-verdicts.ensures
-            ∙ ap (λ (xs : List (Vec Judged Global)). verdicts_from (behind_all [] (lists_of xs)) c.as_slice-3.result.now) c.as_slice-2.ensures.value
-            ∙ ap (λ (xs : List Judged). verdicts_from (behind_all [] (lists_of inside.judged.items)) xs) c.as_slice-3.ensures.value in
+    c.in_ok-verdicts.ensures
+    ∙ ap (λ (xs : List (Vec Judged Global)). verdicts_from (behind_all [] (lists_of xs)) c.as_slice-3.result.now) c.as_slice-2.ensures.value
+    ∙ ap (λ (xs : List Judged). verdicts_from (behind_all [] (lists_of inside.judged.items)) xs) c.as_slice-3.ensures.value in
     let kept = kept_push inside.judged.items inside.verdicts.items fresh verdicts c.self.invariant told in
     subst (λ (xs : List (Vec Judged Global)). IsKept xs c.push-2.new.self.items) (sym line)
     (subst (λ (xs : List (Vec Verdict Global)). IsKept (inside.judged.items ++ fresh ∷ []) xs) (sym kept_verdicts) kept)
@@ -39,6 +39,6 @@ returns-clause-applied c =
     ∙ map_push (λ (v : Vec Judged Global). v.items) inside.judged.items fresh
     ∙ ap (λ (xs : List (List Judged)). xs ++ fresh.items ∷ []) (ap (λ (v : SenderLineValue). v.judged) c.self.view_is)
     ∙ ap (λ (xs : List Judged). c.args.self.now.judged ++ xs ∷ [])
-      (c.in_ok-judged.ensures
-      ∙ ap (λ (gs : List Group). map (judged inside.office) (flat_map (λ g. g.transactions) gs)) c.as_slice.ensures
-      ∙ ap (λ (o : Office). map (judged o) (flat_map (λ g. g.transactions) c.args.transmission.now.groups)) (ap (λ (v : SenderLineValue). v.office) c.self.view_is))
+    (c.in_ok-judged.ensures
+    ∙ ap (λ (gs : List Group). map (judged inside.office) (flat_map (λ g. g.transactions) gs)) c.as_slice.ensures
+    ∙ ap (λ (o : Office). map (judged o) (flat_map (λ g. g.transactions) c.args.transmission.now.groups)) (ap (λ (v : SenderLineValue). v.office) c.self.view_is))

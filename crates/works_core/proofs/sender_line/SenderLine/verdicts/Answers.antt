@@ -14,8 +14,8 @@ returns-then-n-eq0 c =
     let same = kept_length inside.judged.items inside.verdicts.items c.self.invariant in
     let judged = length-map inside.judged.items (λ v. v.items) in
     elim c.then-n-eq0.branch [
-      then-n-eq0-via-then-n-eq0 w ↦ inl w.if-n-eq0.true |
-      then-n-eq0-via-else-n-eq0+then-n-len w ↦ inr (omega (arith, line, same, judged, w.if-n-len.true, w.len.ensures, inside.verdicts.ok.0))
+      | then-n-eq0-via-then-n-eq0 w ↦ inl w.if-n-eq0.true
+      | then-n-eq0-via-else-n-eq0+then-n-len w ↦ inr (omega (arith, line, same, judged, w.if-n-len.true, w.len.ensures, inside.verdicts.ok.0))
     ]
 
 pub returns : goal.returns
@@ -24,10 +24,9 @@ returns c =
     let line = ap (λ (v : SenderLineValue). length v.judged) c.self.view_is in
     let same = kept_length inside.judged.items inside.verdicts.items c.self.invariant in
     let judged = length-map inside.judged.items (λ v. v.items) in
-    let within : c.args.n - 1 < length inside.verdicts.items = omega (arith, c.if-n-eq0.false, c.if-n-len.false, c.len.ensures, inside.verdicts.ok.0) in
-    (
+    let within : c.args.n - 1 < length inside.verdicts.items = omega (arith, c.if-n-eq0.false, c.if-n-len.false, c.len.ensures, inside.verdicts.ok.0) in (
       omega (arith, c.if-n-eq0.false),
       omega (arith, line, same, judged, c.if-n-len.false, c.len.ensures, inside.verdicts.ok.0),
       c.as_slice.ensures.value ∙ kept_at inside.judged.items inside.verdicts.items c.args.n c.index.result.now c.self.invariant within c.index.ensures
-      ∙ ap (λ (v : SenderLineValue). verdicts_at v.judged c.args.n) c.self.view_is
+          ∙ ap (λ (v : SenderLineValue). verdicts_at v.judged c.args.n) c.self.view_is,
     )

@@ -1,0 +1,42 @@
+//! The program: `society replay --society N --territory N --name TEXT` serves standard input to standard
+//! output over a book in memory.
+#![tactic(auto)]
+
+mod replay;
+#[cfg(test)]
+mod tests;
+mod words;
+
+use http_desk::Counted;
+use replay::replay;
+use std::env;
+use std::process::ExitCode;
+use words::{Words, office_in};
+
+/// Status where the words are none that the program knows.
+const WRONG_WORDS: u8 = 2;
+
+fn main(rt: HostRuntime) -> ExitCode {
+    let alloc = rt.alloc();
+    let Ok(args) = env::args(&rt) else {
+        return ExitCode::from(WRONG_WORDS);
+    };
+    let Ok(words) = args.collect::<Vec<String>>(alloc) else {
+        return ExitCode::from(WRONG_WORDS);
+    };
+    match office_in(words.as_slice()) {
+        Words::Replay(office) => {
+            let mut reader = Counted::new(rt.stdin());
+            let mut out = Counted::new(rt.stdout());
+            ExitCode::from(replay(alloc, &office, &mut reader, &mut out, &mut rt.stderr()))
+        }
+        Words::BadName => {
+            let _ = eprintln!(rt; "society: bad name");
+            ExitCode::from(WRONG_WORDS)
+        }
+        Words::BadWords => {
+            let _ = eprintln!(rt; "society: bad words");
+            ExitCode::from(WRONG_WORDS)
+        }
+    }
+}

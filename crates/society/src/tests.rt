@@ -1,0 +1,248 @@
+//! The program's rows: what is written for streams of requests, byte for byte.
+use crate::replay::replay;
+use http_desk::Counted;
+use share_rules::Office;
+use society_core::{Answer, Arrival, Desk, PlainStore, Refusal, Request, Standing, run};
+use std::alloc::{AllocError, Global};
+use std::process::Abort;
+use std::test::Fail;
+use work_ids::SenderKey;
+
+/// A registration of one work, 1,048 bytes.
+const F1: &[u8] =
+    b"HDRPB000000012EXAMPLE MUSIC                                01.102026010510150020260106\r\nGRHNWR0000102.200000000000\r\nNWR0000000000000000FIRST SONG                                                    W1            T0345246801\r\nSPU000000000000000101P1       EXAMPLE MUSIC                                 E          00000000199                 05000   10000   10000\r\nSPT0000000000000002P1             050001000010000I2136 001\r\nSWR0000000000000003A1       WRITER                                       ANNA                           CA         00000000295   05000   00000   00000\r\nSWT0000000000000004A1       050000000000000I2136 001\r\nPWR0000000000000005P1       EXAMPLE MUSIC                                                            A1\r\nREC0000000000000006                                                                                                                                                                                                                                      ATABC2600001\r\nGRT000010000000100000009\r\nTRL000010000000100000011\r\n";
+
+/// A transmission with no group, 114 bytes.
+const F3: &[u8] =
+    b"HDRPB000000012EXAMPLE MUSIC                                01.102026010510150020260106\r\nTRL000000000000000000002\r\n";
+
+/// The acknowledgement of that, 129 bytes.
+const F3_ACK: &[u8] =
+    b"HDRSO000000900EXAMPLE SOCIETY                              01.102026010600000020260106               \r\nTRL000000000000000000002\r\n";
+
+/// The office of the rows.
+fn office() -> Result<Office, &'static str> {
+    Office::new(900, 40, b"EXAMPLE SOCIETY").ok_or("an office")
+}
+
+/// What is written for these requests, and the exit status.
+fn replayed(alloc: Global, input: &[u8]) -> Result<(Vec<u8>, u8), Fail> {
+    let office = office()?;
+    let mut reader = Counted::new(input);
+    let mut out = Counted::new(Vec::new(alloc));
+    let mut err = Vec::<u8>::new(alloc);
+    let status = replay(alloc, &office, &mut reader, &mut out, &mut err);
+    Ok((out.into_inner(), status))
+}
+
+/// Appends the put of a transmission.
+fn put(alloc: Global, input: &mut Vec<u8>, number: &str, body: &[u8]) -> Result<(), AllocError> {
+    let length = body.len();
+    let head = format!(in alloc;
+        "PUT /v1/senders/PB000000012/transmissions/{number} HTTP/1.1\r\nHost: office\r\nContent-Length: {length}\r\n\r\n"
+    )?;
+    input.extend_from_slice(head.as_bytes())?;
+    input.extend_from_slice(body)
+}
+
+/// Appends the request of an acknowledgement.
+fn get(alloc: Global, input: &mut Vec<u8>, number: &str) -> Result<(), AllocError> {
+    let head = format!(in alloc;
+        "GET /v1/senders/PB000000012/acks/{number} HTTP/1.1\r\nHost: office\r\n\r\n"
+    )?;
+    input.extend_from_slice(head.as_bytes())
+}
+
+/// Appends an answer.
+fn answer(
+    alloc: Global,
+    out: &mut Vec<u8>,
+    status: &str,
+    kind: &str,
+    body: &[u8],
+) -> Result<(), AllocError> {
+    let length = body.len();
+    let head = format!(in alloc;
+        "HTTP/1.1 {status}\r\nContent-Type: application/{kind}\r\nContent-Length: {length}\r\n\r\n"
+    )?;
+    out.extend_from_slice(head.as_bytes())?;
+    out.extend_from_slice(body)
+}
+
+/// A body with the bytes at a place changed.
+fn changed(alloc: Global, body: &[u8], at: usize, by: &[u8]) -> Result<Vec<u8>, AllocError> {
+    let mut copy = Vec::new(alloc);
+    for (index, byte) in body.iter().enumerate() {
+        let inside = at <= index && index - at < by.len();
+        copy.push(if inside { by[index - at] } else { *byte })?;
+    }
+    Ok(copy)
+}
+
+/// Puts one after another, each with its number, body, status and JSON answer.
+fn check_puts(
+    rt: &impl Abort,
+    alloc: Global,
+    rows: &[(&str, &[u8], &str, &str)],
+) -> Result<(), Fail> {
+    let mut input = Vec::new(alloc);
+    let mut wanted = Vec::new(alloc);
+    for (number, body, status, json) in rows {
+        put(alloc, &mut input, number, body)?;
+        answer(alloc, &mut wanted, status, "json", json.as_bytes())?;
+    }
+    let (out, status) = replayed(alloc, input.as_slice())?;
+    assert_eq!(rt; out.as_slice(), wanted.as_slice());
+    assert_eq!(rt; status, 0);
+    Ok(())
+}
+
+#[test]
+fn empty_file(rt: HostRuntime) -> Result<(), Fail> {
+    let alloc = rt.alloc();
+    let mut input = Vec::new(alloc);
+    put(alloc, &mut input, "1", F3)?;
+    get(alloc, &mut input, "1")?;
+    let mut wanted = Vec::new(alloc);
+    let applied = b"{\"front\":1,\"state\":\"applied\"}";
+    answer(alloc, &mut wanted, "201 Created", "json", applied)?;
+    answer(alloc, &mut wanted, "200 OK", "octet-stream", F3_ACK)?;
+    let (out, status) = replayed(alloc, input.as_slice())?;
+    assert_eq!(rt; out.as_slice(), wanted.as_slice());
+    assert_eq!(rt; status, 0);
+    Ok(())
+}
+
+#[test]
+fn held_number_reused(rt: HostRuntime) -> Result<(), Fail> {
+    let other = changed(rt.alloc(), F1, 144, b"H")?;
+    let other = other.as_slice();
+    check_puts(
+        &rt,
+        rt.alloc(),
+        &[
+            ("3", F1, "202 Accepted", "{\"front\":0,\"state\":\"held\"}"),
+            ("3", other, "409 Conflict", "{\"error\":\"reused\"}"),
+            (
+                "1",
+                F3,
+                "201 Created",
+                "{\"front\":1,\"state\":\"applied\"}",
+            ),
+            (
+                "2",
+                F3,
+                "201 Created",
+                "{\"front\":3,\"state\":\"applied\"}",
+            ),
+            ("3", other, "409 Conflict", "{\"error\":\"reused\"}"),
+            ("3", F1, "200 OK", "{\"front\":3,\"state\":\"applied\"}"),
+        ],
+    )
+}
+
+#[test]
+fn numbers_at_the_limits(rt: HostRuntime) -> Result<(), Fail> {
+    let unknown = "{\"error\":\"unknown\"}";
+    check_puts(
+        &rt,
+        rt.alloc(),
+        &[
+            (
+                "999999",
+                F3,
+                "202 Accepted",
+                "{\"front\":0,\"state\":\"held\"}",
+            ),
+            ("1000000", F3, "404 Not Found", unknown),
+            ("0", F3, "404 Not Found", unknown),
+            ("01", F3, "404 Not Found", unknown),
+        ],
+    )
+}
+
+#[test]
+fn record_count_off_by_one(rt: HostRuntime) -> Result<(), Fail> {
+    let short = changed(rt.alloc(), F1, 1_019, b"8")?;
+    check_puts(
+        &rt,
+        rt.alloc(),
+        &[
+            (
+                "1",
+                short.as_slice(),
+                "422 Unprocessable Entity",
+                "{\"error\":\"file\",\"fault\":8,\"line\":10}",
+            ),
+            (
+                "1",
+                F1,
+                "201 Created",
+                "{\"front\":1,\"state\":\"applied\"}",
+            ),
+        ],
+    )
+}
+
+#[test]
+fn cut_files(rt: HostRuntime) -> Result<(), Fail> {
+    let file = |fault: u8, line: u8| -> Result<String, AllocError> {
+        format!(in rt.alloc(); "{{\"error\":\"file\",\"fault\":{fault},\"line\":{line}}}")
+    };
+    let refused = "422 Unprocessable Entity";
+    let no_trailer = file(10, 11)?;
+    let cut_trailer = file(9, 11)?;
+    let cut_header = file(3, 1)?;
+    let nothing = file(1, 1)?;
+    check_puts(
+        &rt,
+        rt.alloc(),
+        &[
+            ("1", &F1[..1_022], refused, no_trailer.as_str()),
+            ("1", &F1[..1_044], refused, cut_trailer.as_str()),
+            ("1", &F1[..40], refused, cut_header.as_str()),
+            ("1", b"", refused, nothing.as_str()),
+        ],
+    )
+}
+
+#[test]
+fn held_number_reused_in_a_run(rt: HostRuntime) -> Result<(), Fail> {
+    let alloc = rt.alloc();
+    let other = changed(alloc, F1, 144, b"H")?;
+    let office = office()?;
+    let mut desk = Desk::new(PlainStore::new(alloc, &office));
+    let sender = SenderKey::from_bytes(b"PB000000012").ok().ok_or("a key")?;
+    let requests = [
+        Request::PutTransmission {
+            sender,
+            number: 3,
+            body: F1,
+        },
+        Request::PutTransmission {
+            sender,
+            number: 3,
+            body: other.as_slice(),
+        },
+    ];
+    let mut answers = Vec::new(alloc);
+    run(alloc, &mut desk, &requests, &mut answers)?;
+    let mut seen = 0;
+    for (index, answer) in answers.iter().enumerate() {
+        let right = match answer {
+            Answer::Arrived(
+                Arrival {
+                    known: false,
+                    front: 0,
+                    standing: Standing::Held,
+                },
+            ) => index == 0,
+            Answer::Refused(Refusal::Reused) => index == 1,
+            _ => false,
+        };
+        assert!(rt; right);
+        seen = index + 1;
+    }
+    assert_eq!(rt; seen, 2);
+    Ok(())
+}
