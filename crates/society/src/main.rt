@@ -8,7 +8,7 @@ mod tests;
 mod words;
 
 use http_desk::Counted;
-use replay::replay;
+use replay::{BROKEN_OFF, replay};
 use std::env;
 use std::process::ExitCode;
 use words::{Words, office_in};
@@ -16,13 +16,19 @@ use words::{Words, office_in};
 /// Status where the words are none that the program knows.
 const WRONG_WORDS: u8 = 2;
 
+/// Ends before any request, where memory was refused for the words.
+fn no_memory(rt: &impl Eprint) -> ExitCode {
+    let _ = eprintln!(rt; "society: memory fault after 0 requests");
+    ExitCode::from(BROKEN_OFF)
+}
+
 fn main(rt: HostRuntime) -> ExitCode {
     let alloc = rt.alloc();
     let Ok(args) = env::args(&rt) else {
-        return ExitCode::from(WRONG_WORDS);
+        return no_memory(&rt);
     };
     let Ok(words) = args.collect::<Vec<String>>(alloc) else {
-        return ExitCode::from(WRONG_WORDS);
+        return no_memory(&rt);
     };
     match office_in(words.as_slice()) {
         Words::Replay(office) => {

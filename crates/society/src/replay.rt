@@ -15,7 +15,7 @@ const TURNS: u64 = 100_000_000;
 const SERVED: u8 = 0;
 
 /// Status of a stream that broke off.
-const BROKEN_OFF: u8 = 1;
+pub const BROKEN_OFF: u8 = 1;
 
 /// Serves what a reader gives at an office to which nothing has come, over a book in memory: the answers go to
 /// `out`. Answers the exit status: 0 where the input was served to its end; 1 where the reader or the writer

@@ -207,6 +207,29 @@ fn cut_files(rt: HostRuntime) -> Result<(), Fail> {
 }
 
 #[test]
+fn line_feeds_alone(rt: HostRuntime) -> Result<(), Fail> {
+    let mut body = Vec::new(rt.alloc());
+    for byte in F1 {
+        if *byte != b'\r' {
+            body.push(*byte)?;
+        }
+    }
+    let whole = body.len();
+    body.truncate(whole.saturating_sub(1));
+    assert_eq!(rt; body.len(), 1_036);
+    check_puts(
+        &rt,
+        rt.alloc(),
+        &[(
+            "1",
+            body.as_slice(),
+            "201 Created",
+            "{\"front\":1,\"state\":\"applied\"}",
+        )],
+    )
+}
+
+#[test]
 fn held_number_reused_in_a_run(rt: HostRuntime) -> Result<(), Fail> {
     let alloc = rt.alloc();
     let other = changed(alloc, F1, 144, b"H")?;

@@ -1,6 +1,6 @@
 -- Blanks (0x20) round an identifier and behind it.
-use Rattle.std.specs.Prelude.{ℕ, Bool, List, ◌++◌, ◌-◌, ◌==◌, length, take, replicate}
-use Rattle.std.specs.List.{suffix_len}
+use Rattle.std.specs.Prelude.{ℕ, Bool, List, ◌++◌, ◌-◌, ◌==◌, length, take, drop, replicate}
+use Rattle.std.specs.List.{prefix_len, suffix_len}
 
 -- a blank (profile)
 abbrev pub is_blank_byte : ℕ → Bool
@@ -9,6 +9,14 @@ is_blank_byte byte = byte == 32
 -- the bytes without the blanks at their end (profile)
 abbrev pub without_trailing_blanks : List ℕ → List ℕ
 without_trailing_blanks bytes = take (length bytes - suffix_len is_blank_byte bytes) bytes
+
+-- the bytes without the blanks in front (profile)
+abbrev pub without_leading_blanks : List ℕ → List ℕ
+without_leading_blanks bytes = drop (prefix_len is_blank_byte bytes) bytes
+
+-- the bytes without the blanks at both ends (profile)
+unfoldable pub trimmed : List ℕ → List ℕ
+trimmed bytes = without_leading_blanks (without_trailing_blanks bytes)
 
 -- the bytes filled with blanks to a width (profile)
 abbrev pub fill : ℕ → List ℕ → List ℕ

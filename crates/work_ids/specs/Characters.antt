@@ -1,5 +1,5 @@
 -- The characters of identifiers.
-use Rattle.std.specs.Prelude.{ℕ, Bool, ◌&&◌, ◌||◌, nat_le}
+use Rattle.std.specs.Prelude.{ℕ, Bool, ◌-◌, ◌&&◌, ◌||◌, nat_le, if◌then◌else◌}
 
 -- one of A-Z (profile)
 abbrev pub is_capital : ℕ → Bool
@@ -16,3 +16,7 @@ is_capital_or_digit byte = is_capital byte || is_digit byte
 -- printable ASCII, 0x20 to 0x7E (profile)
 abbrev pub is_printable : ℕ → Bool
 is_printable byte = nat_le 32 byte && nat_le byte 126
+
+-- a small letter as the capital, any other byte as it is (profile)
+abbrev pub capital : ℕ → ℕ
+capital byte = if nat_le 97 byte && nat_le byte 122 then byte - 32 else byte

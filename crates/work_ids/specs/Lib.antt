@@ -1,4 +1,12 @@
+pub mod Account
 pub mod Blanks
 pub mod Characters
+pub mod CheckDigit
+pub mod Fields
+pub mod IpiName
+pub mod Isrc
+pub mod Iswc
+pub mod PartyNumber
+pub mod Reporter
 pub mod SenderKey
 pub mod WorkNumber

@@ -1,6 +1,43 @@
 ghost use Rattle.std.specs.Prelude.{◌≡◌};
 ghost use Rattle.std.specs.List.{list_all};
-ghost use Rattle.work_ids.specs.Characters.{is_capital_or_digit, is_printable};
+ghost use Rattle.work_ids.specs.Characters.{capital, is_capital, is_digit, is_capital_or_digit, is_printable};
+
+fn is_capital(byte: u8) -> bool
+    ensures { result ≡ is_capital byte }
+{
+    b'A' <= byte && byte <= b'Z'
+}
+
+/// Whether each byte is one of A-Z.
+pub fn are_capitals(bytes: &[u8]) -> bool
+    ensures { result ≡ list_all is_capital bytes.now }
+{
+    bytes.iter().all(|byte| is_capital(*byte))
+}
+
+fn is_digit(byte: u8) -> bool
+    ensures { result ≡ is_digit byte }
+{
+    b'0' <= byte && byte <= b'9'
+}
+
+/// Whether each byte is one of 0-9.
+pub fn are_digits(bytes: &[u8]) -> bool
+    ensures { result ≡ list_all is_digit bytes.now }
+{
+    bytes.iter().all(|byte| is_digit(*byte))
+}
+
+/// A small letter as the capital, any other byte as it is.
+pub fn capital(byte: u8) -> u8
+    ensures { result ≡ capital byte }
+{
+    if b'a' <= byte && byte <= b'z' {
+        byte - b'a' + b'A'
+    } else {
+        byte
+    }
+}
 
 fn is_capital_or_digit(byte: u8) -> bool
     ensures { result ≡ is_capital_or_digit byte }

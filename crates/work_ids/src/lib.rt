@@ -1,16 +1,30 @@
-//! The identifiers of the office: whom a transmission comes from, and what its works are called.
+//! The identifiers of the office: works, recordings, parties, senders, reporters, and the accounts of parties.
 //! No call of this crate takes memory.
 #![tactic(auto)]
 
+mod account;
 mod blanks;
 mod characters;
+mod checksum;
 mod fault;
+mod ipi_name;
+mod isrc;
+mod iswc;
+mod party_number;
+mod reporter;
 mod sender_key;
 mod work_number;
 
+pub use account::Account;
 pub use blanks::filled;
 pub use characters::are_printable;
+pub use checksum::check_digit;
 pub use fault::IdFault;
+pub use ipi_name::IpiName;
+pub use isrc::Isrc;
+pub use iswc::Iswc;
+pub use party_number::PartyNumber;
+pub use reporter::Reporter;
 pub use sender_key::SenderKey;
 pub use work_number::WorkNumber;
 

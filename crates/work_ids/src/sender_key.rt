@@ -39,9 +39,17 @@ impl SenderKey {
         if !are_capitals_or_digits(bytes) {
             return Err(IdFault::Character);
         }
+        Ok(SenderKey::from_characters(bytes))
+    }
+
+    /// The key of eleven bytes.
+    pub(crate) fn from_characters(bytes: &[u8]) -> SenderKey
+        requires { length bytes.now ≡ 11 }
+        ensures { result ≡ bytes.now }
+    {
         let mut key = [0; 11];
         key.copy_from_slice(bytes);
-        Ok(SenderKey { bytes: key })
+        SenderKey { bytes: key }
     }
 
     /// The eleven bytes.

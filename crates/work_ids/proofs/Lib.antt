@@ -1,0 +1,4 @@
+pub mod Capitals
+pub mod Joined
+pub mod Marks
+pub mod Sums

@@ -1,0 +1,78 @@
+ghost use Rattle.std.specs.Prelude.{◌≡◌, ◌≤◌, length};
+ghost use Rattle.std.specs.List.{list_all};
+ghost use Rattle.work_ids.specs.IpiName.{eleven_digits, ipi_field_of, is_zero};
+
+use crate::IdFault;
+use crate::blanks::trimmed;
+use crate::characters::are_digits;
+use std::marker::Model;
+
+/// Digits of an IPI name number.
+pub const IPI_NAME_LENGTH: usize = 11;
+
+/// The number under which a party is known to all societies: eleven digits (CISAC CWR 2.2, IPI name number).
+#[derive(Clone, Copy, Debug, PartialEq, Eq, PartialOrd, Ord)]
+pub struct IpiName {
+    bytes: [u8; 11],
+}
+
+impl Model for IpiName {
+    ghost use Rattle.std.specs.Prelude.{List, ℕ};
+
+    ghost Value = { List ℕ };
+
+    ghost view = { λ n. n.bytes };
+
+    ghost inverse = { λ bytes. record { bytes = bytes } };
+}
+
+fn is_zero(byte: u8) -> bool
+    ensures { result ≡ is_zero byte }
+{
+    byte == b'0'
+}
+
+/// Whether each byte is the digit zero.
+pub(crate) fn are_zeros(bytes: &[u8]) -> bool
+    ensures { result ≡ list_all is_zero bytes.now }
+{
+    bytes.iter().all(|byte| is_zero(*byte))
+}
+
+impl IpiName {
+    /// The number of at most eleven bytes, filled with zeros on the left.
+    pub(crate) fn from_digits(digits: &[u8]) -> IpiName
+        requires { length digits.now ≤ 11 }
+        ensures { result ≡ eleven_digits digits.now }
+    {
+        let mut bytes = [b'0'; 11];
+        bytes[IPI_NAME_LENGTH - digits.len()..].copy_from_slice(digits);
+        IpiName { bytes }
+    }
+
+    /// The number that a field has, blanks at both ends aside, filled with zeros on the left; none where it is blank or
+    /// has zeros alone; else the least of `Length` (over eleven digits) and `Character` that holds (profile).
+    pub fn from_field(field: &[u8]) -> Result<Option<IpiName>, IdFault>
+        ensures { result ≡ ipi_field_of field.now }
+    {
+        let digits = trimmed(field);
+        if digits.len() > IPI_NAME_LENGTH {
+            return Err(IdFault::Length);
+        }
+        if !are_digits(digits) {
+            return Err(IdFault::Character);
+        }
+        if are_zeros(digits) {
+            return Ok(None);
+        }
+        Ok(Some(IpiName::from_digits(digits)))
+    }
+
+    /// The eleven digits.
+    pub fn as_bytes(&self) -> &[u8]
+        ensures bytes { result.now ≡ self.now }
+        ensures len { length result.now ≡ 11 }
+    {
+        &self.bytes
+    }
+}
