@@ -1,3 +1,4 @@
 pub mod DigitLemmas
 pub mod Fields
 pub mod AckLemmas
+mod Worked

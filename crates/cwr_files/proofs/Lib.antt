@@ -10,3 +10,5 @@ pub mod Sound
 pub mod Complete
 pub mod Told
 pub mod Judged
+pub mod Placed
+mod Worked

@@ -119,3 +119,24 @@ pub struct Transmission<'a> {
     pub header: TransmissionHeader<'a>,
     pub groups: Groups<'a>,
 }
+
+impl<'a> Transmission<'a> {
+    ghost use Rattle.std.specs.List.{slice_get};
+    ghost use Rattle.std.specs.Option.{option_copied};
+    ghost use Rattle.cwr_files.specs.Contents.{transactions_of};
+
+    /// The transaction at a place, from 0, among those of types NWR and REV in the order of the file.
+    pub fn transaction(&self, place: usize) -> Option<&Transaction<'a>>
+        ensures { option_copied result ≡ slice_get (transactions_of self.now) place }
+    {
+        let mut left = place;
+        for group in self.groups.as_slice() {
+            let transactions = group.transactions.as_slice();
+            if left < transactions.len() {
+                return Some(&transactions[left]);
+            }
+            left -= transactions.len();
+        }
+        None
+    }
+}

@@ -6,7 +6,7 @@ use Rattle.society_core.specs.declared.request.Standing.{Standing}
 use Rattle.society_core.specs.declared.request.Standing.TheVariants.{Applied, Held}
 use Rattle.society_core.specs.declared.request.Refusal.{Refusal}
 use Rattle.society_core.specs.declared.request.Refusal.TheVariants.{Reused, File, Unknown, Unavailable}
-use Rattle.society_core.specs.Requests.{Reply, Arrived, Acknowledged, Refused}
+use Rattle.society_core.specs.Requests.{Reply, Arrived, Acknowledged, Judged, Refused, Shows, Stands}
 use Rattle.http_desk.specs.declared.status.ContentType.{ContentType}
 use Rattle.http_desk.specs.declared.status.ContentType.TheVariants as types
 use Rattle.http_desk.specs.declared.status.Status.{Status}
@@ -95,11 +95,18 @@ refusal_status (File fault) = statuses.Unprocessable
 refusal_status Unknown = statuses.NotFound
 refusal_status Unavailable = statuses.Unavailable
 
--- the bytes of an answer; close says that the connection ends after it
+-- the bytes of a refusal
+abbrev pub refused_text : Refusal → Bool → List ℕ
+refused_text refusal close = answer_text (refusal_status refusal) types.Json (refusal_text refusal) close
+
+-- the bytes of an answer; close says that the connection ends after it. A sender, a work and verdicts have no text yet: no route asks for them
 abbrev pub text : Reply → Bool → List ℕ
 text (Arrived arrival) close = answer_text (arrival_status arrival) types.Json (arrival_text arrival) close
 text (Acknowledged bytes) close = answer_text statuses.Done types.File bytes close
-text (Refused refusal) close = answer_text (refusal_status refusal) types.Json (refusal_text refusal) close
+text (Stands front held) close = refused_text Unknown close
+text (Shows work) close = refused_text Unknown close
+text (Judged verdicts) close = refused_text Unknown close
+text (Refused refusal) close = refused_text refusal close
 
 -- the bytes of the answers to requests, one after another
 abbrev pub texts : List Part → List Reply → List ℕ

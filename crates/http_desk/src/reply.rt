@@ -2,7 +2,7 @@
 ghost use Rattle.std.specs.Prelude.{◌≡◌, ◌≤◌, OnOk, OnErr, vec_capacity};
 ghost use Rattle.society_core.specs.Requests.{reply_of};
 ghost use Rattle.http_desk.specs.Counted.{inner_of, failures_of, Rises, Writes};
-ghost use Rattle.http_desk.specs.Text.{answer_text, arrival_status, refusal_status, text, ending};
+ghost use Rattle.http_desk.specs.Text.{answer_text, arrival_status, refusal_status, refused_text, text, ending};
 
 use crate::counted::{Counted, NotWritten};
 use crate::end::End;
@@ -62,6 +62,34 @@ fn write_answer<W: Write>(
     writer.write_all(body)
 }
 
+// Writes a refusal.
+fn write_refusal<W: Write>(
+    writer: &mut Counted<W>,
+    head: &mut Vec<u8>,
+    body: &mut Vec<u8>,
+    refusal: &Refusal,
+    close: bool,
+) -> Result<(), NotWritten>
+    requires head_room { 8192 ≤ vec_capacity head.old }
+    requires body_room { 512 ≤ vec_capacity body.old }
+    ensures wrote { Writes result (W.contents (inner_of writer.old)) (W.contents (inner_of writer.new))
+        (refused_text refusal.now close) }
+    ensures kept { OnOk result (failures_of writer.new ≡ failures_of writer.old) }
+    ensures failed { OnErr result (Rises (failures_of writer.old) (failures_of writer.new)) }
+    ensures head_room { vec_capacity head.old ≤ vec_capacity head.new }
+    ensures body_room { vec_capacity body.old ≤ vec_capacity body.new }
+{
+    set_refusal(body, refusal);
+    write_answer(
+        writer,
+        head,
+        refusal_status(refusal),
+        ContentType::Json,
+        body,
+        close,
+    )
+}
+
 /// Writes the answer to one request; the two texts are its room.
 pub(crate) fn write_reply<W: Write>(
     writer: &mut Counted<W>,
@@ -94,17 +122,11 @@ pub(crate) fn write_reply<W: Write>(
         Answer::Acknowledgement(bytes) => {
             write_answer(writer, head, Status::Done, ContentType::File, bytes, close)
         }
-        Answer::Refused(refusal) => {
-            set_refusal(body, refusal);
-            write_answer(
-                writer,
-                head,
-                refusal_status(refusal),
-                ContentType::Json,
-                body,
-                close,
-            )
+        // No route asks for these yet.
+        Answer::Sender(_) | Answer::Work(_) | Answer::Verdicts(_) => {
+            write_refusal(writer, head, body, &Refusal::Unknown, close)
         }
+        Answer::Refused(refusal) => write_refusal(writer, head, body, refusal, close),
     }
 }
 

@@ -1,17 +1,29 @@
--- The faults of a transaction.
-use Rattle.std.specs.Prelude.{ℕ, Bool, false, not, List, [], ◌∷◌, Option, Some, None, Result, is_ok, if◌then◌else◌}
+-- The faults of a transaction: eleven sentences over its list of records.
+use Rattle.std.specs.Prelude.{ℕ, Bool, false, not, ◌&&◌, ◌||◌, List, [], ◌∷◌, ◌++◌, Option, Some, None, Result, is_ok, is_none, map, nat_lt, if◌then◌else◌}
+use Rattle.std.specs.List.{list_any, sum}
 use Rattle.cwr_records.specs.Lines.{is_blank}
+use Rattle.cwr_records.specs.Typed.{share_of}
 use Rattle.cwr_records.specs.declared.record.Record.{Record}
-use Rattle.cwr_records.specs.declared.record.Record.TheVariants.{Work}
+use Rattle.cwr_records.specs.declared.record.Record.TheVariants as kind
 use Rattle.cwr_records.specs.declared.work.WorkRecord.{WorkRecord}
 use Rattle.cwr_files.specs.declared.transmission.Transaction.{Transaction}
+use Rattle.share_rules.specs.Parties.{collected, interests, is_party, owned, party_in, row_in}
 use Rattle.share_rules.specs.declared.office.Office.{Office}
+use Rattle.share_rules.specs.declared.party.InterestedParty.{InterestedParty}
+use Rattle.share_rules.specs.declared.party.ShareFields.{ShareFields}
+use Rattle.share_rules.specs.declared.party.Side.TheVariants as side
+use Rattle.share_rules.specs.declared.party.TerritoryRow.{TerritoryRow}
+use Rattle.share_rules.specs.declared.shares.Shares.{Shares}
+use Rattle.work_ids.specs.IpiName.{ipi_field_of}
+use Rattle.work_ids.specs.Isrc.{isrc_field_of}
+use Rattle.work_ids.specs.Iswc.{iswc_field_of}
+use Rattle.work_ids.specs.PartyNumber.{party_number_of}
 use Rattle.work_ids.specs.WorkNumber.{work_number_of}
 use Rattle.work_ids.specs.declared.fault.IdFault.{IdFault}
 
 -- the record that begins a transaction, if it is a work
 abbrev pub work_in : Record → Option WorkRecord
-work_in (Work work) = Some work
+work_in (kind.Work work) = Some work
 work_in _ = None
 
 -- the first of some records, if it is a work
@@ -29,6 +41,11 @@ abbrev pub submitter_number : Option WorkRecord → List ℕ
 submitter_number None = []
 submitter_number (Some work) = work.work_number
 
+-- the ISWC field of a work, nothing where there is none
+abbrev pub iswc_field : Option WorkRecord → List ℕ
+iswc_field None = []
+iswc_field (Some work) = work.iswc
+
 -- a transaction's title, as it came (CISAC CWR 2.2)
 abbrev pub title_of : Transaction → List ℕ
 title_of transaction = work_title (first_work transaction.records)
@@ -37,19 +54,105 @@ title_of transaction = work_title (first_work transaction.records)
 abbrev pub number_of_work : Transaction → Result (List ℕ) IdFault
 number_of_work transaction = work_number_of (submitter_number (first_work transaction.records))
 
--- the title is blank (profile)
+-- a transaction's ISWC (ISO 15707), none where its field is blank, or why it is none
+abbrev pub iswc_of_work : Transaction → Result (Option (List ℕ)) IdFault
+iswc_of_work transaction = iswc_field_of (iswc_field (first_work transaction.records))
+
+-- 1: the title is blank (profile)
 abbrev pub has_blank_title : Transaction → Bool
 has_blank_title transaction = is_blank (title_of transaction)
 
--- the work number is blank or not printable ASCII (profile)
+-- 2: the work number is blank or not printable ASCII (profile)
 abbrev pub has_no_work_number : Transaction → Bool
 has_no_work_number transaction = not (is_ok (number_of_work transaction))
+
+-- 3: the ISWC field is neither blank nor a right ISWC (profile)
+abbrev pub has_wrong_iswc : Transaction → Bool
+has_wrong_iswc transaction = not (is_ok (iswc_of_work transaction))
+
+-- three shares, of which one is neither blank nor five digits, or is over 10000
+abbrev pub are_wrong_shares : ShareFields → Bool
+are_wrong_shares fields = is_none (share_of fields.performing) || is_none (share_of fields.mechanical) || is_none (share_of fields.synchronization)
+
+-- whether there is an interested party with a wrong share
+abbrev pub is_party_with_wrong_share : Option InterestedParty → Bool
+is_party_with_wrong_share None = false
+is_party_with_wrong_share (Some party) = are_wrong_shares party.shares
+
+-- whether there is a territory row with a wrong share
+abbrev pub is_row_with_wrong_share : Option TerritoryRow → Bool
+is_row_with_wrong_share None = false
+is_row_with_wrong_share (Some row) = are_wrong_shares row.shares
+
+-- 4: a share in SPU, OPU, SPT, SWR, OWR or SWT is neither blank nor five digits, or is over 10000 (profile)
+abbrev pub has_wrong_share : Record → Bool
+has_wrong_share r = is_party_with_wrong_share (party_in r) || is_row_with_wrong_share (row_in r)
+
+-- the greatest sum of shares that is let pass, in hundredths of a percent (profile)
+abbrev pub sum_limit : ℕ
+sum_limit = 10006
+
+-- the shares of one right add up to more than the limit (profile)
+abbrev pub exceed : List Shares → Bool
+exceed shares =
+    nat_lt sum_limit (sum (map (λ s. s.performing) shares)) || nat_lt sum_limit (sum (map (λ s. s.mechanical) shares)) || nat_lt sum_limit (sum (map (λ s. s.synchronization) shares))
+
+-- 5: the ownership shares of a right, of all SPU, OPU, SWR and OWR, add up to more than the limit (profile)
+abbrev pub owns_too_much : List Record → Bool
+owns_too_much records = exceed (map owned (interests records))
+
+-- a territory row has no interested party of its side with its number among the records before it
+abbrev pub is_row_without_party : List Record → Option TerritoryRow → Bool
+is_row_without_party before None = false
+is_row_without_party before (Some row) = not (list_any (is_party row.side row.number) before)
+
+-- 6: an SPT has no SPU, or an SWT no SWR, with its IP # before it in the transaction (profile)
+abbrev pub has_row_without_party : List Record → List Record → Bool
+has_row_without_party before [] = false
+has_row_without_party before (r ∷ more) = is_row_without_party before (row_in r) || has_row_without_party (before ++ r ∷ []) more
+
+-- 7: a PWR names a publisher IP # that is not blank and that no SPU of the transaction has (profile)
+abbrev pub names_no_publisher : List Record → Record → Bool
+names_no_publisher records (kind.PublisherForWriter r) = not (is_blank r.publisher_party) && not (list_any (is_party side.Publisher r.publisher_party) records)
+names_no_publisher records _ = false
+
+-- 8: the collection shares of a right at the office, over all holders, add up to more than the limit (profile)
+abbrev pub collects_too_much : Office → List Record → Bool
+collects_too_much office records = exceed (map (collected office) (interests records))
+
+-- whether there is an interested party with a wrong IPI name number
+abbrev pub is_party_with_wrong_ipi : Option InterestedParty → Bool
+is_party_with_wrong_ipi None = false
+is_party_with_wrong_ipi (Some party) = not (is_ok (ipi_field_of party.ipi_name))
+
+-- 9: an IPI name number in SPU, OPU, SWR or OWR is not all digits after trimming (profile)
+abbrev pub has_wrong_ipi : Record → Bool
+has_wrong_ipi r = is_party_with_wrong_ipi (party_in r)
+
+-- 10: the ISRC of a REC is neither blank nor a right ISRC (profile)
+abbrev pub has_wrong_isrc : Record → Bool
+has_wrong_isrc (kind.Recording r) = not (is_ok (isrc_field_of r.isrc))
+has_wrong_isrc _ = false
+
+-- the IP # that a record has: of a party or a row one, of a PWR the publisher's and the writer's (CISAC CWR 2.2)
+abbrev pub party_numbers : Record → List (List ℕ)
+party_numbers (kind.Publisher r) = r.party ∷ []
+party_numbers (kind.PublisherTerritory r) = r.party ∷ []
+party_numbers (kind.Writer r) = r.party ∷ []
+party_numbers (kind.WriterTerritory r) = r.party ∷ []
+party_numbers (kind.PublisherForWriter r) = r.publisher_party ∷ r.writer_party ∷ []
+party_numbers _ = []
+
+-- 11: an IP # in SPU, OPU, SPT, SWR, OWR, SWT or PWR is not printable ASCII (profile)
+abbrev pub has_wrong_number : Record → Bool
+has_wrong_number r = list_any (λ number. not (is_ok (party_number_of number))) (party_numbers r)
 
 -- a fault's number, and whether its sentence holds
 pub record Sentence : Type 0 where
   pub fault : ℕ
   pub holds : Bool
 
+-- a sentence on a transaction
 abbrev pub sentence : ℕ → Bool → Sentence
 sentence fault holds = record { fault = fault; holds = holds }
 
@@ -58,6 +161,15 @@ abbrev pub sentences : Office → Transaction → List Sentence
 sentences office transaction =
     sentence 1 (has_blank_title transaction)
     ∷ sentence 2 (has_no_work_number transaction)
+    ∷ sentence 3 (has_wrong_iswc transaction)
+    ∷ sentence 4 (list_any has_wrong_share transaction.records)
+    ∷ sentence 5 (owns_too_much transaction.records)
+    ∷ sentence 6 (has_row_without_party [] transaction.records)
+    ∷ sentence 7 (list_any (names_no_publisher transaction.records) transaction.records)
+    ∷ sentence 8 (collects_too_much office transaction.records)
+    ∷ sentence 9 (list_any has_wrong_ipi transaction.records)
+    ∷ sentence 10 (list_any has_wrong_isrc transaction.records)
+    ∷ sentence 11 (list_any has_wrong_number transaction.records)
     ∷ []
 
 -- the first fault whose sentence holds
@@ -66,5 +178,5 @@ first_fault [] = None
 first_fault (s ∷ more) = if s.holds then Some s.fault else first_fault more
 
 -- the least fault of a transaction, if it has one (profile)
-abbrev pub fault_of : Office → Transaction → Option ℕ
+unfoldable pub fault_of : Office → Transaction → Option ℕ
 fault_of office transaction = first_fault (sentences office transaction)

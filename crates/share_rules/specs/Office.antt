@@ -1,5 +1,5 @@
 -- Who the office is.
-use Rattle.std.specs.Prelude.{ℕ, ◌≡◌, ◌-◌, ◌++◌, Bool, List, length, take, replicate, ◌&&◌, nat_le}
+use Rattle.std.specs.Prelude.{ℕ, ◌≡◌, Bool, List, length, take, ◌&&◌, nat_le}
 use Rattle.std.specs.List.{list_all}
 use Rattle.work_ids.specs.Blanks.{fill}
 use Rattle.work_ids.specs.Characters.{is_printable}

@@ -1,12 +1,40 @@
 ghost use Rattle.std.specs.Prelude.{◌≡◌};
 ghost use Rattle.std.specs.Option.{option_copied};
 ghost use Rattle.std.specs.Result.{result_ok};
-ghost use Rattle.share_rules.specs.Fault.{fault_of, first_work, number_of_work};
+ghost use Rattle.share_rules.specs.Fault.{fault_of, first_work, has_no_work_number, has_wrong_iswc, iswc_of_work, number_of_work};
 
 use crate::office::Office;
+use crate::sentences::{
+    has_blank_title, has_row_without_party, have_no_publisher, have_wrong_ipi, have_wrong_isrc,
+    have_wrong_number, have_wrong_share,
+};
+use crate::sums::{collects_too_much, owns_too_much};
 use cwr_files::Transaction;
 use cwr_records::{Record, WorkRecord};
-use work_ids::WorkNumber;
+use work_ids::{IdFault, Iswc, WorkNumber};
+
+/// The faults of a transaction (profile).
+const BLANK_TITLE: u8 = 1;
+
+const NO_WORK_NUMBER: u8 = 2;
+
+const WRONG_ISWC: u8 = 3;
+
+const WRONG_SHARE: u8 = 4;
+
+const OWNS_TOO_MUCH: u8 = 5;
+
+const ROW_WITHOUT_PARTY: u8 = 6;
+
+const NO_PUBLISHER: u8 = 7;
+
+const COLLECTS_TOO_MUCH: u8 = 8;
+
+const WRONG_IPI: u8 = 9;
+
+const WRONG_ISRC: u8 = 10;
+
+const WRONG_NUMBER: u8 = 11;
 
 /// The record that begins a transaction's records, if it is a work.
 pub fn work_of<'t, 'a>(records: &'t [Record<'a>]) -> Option<&'t WorkRecord<'a>>
@@ -29,17 +57,71 @@ pub fn work_number(transaction: &Transaction<'_>) -> Option<WorkNumber>
     WorkNumber::from_bytes(&work.work_number.to_bytes()).ok()
 }
 
-/// The least fault of a transaction at an office, none where it is clean (profile).
-#[tactic(auto, unfolding(cwr_records::specs::Lines::is_blank))]
-pub fn judge(transaction: &Transaction<'_>, _office: &Office) -> Option<u8>
-    ensures { result ≡ fault_of _office.now transaction.now }
+/// The transaction's ISWC, none where its field is blank (ISO 15707); else the least of `Length`, `Character` and
+/// `CheckDigit` that holds; `Length` where the transaction begins with no work.
+#[tactic(auto, unfolding(work_ids::specs::Iswc::iswc_of))]
+pub fn iswc(transaction: &Transaction<'_>) -> Result<Option<Iswc>, IdFault>
+    ensures { result ≡ iswc_of_work transaction.now }
 {
     match work_of(transaction.records.as_slice()) {
-        None => Some(1),
-        Some(work) if work.title.field().is_blank() => Some(1),
-        Some(_) => match work_number(transaction) {
-            None => Some(2),
-            Some(_) => None,
-        },
+        Some(work) => Iswc::from_field(&work.iswc.to_bytes()),
+        None => Err(IdFault::Length),
     }
+}
+
+/// Whether the work number is blank or not printable ASCII (profile).
+fn has_no_work_number(transaction: &Transaction<'_>) -> bool
+    ensures { result ≡ has_no_work_number transaction.now }
+{
+    work_number(transaction).is_none()
+}
+
+/// Whether the ISWC is neither blank nor right (profile).
+fn has_wrong_iswc(transaction: &Transaction<'_>) -> bool
+    ensures { result ≡ has_wrong_iswc transaction.now }
+{
+    iswc(transaction).is_err()
+}
+
+/// The least fault of a transaction at an office, none where it is clean (profile). It takes no memory, and at most as
+/// many steps as the square of the number of records.
+#[tactic(auto, unfolding(crate::specs::Fault::fault_of))]
+pub fn judge(transaction: &Transaction<'_>, office: &Office) -> Option<u8>
+    ensures { result ≡ fault_of office.now transaction.now }
+{
+    let records = transaction.records.as_slice();
+    if has_blank_title(transaction) {
+        return Some(BLANK_TITLE);
+    }
+    if has_no_work_number(transaction) {
+        return Some(NO_WORK_NUMBER);
+    }
+    if has_wrong_iswc(transaction) {
+        return Some(WRONG_ISWC);
+    }
+    if have_wrong_share(records) {
+        return Some(WRONG_SHARE);
+    }
+    if owns_too_much(records) {
+        return Some(OWNS_TOO_MUCH);
+    }
+    if has_row_without_party(records) {
+        return Some(ROW_WITHOUT_PARTY);
+    }
+    if have_no_publisher(records) {
+        return Some(NO_PUBLISHER);
+    }
+    if collects_too_much(records, office) {
+        return Some(COLLECTS_TOO_MUCH);
+    }
+    if have_wrong_ipi(records) {
+        return Some(WRONG_IPI);
+    }
+    if have_wrong_isrc(records) {
+        return Some(WRONG_ISRC);
+    }
+    if have_wrong_number(records) {
+        return Some(WRONG_NUMBER);
+    }
+    None
 }

@@ -1,9 +1,10 @@
 -- What a connection comes to, at an office to which nothing has come.
-use Rattle.std.proofs.Common.{◌≡◌, ℕ, IsTrue, List, Option, Some, None, IfSome, map, subst}
+use Rattle.std.proofs.Common.{◌≡◌, ◌⊎◌, inl, inr, refl, ℕ, IsTrue, List, Option, Some, None, IfSome, map, subst}
 use Rattle.http_desk.specs.Path.{request_of}
 use Rattle.http_desk.specs.Serves.{Answers, Serves, Breaks}
 use Rattle.http_desk.specs.Part.{Part}
 use Rattle.http_desk.specs.declared.fault.FaultKind.{FaultKind}
+use Rattle.http_desk.specs.declared.fault.FaultKind.TheVariants.{Memory, Read, Turns, Write}
 use Rattle.share_rules.specs.declared.office.Office.{Office}
 use Rattle.society_core.specs.Book.{Book, empty_book}
 use Rattle.society_core.specs.Requests.{Reply}
@@ -43,3 +44,10 @@ breaks_off_from office kind old new bytes holds new_holds requests same empty cl
   run = run_from_empty office old new b.parts b.replies same empty clean b.answers;
   written = b.written;
 }
+
+-- each kind of fault has its cause
+pub cause_of : {A B C D : Type 0} (kind : FaultKind) → (kind ≡ Read → A) → (kind ≡ Write → B) → (kind ≡ Turns → C) → (kind ≡ Memory → D) → A ⊎ (B ⊎ (C ⊎ D))
+cause_of Read read write turns memory = inl (read refl)
+cause_of Write read write turns memory = inr (inl (write refl))
+cause_of Turns read write turns memory = inr (inr (inl (turns refl)))
+cause_of Memory read write turns memory = inr (inr (inr (memory refl)))

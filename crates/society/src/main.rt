@@ -2,7 +2,11 @@
 //! output over a book in memory.
 #![tactic(auto)]
 
+#[cfg(test)]
+mod desk_tests;
 mod replay;
+#[cfg(test)]
+mod samples;
 #[cfg(test)]
 mod tests;
 mod words;

@@ -1,5 +1,5 @@
 ghost use Rattle.std.specs.Prelude.{◌≡◌, ◌⊎◌, IfSome};
-ghost use Rattle.http_desk.specs.Counted.{inner_of, failures_of};
+ghost use Rattle.http_desk.specs.Counted.{inner_of, failures_of, Rises, TakesAtLeast};
 ghost use Rattle.society.specs.Replays.{Replays, BreaksOff};
 
 use http_desk::{Counted, DeskFault, FaultKind, serve};
@@ -33,6 +33,12 @@ pub fn replay<R: Read, W: Write, E: Write>(
         Replays office.now bytes (W.contents (inner_of out.old)) (W.contents (inner_of out.new))) }
     ensures broken_off { result ≡ 1 → IfSome (R.remaining (inner_of reader.old)) (λ bytes.
         BreaksOff office.now bytes (W.contents (inner_of out.old)) (W.contents (inner_of out.new))) }
+    // A stream breaks off only where the reader or the writer failed, all turns gave bytes, or memory was refused
+    // before anything was read or written.
+    ensures cause { result ≡ 1 → Rises (failures_of reader.old) (failures_of reader.new)
+        ⊎ (Rises (failures_of out.old) (failures_of out.new)
+        ⊎ (TakesAtLeast (R.remaining (inner_of reader.old)) (R.remaining (inner_of reader.new)) TURNS
+        ⊎ ((reader.new ≡ reader.old) × (out.new ≡ out.old)))) }
 {
     let mut desk = Desk::new(PlainStore::new(alloc, office));
     match serve(alloc, &mut desk, reader, out, TURNS) {

@@ -1,24 +1,11 @@
 //! The program's rows: what is written for streams of requests, byte for byte.
 use crate::replay::replay;
+use crate::samples::{F1, F3, F3_ACK, changed};
 use http_desk::Counted;
 use share_rules::Office;
-use society_core::{Answer, Arrival, Desk, PlainStore, Refusal, Request, Standing, run};
 use std::alloc::{AllocError, Global};
 use std::process::Abort;
 use std::test::Fail;
-use work_ids::SenderKey;
-
-/// A registration of one work, 1,048 bytes.
-const F1: &[u8] =
-    b"HDRPB000000012EXAMPLE MUSIC                                01.102026010510150020260106\r\nGRHNWR0000102.200000000000\r\nNWR0000000000000000FIRST SONG                                                    W1            T0345246801\r\nSPU000000000000000101P1       EXAMPLE MUSIC                                 E          00000000199                 05000   10000   10000\r\nSPT0000000000000002P1             050001000010000I2136 001\r\nSWR0000000000000003A1       WRITER                                       ANNA                           CA         00000000295   05000   00000   00000\r\nSWT0000000000000004A1       050000000000000I2136 001\r\nPWR0000000000000005P1       EXAMPLE MUSIC                                                            A1\r\nREC0000000000000006                                                                                                                                                                                                                                      ATABC2600001\r\nGRT000010000000100000009\r\nTRL000010000000100000011\r\n";
-
-/// A transmission with no group, 114 bytes.
-const F3: &[u8] =
-    b"HDRPB000000012EXAMPLE MUSIC                                01.102026010510150020260106\r\nTRL000000000000000000002\r\n";
-
-/// The acknowledgement of that, 129 bytes.
-const F3_ACK: &[u8] =
-    b"HDRSO000000900EXAMPLE SOCIETY                              01.102026010600000020260106               \r\nTRL000000000000000000002\r\n";
 
 /// The office of the rows.
 fn office() -> Result<Office, &'static str> {
@@ -67,16 +54,6 @@ fn answer(
     )?;
     out.extend_from_slice(head.as_bytes())?;
     out.extend_from_slice(body)
-}
-
-/// A body with the bytes at a place changed.
-fn changed(alloc: Global, body: &[u8], at: usize, by: &[u8]) -> Result<Vec<u8>, AllocError> {
-    let mut copy = Vec::new(alloc);
-    for (index, byte) in body.iter().enumerate() {
-        let inside = at <= index && index - at < by.len();
-        copy.push(if inside { by[index - at] } else { *byte })?;
-    }
-    Ok(copy)
 }
 
 /// Puts one after another, each with its number, body, status and JSON answer.
@@ -227,45 +204,4 @@ fn line_feeds_alone(rt: HostRuntime) -> Result<(), Fail> {
             "{\"front\":1,\"state\":\"applied\"}",
         )],
     )
-}
-
-#[test]
-fn held_number_reused_in_a_run(rt: HostRuntime) -> Result<(), Fail> {
-    let alloc = rt.alloc();
-    let other = changed(alloc, F1, 144, b"H")?;
-    let office = office()?;
-    let mut desk = Desk::new(PlainStore::new(alloc, &office));
-    let sender = SenderKey::from_bytes(b"PB000000012").ok().ok_or("a key")?;
-    let requests = [
-        Request::PutTransmission {
-            sender,
-            number: 3,
-            body: F1,
-        },
-        Request::PutTransmission {
-            sender,
-            number: 3,
-            body: other.as_slice(),
-        },
-    ];
-    let mut answers = Vec::new(alloc);
-    run(alloc, &mut desk, &requests, &mut answers)?;
-    let mut seen = 0;
-    for (index, answer) in answers.iter().enumerate() {
-        let right = match answer {
-            Answer::Arrived(
-                Arrival {
-                    known: false,
-                    front: 0,
-                    standing: Standing::Held,
-                },
-            ) => index == 0,
-            Answer::Refused(Refusal::Reused) => index == 1,
-            _ => false,
-        };
-        assert!(rt; right);
-        seen = index + 1;
-    }
-    assert_eq!(rt; seen, 2);
-    Ok(())
 }

@@ -1,3 +1,7 @@
+ghost use Rattle.std.specs.Prelude.{◌≡◌, map, string_bytes};
+ghost use Rattle.society.specs.Words.{Reads, are_options, asked, asked_at, number_in};
+
+use cwr_records::Field;
 use share_rules::Office;
 
 /// What the program's words ask for.
@@ -11,20 +15,50 @@ pub enum Words {
     BadWords,
 }
 
-/// Most digits of a number among the words.
+/// Most digits of a number among the words, and the greatest number of so many.
 const MAX_DIGITS: usize = 4;
 
+const MAX_NUMBER: u64 = 9_999;
+
 /// A number of one to four decimal digits.
-fn number(text: &str) -> Option<u16> {
-    if text.len() > MAX_DIGITS || !text.as_bytes().iter().all(|byte| byte.is_ascii_digit()) {
+fn number(text: &str) -> Option<u16>
+    ensures { result ≡ number_in text.now }
+{
+    if text.len() > MAX_DIGITS {
         return None;
     }
-    text.parse::<u16>().ok()
+    let value = Field::new(text.as_bytes(), text.len()).number()?;
+    if value > MAX_NUMBER {
+        return None;
+    }
+    Some(value as u16)
+}
+
+/// Whether the words between the values are the program's.
+fn are_options(replay: &str, society: &str, territory: &str, name: &str) -> bool
+    ensures { result ≡ are_options replay.now society.now territory.now name.now }
+{
+    replay == "replay" && society == "--society" && territory == "--territory" && name == "--name"
+}
+
+/// To replay at the office with these numbers and this name, where there is such an office.
+fn replay_at(society: u16, territory: u16, name: &[u8]) -> Words
+    ensures { Reads (asked_at society territory name.now) result }
+{
+    if Office::new(society, territory, b"-").is_none() {
+        return Words::BadWords;
+    }
+    match Office::new(society, territory, name) {
+        Some(office) => Words::Replay(office),
+        None => Words::BadName,
+    }
 }
 
 /// What the words after the program's name ask for: exactly `replay --society N --territory N --name TEXT`,
 /// in this order, N within the office's limits.
-pub fn office_in(words: &[String]) -> Words {
+pub fn office_in(words: &[String]) -> Words
+    ensures { Reads (asked (map string_bytes words.now)) result }
+{
     let [
         _,
         replay,
@@ -38,22 +72,19 @@ pub fn office_in(words: &[String]) -> Words {
     else {
         return Words::BadWords;
     };
-    if replay.as_str() != "replay"
-        || society_word.as_str() != "--society"
-        || territory_word.as_str() != "--territory"
-        || name_word.as_str() != "--name"
-    {
+    if !are_options(
+        replay.as_str(),
+        society_word.as_str(),
+        territory_word.as_str(),
+        name_word.as_str(),
+    ) {
         return Words::BadWords;
     }
-    let (Some(society), Some(territory)) = (number(society.as_str()), number(territory.as_str()))
-    else {
+    let Some(society) = number(society.as_str()) else {
         return Words::BadWords;
     };
-    if Office::new(society, territory, b"-").is_none() {
+    let Some(territory) = number(territory.as_str()) else {
         return Words::BadWords;
-    }
-    match Office::new(society, territory, name.as_bytes()) {
-        Some(office) => Words::Replay(office),
-        None => Words::BadName,
-    }
+    };
+    replay_at(society, territory, name.as_str().as_bytes())
 }

@@ -1,18 +1,18 @@
 -- Which books are sound.
-use Rattle.std.proofs.Common.{◌<◌, ◌&&◌, nat_le, arith, Result, Ok, Err, OnOk, OnErr, is_some, is_none, ◌≡◌, ℕ, Bool, true, false, cond, List, Option, Some, None, refl, ap, sym, subst, ◌∙◌, ⊎_elim}
+use Rattle.std.proofs.Common.{◌<◌, ◌≤◌, ◌&&◌, nat_le, arith, Result, Ok, Err, OnOk, OnErr, is_some, is_none, ◌≡◌, ℕ, Bool, true, false, cond, List, Option, Some, None, refl, ap, sym, subst, ◌∙◌, ⊎_elim}
 use Rattle.std.specs.Ordering.{eq_by_cmp}
 use Rattle.std.specs.FinMap as finite
 use Rattle.std.specs.FinMap.{FinMap}
-use Rattle.std.proofs.lemmas.Bool.{cases_Bool}
+use Rattle.std.proofs.lemmas.Bool.{cases_Bool, cases_lt, false≢true}
 use Rattle.std.proofs.lemmas.Bool.Decides.{nat_tests}
 use Rattle.cwr_files.specs.FileFault.{file_fault}
 use Rattle.cwr_files.specs.declared.fault.FileFault.{FileFault}
-use Rattle.society_core.specs.Book.{Book, IsSound, body_at, empty_book, is_there, with_transmission, is_entry}
+use Rattle.society_core.specs.Book.{Book, IsSound, body_at, empty_book, front, is_there, with_transmission, is_entry}
 use Rattle.society_core.specs.Plain.{book_with}
 use Rattle.society_core.specs.Slot.{slot_of, slot_cmp, is_number}
 use Rattle.society_core.specs.declared.slot.Slot.{Slot}
 use Rattle.society_core.proofs.Slots.{exact_slots, slots_total}
-use Rattle.society_core.proofs.Fronts.{tied, first_holds, second_holds}
+use Rattle.society_core.proofs.Fronts.{tied, first_holds, second_holds, all_there, there_at}
 
 -- nothing is there in the empty book
 pub nothing_there : (s : List ℕ) (n : ℕ) → body_at empty_book s n ≡ None
@@ -74,3 +74,20 @@ none_past b s n sound past = none_from (body_at b s n) refl
     none_from : (o : Option (List ℕ)) → body_at b s n ≡ o → is_some o ≡ false
     none_from None e = refl
     none_from (Some body) e = absurd (too_great n (file_fault s body) past (sound.transmissions s n body e))
+
+-- in a sound book no front is past the limits
+pub front_within : (b : Book) (s : List ℕ) → IsSound b → front b s ≤ 999999
+front_within b s sound =
+    ⊎_elim
+    (λ (past : 999999 < front b s). absurd (false≢true (sym (none_past b s (front b s) sound past) ∙ there_at b s (front b s) (front b s) (all_there b s) (omega arith) (omega arith))))
+    (λ (within : front b s ≤ 999999). within)
+    (cases_lt 999999 (front b s))
+
+-- no body of a sound book has a file fault
+pub no_fault : (b : Book) (s : List ℕ) (n : ℕ) (body : List ℕ) (f : FileFault) → IsSound b → body_at b s n ≡ Some body → file_fault s body ≡ Some f → ⊥
+no_fault b s n body f sound there fault =
+    false≢true (ap is_none (sym fault) ∙ second_holds (is_number n) (is_none (file_fault s body)) (sound.transmissions s n body there))
+
+-- up to the front each transmission is there
+pub there_to_front : (b : Book) (s : List ℕ) (n : ℕ) → 0 < n → n ≤ front b s → is_there b s n ≡ true
+there_to_front b s n low high = there_at b s (front b s) n (all_there b s) low high

@@ -84,3 +84,16 @@ pub front_only : (b : Book) (s : List ℕ) (n : ℕ) → has_all b s n ≡ true 
 unfolding front
 front_only b s n h gap =
     greatest_only (has_all b s) (greatest_number b) n h (λ k after. has_all_gap b s n k gap after) (at_most_greatest b s n h)
+
+greatest_passes : (p : ℕ → Bool) (limit : ℕ) → p 0 ≡ true → p (greatest_to limit p) ≡ true
+greatest_passes p zero h = h
+greatest_passes p (suc m) h =
+    ⊎_elim
+    (λ (yes : p (suc m) ≡ true). subst (λ (n : ℕ). p n ≡ true) (sym (ap (λ (b : Bool). cond b (suc m) (greatest_to m p)) yes)) yes)
+    (λ (no : p (suc m) ≡ false). subst (λ (n : ℕ). p n ≡ true) (sym (ap (λ (b : Bool). cond b (suc m) (greatest_to m p)) no)) (greatest_passes p m h))
+    (cases_Bool (p (suc m)))
+
+-- the transmissions up to the front are all there
+pub all_there : (b : Book) (s : List ℕ) → has_all b s (front b s) ≡ true
+unfolding front
+all_there b s = greatest_passes (has_all b s) (greatest_number b) refl

@@ -11,7 +11,7 @@ use Rattle.cwr_files.specs.declared.fault.FileFault.{FileFault}
 use Rattle.share_rules.specs.declared.office.Office.{Office}
 use Rattle.society_core.specs.Book.{Book, body_at, is_there, with_transmission}
 use Rattle.society_core.specs.Slot.{slot_of, slot_cmp}
-use Rattle.society_core.specs.Requests.{Query, Puts, AsksAck, AsksElsewhere, Reply, Arrived, Acknowledged, Refused, query_of, reply_of}
+use Rattle.society_core.specs.Requests.{Query, Puts, AsksAck, AsksSender, AsksWork, AsksVerdicts, AsksElsewhere, Reply, Arrived, Acknowledged, Refused, query_of, reply_of}
 use Rattle.society_core.specs.Answers.{answer, next, known_by, put_answer, put_book, added_answer, added_book}
 use Rattle.society_core.specs.Runs.{Step, Run, AppendsRun}
 use Rattle.society_core.specs.Headline.{Brings, IsBrought, Came, OneContent, HoldsWhatCame, BroughtAlike, TellsWhatCame}
@@ -60,6 +60,9 @@ put_keeps b s n y (Some kept) e t m x there =
 next_keeps : (b : Book) (q : Query) (t : List ℕ) (m : ℕ) (x : List ℕ) → body_at b t m ≡ Some x → body_at (next b q) t m ≡ Some x
 next_keeps b (Puts s n y) t m x there = put_keeps b s n y (body_at b s n) refl t m x there
 next_keeps b (AsksAck s n) t m x there = there
+next_keeps b (AsksSender s) t m x there = there
+next_keeps b (AsksWork s w) t m x there = there
+next_keeps b (AsksVerdicts s n) t m x there = there
 next_keeps b AsksElsewhere t m x there = there
 
 step_keeps : (o : Office) (b : Book) (q : Query) (r : Reply) (c : Book) → Step o b q r c → (t : List ℕ) (m : ℕ) (x : List ℕ) → body_at b t m ≡ Some x → body_at c t m ≡ Some x
@@ -88,6 +91,9 @@ put_from b s n y (Some kept) t m x there = inl (subst (λ (c : Book). body_at c 
 next_from : (o : Office) (b : Book) (q : Query) (t : List ℕ) (m : ℕ) (x : List ℕ) → body_at (next b q) t m ≡ Some x → (body_at b t m ≡ Some x) ⊎ Brings q (answer o b q) t m x
 next_from o b (Puts s n y) t m x there = put_from b s n y (body_at b s n) t m x there
 next_from o b (AsksAck s n) t m x there = inl there
+next_from o b (AsksSender s) t m x there = inl there
+next_from o b (AsksWork s w) t m x there = inl there
+next_from o b (AsksVerdicts s n) t m x there = inl there
 next_from o b AsksElsewhere t m x there = inl there
 
 step_from : (o : Office) (b : Book) (q : Query) (r : Reply) (c : Book) → Step o b q r c → (t : List ℕ) (m : ℕ) (x : List ℕ) → body_at c t m ≡ Some x → (body_at b t m ≡ Some x) ⊎ Brings q r t m x
@@ -116,6 +122,9 @@ brought_there o b (Puts s n y) r c step t m x brings =
     (λ (busy : (r ≡ Refused Unavailable) × (c ≡ b)). absurd (brings.4 busy.0))
     step
 brought_there o b (AsksAck s n) r c step t m x brings = absurd brings
+brought_there o b (AsksSender s) r c step t m x brings = absurd brings
+brought_there o b (AsksWork s w) r c step t m x brings = absurd brings
+brought_there o b (AsksVerdicts s n) r c step t m x brings = absurd brings
 brought_there o b AsksElsewhere r c step t m x brings = absurd brings
 
 -- a run keeps what is there

@@ -1,5 +1,5 @@
 -- Slots are in a total order in which no two tie, and the entries of a map of bodies make a finite map under it.
-use Rattle.std.proofs.Common.{◌≡◌, ℕ, Bool, true, false, cond, List, [], ◌∷◌, Option, Some, None, Vec, Global, refl, ap, sym, ◌∙◌, map, option_map, is_some}
+use Rattle.std.proofs.Common.{◌≡◌, ℕ, Bool, true, false, cond, List, [], ◌∷◌, Option, Some, None, Vec, Global, refl, ap, subst, sym, ◌∙◌, map, option_map, is_some}
 use Rattle.std.specs.Borrow.{Bor}
 use Rattle.std.specs.Ordering.{nat_cmp, eq_by_cmp}
 use Rattle.std.specs.Option.{option_copied}
@@ -11,7 +11,10 @@ use Rattle.std.specs.Map.{lookup}
 use Rattle.std.proofs.lemmas.Map.Lookups.{CmpEqualImpliesEq, exact_pairs, exact_unsigned, exact_bytes}
 use Rattle.std.proofs.lemmas.Bool.{false≢true}
 use Rattle.std.proofs.lemmas.Cmp.{on_total, then_total, nat_cmp_total, nat_list_cmp_total}
+use Rattle.std.specs.FinMap as finite
+use Rattle.std.specs.List.Sorted.{IsStrictlySortedBy}
 use Rattle.society_core.specs.Slot.{slot_cmp}
+use Rattle.society_core.proofs.Keys.{entries_in_order}
 use Rattle.society_core.specs.declared.slot.Slot.{Slot}
 
 -- slots that compare alike are one
@@ -58,3 +61,13 @@ lent_bytes (Some b) = refl
 pub none_lent : (o : Option (Bor (Vec ℕ Global))) (p : Option (List ℕ)) → option_map (λ (b : Bor (Vec ℕ Global)). b.now.items) o ≡ p → is_some o ≡ false → is_some p ≡ false
 none_lent None p e h = ap is_some (sym e)
 none_lent (Some b) p e h = absurd (false≢true (sym h))
+
+keys_of-bodies : (es : List (Slot × Vec ℕ Global)) → map (λ (e : Slot × List ℕ). e.0) (bodies_of es) ≡ map (λ (e : Slot × Vec ℕ Global). e.0) es
+keys_of-bodies [] = refl
+keys_of-bodies (e ∷ es) = ap (λ ks. e.0 ∷ ks) (keys_of-bodies es)
+
+-- the keys of bodies whose entries are in order
+pub keys_in_order : (es : List (Slot × Vec ℕ Global)) → IsStrictlySortedBy slot_cmp (map (λ (e : Slot × Vec ℕ Global). e.0) es) → finite.keys (from_entries {R = slot_cmp} (bodies_of es)) ≡ map (λ (e : Slot × Vec ℕ Global). e.0) es
+keys_in_order es h =
+    ap (map (λ (e : Slot × List ℕ). e.0)) (entries_in_order slots_total exact_slots (bodies_of es) (subst (IsStrictlySortedBy slot_cmp) (sym (keys_of-bodies es)) h))
+    ∙ keys_of-bodies es

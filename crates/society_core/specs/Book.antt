@@ -1,12 +1,16 @@
 -- The book: what has been accepted, as finite maps that know no order of arrival.
-use Rattle.std.specs.Prelude.{ℕ, zero, suc, Bool, true, List, [], ◌∷◌, ◌++◌, ◌≡◌, ◌+◌, ◌&&◌, Option, Some, None, is_some, is_none, IsTrue, map, fold, max, unwrap_or, if◌then◌else◌, nat_le}
+use Rattle.std.specs.Prelude.{ℕ, zero, suc, Bool, true, List, [], ◌∷◌, ◌++◌, ◌≡◌, ◌+◌, ◌&&◌, Option, Some, None, is_some, is_none, IsTrue, map, fold, max, unwrap_or, if◌then◌else◌, nat_le, nat_lt, bytes_eq}
 use Rattle.std.specs.FinMap as finite
-use Rattle.cwr_files.specs.Contents.{transmission_in}
+use Rattle.std.specs.List.{filter, slice_get}
+use Rattle.cwr_files.specs.Contents.{transmission_in, transactions_of}
 use Rattle.cwr_files.specs.FileFault.{file_fault}
+use Rattle.cwr_files.specs.declared.transmission.Transaction.{Transaction}
 use Rattle.cwr_files.specs.declared.transmission.Transmission.{Transmission}
 use Rattle.share_rules.specs.declared.office.Office.{Office}
 use Rattle.works_core.specs.declared.verdict.Verdict.{Verdict}
 use Rattle.works_core.specs.Line.{line_of, verdicts_at}
+use Rattle.works_core.specs.Versions.{work_at}
+use Rattle.works_core.specs.declared.version.WorkVersion.{WorkVersion}
 use Rattle.ack_files.specs.Acknowledgement.{acknowledgement}
 use Rattle.society_core.specs.Slot.{slot_of, slot_cmp, is_number}
 use Rattle.society_core.specs.declared.slot.Slot.{Slot}
@@ -76,3 +80,19 @@ verdicts_in office book sender n = verdicts_at (line_of office (transmissions_to
 abbrev pub ack : Office → Book → List ℕ → ℕ → Option (List ℕ)
 ack office book sender n =
     if nat_le 1 n && nat_le n (front book sender) then Some (acknowledgement office sender (transmission_in (unwrap_or (body_at book sender n) [])) (verdicts_in office book sender n)) else None
+
+-- whether a slot is one of a sender's held transmissions, those with a number above its front
+abbrev pub is_held : Book → List ℕ → Slot → Bool
+is_held book sender slot = bytes_eq slot.sender sender && nat_lt (front book sender) slot.number
+
+-- the numbers of a sender's held transmissions, ascending
+abbrev pub held : Book → List ℕ → List ℕ
+held book sender = map (λ slot. slot.number) (filter (is_held book sender) (finite.keys book.transmissions))
+
+-- the version of a sender's work at a cut, by its transmissions up to the cut alone
+abbrev pub version_in : Office → Book → List ℕ → List ℕ → ℕ → Option WorkVersion
+version_in office book sender work cut = work_at (line_of office (transmissions_to book sender cut)) work cut
+
+-- the transaction at a place of a sender's transmission, among those of types NWR and REV
+abbrev pub transaction_at : Book → List ℕ → ℕ → ℕ → Option Transaction
+transaction_at book sender n place = slice_get (transactions_of (transmission_in (unwrap_or (body_at book sender n) []))) place

@@ -1,8 +1,8 @@
 -- What the book holds after any list of requests, whatever was lost, repeated or reordered.
-use Rattle.std.specs.Prelude.{ℕ, List, [], ◌∷◌, ◌++◌, ◌≡◌, ◌≢◌, ◌⊎◌, ◌↔◌, Option, Some, None, map}
+use Rattle.std.specs.Prelude.{ℕ, List, [], ◌∷◌, ◌++◌, ◌≡◌, ◌≢◌, ◌≤◌, ◌⊎◌, ◌↔◌, Option, Some, None, map}
 use Rattle.cwr_files.specs.FileFault.{file_fault}
-use Rattle.society_core.specs.Book.{Book, body_at}
-use Rattle.society_core.specs.Requests.{Query, Puts, AsksAck, AsksElsewhere, Reply, Refused, query_of, reply_of}
+use Rattle.society_core.specs.Book.{Book, body_at, front}
+use Rattle.society_core.specs.Requests.{Query, Puts, AsksAck, AsksSender, AsksWork, AsksVerdicts, AsksElsewhere, Reply, Refused, query_of, reply_of}
 use Rattle.society_core.specs.declared.request.Refusal.TheVariants.{Unavailable}
 use Rattle.society_core.specs.declared.request.Request.{Request}
 use Rattle.society_core.specs.declared.request.Answer.{Answer}
@@ -12,6 +12,9 @@ abbrev pub Brings : Query → Reply → List ℕ → ℕ → List ℕ → Type 0
 Brings (Puts sender number body) reply s n x =
     (sender ≡ s) × (number ≡ n) × (body ≡ x) × (file_fault sender body ≡ None) × (reply ≢ Refused Unavailable)
 Brings (AsksAck sender number) reply s n x = ⊥
+Brings (AsksSender sender) reply s n x = ⊥
+Brings (AsksWork sender work) reply s n x = ⊥
+Brings (AsksVerdicts sender number) reply s n x = ⊥
 Brings AsksElsewhere reply s n x = ⊥
 
 -- some request of a list brought a body
@@ -43,3 +46,8 @@ BroughtAlike book queries replies others answers =
 abbrev pub TellsWhatCame : Book → Book → List Request → List Answer → List Answer → Type 0
 TellsWhatCame before after requests old new =
     (more : List Answer) → new ≡ old ++ more → OneContent before (map query_of requests) (map reply_of more) → HoldsWhatCame before (map query_of requests) (map reply_of more) after
+
+-- two books have the same transmissions of a sender up to its first gap
+pub record AlikeToTheGap (a b : Book) (sender : List ℕ) : Type 0 where
+  pub same_front : front a sender ≡ front b sender
+  pub same_bodies : (n : ℕ) → n ≤ front a sender → body_at a sender n ≡ body_at b sender n

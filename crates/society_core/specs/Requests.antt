@@ -1,35 +1,76 @@
 -- What is asked and what is answered, without where its bytes lie in memory.
-use Rattle.std.specs.Prelude.{ℕ, List, IsTrue, Bool, true, Result, Ok, Err}
+use Rattle.std.specs.Prelude.{ℕ, List, Option, IsTrue, Bool, true, Result, Ok, Err}
+use Rattle.share_rules.specs.declared.holder.Holder.{Holder}
 use Rattle.society_core.specs.Slot.{is_number}
 use Rattle.society_core.specs.declared.request.Arrival.{Arrival}
 use Rattle.society_core.specs.declared.request.Refusal.{Refusal}
 use Rattle.society_core.specs.declared.request.Request.{Request}
-use Rattle.society_core.specs.declared.request.Request.TheVariants.{PutTransmission, Acknowledgement, Elsewhere}
+use Rattle.society_core.specs.declared.request.Request.TheVariants as requests
 use Rattle.society_core.specs.declared.request.Answer.{Answer}
 use Rattle.society_core.specs.declared.request.Answer.TheVariants as answers
+use Rattle.society_core.specs.declared.request.SenderStatus.{SenderStatus}
+use Rattle.society_core.specs.declared.request.Work.{Work}
+use Rattle.works_core.specs.declared.verdict.Verdict.{Verdict}
+use Rattle.works_core.specs.declared.version.WorkVersion.{WorkVersion}
 
 -- what is asked
 pub data Query : Type 0 where
   Puts : List ℕ → ℕ → List ℕ → Query
   AsksAck : List ℕ → ℕ → Query
+  AsksSender : List ℕ → Query
+  AsksWork : List ℕ → List ℕ → Query
+  AsksVerdicts : List ℕ → ℕ → Query
   AsksElsewhere : Query
+
+-- what is shown of a work: its number, which version it is, and what the version's transaction says
+pub record Shown : Type 0 where
+  pub number : List ℕ
+  pub version : WorkVersion
+  pub title : List ℕ
+  pub iswc : Option (List ℕ)
+  pub isrcs : List (List ℕ)
+  pub holders : List Holder
 
 -- what is answered
 pub data Reply : Type 0 where
   Arrived : Arrival → Reply
   Acknowledged : List ℕ → Reply
+  Stands : ℕ → List ℕ → Reply
+  Shows : Shown → Reply
+  Judged : List Verdict → Reply
   Refused : Refusal → Reply
 
 -- what a request asks
 abbrev pub query_of : Request → Query
-query_of (PutTransmission sender number body) = Puts sender number body.now
-query_of (Acknowledgement sender number) = AsksAck sender number
-query_of Elsewhere = AsksElsewhere
+query_of (requests.PutTransmission sender number body) = Puts sender number body.now
+query_of (requests.Acknowledgement sender number) = AsksAck sender number
+query_of (requests.Sender sender) = AsksSender sender
+query_of (requests.Work sender work) = AsksWork sender work
+query_of (requests.Verdicts sender number) = AsksVerdicts sender number
+query_of requests.Elsewhere = AsksElsewhere
+
+-- how a sender stands: its front, and the numbers that are held
+abbrev pub standing_of : SenderStatus → Reply
+standing_of status = Stands status.front status.held.items
+
+-- what a work says
+abbrev pub shown_of : Work → Shown
+shown_of work = record {
+  number = work.number;
+  version = work.version;
+  title = work.title.items;
+  iswc = work.iswc;
+  isrcs = work.isrcs.items;
+  holders = work.holders.items;
+}
 
 -- what an answer says
 abbrev pub reply_of : Answer → Reply
 reply_of (answers.Arrived arrival) = Arrived arrival
 reply_of (answers.Acknowledgement text) = Acknowledged text.items
+reply_of (answers.Sender status) = standing_of status
+reply_of (answers.Work work) = Shows (shown_of work)
+reply_of (answers.Verdicts verdicts) = Judged verdicts.items
 reply_of (answers.Refused refusal) = Refused refusal
 
 -- the reply that a call's result stands for
@@ -41,4 +82,7 @@ told shown (Err refusal) = Refused refusal
 abbrev pub is_numbered : Query → Bool
 is_numbered (Puts sender number body) = is_number number
 is_numbered (AsksAck sender number) = is_number number
+is_numbered (AsksSender sender) = true
+is_numbered (AsksWork sender work) = true
+is_numbered (AsksVerdicts sender number) = is_number number
 is_numbered AsksElsewhere = true

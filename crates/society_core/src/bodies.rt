@@ -1,6 +1,9 @@
-ghost use Rattle.std.specs.Prelude.{◌≡◌, OnOk, OnErr, option_map};
+ghost use Rattle.std.specs.Prelude.{◌≡◌, ◌&&◌, IfOk, OnOk, OnErr, bytes_eq, map, nat_lt, option_map};
+ghost use Rattle.std.specs.BTreeMap.{keys};
+ghost use Rattle.std.specs.List.{filter};
+ghost use Rattle.std.specs.List.Sorted.{IsStrictlySortedBy};
 ghost use Rattle.std.specs.FinMap as finite;
-ghost use Rattle.society_core.specs.Slot.{slot_of};
+ghost use Rattle.society_core.specs.Slot.{slot_cmp, slot_of};
 
 use crate::slot::Slot;
 use std::alloc::{AllocError, Global};
@@ -27,6 +30,23 @@ impl Model for Bodies {
     ghost view = { λ b. finite.from_entries (map (λ e. (e.0, e.1.items)) b.entries.entries) };
 }
 
+/// The numbers above a front under which a sender has entries; entries are in the order of their slots.
+fn numbers_in(
+    alloc: Global,
+    entries: &BTreeMap<Slot, Vec<u8>>,
+    sender: &SenderKey,
+    front: u32,
+) -> Result<Vec<u32>, AllocError>
+    ensures numbers { IfOk result (λ numbers. numbers.items ≡ map (λ slot. slot.number) (filter (λ slot. bytes_eq slot.sender sender.now && nat_lt front slot.number) (keys entries.now))) }
+    ensures ordered { IsStrictlySortedBy slot_cmp (keys entries.now) }
+{
+    entries
+        .keys()
+        .filter(|slot| slot.sender == *sender && slot.number > front)
+        .map(|slot| slot.number)
+        .collect(alloc)
+}
+
 impl Bodies {
     /// No bodies.
     pub fn new(alloc: Global) -> Bodies
@@ -45,6 +65,18 @@ impl Bodies {
             sender: *sender,
             number,
         })
+    }
+
+    /// The numbers above a front under which a sender has bodies, ascending.
+    pub fn numbers_above(
+        &self,
+        alloc: Global,
+        sender: &SenderKey,
+        front: u32,
+    ) -> Result<Vec<u32>, AllocError>
+        ensures { IfOk result (λ numbers. numbers.items ≡ map (λ slot. slot.number) (filter (λ slot. bytes_eq slot.sender sender.now && nat_lt front slot.number) (finite.keys self.now))) }
+    {
+        numbers_in(alloc, &self.entries, sender, front)
     }
 
     /// Keeps a copy of a body as that of a sender's transmission; unchanged for want of memory.

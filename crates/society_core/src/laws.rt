@@ -2,8 +2,8 @@ ghost use Rattle.std.specs.Prelude.{◌≡◌, ℕ, List};
 ghost use Rattle.share_rules.specs.declared.office.Office.{Office};
 ghost use Rattle.society_core.specs.Answers.{answer};
 ghost use Rattle.society_core.specs.Book.{Book};
-ghost use Rattle.society_core.specs.Headline.{OneContent, HoldsWhatCame, BroughtAlike};
-ghost use Rattle.society_core.specs.Requests.{Query, Reply};
+ghost use Rattle.society_core.specs.Headline.{AlikeToTheGap, OneContent, HoldsWhatCame, BroughtAlike};
+ghost use Rattle.society_core.specs.Requests.{AsksAck, AsksVerdicts, AsksWork, Query, Reply};
 ghost use Rattle.society_core.specs.Runs.{Run};
 
 /// Laws of every run of requests, whichever store is under the desk: each is the contract of a function that
@@ -19,4 +19,12 @@ pub fn book_holds_what_came()
 pub fn order_of_arrival_is_free()
     ensures same_book { (office : Office) (before : Book) (queries : List Query) (replies : List Reply) (after : Book) (others : List Query) (answers : List Reply) (end : Book) → Run office before queries replies after → Run office before others answers end → OneContent before queries replies → BroughtAlike before queries replies others answers → after ≡ end }
     ensures same_answers { (office : Office) (before : Book) (queries : List Query) (replies : List Reply) (after : Book) (others : List Query) (answers : List Reply) (end : Book) → Run office before queries replies after → Run office before others answers end → OneContent before queries replies → BroughtAlike before queries replies others answers → (query : Query) → answer office after query ≡ answer office end query }
+{}
+
+/// What waits behind a sender's first gap is unapplied: two books with the same transmissions of a sender up to the
+/// gap answer alike whatever is asked of its works, verdicts and acknowledgements.
+pub fn what_waits_is_unapplied()
+    ensures works { (office : Office) (a b : Book) (sender work : List ℕ) → AlikeToTheGap a b sender → answer office a (AsksWork sender work) ≡ answer office b (AsksWork sender work) }
+    ensures verdicts { (office : Office) (a b : Book) (sender : List ℕ) (n : ℕ) → AlikeToTheGap a b sender → answer office a (AsksVerdicts sender n) ≡ answer office b (AsksVerdicts sender n) }
+    ensures acks { (office : Office) (a b : Book) (sender : List ℕ) (n : ℕ) → AlikeToTheGap a b sender → answer office a (AsksAck sender n) ≡ answer office b (AsksAck sender n) }
 {}

@@ -9,11 +9,12 @@ pub mod request;
 pub mod runs;
 pub mod slot;
 pub mod store;
+mod work;
 
 pub use desk::Desk;
-pub use laws::{book_holds_what_came, order_of_arrival_is_free};
+pub use laws::{book_holds_what_came, order_of_arrival_is_free, what_waits_is_unapplied};
 pub use plain_store::PlainStore;
-pub use request::{Answer, Arrival, Refusal, Request, Standing};
+pub use request::{Answer, Arrival, Refusal, Request, SenderStatus, Standing, Work};
 pub use runs::{answer, run};
 pub use slot::{MAX_NUMBER, Slot};
 pub use store::{Known, Store, StoreFault};

@@ -1,17 +1,18 @@
-ghost use Rattle.std.specs.Prelude.{◌≡◌, IfOk, option_map, true};
+ghost use Rattle.std.specs.Prelude.{◌≡◌, ◌≤◌, [], IfOk, option_map, true, unwrap_or};
+ghost use Rattle.cwr_files.specs.Contents.{transmission_in};
 ghost use Rattle.society_core.specs.Answers.{known_as};
-ghost use Rattle.society_core.specs.Book.{IsSound, body_at, front, transmissions_to, verdicts_in};
+ghost use Rattle.society_core.specs.Book.{IsSound, body_at, front, is_there, transmissions_to, verdicts_in, version_in};
 ghost use Rattle.society_core.specs.Plain.{book_with};
 ghost use Rattle.works_core.specs.Line.{line_of};
 
 use crate::bodies::Bodies;
 use crate::slot::MAX_NUMBER;
 use crate::store::{Known, Store, StoreFault};
-use cwr_files::{Transmission, read_transmission};
+use cwr_files::{ReadFault, Transmission, read_transmission};
 use share_rules::Office;
 use std::alloc::{AllocError, Global};
-use work_ids::SenderKey;
-use works_core::{SenderLine, Verdict};
+use work_ids::{SenderKey, WorkNumber};
+use works_core::{SenderLine, Verdict, WorkVersion};
 
 /// A store in memory that keeps the accepted bodies alone, and computes every answer from them anew.
 #[derive(Drop)]
@@ -50,6 +51,27 @@ fn front_of(bodies: &Bodies, sender: &SenderKey) -> u32
     MAX_NUMBER
 }
 
+/// The transmission that stands under a sender's number.
+fn transmission_of<'a>(
+    alloc: Global,
+    bodies: &'a Bodies,
+    sender: &SenderKey,
+    number: u32,
+) -> Result<Transmission<'a>, AllocError>
+    requires sound { IsSound (book_with bodies.now) }
+    requires there { is_there (book_with bodies.now) sender.now number ≡ true }
+    ensures { IfOk result (λ t. t ≡ transmission_in (unwrap_or (body_at (book_with bodies.now) sender.now number) [])) }
+{
+    let Some(body) = bodies.get(sender, number) else {
+        unreachable!();
+    };
+    match read_transmission(alloc, body, sender) {
+        Ok(transmission) => Ok(transmission),
+        Err(ReadFault::Memory) => Err(AllocError),
+        Err(ReadFault::File(_)) => unreachable!(),
+    }
+}
+
 /// A sender's line up to a number that is at most its front.
 fn line_to(
     alloc: Global,
@@ -58,17 +80,14 @@ fn line_to(
     sender: &SenderKey,
     number: u32,
 ) -> Result<SenderLine, AllocError>
+    requires sound { IsSound (book_with bodies.now) }
+    requires reached { number ≤ front (book_with bodies.now) sender.now }
     ensures office { IfOk result (λ line. line.office ≡ office.now) }
     ensures judged { IfOk result (λ line. line.judged ≡ line_of office.now (transmissions_to (book_with bodies.now) sender.now number)) }
 {
     let mut line = SenderLine::new(alloc, office);
     for applied in 0..number {
-        let Some(body) = bodies.get(sender, applied + 1) else {
-            return Err(AllocError);
-        };
-        let Ok(transmission) = read_transmission(alloc, body, sender) else {
-            return Err(AllocError);
-        };
+        let transmission = transmission_of(alloc, bodies, sender, applied + 1)?;
         line.apply(&transmission)?;
     }
     Ok(line)
@@ -98,12 +117,15 @@ fn verdicts_of(
     sender: &SenderKey,
     number: u32,
 ) -> Result<Vec<Verdict>, AllocError>
+    requires sound { IsSound (book_with bodies.now) }
+    requires first { 1 ≤ number }
+    requires reached { number ≤ front (book_with bodies.now) sender.now }
     ensures { IfOk result (λ verdicts. verdicts.items ≡ verdicts_in office.now (book_with bodies.now) sender.now number) }
 {
     let line = line_to(alloc, office, bodies, sender, number)?;
     match line.verdicts(number as usize) {
         Some(verdicts) => Vec::from_slice(alloc, verdicts),
-        None => Err(AllocError),
+        None => unreachable!(),
     }
 }
 
@@ -120,6 +142,23 @@ fn copy_of(
         None => Ok(None),
         Some(body) => Ok(Some(Vec::from_slice(alloc, body)?)),
     }
+}
+
+/// The version of a sender's work at a number that is at most the sender's front.
+fn version_of(
+    alloc: Global,
+    office: &Office,
+    bodies: &Bodies,
+    sender: &SenderKey,
+    work: &WorkNumber,
+    cut: u32,
+) -> Result<Option<WorkVersion>, AllocError>
+    requires sound { IsSound (book_with bodies.now) }
+    requires reached { cut ≤ front (book_with bodies.now) sender.now }
+    ensures { IfOk result (λ version. version ≡ version_in office.now (book_with bodies.now) sender.now work.now cut) }
+{
+    let line = line_to(alloc, office, bodies, sender, cut)?;
+    Ok(line.work_at(work, cut))
 }
 
 impl Store for PlainStore {
@@ -146,6 +185,21 @@ impl Store for PlainStore {
 
     fn front(&mut self, sender: &SenderKey) -> Result<u32, StoreFault> {
         Ok(front_of(&self.bodies, sender))
+    }
+
+    fn held(&mut self, alloc: Global, sender: &SenderKey) -> Result<Vec<u32>, StoreFault> {
+        let front = front_of(&self.bodies, sender);
+        Ok(self.bodies.numbers_above(alloc, sender, front)?)
+    }
+
+    fn work(
+        &mut self,
+        alloc: Global,
+        sender: &SenderKey,
+        work: &WorkNumber,
+    ) -> Result<Option<WorkVersion>, StoreFault> {
+        let front = front_of(&self.bodies, sender);
+        Ok(version_of(alloc, &self.office, &self.bodies, sender, work, front)?)
     }
 
     fn verdicts(

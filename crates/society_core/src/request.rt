@@ -1,8 +1,10 @@
 use crate::StoreFault;
 use cwr_files::{FileFault, ReadFault};
+use share_rules::Holder;
 use std::alloc::AllocError;
 use thiserror::Error;
-use work_ids::SenderKey;
+use work_ids::{Isrc, Iswc, SenderKey, WorkNumber};
+use works_core::{Verdict, WorkVersion};
 
 /// Whether a transmission counts: applied where its number is at most its sender's front, else held.
 #[derive(Clone, Copy, Debug, PartialEq, Eq)]
@@ -19,6 +21,25 @@ pub struct Arrival {
     /// The sender's front: the greatest n such that 1 to n have come.
     pub front: u32,
     pub standing: Standing,
+}
+
+/// How a sender stands: its front, and the numbers above it under which transmissions wait, ascending.
+#[derive(Debug, Drop)]
+pub struct SenderStatus {
+    pub front: u32,
+    pub held: Vec<u32>,
+}
+
+/// A work as its version at the sender's front shows it: title without the blanks at its end, ISRCs in order with
+/// repeats, holders with weights in hundredths of a percent, what nobody claims last (profile).
+#[derive(Debug, Drop)]
+pub struct Work {
+    pub number: WorkNumber,
+    pub version: WorkVersion,
+    pub title: Vec<u8>,
+    pub iswc: Option<Iswc>,
+    pub isrcs: Vec<Isrc>,
+    pub holders: Vec<Holder>,
 }
 
 /// Why a request is refused. A refused request changes nothing.
@@ -87,6 +108,20 @@ pub enum Request<'a> {
         sender: SenderKey,
         number: u32,
     },
+    /// Show how a sender stands.
+    Sender {
+        sender: SenderKey,
+    },
+    /// Show a sender's work.
+    Work {
+        sender: SenderKey,
+        work: WorkNumber,
+    },
+    /// Show the verdicts of a sender's transmission.
+    Verdicts {
+        sender: SenderKey,
+        number: u32,
+    },
     /// Something that the office does not have.
     Elsewhere,
 }
@@ -96,5 +131,8 @@ pub enum Request<'a> {
 pub enum Answer {
     Arrived(Arrival),
     Acknowledgement(Vec<u8>),
+    Sender(SenderStatus),
+    Work(Work),
+    Verdicts(Vec<Verdict>),
     Refused(Refusal),
 }

@@ -30,6 +30,18 @@ pub fn answer<S: Store>(alloc: Global, desk: &mut Desk<S>, request: &Request<'_>
             Ok(text) => Answer::Acknowledgement(text),
             Err(refusal) => Answer::Refused(refusal),
         },
+        Request::Sender { sender } => match desk.sender(alloc, sender) {
+            Ok(status) => Answer::Sender(status),
+            Err(refusal) => Answer::Refused(refusal),
+        },
+        Request::Work { sender, work } => match desk.work(alloc, sender, work) {
+            Ok(work) => Answer::Work(work),
+            Err(refusal) => Answer::Refused(refusal),
+        },
+        Request::Verdicts { sender, number } => match desk.verdicts(alloc, sender, *number) {
+            Ok(verdicts) => Answer::Verdicts(verdicts),
+            Err(refusal) => Answer::Refused(refusal),
+        },
         Request::Elsewhere => Answer::Refused(Refusal::Unknown),
     }
 }

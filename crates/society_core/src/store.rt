@@ -2,7 +2,7 @@ ghost use Rattle.std.specs.Prelude.{◌≡◌, ◌≤◌, IfOk, IfErr, OnOk, OnE
 ghost use Rattle.cwr_files.specs.Contents.{transmission_in};
 ghost use Rattle.cwr_files.specs.FileFault.{file_fault};
 ghost use Rattle.society_core.specs.Answers.{known_as};
-ghost use Rattle.society_core.specs.Book.{body_at, front, verdicts_in, with_transmission};
+ghost use Rattle.society_core.specs.Book.{body_at, front, held, verdicts_in, version_in, with_transmission};
 ghost use Rattle.society_core.specs.Slot.{is_number};
 ghost use Rattle.society_core.specs.State.{State, IsState, Goes, Asks, HasCause};
 
@@ -10,8 +10,8 @@ use cwr_files::Transmission;
 use share_rules::Office;
 use std::alloc::{AllocError, AllocFailed, Global};
 use thiserror::Error;
-use work_ids::SenderKey;
-use works_core::Verdict;
+use work_ids::{SenderKey, WorkNumber};
+use works_core::{Verdict, WorkVersion};
 
 /// What the book has under a transmission's number.
 #[derive(Clone, Copy, Debug, PartialEq, Eq)]
@@ -85,6 +85,23 @@ pub trait Store {
     /// A sender's front.
     fn front(&mut self, sender: &SenderKey) -> Result<u32, StoreFault>
         ensures ok { IsTrue (state self.new).is_clean → IfOk result (λ number. number ≡ front (state self.old).book sender.now) }
+        ensures asks { Asks (state self.old) (state self.new) }
+        ensures cause { IfErr result (HasCause (state self.old) (state self.new)) };
+
+    /// The numbers of a sender's held transmissions, ascending.
+    fn held(&mut self, alloc: Global, sender: &SenderKey) -> Result<Vec<u32>, StoreFault>
+        ensures ok { IsTrue (state self.new).is_clean → IfOk result (λ numbers. numbers.items ≡ held (state self.old).book sender.now) }
+        ensures asks { Asks (state self.old) (state self.new) }
+        ensures cause { IfErr result (HasCause (state self.old) (state self.new)) };
+
+    /// The version of a sender's work at the sender's front.
+    fn work(
+        &mut self,
+        alloc: Global,
+        sender: &SenderKey,
+        work: &WorkNumber,
+    ) -> Result<Option<WorkVersion>, StoreFault>
+        ensures ok { IsTrue (state self.new).is_clean → IfOk result (λ version. version ≡ version_in (state self.old).office (state self.old).book sender.now work.now (front (state self.old).book sender.now)) }
         ensures asks { Asks (state self.old) (state self.new) }
         ensures cause { IfErr result (HasCause (state self.old) (state self.new)) };
 

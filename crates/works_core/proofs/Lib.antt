@@ -1,2 +1,4 @@
 pub mod TrackLemmas
 pub mod KeptLemmas
+pub mod CutLemmas
+mod Worked

@@ -1,49 +1,34 @@
--- What is kept of the works after one more transaction.
-use Rattle.std.proofs.Common.{◌≡◌, ℕ, ◌+◌, ◌-◌, ◌≤◌, Bool, true, false, cond, not, ◌&&◌, ◌||◌, List, [], ◌∷◌, Option, Some, None, is_some, refl, sym, ap, subst, ◌∙◌, arith, if◌then◌else◌, ⊎_elim}
-use Rattle.std.specs.BTreeMap.{get, is_at}
-use Rattle.std.specs.Cmp.Lexicographic.{slice_cmp, texts_ties}
-use Rattle.std.specs.Ordering.{nat_cmp}
+-- What is kept of the works after one more transaction, and what is kept of a work's last version.
+use Rattle.std.proofs.Common.{◌≡◌, ℕ, ◌+◌, ◌<◌, ◌≤◌, Bool, true, false, cond, not, ◌&&◌, ◌||◌, List, [], ◌∷◌, ◌++◌, length, get_or, Option, Some, None, is_some, refl, sym, ap, subst, ◌∙◌, arith, if◌then◌else◌, nat_lt}
 use Rattle.std.specs.Str.{bytes_eq}
-use Rattle.std.proofs.lemmas.Bool.{false≢true, cases_Bool, or_cases}
+use Rattle.std.proofs.lemmas.Bool.{false≢true}
+use Rattle.std.proofs.lemmas.List.{get_or_append_left, get_or_push, length_push}
 use Rattle.std.proofs.lemmas.Slice.Eq.{bytes_eq-Decides}
 use Rattle.cwr_records.specs.declared.work.TransactionKind.TheVariants.{Nwr, Rev}
-use Rattle.works_core.specs.Verdicts.{registers, concerns, is_registered, is_accepted, begins_work, works_in, versions_of, ordinal_of}
-use Rattle.works_core.specs.Tracks.{known_of}
+use Rattle.works_core.specs.Verdicts.{registers, concerns, is_registered, is_accepted, works_in, versions_of, ordinal_of}
+use Rattle.works_core.specs.Versions.{Placed, placed_at, judged_of, is_version, version_of}
+use Rattle.works_core.specs.Tracks.{work_in, accepted_in, last_index, linked_version, linked_versions}
 use Rattle.works_core.specs.declared.judged.Judged.{Judged}
 use Rattle.works_core.specs.declared.judged.Judged.TheVariants.{Clean, Faulty}
-use Rattle.works_core.specs.declared.works.Known.{Known}
-
--- a work that is registered or not, with an ordinal and a count of versions
-abbrev known_at : Bool → ℕ → ℕ → Option Known
-known_at registered ordinal versions = if registered then Some (record { ordinal = ordinal; revision = versions - 1 }) else None
-
-is_some-known_at : (b : Bool) (o v : ℕ) → is_some (known_at b o v) ≡ b
-is_some-known_at true o v = refl
-is_some-known_at false o v = refl
-
--- a work is known where it is registered
-pub known_registered : (past : List Judged) (w : List ℕ) → is_some (known_of w past) ≡ is_registered w past
-known_registered past w = is_some-known_at (is_registered w past) (ordinal_of w past) (versions_of w past)
-
-keeps : (r i a c : Bool) (o n v : ℕ) → a ≡ false → (r ≡ true → i ≡ true) → known_at (r || i) (if i then o else n) (if a && c then v + 1 else v) ≡ known_at i o v
-keeps r i true c o n v e h = absurd (false≢true (sym e))
-keeps true true false c o n v e h = refl
-keeps false true false c o n v e h = refl
-keeps true false false c o n v e h = absurd (false≢true (h refl))
-keeps false false false c o n v e h = refl
-
--- a transaction that is not accepted and registers nothing new changes no work
-pub known_of-kept : (past : List Judged) (x : Judged) (w : List ℕ) → is_accepted past x ≡ false → (registers w x ≡ true → is_registered w past ≡ true) → known_of w past ≡ known_of w (x ∷ past)
-known_of-kept past x w a h =
-    sym (keeps (registers w x) (is_registered w past) (is_accepted past x) (concerns w x) (ordinal_of w past) (works_in (x ∷ past)) (versions_of w past) a h)
+use Rattle.works_core.specs.declared.version.LinkedVersion.{LinkedVersion}
+use Rattle.works_core.specs.declared.version.WorkVersion.{WorkVersion}
 
 -- work numbers that compare alike are one
 pub same_bytes : (v w : List ℕ) → bytes_eq v w ≡ true → v ≡ w
 same_bytes v w e = (bytes_eq-Decides v w).0 e
 
+-- the work that a transaction concerns is its own
+pub concerned : (w : List ℕ) (x : Judged) → concerns w x ≡ true → work_in x ≡ w
+concerned w (Clean kind u) e = same_bytes u w e
+concerned w (Faulty fault) e = absurd (false≢true e)
+
 none_of : (a b : Bool) → (a || b) ≡ false → (a ≡ false) × (b ≡ false)
 none_of true b e = absurd (false≢true (sym e))
 none_of false b e = (refl, e)
+
+pub both_of : (a b : Bool) → (a && b) ≡ true → (a ≡ true) × (b ≡ true)
+both_of true b e = (refl, e)
+both_of false b e = absurd (false≢true e)
 
 chosen_not : (a c : Bool) (n m : ℕ) → (a && c) ≡ false → (if a && c then n else m) ≡ m
 chosen_not a c n m e = ap (λ (b : Bool). if b then n else m) e
@@ -65,79 +50,68 @@ no_versions w (Clean Rev u ∷ past) h =
     chosen_not (is_registered u past) (bytes_eq u w) (versions_of w past + 1) (versions_of w past) (and_false (is_registered u past) (bytes_eq u w) (λ t. subst (λ (z : List ℕ). is_registered z past ≡ false) (sym (same_bytes u w t)) h))
     ∙ no_versions w past h
 
-more_or_same : (b : Bool) (n : ℕ) → 1 ≤ n → 1 ≤ (if b then n + 1 else n)
-more_or_same true n h = omega arith
-more_or_same false n h = h
+registering : (a b r : Bool) (n : ℕ) (before : Option ℕ) → (b ≡ true → a ≡ r) → is_some before ≡ r → is_some (if not a && b then Some n else before) ≡ (b || r)
+registering true true r n before same h = h ∙ sym (same refl)
+registering false true r n before same h = refl
+registering true false r n before same h = h
+registering false false r n before same h = h
 
--- a work that is registered has a version
-pub some_version : (w : List ℕ) (past : List Judged) → is_registered w past ≡ true → 1 ≤ versions_of w past
-some_version w [] h = absurd (false≢true h)
-some_version w (Faulty f ∷ past) h = some_version w past h
-some_version w (Clean Rev u ∷ past) h = more_or_same (is_registered u past && bytes_eq u w) (versions_of w past) (some_version w past h)
-some_version w (Clean Nwr u ∷ past) h =
-    ⊎_elim
-    (λ (before : is_registered w past ≡ true). more_or_same (not (is_registered u past) && bytes_eq u w) (versions_of w past) (some_version w past before))
-    (λ (first : is_registered w past ≡ false). begun (is_registered u past) (bytes_eq u w) first (here first h))
-    (cases_Bool (is_registered w past))
-  where
-    here : is_registered w past ≡ false → (bytes_eq u w || is_registered w past) ≡ true → bytes_eq u w ≡ true
-    here first t = ⊎_elim (λ (e : bytes_eq u w ≡ true). e) (λ (e : is_registered w past ≡ true). absurd (false≢true (sym first ∙ e))) (or_cases (bytes_eq u w) (is_registered w past) t)
+revising : (a b r : Bool) (n : ℕ) (before : Option ℕ) → (b ≡ true → a ≡ r) → is_some before ≡ r → is_some (if a && b then Some n else before) ≡ r
+revising true true r n before same h = same refl
+revising true false r n before same h = h
+revising false b r n before same h = h
 
-    begun : (a b : Bool) → is_registered w past ≡ false → bytes_eq u w ≡ true → 1 ≤ versions_of w (Clean Nwr u ∷ past)
-    begun a b first e =
-        let free : is_registered u past ≡ false = subst (λ (z : List ℕ). is_registered z past ≡ false) (sym (same_bytes u w e)) first in
-        let taken : (not (is_registered u past) && bytes_eq u w) ≡ true = ap (λ (z : Bool). not z && bytes_eq u w) free ∙ e in
-        let is : versions_of w (Clean Nwr u ∷ past) ≡ versions_of w past + 1 = ap (λ (z : Bool). if z then versions_of w past + 1 else versions_of w past) taken in
-        omega (arith, is)
+one_more : (x : Judged) (past : List Judged) (w : List ℕ) (n : ℕ) (before : Option ℕ) → is_some before ≡ is_registered w past → is_some (if is_accepted past x && concerns w x then Some n else before) ≡ (registers w x || is_registered w past)
+one_more (Faulty f) past w n before h = h
+one_more (Clean Nwr u) past w n before h =
+    registering (is_registered u past) (bytes_eq u w) (is_registered w past) n before (λ e. ap (λ (z : List ℕ). is_registered z past) (same_bytes u w e)) h
+one_more (Clean Rev u) past w n before h =
+    revising (is_registered u past) (bytes_eq u w) (is_registered w past) n before (λ e. ap (λ (z : List ℕ). is_registered z past) (same_bytes u w e)) h
 
-begins : (b i a : Bool) (o n v : ℕ) → a ≡ true → (b ≡ true → (i ≡ false) × (v ≡ 0)) → known_at (b || i) (if i then o else n) (if a && b then v + 1 else v) ≡ cond b (Some (record { ordinal = n; revision = 0 })) (known_at i o v)
-begins b i false o n v e h = absurd (false≢true e)
-begins false true true o n v e h = refl
-begins false false true o n v e h = refl
-begins true true true o n v e h = absurd (false≢true (sym (h refl).0))
-begins true false true o n v e h = ap (λ (k : ℕ). Some (record { ordinal = n; revision = (k + 1) - 1 })) (h refl).1
+-- a work has a last version where it is registered
+pub last_registered : (w : List ℕ) (past : List Placed) → is_some (last_index w past) ≡ is_registered w (judged_of past)
+last_registered w [] = refl
+last_registered w (t ∷ past) = one_more t.judged (judged_of past) w (accepted_in past) (last_index w past) (last_registered w past)
 
--- a registration that is accepted adds its work, and changes no other
-pub known_of-begun : (past : List Judged) (u w : List ℕ) → is_registered u past ≡ false → known_of w (Clean Nwr u ∷ past) ≡ cond (is_at (slice_cmp nat_cmp u) w) (Some (record { ordinal = works_in past + 1; revision = 0 })) (known_of w past)
-known_of-begun past u w free =
-    let count : works_in (Clean Nwr u ∷ past) ≡ works_in past + 1 = ap (λ (z : Bool). if not z then works_in past + 1 else works_in past) free in
-    begins (bytes_eq u w) (is_registered w past) (not (is_registered u past)) (ordinal_of w past) (works_in (Clean Nwr u ∷ past)) (versions_of w past) (ap not free)
-    (λ e. let first = subst (λ (z : List ℕ). is_registered z past ≡ false) (same_bytes u w e) free in (first, no_versions w past first))
-    ∙ ap (λ (n : ℕ). cond (bytes_eq u w) (Some (record { ordinal = n; revision = 0 })) (known_of w past)) count
-    ∙ ap (λ (z : Bool). cond z (Some (record { ordinal = works_in past + 1; revision = 0 })) (known_of w past)) (texts_ties u w)
+pub none_from_is_some : (o : Option ℕ) → is_some o ≡ false → o ≡ None
+none_from_is_some None e = refl
+none_from_is_some (Some i) e = absurd (false≢true (sym e))
 
-revises : (b i a : Bool) (o n v p q : ℕ) → a ≡ true → (b ≡ true → (i ≡ true) × (o ≡ p) × (v ≡ q)) → known_at i (if i then o else n) (if a && b then v + 1 else v) ≡ cond b (Some (record { ordinal = p; revision = q })) (known_at i o v)
-revises b i false o n v p q e h = absurd (false≢true e)
-revises false true true o n v p q e h = refl
-revises false false true o n v p q e h = refl
-revises true false true o n v p q e h = absurd (false≢true (h refl).0)
-revises true true true o n v p q e h =
-    let back : (v + 1) - 1 ≡ v = omega arith in
-    ap (λ (k : ℕ). Some (record { ordinal = k; revision = (v + 1) - 1 })) (h refl).1
-    ∙ ap (λ (k : ℕ). Some (record { ordinal = p; revision = k })) (back ∙ (h refl).2)
-
--- a revision that is accepted raises its work's revision, and changes no other work
-pub known_of-revised : (past : List Judged) (u w : List ℕ) → is_registered u past ≡ true → known_of w (Clean Rev u ∷ past) ≡ cond (is_at (slice_cmp nat_cmp u) w) (Some (record { ordinal = ordinal_of u past; revision = versions_of u past })) (known_of w past)
-known_of-revised past u w there =
-    revises (bytes_eq u w) (is_registered w past) (is_registered u past) (ordinal_of w past) (works_in (Clean Rev u ∷ past)) (versions_of w past) (ordinal_of u past) (versions_of u past) there
-    (λ e. let same = same_bytes u w e in
-    (subst (λ (z : List ℕ). is_registered z past ≡ true) same there, ap (λ (z : List ℕ). ordinal_of z past) (sym same), ap (λ (z : List ℕ). versions_of z past) (sym same)))
-    ∙ ap (λ (z : Bool). cond z (Some (record { ordinal = ordinal_of u past; revision = versions_of u past })) (known_of w past)) (texts_ties u w)
-
-none_is_none : (k : Known) → ◌≡◌ {A = Option Known} None (Some k) → ⊥
+pub none_is_none : {A : Type 0} (k : A) → ◌≡◌ {A = Option A} None (Some k) → ⊥
 none_is_none k e = cc
 
--- what is known of a work tells that it is registered, with its ordinal and its last revision
-pub told_by_known : (past : List Judged) (w : List ℕ) (k : Known) → known_of w past ≡ Some k → (is_registered w past ≡ true) × (k.ordinal ≡ ordinal_of w past) × (k.revision + 1 ≡ versions_of w past)
-told_by_known past w k e = from_parts (is_registered w past) refl e
+-- there are so many versions as transactions are accepted
+pub length-linked_versions : (past : List Placed) → length (linked_versions past) ≡ accepted_in past
+length-linked_versions [] = refl
+length-linked_versions (t ∷ past) = more (is_accepted (judged_of past) t.judged) (length-linked_versions past)
   where
-    from_parts : (b : Bool) → is_registered w past ≡ b → known_at b (ordinal_of w past) (versions_of w past) ≡ Some k → (is_registered w past ≡ true) × (k.ordinal ≡ ordinal_of w past) × (k.revision + 1 ≡ versions_of w past)
-    from_parts true r e =
-        let is : k ≡ record { ordinal = ordinal_of w past; revision = versions_of w past - 1 } = cc in
-        let least = some_version w past r in
-        let rev : k.revision ≡ versions_of w past - 1 = ap (λ (z : Known). z.revision) is in
-        (r, ap (λ (z : Known). z.ordinal) is, omega arith)
-    from_parts false r e = absurd (none_is_none k e)
+    more : (b : Bool) → length (linked_versions past) ≡ accepted_in past → length (if b then linked_versions past ++ linked_version past t ∷ [] else linked_versions past) ≡ (if b then accepted_in past + 1 else accepted_in past)
+    more true h = length_push (linked_versions past) (linked_version past t) ∙ ap (λ (n : ℕ). n + 1) h
+    more false h = h
+
+-- a work has at most so many versions as transactions are accepted
+pub versions_of-le : (w : List ℕ) (past : List Placed) → versions_of w (judged_of past) ≤ accepted_in past
+versions_of-le w [] = omega arith
+versions_of-le w (t ∷ past) = more (is_accepted (judged_of past) t.judged) (concerns w t.judged) (versions_of-le w past)
+  where
+    more : (a c : Bool) → versions_of w (judged_of past) ≤ accepted_in past → (if a && c then versions_of w (judged_of past) + 1 else versions_of w (judged_of past)) ≤ (if a then accepted_in past + 1 else accepted_in past)
+    more true true h = omega arith
+    more true false h = omega arith
+    more false c h = h
+
+-- a transaction that is not accepted changes nothing of what is kept
+pub last_index-kept : (past : List Placed) (t : Placed) (w : List ℕ) → is_accepted (judged_of past) t.judged ≡ false → last_index w (t ∷ past) ≡ last_index w past
+last_index-kept past t w e = ap (λ (b : Bool). if b && concerns w t.judged then Some (accepted_in past) else last_index w past) e
+
+pub linked_versions-kept : (past : List Placed) (t : Placed) → is_accepted (judged_of past) t.judged ≡ false → linked_versions (t ∷ past) ≡ linked_versions past
+linked_versions-kept past t e = ap (λ (b : Bool). if b then linked_versions past ++ linked_version past t ∷ [] else linked_versions past) e
+
+-- one that is accepted becomes the last version of its work
+pub last_index-accepted : (past : List Placed) (t : Placed) (w : List ℕ) → is_accepted (judged_of past) t.judged ≡ true → last_index w (t ∷ past) ≡ cond (concerns w t.judged) (Some (accepted_in past)) (last_index w past)
+last_index-accepted past t w e = ap (λ (b : Bool). if b && concerns w t.judged then Some (accepted_in past) else last_index w past) e
+
+pub linked_versions-accepted : (past : List Placed) (t : Placed) → is_accepted (judged_of past) t.judged ≡ true → linked_versions (t ∷ past) ≡ linked_versions past ++ linked_version past t ∷ []
+linked_versions-accepted past t e = ap (λ (b : Bool). if b then linked_versions past ++ linked_version past t ∷ [] else linked_versions past) e
 
 -- how many works there are after a registration
 pub works_in-begun : (past : List Judged) (u : List ℕ) → is_registered u past ≡ false → works_in (Clean Nwr u ∷ past) ≡ works_in past + 1
@@ -145,3 +119,115 @@ works_in-begun past u free = ap (λ (z : Bool). if not z then works_in past + 1 
 
 pub works_in-kept : (past : List Judged) (u : List ℕ) → is_registered u past ≡ true → works_in (Clean Nwr u ∷ past) ≡ works_in past
 works_in-kept past u there = ap (λ (z : Bool). if not z then works_in past + 1 else works_in past) there
+
+-- a registration that is accepted is the first version of a new work
+pub linked_version-begun : (past : List Placed) (transmission place : ℕ) (u : List ℕ) → is_registered u (judged_of past) ≡ false → linked_version past (placed_at transmission place (Clean Nwr u)) ≡ record { version = record { transmission = transmission; place = place; ordinal = works_in (judged_of past) + 1; revision = 0 }; before = None }
+linked_version-begun past transmission place u free =
+    let none = none_from_is_some (last_index u past) (last_registered u past ∙ free) in
+    let ordinal : ordinal_of u (Clean Nwr u ∷ judged_of past) ≡ works_in (judged_of past) + 1 =
+    ap (λ (b : Bool). if b then ordinal_of u (judged_of past) else works_in (Clean Nwr u ∷ judged_of past)) free ∙ works_in-begun (judged_of past) u free in
+    let revision = no_versions u (judged_of past) free in
+    made transmission place (ordinal_of u (Clean Nwr u ∷ judged_of past)) (versions_of u (judged_of past)) (works_in (judged_of past) + 1) 0 (last_index u past) None ordinal revision none
+  where
+    made : (t p o r o2 r2 : ℕ) (b b2 : Option ℕ) → o ≡ o2 → r ≡ r2 → b ≡ b2 → ◌≡◌ {A = LinkedVersion} (record { version = record { transmission = t; place = p; ordinal = o; revision = r }; before = b }) (record { version = record { transmission = t; place = p; ordinal = o2; revision = r2 }; before = b2 })
+    made t p o r o2 r2 b b2 e1 e2 e3 = cc
+
+-- a revision that is accepted is the next version of its work
+pub linked_version-revised : (past : List Placed) (transmission place : ℕ) (u : List ℕ) (i : ℕ) → is_registered u (judged_of past) ≡ true → last_index u past ≡ Some i → linked_version past (placed_at transmission place (Clean Rev u)) ≡ record { version = record { transmission = transmission; place = place; ordinal = ordinal_of u (judged_of past); revision = versions_of u (judged_of past) }; before = Some i }
+linked_version-revised past transmission place u i there last =
+    let ordinal : ordinal_of u (Clean Rev u ∷ judged_of past) ≡ ordinal_of u (judged_of past) =
+    ap (λ (b : Bool). if b then ordinal_of u (judged_of past) else works_in (judged_of past)) there in
+    made transmission place (ordinal_of u (Clean Rev u ∷ judged_of past)) (ordinal_of u (judged_of past)) (versions_of u (judged_of past)) (last_index u past) (Some i) ordinal last
+  where
+    made : (t p o o2 r : ℕ) (b b2 : Option ℕ) → o ≡ o2 → b ≡ b2 → ◌≡◌ {A = LinkedVersion} (record { version = record { transmission = t; place = p; ordinal = o; revision = r }; before = b }) (record { version = record { transmission = t; place = p; ordinal = o2; revision = r }; before = b2 })
+    made t p o o2 r b b2 e1 e2 = cc
+
+-- the last of the accepted transactions of a work with a transmission's number up to a cut, looking back
+abbrev pub last_upto : ℕ → List ℕ → List Placed → Option WorkVersion
+last_upto cut work [] = None
+last_upto cut work (t ∷ past) = if is_version work past t && not (nat_lt cut t.transmission) then Some (version_of work past t) else last_upto cut work past
+
+-- where the last version of a work stands, and what is kept of it
+pub record LastAt (w : List ℕ) (past : List Placed) (i : ℕ) : Type 0 where
+  pub before : List Placed
+  pub last : Placed
+  pub is : is_version w before last ≡ true
+  pub index : i ≡ accepted_in before
+  pub within : i < accepted_in past
+  pub found : (d : LinkedVersion) → get_or (linked_versions past) i d ≡ record { version = version_of w before last; before = last_index w before }
+  pub ordinal : ordinal_of w (judged_of past) ≡ ordinal_of w (judged_of (last ∷ before))
+  pub versions : versions_of w (judged_of past) ≡ versions_of w (judged_of before) + 1
+  pub upto : (cut : ℕ) → last_upto cut w past ≡ last_upto cut w (last ∷ before)
+  pub front : (j : ℕ) (d : LinkedVersion) → j < i → get_or (linked_versions past) j d ≡ get_or (linked_versions before) j d
+
+front_kept : (past : List Placed) (t : Placed) (j : ℕ) (d : LinkedVersion) → j < accepted_in past → get_or (linked_versions (t ∷ past)) j d ≡ get_or (linked_versions past) j d
+front_kept past t j d h = more (is_accepted (judged_of past) t.judged)
+  where
+    more : (b : Bool) → get_or (if b then linked_versions past ++ linked_version past t ∷ [] else linked_versions past) j d ≡ get_or (linked_versions past) j d
+    more true = get_or_append_left (linked_versions past) (linked_version past t ∷ []) d j (omega (arith, length-linked_versions past))
+    more false = refl
+
+accepted_in-more : (past : List Placed) (t : Placed) → accepted_in past ≤ accepted_in (t ∷ past)
+accepted_in-more past t = more (is_accepted (judged_of past) t.judged)
+  where
+    more : (b : Bool) → accepted_in past ≤ (if b then accepted_in past + 1 else accepted_in past)
+    more true = omega arith
+    more false = omega arith
+
+last_here : (w : List ℕ) (t : Placed) (past : List Placed) (i : ℕ) → is_version w past t ≡ true → last_index w (t ∷ past) ≡ Some i → LastAt w (t ∷ past) i
+last_here w t past i is e =
+    let parts = both_of (is_accepted (judged_of past) t.judged) (concerns w t.judged) is in
+    let found_here : last_index w (t ∷ past) ≡ Some (accepted_in past) = ap (λ (b : Bool). if b then Some (accepted_in past) else last_index w past) is in
+    let index : i ≡ accepted_in past = cc in
+    let more : accepted_in (t ∷ past) ≡ accepted_in past + 1 = ap (λ (b : Bool). if b then accepted_in past + 1 else accepted_in past) parts.0 in
+    let line = linked_versions-accepted past t parts.0 in
+    let work = concerned w t.judged parts.1 in
+    let count = length-linked_versions past in
+    record {
+      before = past;
+      last = t;
+      is = is;
+      index = index;
+      within = omega arith;
+      found = λ d.
+          ap (λ (xs : List LinkedVersion). get_or xs i d) line
+          ∙ get_or_push (linked_versions past) (linked_version past t) d i (count ∙ sym index)
+          ∙ ap (λ (z : List ℕ). record { version = version_of z past t; before = last_index z past }) work;
+      ordinal = refl;
+      versions = ap (λ (b : Bool). if b then versions_of w (judged_of past) + 1 else versions_of w (judged_of past)) is;
+      upto = λ cut. refl;
+      front = λ j d h. front_kept past t j d (omega arith);
+    }
+
+last_before : (w : List ℕ) (t : Placed) (past : List Placed) (i : ℕ) → is_version w past t ≡ false → is_registered w (judged_of past) ≡ true → LastAt w past i → LastAt w (t ∷ past) i
+last_before w t past i not_this there at = record {
+  before = at.before;
+  last = at.last;
+  is = at.is;
+  index = at.index;
+  within = (let more = accepted_in-more past t in let h = at.within in omega arith);
+  found = λ d. front_kept past t i d at.within ∙ at.found d;
+  ordinal = ap (λ (b : Bool). if b then ordinal_of w (judged_of past) else works_in (judged_of (t ∷ past))) there ∙ at.ordinal;
+  versions = ap (λ (b : Bool). if b then versions_of w (judged_of past) + 1 else versions_of w (judged_of past)) not_this ∙ at.versions;
+  upto = λ cut. ap (λ (b : Bool). if b && not (nat_lt cut t.transmission) then Some (version_of w past t) else last_upto cut w past) not_this ∙ at.upto cut;
+  front = λ j d h. (let k = at.within in front_kept past t j d (omega arith)) ∙ at.front j d h;
+}
+
+-- a work's last version stands where the map says
+pub last_at : (w : List ℕ) (past : List Placed) (i : ℕ) → last_index w past ≡ Some i → LastAt w past i
+last_at w [] i e = absurd (none_is_none i e)
+last_at w (t ∷ past) i e = at_case (is_version w past t) refl (last_at w past i)
+  where
+    at_case : (b : Bool) → is_version w past t ≡ b → (last_index w past ≡ Some i → LastAt w past i) → LastAt w (t ∷ past) i
+    at_case true is recur = last_here w t past i is e
+    at_case false is recur =
+        let further : last_index w past ≡ Some i = sym (ap (λ (b : Bool). if b then Some (accepted_in past) else last_index w past) is) ∙ e in
+        let there : is_registered w (judged_of past) ≡ true = sym (last_registered w past) ∙ ap is_some further in
+        last_before w t past i is there (recur further)
+
+-- the version that the map says tells a work's ordinal and its last revision
+pub last_told : (w : List ℕ) (past : List Placed) (i : ℕ) (d : LinkedVersion) → last_index w past ≡ Some i → d ≡ get_or (linked_versions past) i d → (d.version.ordinal ≡ ordinal_of w (judged_of past)) × (d.version.revision + 1 ≡ versions_of w (judged_of past))
+last_told w past i d e is =
+    let at = last_at w past i e in
+    let found = is ∙ at.found d in
+    (ap (λ (l : LinkedVersion). l.version.ordinal) found ∙ sym at.ordinal, ap (λ (l : LinkedVersion). l.version.revision + 1) found ∙ sym at.versions)

@@ -1,9 +1,12 @@
--- What a sender's line keeps beside what it judged: the verdicts.
-use Rattle.std.specs.Prelude.{ℕ, ◌≡◌, List, [], ◌∷◌, map, Vec}
+-- What a sender's line keeps beside what it judged: the verdicts and the works.
+use Rattle.std.specs.Prelude.{◌≡◌, List, [], ◌∷◌, map, Vec}
 use Rattle.std.specs.Global.{Global}
+use Rattle.works_core.specs.Tracks.{Tracks}
 use Rattle.works_core.specs.Verdicts.{behind, verdicts_from}
+use Rattle.works_core.specs.Versions.{placed_line}
 use Rattle.works_core.specs.declared.judged.Judged.{Judged}
 use Rattle.works_core.specs.declared.verdict.Verdict.{Verdict}
+use Rattle.works_core.specs.declared.works.Works.{Works}
 
 -- lists as lists of lists
 abbrev pub lists_of : {X : Type 0} → List (Vec X Global) → List (List X)
@@ -15,5 +18,10 @@ all_verdicts past [] = []
 all_verdicts past (transmission ∷ more) = verdicts_from past transmission ∷ all_verdicts (behind past transmission) more
 
 -- the verdicts that are kept are those of what was judged
-abbrev pub IsKept : List (Vec Judged Global) → List (Vec Verdict Global) → Type 0
-IsKept judged verdicts = lists_of verdicts ≡ all_verdicts [] (lists_of judged)
+abbrev pub AreVerdicts : List (Vec Judged Global) → List (Vec Verdict Global) → Type 0
+AreVerdicts judged verdicts = lists_of verdicts ≡ all_verdicts [] (lists_of judged)
+
+-- the verdicts and the works that are kept are those of what was judged
+pub record IsKept (judged : List (Vec Judged Global)) (verdicts : List (Vec Verdict Global)) (works : Works) : Type 0 where
+  pub told : AreVerdicts judged verdicts
+  pub tracked : Tracks works (placed_line (lists_of judged))

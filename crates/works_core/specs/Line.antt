@@ -1,5 +1,5 @@
 -- A sender's line: its transactions of types NWR and REV in order of transmission number and, within a transmission, of the file.
-use Rattle.std.specs.Prelude.{ℕ, ◌-◌, ◌≡◌, ◌<◌, ◌≤◌, ◌⊎◌, List, [], ◌∷◌, Option, Some, None, Result, Ok, Err, MatchOption, map, length, take, get_or}
+use Rattle.std.specs.Prelude.{ℕ, ◌-◌, ◌≡◌, ◌<◌, ◌≤◌, ◌⊎◌, List, [], Option, Some, None, Result, Ok, Err, MatchOption, map, length, take, get_or}
 use Rattle.std.specs.Borrow.{Bor}
 use Rattle.cwr_files.specs.Contents.{transactions_of}
 use Rattle.cwr_files.specs.declared.transmission.Transaction.{Transaction}

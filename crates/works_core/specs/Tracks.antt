@@ -1,19 +1,61 @@
 -- What is kept of the transactions that came so far.
-use Rattle.std.specs.Prelude.{ℕ, ◌-◌, ◌≡◌, List, Option, Some, None, if◌then◌else◌}
-use Rattle.std.specs.BTreeMap.{get}
-use Rattle.std.specs.Cmp.Lexicographic.{slice_cmp}
-use Rattle.std.specs.Ordering.{nat_cmp}
-use Rattle.works_core.specs.Verdicts.{is_registered, ordinal_of, versions_of, works_in}
+use Rattle.std.specs.Prelude.{ℕ, ◌+◌, ◌≡◌, ◌≤◌, Bool, List, [], ◌∷◌, ◌++◌, Option, Some, None, if◌then◌else◌, vec_len}
+use Rattle.std.specs.HashMap.{get, hash_map_len, spare}
+use Rattle.std.specs.Str.{bytes_eq}
+use Rattle.std.specs.Vec.{vec_capacity}
+use Rattle.works_core.specs.Verdicts.{is_accepted, works_in}
+use Rattle.works_core.specs.Versions.{Placed, judged_of, is_version, version_of}
 use Rattle.works_core.specs.declared.judged.Judged.{Judged}
-use Rattle.works_core.specs.declared.works.Known.{Known}
+use Rattle.works_core.specs.declared.judged.Judged.TheVariants.{Clean, Faulty}
+use Rattle.works_core.specs.declared.key.WorkKey.{WorkKey}
+use Rattle.works_core.specs.declared.version.LinkedVersion.{LinkedVersion}
 use Rattle.works_core.specs.declared.works.Works.{Works}
 
--- a work's ordinal and its last revision, where it is registered
-abbrev pub known_of : List ℕ → List Judged → Option Known
-known_of work past =
-    if is_registered work past then Some (record { ordinal = ordinal_of work past; revision = versions_of work past - 1 }) else None
+-- a work number as a key
+abbrev pub key_of : List ℕ → WorkKey
+key_of work = record { number = work }
+
+-- whether two keys are one
+abbrev pub same_key : WorkKey → WorkKey → Bool
+same_key x y = bytes_eq x.number y.number
+
+-- the work number of a clean transaction
+abbrev pub work_in : Judged → List ℕ
+work_in (Clean kind number) = number
+work_in (Faulty fault) = []
+
+-- how many transactions are accepted
+abbrev pub accepted_in : List Placed → ℕ
+accepted_in [] = 0
+accepted_in (t ∷ past) = if is_accepted (judged_of past) t.judged then accepted_in past + 1 else accepted_in past
+
+-- the place of a work's last version among all accepted ones, counted from 0
+abbrev pub last_index : List ℕ → List Placed → Option ℕ
+last_index work [] = None
+last_index work (t ∷ past) = if is_version work past t then Some (accepted_in past) else last_index work past
+
+-- an accepted transaction as a version, with the place of the one before it of its work
+abbrev pub linked_version : List Placed → Placed → LinkedVersion
+linked_version past t = record { version = version_of (work_in t.judged) past t; before = last_index (work_in t.judged) past }
+
+-- the accepted transactions as versions, in the order of the line
+abbrev pub linked_versions : List Placed → List LinkedVersion
+linked_versions [] = []
+linked_versions (t ∷ past) =
+    if is_accepted (judged_of past) t.judged then linked_versions past ++ linked_version past t ∷ [] else linked_versions past
 
 -- the works that are kept are those of the transactions so far
-pub record Tracks (works : Works) (past : List Judged) : Type 0 where
-  pub known : (work : List ℕ) → get (slice_cmp nat_cmp) works.known work ≡ known_of work past
-  pub count : works.count ≡ works_in past
+pub record Tracks (works : Works) (past : List Placed) : Type 0 where
+  pub last : (work : List ℕ) → get same_key works.last (key_of work) ≡ last_index work past
+  pub versions : works.versions.items ≡ linked_versions past
+  pub count : hash_map_len works.last ≡ works_in (judged_of past)
+
+-- the works that are kept are those of some transactions
+pub record IsTracked (works : Works) : Type 0 where
+  pub past : List Placed
+  pub tracks : Tracks works past
+
+-- so many transactions more can be taken in without memory
+pub record HasRoom (count : ℕ) (works : Works) : Type 0 where
+  pub keys : count ≤ spare works.last
+  pub links : vec_len works.versions + count ≤ vec_capacity works.versions

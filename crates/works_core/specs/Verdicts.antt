@@ -1,5 +1,5 @@
 -- The verdict of each transaction of a sender, by looking back over those before it, the nearest first.
-use Rattle.std.specs.Prelude.{ℕ, ◌+◌, Bool, false, not, ◌&&◌, ◌||◌, List, [], ◌∷◌, if◌then◌else◌}
+use Rattle.std.specs.Prelude.{ℕ, ◌+◌, Bool, false, not, ◌&&◌, List, [], ◌∷◌, if◌then◌else◌}
 use Rattle.std.specs.List.{list_any}
 use Rattle.std.specs.Str.{bytes_eq}
 use Rattle.cwr_records.specs.declared.work.TransactionKind.TheVariants.{Nwr, Rev}
@@ -62,11 +62,12 @@ abbrev pub verdicts_from : List Judged → List Judged → List Verdict
 verdicts_from past [] = []
 verdicts_from past (transaction ∷ more) = verdict_of past transaction ∷ verdicts_from (transaction ∷ past) more
 
--- what stands before a transaction once some more transactions, or all those of some transmissions, have come
+-- what stands before a transaction once some more transactions have come
 abbrev pub behind : List Judged → List Judged → List Judged
 behind past [] = past
 behind past (transaction ∷ more) = behind (transaction ∷ past) more
 
+-- the same once all transactions of some transmissions have come
 abbrev pub behind_all : List Judged → List (List Judged) → List Judged
 behind_all past [] = past
 behind_all past (transmission ∷ more) = behind_all (behind past transmission) more

@@ -2,10 +2,18 @@
 #![tactic(auto)]
 
 mod judged;
+mod key;
+mod recordings;
 mod sender_line;
 mod verdict;
+mod version;
 mod works;
 
 pub use judged::Judged;
-pub use sender_line::SenderLine;
+pub use recordings::isrcs;
+pub use sender_line::{LAST_TRANSMISSION, SenderLine};
 pub use verdict::Verdict;
+pub use version::WorkVersion;
+
+#[cfg(test)]
+mod tests;

@@ -1,24 +1,31 @@
-ghost use Rattle.std.specs.Prelude.{◌≡◌, ◌++◌, ◌∷◌, [], map, IfOk, OnOk, OnErr, length, flat_map, List};
-ghost use Rattle.works_core.specs.Kept.{lists_of};
+ghost use Rattle.std.specs.Prelude.{◌≡◌, ◌+◌, ◌≤◌, ◌<◌, ◌++◌, ◌∷◌, [], map, IfOk, OnOk, OnErr, length, flat_map, List, vec_len, vec_capacity};
 ghost use Rattle.works_core.specs.Line.{judged, judged_in};
-ghost use Rattle.works_core.specs.Tracks.{Tracks};
-ghost use Rattle.works_core.specs.Verdicts.{behind, behind_all, verdicts_from};
-ghost use Rattle.works_core.specs.declared.judged.Judged.{Judged};
+ghost use Rattle.works_core.specs.Tracks.{HasRoom, IsTracked, Tracks};
+ghost use Rattle.works_core.specs.Verdicts.{verdicts_from};
+ghost use Rattle.works_core.specs.Versions.{judged_of, placed_behind, Placed, work_at};
 
 use crate::judged::Judged;
-use crate::verdict::Verdict;
-use crate::works::Works;
+use crate::key::WorkKey;
+use crate::verdict::{NO_WORK_NUMBER, Verdict};
+use crate::version::WorkVersion;
+use crate::works::{Place, Works};
 use cwr_files::{Group, Transaction, Transmission};
 use share_rules::{Office, judge, work_number};
 use std::alloc::{AllocError, Global};
 use std::marker::Model;
+use work_ids::WorkNumber;
 
-/// One sender's transactions in order of transmission number, as an office judges them, with their verdicts.
+/// The last number that a sender's transmission has (profile).
+pub const LAST_TRANSMISSION: usize = 999_999;
+
+/// One sender's transactions in order of transmission number, as an office judges them, with their verdicts and the versions
+/// of its works.
 #[derive(Drop)]
 pub struct SenderLine {
     office: Office,
     judged: Vec<Vec<Judged>>,
     verdicts: Vec<Vec<Verdict>>,
+    works: Works,
 }
 
 impl Model for SenderLine {
@@ -29,7 +36,7 @@ impl Model for SenderLine {
 
     ghost view = { λ l. record { office = l.office; judged = lists_of l.judged.items } };
 
-    ghost invariant = { λ l. IsKept l.judged.items l.verdicts.items };
+    ghost invariant = { λ l. IsKept l.judged.items l.verdicts.items l.works };
 }
 
 /// What an office judges of a transaction.
@@ -40,7 +47,7 @@ fn judged(transaction: &Transaction<'_>, office: &Office) -> Judged
         Some(fault) => Judged::Faulty(fault),
         None => match work_number(transaction) {
             Some(work) => Judged::Clean(transaction.kind, work),
-            None => Judged::Faulty(2),
+            None => Judged::Faulty(NO_WORK_NUMBER),
         },
     }
 }
@@ -74,45 +81,26 @@ fn judged_groups(
     Ok(list)
 }
 
-/// Takes the transactions of a transmission into the works.
-fn take_in(works: &mut Works, transactions: &[Judged]) -> Result<(), AllocError>
-    ensures { (past : List Judged) → Tracks works.old past → OnOk result (Tracks works.new (behind past transactions.now)) }
-{
-    for transaction in transactions {
-        works.settle(transaction)?;
-    }
-    Ok(())
-}
-
-/// The verdicts of transactions behind those that the works are of.
+/// Appends the verdicts of a transmission's transactions, which are taken into the works.
 fn settle_all(
-    alloc: Global,
     works: &mut Works,
+    transmission: u32,
     transactions: &[Judged],
-) -> Result<Vec<Verdict>, AllocError>
-    ensures { (past : List Judged) → Tracks works.old past → IfOk result (λ verdicts. verdicts.items ≡ verdicts_from past transactions.now) }
+    verdicts: &mut Vec<Verdict>,
+)
+    requires tracked { IsTracked works.old }
+    requires room { HasRoom (length transactions.now) works.old }
+    requires verdict_room { vec_len verdicts.old + length transactions.now ≤ vec_capacity verdicts.old }
+    ensures verdicts { (past : List Placed) → Tracks works.old past → verdicts.new.items ≡ verdicts.old.items ++ verdicts_from (judged_of past) transactions.now }
+    ensures tracks { (past : List Placed) → Tracks works.old past → Tracks works.new (placed_behind past transmission 0 transactions.now) }
 {
-    let mut verdicts = Vec::with_capacity(alloc, transactions.len())?;
-    for transaction in transactions {
-        let verdict = works.settle(transaction)?;
-        verdicts.push(verdict)?;
+    for (place, judged) in transactions.iter().enumerate() {
+        let here = Place {
+            transmission,
+            place,
+        };
+        verdicts.push(works.settle(here, judged)).unwrap();
     }
-    Ok(verdicts)
-}
-
-/// The verdicts of transactions behind those of the transmissions before them, which are gone over anew.
-fn next_verdicts(
-    alloc: Global,
-    line: &[Vec<Judged>],
-    transactions: &[Judged],
-) -> Result<Vec<Verdict>, AllocError>
-    ensures { IfOk result (λ verdicts. verdicts.items ≡ verdicts_from (behind_all [] (lists_of line.now)) transactions.now) }
-{
-    let mut works = Works::new(alloc);
-    for transmission in line {
-        take_in(&mut works, transmission.as_slice())?;
-    }
-    settle_all(alloc, &mut works, transactions)
 }
 
 impl SenderLine {
@@ -127,20 +115,26 @@ impl SenderLine {
             office: *office,
             judged: Vec::new(alloc),
             verdicts: Vec::new(alloc),
+            works: Works::new(alloc),
         }
     }
 
-    /// Applies the sender's next transmission; for want of memory the line is as it was.
+    /// Applies the sender's next transmission, at a cost that its own transactions make; for want of memory (`AllocError`)
+    /// the line is as it was.
     pub fn apply(&mut self, transmission: &Transmission<'_>) -> Result<(), AllocError>
+        requires { length self.old.judged < LAST_TRANSMISSION }
         ensures office { self.new.office ≡ self.old.office }
         ensures applied { OnOk result (self.new.judged ≡ self.old.judged ++ judged_in self.old.office transmission.now ∷ []) }
-        ensures err { OnErr result (self.new.judged ≡ self.old.judged) }
+        ensures err { OnErr result (self.new ≡ self.old) }
     {
         let alloc = *self.judged.allocator();
         let judged = judged_groups(alloc, transmission.groups.as_slice(), &self.office)?;
-        let verdicts = next_verdicts(alloc, self.judged.as_slice(), judged.as_slice())?;
+        let mut verdicts = Vec::with_capacity(alloc, judged.len())?;
+        self.works.reserve(judged.len())?;
         self.judged.reserve(1)?;
         self.verdicts.reserve(1)?;
+        let number = self.judged.len() as u32 + 1;
+        settle_all(&mut self.works, number, judged.as_slice(), &mut verdicts);
         self.judged.push(judged).unwrap();
         self.verdicts.push(verdicts).unwrap();
         Ok(())
@@ -162,5 +156,22 @@ impl SenderLine {
             return None;
         }
         Some(self.verdicts[n - 1].as_slice())
+    }
+
+    /// The version of a work at a cut: its last accepted transaction in the transmissions up to that number; a cut above the
+    /// front is read as the front, and at 0 there is none (profile).
+    pub fn work_at(&self, work: &WorkNumber, cut: u32) -> Option<WorkVersion>
+        ensures { result ≡ work_at self.now.judged work.now cut }
+    {
+        let works = &self.works;
+        let mut index = works.last.get(&WorkKey { number: *work }).copied();
+        while let Some(at) = index {
+            let linked = works.versions[at];
+            if linked.version.transmission <= cut {
+                return Some(linked.version);
+            }
+            index = linked.before;
+        }
+        None
     }
 }

@@ -1,29 +1,33 @@
-ghost use Rattle.std.specs.Prelude.{◌≡◌, ◌∷◌, [], IfOk, List};
+ghost use Rattle.std.specs.Prelude.{◌≡◌, ◌+◌, ◌∷◌, ◌++◌, [], ℕ, length, List, OnOk, is_some, if◌then◌else◌};
+ghost use Rattle.std.specs.HashMap.{get, hash_map_len};
+ghost use Rattle.std.specs.Str.{bytes_eq};
 ghost use Rattle.cwr_records.specs.declared.work.TransactionKind.TheVariants.{Nwr, Rev};
-ghost use Rattle.works_core.specs.Tracks.{Tracks};
+ghost use Rattle.works_core.specs.Tracks.{HasRoom, IsTracked, key_of, same_key, Tracks};
 ghost use Rattle.works_core.specs.Verdicts.{verdict_of};
-ghost use Rattle.works_core.specs.declared.judged.Judged.{Judged};
+ghost use Rattle.works_core.specs.Versions.{judged_of, placed_at, Placed};
 ghost use Rattle.works_core.specs.declared.judged.Judged.TheVariants.{Clean};
 
 use crate::judged::Judged;
+use crate::key::WorkKey;
 use crate::verdict::{NOT_REGISTERED, REGISTERED_BEFORE, Verdict};
+use crate::version::{LinkedVersion, WorkVersion};
 use cwr_records::TransactionKind;
 use std::alloc::{AllocError, Global};
-use std::collections::BTreeMap;
+use std::collections::HashMap;
 use work_ids::WorkNumber;
 
-/// A work's number among the sender's accepted works, and its last revision.
+/// Where a transaction stands: its transmission's number, and its place there from 0.
 #[derive(Clone, Copy)]
-pub struct Known {
-    pub ordinal: u64,
-    pub revision: u64,
+pub struct Place {
+    pub transmission: u32,
+    pub place: usize,
 }
 
-/// The works of the transactions so far.
+/// The works of the transactions so far: all accepted versions in the order of the line, and each work's last one.
 #[derive(Drop)]
 pub struct Works {
-    pub known: BTreeMap<WorkNumber, Known>,
-    pub count: u64,
+    pub last: HashMap<WorkKey, usize>,
+    pub versions: Vec<LinkedVersion>,
 }
 
 impl Works {
@@ -32,64 +36,102 @@ impl Works {
         ensures { Tracks result [] }
     {
         Works {
-            known: BTreeMap::new(alloc),
-            count: 0,
+            last: HashMap::new(alloc),
+            versions: Vec::new(alloc),
         }
     }
 
-    /// The verdict of the next transaction, which is taken into the works; they are good for nothing after an
-    /// error.
-    pub fn settle(&mut self, judged: &Judged) -> Result<Verdict, AllocError>
-        ensures verdict { (past : List Judged) → Tracks self.old past → IfOk result (λ verdict. verdict ≡ verdict_of past judged.now) }
-        ensures tracks { (past : List Judged) → Tracks self.old past → IfOk result (λ _. Tracks self.new (judged.now ∷ past)) }
+    /// Takes memory for this many transactions more; the works stay, also after an error.
+    pub fn reserve(&mut self, count: usize) -> Result<(), AllocError>
+        ensures tracks { (past : List Placed) → Tracks self.old past → Tracks self.new past }
+        ensures room { OnOk result (HasRoom count self.new) }
+    {
+        self.last.reserve(count)?;
+        self.versions.reserve(count)
+    }
+
+    /// The verdict of the next transaction, which is taken into the works.
+    pub fn settle(&mut self, place: Place, judged: &Judged) -> Verdict
+        requires tracked { IsTracked self.old }
+        requires room { HasRoom 1 self.old }
+        ensures verdict { (past : List Placed) → Tracks self.old past → result ≡ verdict_of (judged_of past) judged.now }
+        ensures tracks { (past : List Placed) → Tracks self.old past → Tracks self.new (placed_at place.transmission place.place judged.now ∷ past) }
+        ensures room { (count : ℕ) → HasRoom (count + 1) self.old → HasRoom count self.new }
     {
         match *judged {
-            Judged::Faulty(fault) => Ok(Verdict::Rejected(fault)),
-            Judged::Clean(TransactionKind::Nwr, work) => self.register(work),
-            Judged::Clean(TransactionKind::Rev, work) => self.revise(work),
+            Judged::Faulty(fault) => Verdict::Rejected(fault),
+            Judged::Clean(TransactionKind::Nwr, work) => self.register(place, work),
+            Judged::Clean(TransactionKind::Rev, work) => self.revise(place, work),
         }
+    }
+
+    /// Appends a version, the last one of its work from now on.
+    fn append(&mut self, work: WorkNumber, linked: LinkedVersion)
+        requires room { HasRoom 1 self.old }
+        ensures versions { self.new.versions.items ≡ self.old.versions.items ++ linked ∷ [] }
+        ensures last { (other : List ℕ) → get same_key self.new.last (key_of other) ≡ (if bytes_eq work other then Some (length self.old.versions.items) else get same_key self.old.last (key_of other)) }
+        ensures count { hash_map_len self.new.last ≡ hash_map_len self.old.last + (if is_some (get same_key self.old.last (key_of work)) then 0 else 1) }
+        ensures room { (count : ℕ) → HasRoom (count + 1) self.old → HasRoom count self.new }
+    {
+        let key = WorkKey { number: work };
+        let entered: Result<_, _> = self.last.insert(key, self.versions.len());
+        entered.unwrap();
+        self.versions.push(linked).unwrap();
     }
 
     /// The verdict of a clean registration.
-    fn register(&mut self, work: WorkNumber) -> Result<Verdict, AllocError>
-        ensures verdict { (past : List Judged) → Tracks self.old past → IfOk result (λ verdict. verdict ≡ verdict_of past (Clean Nwr work)) }
-        ensures tracks { (past : List Judged) → Tracks self.old past → IfOk result (λ _. Tracks self.new (Clean Nwr work ∷ past)) }
+    fn register(&mut self, place: Place, work: WorkNumber) -> Verdict
+        requires room { HasRoom 1 self.old }
+        ensures verdict { (past : List Placed) → Tracks self.old past → result ≡ verdict_of (judged_of past) (Clean Nwr work) }
+        ensures tracks { (past : List Placed) → Tracks self.old past → Tracks self.new (placed_at place.transmission place.place (Clean Nwr work) ∷ past) }
+        ensures room { (count : ℕ) → HasRoom (count + 1) self.old → HasRoom count self.new }
     {
-        if self.known.contains_key(&work) {
-            return Ok(Verdict::Rejected(REGISTERED_BEFORE));
+        if self.last.contains_key(&WorkKey { number: work }) {
+            return Verdict::Rejected(REGISTERED_BEFORE);
         }
-        // No memory holds as many works as a number of 64 bits counts.
-        let ordinal = self.count.checked_add(1).ok_or(AllocError)?;
-        let known = Known {
-            ordinal,
+        let version = WorkVersion {
+            transmission: place.transmission,
+            place: place.place,
+            ordinal: self.last.len() as u64 + 1,
             revision: 0,
         };
-        self.known.insert(work, known)?;
-        self.count = ordinal;
-        Ok(Verdict::Accepted {
-            ordinal,
-            revision: 0,
-        })
+        let linked = LinkedVersion {
+            version,
+            before: None,
+        };
+        self.append(work, linked);
+        Verdict::Accepted {
+            ordinal: version.ordinal,
+            revision: version.revision,
+        }
     }
 
     /// The verdict of a clean revision.
-    fn revise(&mut self, work: WorkNumber) -> Result<Verdict, AllocError>
-        ensures verdict { (past : List Judged) → Tracks self.old past → IfOk result (λ verdict. verdict ≡ verdict_of past (Clean Rev work)) }
-        ensures tracks { (past : List Judged) → Tracks self.old past → IfOk result (λ _. Tracks self.new (Clean Rev work ∷ past)) }
+    fn revise(&mut self, place: Place, work: WorkNumber) -> Verdict
+        requires tracked { IsTracked self.old }
+        requires room { HasRoom 1 self.old }
+        ensures verdict { (past : List Placed) → Tracks self.old past → result ≡ verdict_of (judged_of past) (Clean Rev work) }
+        ensures tracks { (past : List Placed) → Tracks self.old past → Tracks self.new (placed_at place.transmission place.place (Clean Rev work) ∷ past) }
+        ensures room { (count : ℕ) → HasRoom (count + 1) self.old → HasRoom count self.new }
     {
-        let Some(last) = self.known.get(&work).copied() else {
-            return Ok(Verdict::Rejected(NOT_REGISTERED));
+        let Some(last) = self.last.get(&WorkKey { number: work }).copied() else {
+            return Verdict::Rejected(NOT_REGISTERED);
         };
-        // No memory holds as many revisions as a number of 64 bits counts.
-        let revision = last.revision.checked_add(1).ok_or(AllocError)?;
-        let known = Known {
-            ordinal: last.ordinal,
-            revision,
+        let before = self.versions[last].version;
+        let version = WorkVersion {
+            transmission: place.transmission,
+            place: place.place,
+            ordinal: before.ordinal,
+            revision: before.revision + 1,
         };
-        self.known.insert(work, known)?;
-        Ok(Verdict::Accepted {
-            ordinal: last.ordinal,
-            revision,
-        })
+        let linked = LinkedVersion {
+            version,
+            before: Some(last),
+        };
+        self.append(work, linked);
+        Verdict::Accepted {
+            ordinal: version.ordinal,
+            revision: version.revision,
+        }
     }
 }

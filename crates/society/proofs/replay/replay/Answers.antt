@@ -1,8 +1,8 @@
-use Rattle.std.proofs.Common.{◌≡◌, ap, ◌∙◌, refl}
+use Rattle.std.proofs.Common.{ap, ◌∙◌, refl}
 use Rattle.http_desk.specs.Counted.{inner_of}
 use Rattle.society_core.specs.Plain.{book_with, plain_state}
 use Rattle.society_core.specs.declared.plain_store.PlainStore.{PlainStore}
-use Rattle.society.proofs.ReplayLemmas.{if_some_weaker, replays_from, breaks_off_from}
+use Rattle.society.proofs.ReplayLemmas.{if_some_weaker, replays_from, breaks_off_from, cause_of}
 use Rattle.society.proofs.replay.replay.Goals as goal
 
 pub returns-in-Ok-clause-served : goal.returns-in-Ok-clause-served
@@ -24,3 +24,7 @@ returns-clause-broken_off g c = λ one.
     if_some_weaker (g.R.Read.remaining (inner_of c.args.reader.now)) _ _
     (λ bytes breaks. breaks_off_from c.args.office.now c.in-Err.fault.kind (plain_state first.office first.bodies) (plain_state last.office last.bodies) bytes (g.W.Write.contents (inner_of c.args.out.now)) (g.W.Write.contents (inner_of c.serve.new.writer)) c.in-Err.fault.requests same empty refl breaks)
     c.in-Err.ensures.fault
+
+pub returns-clause-cause : goal.returns-clause-cause
+returns-clause-cause g c = λ one.
+    cause_of c.in-Err.fault.kind c.in-Err.ensures.read c.in-Err.ensures.write c.in-Err.ensures.turns (λ memory. let same = c.in-Err.ensures.memory memory in (same.1, same.2))

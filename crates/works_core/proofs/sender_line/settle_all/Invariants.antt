@@ -1,10 +1,15 @@
-use Rattle.std.proofs.Common.{◌≡◌, ◌++◌, List, drop}
-use Rattle.works_core.specs.Tracks.{Tracks}
+use Rattle.std.proofs.Common.{◌≡◌, ◌++◌, ◌+◌, ◌-◌, ◌≤◌, List, drop, length, vec_len, vec_capacity}
+use Rattle.works_core.specs.Tracks.{HasRoom, Tracks}
 use Rattle.works_core.specs.Verdicts.{verdicts_from}
-use Rattle.works_core.specs.declared.judged.Judged.{Judged}
+use Rattle.works_core.specs.Versions.{Placed, judged_of, placed_behind}
 use Rattle.works_core.proofs.sender_line.settle_all.Given as goal
 
--- the verdicts so far and those of what is left are those of all
-abbrev pub invariant-loop-transaction : goal.invariant-loop-transaction
-invariant-loop-transaction l = (past : List Judged) → Tracks l.initial.works past →
-    (now : List Judged) × Tracks l.works now × (l.verdicts.items ++ verdicts_from now (drop l.transaction-index l.transactions) ≡ verdicts_from past l.transactions)
+-- the verdicts so far and those of what is left are those of all, and there is room for what is left
+abbrev pub invariant-loop-place : goal.invariant-loop-place
+invariant-loop-place l = record {
+  settled : (past : List Placed) → Tracks l.initial.works past →
+      (now : List Placed) × Tracks l.works now × (l.verdicts.items ++ verdicts_from (judged_of now) (drop l.place l.transactions) ≡ l.initial.verdicts.items ++ verdicts_from (judged_of past) l.transactions)
+      × (placed_behind now l.transmission l.place (drop l.place l.transactions) ≡ placed_behind past l.transmission 0 l.transactions);
+  room : HasRoom (length l.transactions - l.place) l.works;
+  verdict_room : vec_len l.verdicts + (length l.transactions - l.place) ≤ vec_capacity l.verdicts;
+}

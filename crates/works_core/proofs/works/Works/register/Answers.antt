@@ -1,53 +1,63 @@
-use Rattle.std.proofs.Common.{◌≡◌, ℕ, ◌+◌, Bool, true, false, cond, not, List, ◌∷◌, Some, is_some, if◌then◌else◌, sym, ap, subst, ◌∙◌, arith}
-use Rattle.std.specs.BTreeMap.{get, is_at}
-use Rattle.std.specs.Cmp.Lexicographic.{slice_cmp}
-use Rattle.std.specs.Ordering.{nat_cmp}
-use Rattle.cwr_records.specs.declared.work.TransactionKind.TheVariants.{Nwr, Rev}
-use Rattle.works_core.specs.Tracks.{Tracks, known_of}
-use Rattle.works_core.specs.Verdicts.{is_registered, works_in, ordinal_of, versions_of}
-use Rattle.works_core.specs.declared.judged.Judged.{Judged}
+use Rattle.std.proofs.Common.{◌≡◌, ℕ, ◌+◌, Bool, true, false, cond, not, List, ◌∷◌, ◌++◌, [], Some, None, is_some, length, if◌then◌else◌, sym, ap, ◌∙◌}
+use Rattle.std.specs.HashMap.{get, hash_map_len}
+use Rattle.std.specs.Str.{bytes_eq}
+use Rattle.cwr_records.specs.declared.work.TransactionKind.TheVariants.{Nwr}
+use Rattle.works_core.specs.Tracks.{same_key, key_of, linked_versions, accepted_in}
+use Rattle.works_core.specs.Verdicts.{is_registered, works_in}
+use Rattle.works_core.specs.Versions.{judged_of, placed_at}
 use Rattle.works_core.specs.declared.judged.Judged.TheVariants.{Clean}
-use Rattle.works_core.specs.declared.verdict.Verdict.{Verdict}
 use Rattle.works_core.specs.declared.verdict.Verdict.TheVariants.{Accepted, Rejected}
-use Rattle.works_core.specs.declared.works.Known.{Known}
-use Rattle.works_core.proofs.TrackLemmas.{known_registered, known_of-kept, known_of-begun, known_of-revised, same_bytes, told_by_known, works_in-begun, works_in-kept}
+use Rattle.works_core.specs.declared.version.LinkedVersion.{LinkedVersion}
+use Rattle.works_core.proofs.TrackLemmas.{last_registered, last_index-kept, last_index-accepted, linked_versions-kept, linked_versions-accepted, linked_version-begun, length-linked_versions, works_in-begun, works_in-kept}
 use Rattle.works_core.proofs.works.Works.register.Goals as goal
 
 pub returns-then-contains_key-clause-verdict : goal.returns-then-contains_key-clause-verdict
 returns-then-contains_key-clause-verdict c = λ past tracks.
     let work = c.args.work in
-    let there : is_registered work past ≡ true = sym (known_registered past work) ∙ ap is_some (sym (tracks.known work)) ∙ sym c.contains_key.ensures ∙ c.if-contains_key.true in
-    ap (λ (b : Bool). if b then Rejected 20 else Accepted (works_in past + 1) 0) (sym there)
+    let there : is_registered work (judged_of past) ≡ true = sym (last_registered work past) ∙ ap is_some (sym (tracks.last work)) ∙ sym c.contains_key.ensures ∙ c.if-contains_key.true in
+    ap (λ (b : Bool). if b then Rejected 20 else Accepted (works_in (judged_of past) + 1) 0) (sym there)
 
 pub returns-then-contains_key-clause-tracks : goal.returns-then-contains_key-clause-tracks
 returns-then-contains_key-clause-tracks c = λ past tracks.
     let work = c.args.work in
-    let there : is_registered work past ≡ true = sym (known_registered past work) ∙ ap is_some (sym (tracks.known work)) ∙ sym c.contains_key.ensures ∙ c.if-contains_key.true in
+    let t = placed_at c.args.place.transmission c.args.place.place (Clean Nwr work) in
+    let there : is_registered work (judged_of past) ≡ true = sym (last_registered work past) ∙ ap is_some (sym (tracks.last work)) ∙ sym c.contains_key.ensures ∙ c.if-contains_key.true in
     record {
-      known = λ w.
-          tracks.known w
-          ∙ known_of-kept past (Clean Nwr work) w (ap not there) (λ e. subst (λ (z : List ℕ). is_registered z past ≡ true) (same_bytes work w e) there);
-      count = tracks.count ∙ sym (works_in-kept past work there);
+      last = λ w. tracks.last w ∙ sym (last_index-kept past t w (ap not there));
+      versions = tracks.versions ∙ sym (linked_versions-kept past t (ap not there));
+      count = tracks.count ∙ sym (works_in-kept (judged_of past) work there);
     }
 
 pub returns-clause-verdict : goal.returns-clause-verdict
 returns-clause-verdict c = λ past tracks.
     let work = c.args.work in
-    let free : is_registered work past ≡ false = sym (known_registered past work) ∙ ap is_some (sym (tracks.known work)) ∙ sym c.contains_key.ensures ∙ c.if-contains_key.false in
-    let ordinal = (rw c.in_ok-ordinal.ensures.ok_part at c.checked_add.ensures).1 in
-    ap (λ (n : ℕ). Accepted n 0) (ordinal ∙ ap (λ (n : ℕ). n + 1) tracks.count)
-    ∙ ap (λ (b : Bool). if b then Rejected 20 else Accepted (works_in past + 1) 0) (sym free)
+    let free : is_registered work (judged_of past) ≡ false = sym (last_registered work past) ∙ ap is_some (sym (tracks.last work)) ∙ sym c.contains_key.ensures ∙ c.if-contains_key.false in
+    ap (λ (n : ℕ). Accepted (n + 1) 0) (c.len.ensures.len ∙ tracks.count)
+    ∙ ap (λ (b : Bool). if b then Rejected 20 else Accepted (works_in (judged_of past) + 1) 0) (sym free)
 
 pub returns-clause-tracks : goal.returns-clause-tracks
 returns-clause-tracks c = λ past tracks.
     let work = c.args.work in
-    let free : is_registered work past ≡ false = sym (known_registered past work) ∙ ap is_some (sym (tracks.known work)) ∙ sym c.contains_key.ensures ∙ c.if-contains_key.false in
-    let ordinal = (rw c.in_ok-ordinal.ensures.ok_part at c.checked_add.ensures).1 ∙ ap (λ (n : ℕ). n + 1) tracks.count in
+    let t = placed_at c.args.place.transmission c.args.place.place (Clean Nwr work) in
+    let found = sym (tracks.last work) in
+    let free : is_registered work (judged_of past) ≡ false = sym (last_registered work past) ∙ ap is_some found ∙ sym c.contains_key.ensures ∙ c.if-contains_key.false in
+    let index = ap (λ (xs : List LinkedVersion). length xs) tracks.versions ∙ length-linked_versions past in
+    let absent = sym c.contains_key.ensures ∙ c.if-contains_key.false in
+    let linked : ℕ → LinkedVersion = λ n. record { version = record { transmission = c.args.place.transmission; place = c.args.place.place; ordinal = n + 1; revision = 0 }; before = None } in
     record {
-      known = λ w.
-          c.in_ok-insert.ensures.updates.0 w
-          ∙ ap (λ (n : ℕ). cond (is_at (slice_cmp nat_cmp work) w) (Some (record { ordinal = n; revision = 0 })) (get (slice_cmp nat_cmp) c.args.self.now.known w)) ordinal
-          ∙ ap (cond (is_at (slice_cmp nat_cmp work) w) (Some (record { ordinal = works_in past + 1; revision = 0 }))) (tracks.known w)
-          ∙ sym (known_of-begun past work w free);
-      count = ordinal ∙ sym (works_in-begun past work free);
+      last = λ w.
+          c.append.ensures.last w
+          ∙ ap (λ (i : ℕ). cond (bytes_eq work w) (Some i) (get same_key c.args.self.now.last (key_of w))) index
+          ∙ ap (cond (bytes_eq work w) (Some (accepted_in past))) (tracks.last w)
+          ∙ sym (last_index-accepted past t w (ap not free));
+      versions =
+          c.append.ensures.versions
+          ∙ ap (λ (xs : List LinkedVersion). xs ++ linked c.len.result ∷ []) tracks.versions
+          ∙ ap (λ (l : LinkedVersion). linked_versions past ++ l ∷ []) (ap linked (c.len.ensures.len ∙ tracks.count) ∙ sym (linked_version-begun past c.args.place.transmission c.args.place.place work free))
+          ∙ sym (linked_versions-accepted past t (ap not free));
+      count =
+          c.append.ensures.count
+          ∙ ap (λ (b : Bool). hash_map_len c.args.self.now.last + (if b then 0 else 1)) absent
+          ∙ ap (λ (n : ℕ). n + 1) tracks.count
+          ∙ sym (works_in-begun (judged_of past) work free);
     }

@@ -1,0 +1,2 @@
+pub mod Exceeding
+mod Worked

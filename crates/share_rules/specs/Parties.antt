@@ -1,0 +1,143 @@
+-- The interested parties of a transaction, their territory rows, and what each of them collects at the office.
+use Rattle.std.specs.Prelude.{ℕ, Bool, true, false, ◌&&◌, ◌||◌, ◌==◌, List, [], ◌∷◌, Option, Some, None, is_some, unwrap_or, bytes_eq, if◌then◌else◌}
+use Rattle.cwr_records.specs.Blanks.{trimmed}
+use Rattle.cwr_records.specs.Typed.{indicator_of, share_of, territory_of}
+use Rattle.cwr_records.specs.declared.indicator.Indicator.{Indicator}
+use Rattle.cwr_records.specs.declared.indicator.Indicator.TheVariants.{Included, Excluded}
+use Rattle.cwr_records.specs.declared.record.Record.{Record}
+use Rattle.cwr_records.specs.declared.record.Record.TheVariants as kind
+use Rattle.share_rules.specs.declared.office.Office.{Office}
+use Rattle.share_rules.specs.declared.party.InterestedParty.{InterestedParty}
+use Rattle.share_rules.specs.declared.party.ShareFields.{ShareFields}
+use Rattle.share_rules.specs.declared.party.Side.{Side}
+use Rattle.share_rules.specs.declared.party.Side.TheVariants as side
+use Rattle.share_rules.specs.declared.party.TerritoryRow.{TerritoryRow}
+use Rattle.share_rules.specs.declared.shares.Shares.{Shares}
+
+-- three share fields: of the performing, the mechanical and the synchronization right (CISAC CWR 2.2)
+abbrev pub share_fields : List ℕ → List ℕ → List ℕ → ShareFields
+share_fields pr mr sr = record { performing = pr; mechanical = mr; synchronization = sr }
+
+-- the interested party that a record is: SPU or OPU a publisher, SWR or OWR a writer (CISAC CWR 2.2)
+abbrev pub party_in : Record → Option InterestedParty
+party_in (kind.Publisher r) = Some (record { side = side.Publisher; number = r.party; ipi_name = r.ipi_name; shares = share_fields r.pr_share r.mr_share r.sr_share })
+party_in (kind.Writer r) = Some (record { side = side.Writer; number = r.party; ipi_name = r.ipi_name; shares = share_fields r.pr_share r.mr_share r.sr_share })
+party_in _ = None
+
+-- the territory row that a record is: SPT a publisher's, SWT a writer's (CISAC CWR 2.2)
+abbrev pub row_in : Record → Option TerritoryRow
+row_in (kind.PublisherTerritory r) = Some (record { side = side.Publisher; number = r.party; shares = share_fields r.pr_share r.mr_share r.sr_share; indicator = r.indicator; territory = r.territory })
+row_in (kind.WriterTerritory r) = Some (record { side = side.Writer; number = r.party; shares = share_fields r.pr_share r.mr_share r.sr_share; indicator = r.indicator; territory = r.territory })
+row_in _ = None
+
+-- two numbers of a party are compared after trimming (profile)
+abbrev pub same_number : List ℕ → List ℕ → Bool
+same_number a b = bytes_eq (trimmed a) (trimmed b)
+
+-- whether two sides are one
+abbrev pub same_side : Side → Side → Bool
+same_side side.Publisher side.Publisher = true
+same_side side.Writer side.Writer = true
+same_side _ _ = false
+
+-- an interested party of a side with a number, and a territory row of one
+abbrev pub party_is : Side → List ℕ → Option InterestedParty → Bool
+party_is s number None = false
+party_is s number (Some party) = same_side party.side s && same_number party.number number
+
+-- whether there is a territory row of a side with a number
+abbrev pub row_is : Side → List ℕ → Option TerritoryRow → Bool
+row_is s number None = false
+row_is s number (Some row) = same_side row.side s && same_number row.number number
+
+-- whether a record is an interested party of a side with a number
+abbrev pub is_party : Side → List ℕ → Record → Bool
+is_party s number r = party_is s number (party_in r)
+
+-- the records up to the next interested party of a side with a number
+abbrev pub up_to_next : Side → List ℕ → List Record → List Record
+up_to_next s number [] = []
+up_to_next s number (r ∷ more) = if is_party s number r then [] else r ∷ up_to_next s number more
+
+-- rows behind one, where it is there and of the side with the number
+abbrev pub with_row : Side → List ℕ → Option TerritoryRow → List TerritoryRow → List TerritoryRow
+with_row s number None rows = rows
+with_row s number (Some row) rows = if row_is s number (Some row) then row ∷ rows else rows
+
+-- the territory rows of a side with a number
+abbrev pub rows_among : Side → List ℕ → List Record → List TerritoryRow
+rows_among s number [] = []
+rows_among s number (r ∷ more) = with_row s number (row_in r) (rows_among s number more)
+
+-- the territory rows of an interested party, of the records after it: a row belongs to the nearest one before it of its side with its number (profile)
+abbrev pub rows_of : InterestedParty → List Record → List TerritoryRow
+rows_of party after = rows_among party.side party.number (up_to_next party.side party.number after)
+
+-- the TIS code of the world (CISAC TIS)
+abbrev pub world : ℕ
+world = 2136
+
+-- a TIS code names the world or the office's own territory (profile)
+abbrev pub names_territory : Office → Option ℕ → Bool
+names_territory office None = false
+names_territory office (Some code) = (code == world) || (code == office.territory)
+
+-- a territory row counts where its indicator is I or E and its TIS code names the world or the office's territory (profile)
+abbrev pub counts : Office → TerritoryRow → Bool
+counts office row = is_some (indicator_of row.indicator) && names_territory office (territory_of row.territory)
+
+-- the later of a row and a counting one behind it, where one counts
+abbrev pub later_or : Office → TerritoryRow → Option TerritoryRow → Option TerritoryRow
+later_or office row (Some later) = Some later
+later_or office row None = if counts office row then Some row else None
+
+-- the last counting row of some
+abbrev pub last_counting : Office → List TerritoryRow → Option TerritoryRow
+last_counting office [] = None
+last_counting office (row ∷ rows) = later_or office row (last_counting office rows)
+
+-- a share in hundredths of a percent, a faulty one as 0 (profile)
+abbrev pub share_or_zero : List ℕ → ℕ
+share_or_zero field = unwrap_or (share_of field) 0
+
+-- the three shares of their fields
+abbrev pub shares_of : ShareFields → Shares
+shares_of fields = record { performing = share_or_zero fields.performing; mechanical = share_or_zero fields.mechanical; synchronization = share_or_zero fields.synchronization }
+
+-- no shares
+abbrev pub no_shares : Shares
+no_shares = record { performing = 0; mechanical = 0; synchronization = 0 }
+
+-- the shares of a row that counts: E means zeros (profile)
+abbrev pub shares_by : Option Indicator → ShareFields → Shares
+shares_by (Some Included) fields = shares_of fields
+shares_by (Some Excluded) fields = no_shares
+shares_by None fields = no_shares
+
+-- the shares of the last counting row, zeros where none counts (profile)
+abbrev pub shares_at : Option TerritoryRow → Shares
+shares_at None = no_shares
+shares_at (Some row) = shares_by (indicator_of row.indicator) row.shares
+
+-- an interested party, and the records of its transaction after it
+pub record Interest : Type 0 where
+  pub party : InterestedParty
+  pub after : List Record
+
+-- interested parties behind one that may be there
+abbrev pub with_interest : Option InterestedParty → List Record → List Interest → List Interest
+with_interest None after interests = interests
+with_interest (Some party) after interests = record { party = party; after = after } ∷ interests
+
+-- the interested parties of a transaction, in record order
+abbrev pub interests : List Record → List Interest
+interests [] = []
+interests (r ∷ after) = with_interest (party_in r) after (interests after)
+
+-- the collection shares of an interested party at an office: those of its last counting row (profile)
+abbrev pub collected : Office → Interest → Shares
+collected office interest = shares_at (last_counting office (rows_of interest.party interest.after))
+
+-- the ownership shares of an interested party
+abbrev pub owned : Interest → Shares
+owned interest = shares_of interest.party.shares

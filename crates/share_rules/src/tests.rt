@@ -1,0 +1,246 @@
+//! Table tests: the faults of a changed work, and who is paid with which weight.
+use super::*;
+use cwr_files::{Records, Transaction};
+use cwr_records::{Line, TransactionKind, read_record};
+use std::alloc::{AllocError, Global};
+use std::test::Fail;
+use work_ids::{Account, IdFault, SenderKey, WorkNumber};
+
+/// The records of a work.
+const SONG: [&[u8]; 7] = [
+    b"NWR0000000000000000FIRST SONG                                                    W1            T0345246801",
+    b"SPU000000000000000101P1       EXAMPLE MUSIC                                 E          00000000199                 05000   10000   10000",
+    b"SPT0000000000000002P1             050001000010000I2136 001",
+    b"SWR0000000000000003A1       WRITER                                       ANNA                           CA         00000000295   05000   00000   00000",
+    b"SWT0000000000000004A1       050000000000000I2136 001",
+    b"PWR0000000000000005P1       EXAMPLE MUSIC                                                            A1",
+    b"REC0000000000000006                                                                                                                                                                                                                                      ATABC2600001",
+];
+
+/// The rows in their order: a line of the work from 0, what stands there in its place, and the fault.
+const ROWS: [(usize, &[u8], Option<u8>); 13] = [
+    // a blank title, and a wrong ISWC
+    (
+        0,
+        b"NWR0000000000000000                                                              W1            T0345246802",
+        Some(1),
+    ),
+    // a blank work number
+    (
+        0,
+        b"NWR0000000000000000FIRST SONG                                                                  T0345246801",
+        Some(2),
+    ),
+    // a wrong check digit
+    (
+        0,
+        b"NWR0000000000000000FIRST SONG                                                    W1            T0345246802",
+        Some(3),
+    ),
+    // a share over the whole
+    (
+        3,
+        b"SWR0000000000000003A1       WRITER                                       ANNA                           CA         00000000295   10001   00000   00000",
+        Some(4),
+    ),
+    // ownership of 10007
+    (
+        3,
+        b"SWR0000000000000003A1       WRITER                                       ANNA                           CA         00000000295   05007   00000   00000",
+        Some(5),
+    ),
+    // ownership of 10006
+    (
+        3,
+        b"SWR0000000000000003A1       WRITER                                       ANNA                           CA         00000000295   05006   00000   00000",
+        None,
+    ),
+    // a row of nobody
+    (
+        2,
+        b"SPT0000000000000002P2             050001000010000I2136 001",
+        Some(6),
+    ),
+    // a link to nobody
+    (
+        5,
+        b"PWR0000000000000005P2       EXAMPLE MUSIC                                                            A1",
+        Some(7),
+    ),
+    // collection of 10007
+    (
+        2,
+        b"SPT0000000000000002P1             050071000010000I2136 001",
+        Some(8),
+    ),
+    // an IPI name number with a letter
+    (
+        3,
+        b"SWR0000000000000003A1       WRITER                                       ANNA                           CA         0000000019A   05000   00000   00000",
+        Some(9),
+    ),
+    // an ISRC with a digit for a letter
+    (
+        6,
+        b"REC0000000000000006                                                                                                                                                                                                                                      A1ABC2600001",
+        Some(10),
+    ),
+    // a number of a party that is not ASCII
+    (
+        5,
+        b"PWR0000000000000005P1       EXAMPLE MUSIC                                                            \xC31",
+        Some(11),
+    ),
+    // nothing changed
+    (
+        6,
+        b"REC0000000000000006                                                                                                                                                                                                                                      ATABC2600001",
+        None,
+    ),
+];
+
+/// The same work revised: its writer has the whole of the performing right.
+const REVISED: [&[u8]; 7] = [
+    b"REV0000000000000000FIRST SONG                                                    W1            T0345246801",
+    b"SPU000000000000000101P1       EXAMPLE MUSIC                                 E          00000000199                 00000   10000   10000",
+    b"SPT0000000000000002P1             000001000010000I2136 001",
+    b"SWR0000000000000003A1       WRITER                                       ANNA                           CA         00000000295   10000   00000   00000",
+    b"SWT0000000000000004A1       100000000000000I2136 001",
+    b"PWR0000000000000005P1       EXAMPLE MUSIC                                                            A1",
+    b"REC0000000000000006                                                                                                                                                                                                                                      ATABC2600001",
+];
+
+/// The same work, its publisher excluded from territory 40.
+const EXCLUDED: [&[u8]; 8] = [
+    b"NWR0000000000000000FIRST SONG                                                    W1            T0345246801",
+    b"SPU000000000000000101P1       EXAMPLE MUSIC                                 E          00000000199                 05000   10000   10000",
+    b"SPT0000000000000002P1             050001000010000I2136 001",
+    b"SPT0000000000000003P1             000000000000000E0040 002",
+    b"SWR0000000000000004A1       WRITER                                       ANNA                           CA         00000000295   05000   00000   00000",
+    b"SWT0000000000000005A1       050000000000000I2136 001",
+    b"PWR0000000000000006P1       EXAMPLE MUSIC                                                            A1",
+    b"REC0000000000000007                                                                                                                                                                                                                                      ATABC2600001",
+];
+
+fn office() -> Option<Office> {
+    Office::new(900, 40, b"EXAMPLE SOCIETY")
+}
+
+/// A transaction of these records.
+fn transaction<'a>(alloc: Global, lines: &[&'a [u8]]) -> Result<Transaction<'a>, AllocError> {
+    let mut records = Vec::new(alloc);
+    for line in lines {
+        records.push(read_record(Line::new(*line)))?;
+    }
+    Ok(Transaction {
+        kind: TransactionKind::Nwr,
+        group: 1,
+        sequence: 0,
+        records: Records::from_vec(records),
+    })
+}
+
+#[test]
+fn changed_works(rt: HostRuntime) -> Result<(), Fail> {
+    let office = office().ok_or("an office")?;
+    for (number, changed, fault) in ROWS {
+        let mut lines: Vec<&[u8]> = Vec::new(rt.alloc());
+        for (index, line) in SONG.iter().enumerate() {
+            lines.push(if index == number { changed } else { *line })?;
+        }
+        let song = transaction(rt.alloc(), lines.as_slice())?;
+        assert_eq!(rt; judge(&song, &office), fault);
+    }
+    Ok(())
+}
+
+/// A work, and what its publisher, its writer and nobody are paid with.
+const WEIGHTS: [(&[&[u8]], [u64; 3]); 3] = [
+    (&SONG, [5_000, 5_000, 0]),
+    (&REVISED, [0, 10_000, 0]),
+    (&EXCLUDED, [0, 5_000, 5_000]),
+];
+
+/// The holders of such a work.
+fn holders(weights: [u64; 3]) -> Result<[Holder; 3], Fail> {
+    let publisher = Account::from_bytes(b"I00000000199")
+        .ok()
+        .ok_or("an account")?;
+    let writer = Account::from_bytes(b"I00000000295")
+        .ok()
+        .ok_or("an account")?;
+    let [first, second, third] = weights;
+    Ok([
+        Holder {
+            account: publisher,
+            weight: first,
+        },
+        Holder {
+            account: writer,
+            weight: second,
+        },
+        Holder {
+            account: Account::Unclaimed,
+            weight: third,
+        },
+    ])
+}
+
+#[test]
+fn weights_of_works(rt: HostRuntime) -> Result<(), Fail> {
+    let office = office().ok_or("an office")?;
+    let sender = SenderKey::from_bytes(b"PB000000012").ok().ok_or("a key")?;
+    for (lines, expected) in WEIGHTS {
+        let song = transaction(rt.alloc(), lines)?;
+        assert_eq!(rt; judge(&song, &office), None);
+        let paid = weights(rt.alloc(), &sender, &song, &office)?;
+        let expected = holders(expected)?;
+        assert_eq!(rt; paid.as_slice(), expected.as_slice());
+    }
+    Ok(())
+}
+
+#[test]
+fn holders_without_an_ipi_name_number(rt: HostRuntime) -> Result<(), Fail> {
+    let office = office().ok_or("an office")?;
+    let sender = SenderKey::from_bytes(b"PB000000012").ok().ok_or("a key")?;
+    let named = Account::from_bytes(b"PPB000000012P1")
+        .ok()
+        .ok_or("an account")?;
+    let song = transaction(
+        rt.alloc(),
+        &[b"SPU000000000000000101P1", b"SWR0000000000000002"],
+    )?;
+    let paid = weights(rt.alloc(), &sender, &song, &office)?;
+    assert_eq!(rt;
+        paid.as_slice(),
+        [
+            Holder {
+                account: named,
+                weight: 0
+            },
+            Holder {
+                account: Account::Unclaimed,
+                weight: 0
+            },
+            Holder {
+                account: Account::Unclaimed,
+                weight: 10_000
+            },
+        ]
+        .as_slice()
+    );
+    Ok(())
+}
+
+#[test]
+fn work_codes(rt: HostRuntime) -> Result<(), Fail> {
+    let song = transaction(rt.alloc(), &SONG)?;
+    let code = iswc(&song).ok().flatten().ok_or("a code")?;
+    assert_eq!(rt; code.as_bytes(), b"T0345246801".as_slice());
+    assert_eq!(rt; work_number(&song), WorkNumber::from_bytes(b"W1").ok());
+    let nothing = transaction(rt.alloc(), &[])?;
+    assert_eq!(rt; iswc(&nothing), Err(IdFault::Length));
+    assert_eq!(rt; work_number(&nothing), None);
+    Ok(())
+}

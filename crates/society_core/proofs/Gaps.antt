@@ -1,0 +1,110 @@
+-- What stands behind a sender's first gap counts nowhere.
+use Rattle.std.proofs.Common.{◌≡◌, ℕ, zero, suc, ◌+◌, ◌<◌, ◌≤◌, ◌&&◌, Bool, true, false, cond, List, [], ◌∷◌, ◌++◌, Option, Some, None, length, take, min, nat_le, unwrap_or, refl, ap, sym, subst, ◌∙◌, arith, ⊎_elim}
+use Rattle.std.specs.List.{AllByRecursion, slice_get}
+use Rattle.std.proofs.lemmas.Bool.{cases_Bool}
+use Rattle.std.proofs.lemmas.List.{length-take}
+use Rattle.std.proofs.lemmas.Bool.Decides.{nat_tests}
+use Rattle.cwr_files.specs.Contents.{transmission_in, transactions_of}
+use Rattle.cwr_files.specs.declared.transmission.Transmission.{Transmission}
+use Rattle.share_rules.specs.declared.office.Office.{Office}
+use Rattle.ack_files.specs.Acknowledgement.{acknowledgement}
+use Rattle.works_core.specs.Line.{line_of, verdicts_at}
+use Rattle.works_core.specs.Versions.{Placed, is_version, last_version, placed_at, placed_behind, placed_behind_all, placed_line, version_of, work_at}
+use Rattle.works_core.specs.declared.judged.Judged as judgement
+use Rattle.works_core.specs.declared.version.WorkVersion.{WorkVersion}
+use Rattle.society_core.specs.Answers.{answer, shown_ack, shown_transaction, shown_version}
+use Rattle.society_core.specs.Book.{Book, ack, body_at, front, transmissions_to, verdicts_in, version_in}
+use Rattle.society_core.specs.Headline.{AlikeToTheGap}
+use Rattle.society_core.specs.Requests.{AsksAck, AsksVerdicts, AsksWork, Judged, Refused, Reply}
+use Rattle.society_core.specs.declared.request.Refusal.TheVariants.{Unknown}
+use Rattle.society_core.proofs.Fronts.{second_holds}
+
+-- transactions of transmissions up to a limit
+pub record Within (limit : ℕ) (t : Placed) : Type 0 where
+  pub within : t.transmission ≤ limit
+
+more_within : (limit : ℕ) (past : List Placed) (n place : ℕ) (judged : List judgement.Judged) → n ≤ limit → AllByRecursion (Within limit) past → AllByRecursion (Within limit) (placed_behind past n place judged)
+more_within limit past n place [] le all = all
+more_within limit past n place (j ∷ judged) le all = more_within limit (placed_at n place j ∷ past) n (place + 1) judged le (record { within = le }, all)
+
+all_within : (limit : ℕ) (past : List Placed) (n : ℕ) (line : List (List judgement.Judged)) → n + length line ≤ limit + 1 → AllByRecursion (Within limit) past → AllByRecursion (Within limit) (placed_behind_all past n line)
+all_within limit past n [] le all = all
+all_within limit past n (judged ∷ line) le all = all_within limit (placed_behind past n 0 judged) (n + 1) line (omega arith) (more_within limit past n 0 judged (omega arith) all)
+
+last_within : (limit : ℕ) (work : List ℕ) (past : List Placed) (v : WorkVersion) → AllByRecursion (Within limit) past → last_version work past ≡ Some v → v.transmission ≤ limit
+last_within limit work [] v all e = absurd (none_found e)
+  where
+    none_found : ◌≡◌ {A = Option WorkVersion} None (Some v) → ⊥
+    none_found e = cc
+last_within limit work (t ∷ past) v all e =
+    ⊎_elim
+    (λ (yes : is_version work past t ≡ true).
+    let found : Some (version_of work past t) ≡ Some v = sym (ap (λ (b : Bool). cond b (Some (version_of work past t)) (last_version work past)) yes) ∙ e in
+    let same : version_of work past t ≡ v = cc in
+    subst (λ (w : WorkVersion). w.transmission ≤ limit) same all.0.within)
+    (λ (no : is_version work past t ≡ false).
+    last_within limit work past v all.1 (sym (ap (λ (b : Bool). cond b (Some (version_of work past t)) (last_version work past)) no) ∙ e))
+    (cases_Bool (is_version work past t))
+
+-- the version of a work at a cut is of a transmission up to the cut
+version_within : (line : List (List judgement.Judged)) (work : List ℕ) (cut : ℕ) (v : WorkVersion) → work_at line work cut ≡ Some v → v.transmission ≤ cut
+unfolding work_at
+version_within line work cut v e =
+    last_within cut work (placed_line (take cut line)) v (all_within cut [] 1 (take cut line) (let short : length (take cut line) ≡ min cut (length line) = length-take cut line in omega arith) tt) e
+
+-- a sender's transmissions up to a number are alike where the bodies are
+transmissions_alike : (a b : Book) (s : List ℕ) (n : ℕ) → ((k : ℕ) → k ≤ n → body_at a s k ≡ body_at b s k) → transmissions_to a s n ≡ transmissions_to b s n
+transmissions_alike a b s zero same = refl
+transmissions_alike a b s (suc n) same =
+    ap (λ (ts : List Transmission). ts ++ transmission_in (unwrap_or (body_at a s (suc n)) []) ∷ []) (transmissions_alike a b s n (λ k le. same k (omega arith)))
+    ∙ ap (λ (o : Option (List ℕ)). transmissions_to b s n ++ transmission_in (unwrap_or o []) ∷ []) (same (suc n) (omega arith))
+
+-- the same up to a number that is at most the front
+alike_to : (a b : Book) (s : List ℕ) (n : ℕ) → AlikeToTheGap a b s → n ≤ front a s → transmissions_to a s n ≡ transmissions_to b s n
+alike_to a b s n alike le = transmissions_alike a b s n (λ k within. alike.same_bodies k (omega arith))
+
+version_alike : (o : Office) (a b : Book) (s work : List ℕ) → AlikeToTheGap a b s → version_in o a s work (front a s) ≡ version_in o b s work (front b s)
+version_alike o a b s work alike =
+    ap (λ (ts : List Transmission). work_at (line_of o ts) work (front a s)) (alike_to a b s (front a s) alike (omega arith))
+    ∙ ap (λ (n : ℕ). version_in o b s work n) alike.same_front
+
+shown_alike : (o : Office) (a b : Book) (s work : List ℕ) (v : Option WorkVersion) → AlikeToTheGap a b s → version_in o a s work (front a s) ≡ v → shown_version o a s work v ≡ shown_version o b s work v
+shown_alike o a b s work None alike e = refl
+shown_alike o a b s work (Some v) alike e =
+    ap (λ (x : Option (List ℕ)). shown_transaction o s work v (slice_get (transactions_of (transmission_in (unwrap_or x []))) v.place))
+    (alike.same_bodies v.transmission (version_within (line_of o (transmissions_to a s (front a s))) work (front a s) v e))
+
+-- what is asked of a work is answered alike
+pub works_alike : (o : Office) (a b : Book) (s work : List ℕ) → AlikeToTheGap a b s → answer o a (AsksWork s work) ≡ answer o b (AsksWork s work)
+works_alike o a b s work alike =
+    shown_alike o a b s work (version_in o a s work (front a s)) alike refl
+    ∙ ap (shown_version o b s work) (version_alike o a b s work alike)
+
+-- a test whose number is at most the front
+shown_at : (f : ℕ) (n : ℕ) → (nat_le 1 n && nat_le n f) ≡ true → n ≤ f
+shown_at f n h = let high : nat_le n f ≡ true = second_holds (nat_le 1 n) (nat_le n f) h in grind (arith, nat_tests)
+
+chosen_alike : {X : Type 0} (f n : ℕ) (x y z : X) → (n ≤ f → x ≡ y) → cond (nat_le 1 n && nat_le n f) x z ≡ cond (nat_le 1 n && nat_le n f) y z
+chosen_alike f n x y z same =
+    ⊎_elim
+    (λ (yes : (nat_le 1 n && nat_le n f) ≡ true). ap (λ (b : Bool). cond b x z) yes ∙ same (shown_at f n yes) ∙ sym (ap (λ (b : Bool). cond b y z) yes))
+    (λ (no : (nat_le 1 n && nat_le n f) ≡ false). ap (λ (b : Bool). cond b x z) no ∙ sym (ap (λ (b : Bool). cond b y z) no))
+    (cases_Bool (nat_le 1 n && nat_le n f))
+
+-- and so are the verdicts of a transmission
+pub verdicts_alike : (o : Office) (a b : Book) (s : List ℕ) (n : ℕ) → AlikeToTheGap a b s → answer o a (AsksVerdicts s n) ≡ answer o b (AsksVerdicts s n)
+verdicts_alike o a b s n alike =
+    chosen_alike (front a s) n (Judged (verdicts_in o a s n)) (Judged (verdicts_in o b s n)) (Refused Unknown)
+    (λ le. ap (λ (ts : List Transmission). Judged (verdicts_at (line_of o ts) n)) (alike_to a b s n alike le))
+    ∙ ap (λ (f : ℕ). cond (nat_le 1 n && nat_le n f) (Judged (verdicts_in o b s n)) (Refused Unknown)) alike.same_front
+
+ack_alike : (o : Office) (a b : Book) (s : List ℕ) (n : ℕ) → AlikeToTheGap a b s → ack o a s n ≡ ack o b s n
+ack_alike o a b s n alike =
+    let text = λ (body : Option (List ℕ)) (ts : List Transmission). Some (acknowledgement o s (transmission_in (unwrap_or body [])) (verdicts_at (line_of o ts) n)) in
+    chosen_alike (front a s) n (text (body_at a s n) (transmissions_to a s n)) (text (body_at b s n) (transmissions_to b s n)) None
+    (λ le. ap (λ (body : Option (List ℕ)). text body (transmissions_to a s n)) (alike.same_bodies n le) ∙ ap (text (body_at b s n)) (alike_to a b s n alike le))
+    ∙ ap (λ (f : ℕ). cond (nat_le 1 n && nat_le n f) (text (body_at b s n) (transmissions_to b s n)) None) alike.same_front
+
+-- and its acknowledgement
+pub acks_alike : (o : Office) (a b : Book) (s : List ℕ) (n : ℕ) → AlikeToTheGap a b s → answer o a (AsksAck s n) ≡ answer o b (AsksAck s n)
+acks_alike o a b s n alike = ap shown_ack (ack_alike o a b s n alike)

@@ -1,0 +1,10 @@
+use Rattle.std.proofs.Common.{◌≡◌, Some, ap, sym, ◌∙◌}
+use Rattle.cwr_files.specs.FileFault.{file_fault}
+use Rattle.society_core.specs.Plain.{book_with}
+use Rattle.society_core.proofs.Books.{no_fault}
+use Rattle.society_core.proofs.plain_store.transmission_of.Goals as goal
+
+pub unreachable-requires-in-Err-File : goal.unreachable-requires-in-Err-File
+unreachable-requires-in-Err-File c =
+    no_fault (book_with c.args.bodies.now) c.args.sender.now c.args.number c.in-Some.body.now.items c.in-Err-File.field-0-0 c.requires.sound (sym c.in-Some.ensures)
+    (ap (file_fault c.args.sender.now) (sym c.deref.ensures.value) ∙ rw c.in-Err-File.field-0-is at c.in-Err-File.ensures.fault)
