@@ -1,12 +1,11 @@
 //! Record types, and what single lines bear.
 ghost use Rattle.std.specs.Prelude.{◌≡◌, ◌+◌, ◌≤◌, ◌<◌, length};
-ghost use Rattle.std.specs.List.{list_all};
-ghost use Rattle.work_ids.specs.Characters.{is_capital_or_digit};
 ghost use Rattle.cwr_records.specs.Lines.{field, number_of};
 ghost use Rattle.cwr_files.specs.RecordTypes.{has_type, is_frame, is_code, is_read, bears, is_numbered, has_counts, is_dated, type_of_group};
 
 use crate::dates::{is_date, is_time};
 use cwr_records::{Field, Line};
+use work_ids::are_capitals_or_digits;
 
 /// Whether a line is a record of a type.
 #[tactic(auto, unfolding(crate::specs::RecordTypes::has_type))]
@@ -50,19 +49,12 @@ pub fn type_of_group(line: &Line) -> [u8; 3]
     three_bytes(&line.field(4, 6))
 }
 
-/// Whether a byte is one of A-Z and 0-9.
-fn is_capital_or_digit(byte: u8) -> bool
-    ensures { result ≡ is_capital_or_digit byte }
-{
-    (b'A' <= byte && byte <= b'Z') || (b'0' <= byte && byte <= b'9')
-}
-
 /// Whether a type is of A-Z and 0-9.
 #[tactic(auto, unfolding(crate::specs::RecordTypes::is_code))]
 pub fn is_code(bytes: &[u8]) -> bool
     ensures { result ≡ is_code bytes.now }
 {
-    bytes.iter().all(|byte| is_capital_or_digit(*byte))
+    are_capitals_or_digits(bytes)
 }
 
 /// Whether the groups of a transaction type are read.

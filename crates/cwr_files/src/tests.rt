@@ -187,10 +187,9 @@ fn cut_files(rt: HostRuntime) -> Result<(), Fail> {
     Ok(())
 }
 
-#[test]
-fn group_that_is_not_read(rt: HostRuntime) -> Result<(), Fail> {
-    let key = sender().ok_or("a key")?;
-    let mut lines: Vec<&[u8]> = Vec::new(rt.alloc());
+/// A file with a group that is not read and the other file's group behind it, each line with its line end.
+fn agreement_and_song(alloc: Global, end: &[u8]) -> Result<Vec<u8>, AllocError> {
+    let mut lines: Vec<&[u8]> = Vec::new(alloc);
     lines.push(SONG[0])?;
     lines.extend_from_slice(AGREEMENT.as_slice())?;
     lines.push(b"GRHNWR0000202.200000000000")?;
@@ -199,19 +198,29 @@ fn group_that_is_not_read(rt: HostRuntime) -> Result<(), Fail> {
     }
     lines.push(b"GRT000020000000100000009")?;
     lines.push(b"TRL000020000000200000014")?;
-    let body = joined(rt.alloc(), lines.as_slice(), b"\n")?;
-    let transmission = read_transmission(rt.alloc(), body.as_slice(), &key)?;
-    let [unread, songs] = transmission.groups.as_slice() else {
-        return Err(Fail::from("two groups"));
-    };
-    assert_eq!(rt; unread.transactions.as_slice().len(), 0);
-    let [song] = songs.transactions.as_slice() else {
-        return Err(Fail::from("one song"));
-    };
-    assert_eq!(rt;
-        (song.kind, song.group, song.sequence),
-        (TransactionKind::Nwr, 2, 0)
-    );
-    assert_eq!(rt; song.records.as_slice().len(), 7);
+    joined(alloc, lines.as_slice(), end)
+}
+
+#[test]
+fn group_that_is_not_read(rt: HostRuntime) -> Result<(), Fail> {
+    let key = sender().ok_or("a key")?;
+    for (end, bytes) in [(b"\r\n".as_slice(), 1123), (b"\n".as_slice(), 1109)] {
+        let body = agreement_and_song(rt.alloc(), end)?;
+        assert_eq!(rt; body.len(), bytes);
+        let transmission = read_transmission(rt.alloc(), body.as_slice(), &key)?;
+        let [unread, songs] = transmission.groups.as_slice() else {
+            return Err(Fail::from("two groups"));
+        };
+        assert!(rt; unread.header.transaction_type.field().is(b"AGR"));
+        assert_eq!(rt; unread.transactions.as_slice().len(), 0);
+        let [song] = songs.transactions.as_slice() else {
+            return Err(Fail::from("one song"));
+        };
+        assert_eq!(rt;
+            (song.kind, song.group, song.sequence),
+            (TransactionKind::Nwr, 2, 0)
+        );
+        assert_eq!(rt; song.records.as_slice().len(), 7);
+    }
     Ok(())
 }

@@ -1,7 +1,7 @@
 -- Facts on fields: blanks, fills and digits.
 use Rattle.std.proofs.Common.{◌≡◌, ℕ, ◌+◌, ◌-◌, ◌*◌, ◌^◌, ◌<◌, ◌≤◌, Bool, true, false, eqb, not, ◌&&◌, List, [], ◌∷◌, ◌++◌, length, take, drop, replicate, get_or, Some, None, refl, ap, sym, ◌∙◌, arith, suc, zero, min, IsTrue, ◌↔◌}
 use Rattle.std.specs.List.{prefix_len, suffix_len}
-use Rattle.cwr_records.specs.Blanks.{is_blank_byte, without_trailing_blanks}
+use Rattle.work_ids.specs.Blanks.{is_blank_byte, trimmed, without_leading_blanks, without_trailing_blanks}
 use Rattle.std.proofs.lemmas.Bool.Decides.{nat_tests}
 use Rattle.std.specs.Char.{is_ascii_digit}
 use Rattle.std.specs.List.{list_all}
@@ -42,7 +42,7 @@ blanks (b ∷ bs) h =
 pub is_blank-filled : (present : List ℕ) (n : ℕ) → is_blank present ≡ is_blank (present ++ replicate n 32)
 unfolding is_blank
 is_blank-filled present n =
-    sym (list_all-append (λ b. eqb b 32) present (replicate n 32) ∙ ap (λ (t : Bool). list_all (λ b. eqb b 32) present && t) (is_blank-replicate n) ∙ and-true _)
+    sym (list_all-append is_blank_byte present (replicate n 32) ∙ ap (λ (t : Bool). list_all is_blank_byte present && t) (is_blank-replicate n) ∙ and-true _)
 
 -- a text is what is there and then blanks, where it begins with it and goes on with blanks
 pub filled-same : (present text : List ℕ) (width : ℕ) → length present ≤ width → length text ≡ width → take (length present) text ≡ present → is_blank (drop (length present) text) ≡ true → present ++ replicate (width - length present) 32 ≡ text
@@ -63,7 +63,7 @@ pub filled-length : (present : List ℕ) (width : ℕ) → length present ≤ wi
 filled-length present width within = omega (arith, length-append present (replicate (width - length present) 32), length-replicate {A = ℕ} (width - length present) 32)
 
 -- a text whose front is right is what is there, filled up, exactly where it goes on with blanks
-pub filled-decides : (present text now : List ℕ) (width : ℕ) (r : Bool) → length present ≤ width → length text ≡ width → present ++ replicate (width - length present) 32 ≡ now → take (length present) text ≡ present → r ≡ list_all (λ b. eqb b 32) (drop (length present) text) → IsTrue r ↔ (now ≡ text)
+pub filled-decides : (present text now : List ℕ) (width : ℕ) (r : Bool) → length present ≤ width → length text ≡ width → present ++ replicate (width - length present) 32 ≡ now → take (length present) text ≡ present → r ≡ list_all is_blank_byte (drop (length present) text) → IsTrue r ↔ (now ≡ text)
 unfolding is_blank
 filled-decides present text now width r within full view front rest = (
   λ t. sym view ∙ filled-same present text width within full front (sym rest ∙ t),
@@ -150,6 +150,18 @@ trailing-filled bs zero = ap without_trailing_blanks (append-nil bs)
 trailing-filled bs (suc n) =
     let one : List ℕ = 32 ∷ [] in
     ap without_trailing_blanks (sym (append_assoc bs one (replicate n 32))) ∙ trailing-filled (bs ++ one) n ∙ trailing-one bs
+
+-- nor about the bytes between the blanks at both ends
+pub trimmed-filled : (bs : List ℕ) (n : ℕ) → trimmed (bs ++ replicate n 32) ≡ trimmed bs
+unfolding trimmed
+trimmed-filled bs n = ap without_leading_blanks (trailing-filled bs n)
+
+-- bytes without blanks at their ends are no more than with them
+pub length-trimmed : (bs : List ℕ) → length (trimmed bs) ≤ length bs
+unfolding trimmed
+length-trimmed bs =
+    let front = without_trailing_blanks bs in
+    omega (arith, length-drop (prefix_len is_blank_byte front) front, length-take (length bs - suffix_len is_blank_byte bs) bs)
 
 -- a filled list is filled further as the list itself is
 pub fill-filled : (width more : ℕ) (bs : List ℕ) → length bs ≤ width → width ≤ more → fill more bs ≡ fill more (bs ++ replicate (width - length bs) 32)

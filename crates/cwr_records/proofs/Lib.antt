@@ -2,4 +2,5 @@ pub mod Lines
 pub mod Fields
 pub mod Layouts
 pub mod Rows
+pub mod RecordTypes
 mod Worked

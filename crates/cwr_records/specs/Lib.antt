@@ -3,5 +3,5 @@ pub mod Layouts
 pub mod Places
 pub mod Records
 pub mod ReadBack
-pub mod Blanks
+pub use Rattle.work_ids.specs.Blanks
 pub mod Typed

@@ -1,7 +1,8 @@
 -- Lines of a transmission and fields of a line.
-use Rattle.std.specs.Prelude.{◌≡◌, ℕ, ◌+◌, ◌-◌, ◌*◌, ◌<◌, Bool, cond, ◌&&◌, not, eqb, List, [], ◌∷◌, ◌++◌, map, length, get_or, take, drop, replicate, fold, Option, Some, None}
+use Rattle.std.specs.Prelude.{◌≡◌, ℕ, ◌+◌, ◌-◌, ◌*◌, ◌<◌, Bool, cond, ◌&&◌, not, eqb, List, [], ◌∷◌, ◌++◌, map, length, get_or, take, drop, fold, Option, Some, None}
 use Rattle.std.specs.Char.{is_ascii_digit}
 use Rattle.std.specs.List.{list_all}
+use Rattle.work_ids.specs.Blanks.{is_blank_byte, fill as filled_with_blanks}
 
 -- a byte in front of the first of some pieces, where there is none as a piece of its own (profile)
 abbrev pub onto_first : ℕ → List (List ℕ) → List (List ℕ)
@@ -27,7 +28,7 @@ lines body = map line_of (pieces body)
 
 -- bytes with blanks after them, up to a width (CISAC CWR 2.2)
 unfoldable pub fill : ℕ → List ℕ → List ℕ
-fill width bs = bs ++ replicate (width - length bs) 32
+fill width bs = filled_with_blanks width bs
 
 -- the field of a line from one position to another, both counted from 1, with blanks past the line's end (CISAC CWR 2.2)
 unfoldable pub field : List ℕ → ℕ → ℕ → List ℕ
@@ -36,7 +37,7 @@ field line first last = fill (last + 1 - first) (take (last + 1 - first) (drop (
 
 -- whether all bytes are blanks (profile)
 unfoldable pub is_blank : List ℕ → Bool
-is_blank bs = list_all (λ b. eqb b 32) bs
+is_blank bs = list_all is_blank_byte bs
 
 -- the decimal value of digits (profile)
 abbrev pub value_of_digits : List ℕ → ℕ

@@ -3,6 +3,7 @@ use crate::field::Field;
 use crate::fixed::Fixed;
 use crate::kind::RecordKind;
 use crate::layout::{Layout, LineFields, Position};
+use work_ids::{IdFault, Isrc};
 
 /// ALT, a further title of a work.
 #[derive(Drop)]
@@ -93,6 +94,18 @@ pub struct RecordingDetail<'a> {
     pub catalogue_number: Fixed<'a, 18>,
     pub ean: Fixed<'a, 13>,
     pub isrc: Fixed<'a, 12>,
+}
+
+impl<'a> RecordingDetail<'a> {
+    ghost use Rattle.std.specs.Prelude.{◌≡◌};
+    ghost use Rattle.work_ids.specs.Isrc.{isrc_field_of};
+
+    /// The ISRC, none where the field is blank; else `Character` (CISAC CWR 2.2, ISRC; ISO 3901).
+    pub fn isrc(&self) -> Result<Option<Isrc>, IdFault>
+        ensures { result ≡ isrc_field_of self.now.isrc }
+    {
+        Isrc::from_field(&self.isrc.to_bytes())
+    }
 }
 
 const RECORDING: [Position; 10] = [

@@ -1,12 +1,11 @@
 //! A field of a line: lent bytes, and blanks up to the field's width.
 ghost use Rattle.std.specs.Prelude.{◌≡◌, ◌<◌, ◌≤◌, ◌+◌, ◌-◌, ◌↔◌, ◌==◌, ◌++◌, ℕ, List, length, get_or, replicate, IsTrue, IfSome, ◌^◌};
-ghost use Rattle.std.specs.List.{list_all};
-ghost use Rattle.cwr_records.specs.Blanks.{trimmed, without_trailing_blanks};
+ghost use Rattle.work_ids.specs.Blanks.{trimmed, without_trailing_blanks};
 ghost use Rattle.cwr_records.specs.Lines.{fill, is_blank, number_of};
 
-use crate::blanks::{without_leading_blanks, without_trailing_blanks};
 use crate::fixed::Fixed;
 use std::marker::Model;
+use work_ids::{are_blank, trimmed, without_trailing_blanks};
 
 /// A field: the bytes that its line has there, lent, and blanks past the line's end.
 #[derive(Drop)]
@@ -90,7 +89,7 @@ impl<'a> Field<'a> {
     pub fn is_blank(&self) -> bool
         ensures { result ≡ is_blank self.now }
     {
-        all_blank(self.present)
+        are_blank(self.present)
     }
 
     /// Whether the field holds exactly this text.
@@ -102,7 +101,7 @@ impl<'a> Field<'a> {
         }
         let (front, blanks) = text.split_at(self.present.len());
         if front == self.present {
-            all_blank(blanks)
+            are_blank(blanks)
         } else {
             false
         }
@@ -113,7 +112,7 @@ impl<'a> Field<'a> {
         ensures value { result.now ≡ trimmed self.now }
         ensures within { length result.now ≤ length self.now }
     {
-        without_leading_blanks(without_trailing_blanks(self.present))
+        trimmed(self.present)
     }
 
     /// The bytes without the blanks at their end.
@@ -142,13 +141,6 @@ impl<'a> Field<'a> {
         }
         number(self.present)
     }
-}
-
-/// Whether there are blanks alone.
-pub(crate) fn all_blank(bytes: &[u8]) -> bool
-    ensures { result ≡ list_all (λ b. b == 32) bytes.now }
-{
-    bytes.iter().all(|byte| *byte == b' ')
 }
 
 /// The decimal value of at most 19 bytes, where they are digits alone, and at least one.

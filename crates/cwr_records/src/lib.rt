@@ -2,7 +2,6 @@
 #![tactic(auto)]
 
 mod acknowledgement;
-mod blanks;
 mod detail;
 mod field;
 mod fixed;

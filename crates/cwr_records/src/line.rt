@@ -2,8 +2,9 @@
 ghost use Rattle.std.specs.Prelude.{◌≡◌, ◌<◌, ◌≤◌, ◌-◌, ◌+◌, ◌∷◌, [], ◌≢◌, ◌==◌, ℕ, List, length, take, drop, position};
 ghost use Rattle.cwr_records.specs.Lines.{field, fill, is_blank, pieces, without_last, IsFirstLine};
 
-use crate::field::{Field, all_blank};
+use crate::field::Field;
 use std::marker::Model;
+use work_ids::are_blank;
 
 /// A line without its line end, lent from the body that it stands in.
 #[derive(Drop)]
@@ -56,7 +57,7 @@ impl<'a> Line<'a> {
     pub fn is_blank(&self) -> bool
         ensures { result ≡ is_blank self.now }
     {
-        all_blank(self.bytes)
+        are_blank(self.bytes)
     }
 
     /// The record type, at 1-3.

@@ -3,6 +3,7 @@ use crate::field::Field;
 use crate::fixed::Fixed;
 use crate::kind::RecordKind;
 use crate::layout::{Layout, LineFields, Position};
+use work_ids::{IdFault, IpiName, PartyNumber};
 
 /// Whether a publisher is controlled by the submitter.
 #[derive(Clone, Copy, Debug, PartialEq, Eq)]
@@ -60,6 +61,27 @@ pub struct PublisherRecord<'a> {
     pub mr_share: Fixed<'a, 5>,
     pub sr_society: Fixed<'a, 3>,
     pub sr_share: Fixed<'a, 5>,
+}
+
+impl<'a> PublisherRecord<'a> {
+    ghost use Rattle.std.specs.Prelude.{◌≡◌};
+    ghost use Rattle.work_ids.specs.IpiName.{ipi_field_of};
+    ghost use Rattle.work_ids.specs.PartyNumber.{party_number_of};
+
+    /// What the sender calls the publisher, perhaps nothing; else `Character` (CISAC CWR 2.2, IP #).
+    pub fn party(&self) -> Result<PartyNumber, IdFault>
+        ensures { result ≡ party_number_of self.now.party }
+    {
+        PartyNumber::from_field(&self.party.to_bytes())
+    }
+
+    /// The IPI name number of the publisher, none where the field is blank or has zeros alone; else `Character` (CISAC CWR
+    /// 2.2, IPI name number).
+    pub fn ipi_name(&self) -> Result<Option<IpiName>, IdFault>
+        ensures { result ≡ ipi_field_of self.now.ipi_name }
+    {
+        IpiName::from_field(&self.ipi_name.to_bytes())
+    }
 }
 
 const PUBLISHER: [Position; 17] = [
@@ -187,6 +209,18 @@ pub struct PublisherTerritory<'a> {
     pub territory: Fixed<'a, 4>,
     pub shares_change: Fixed<'a, 1>,
     pub sequence: Fixed<'a, 3>,
+}
+
+impl<'a> PublisherTerritory<'a> {
+    ghost use Rattle.std.specs.Prelude.{◌≡◌};
+    ghost use Rattle.work_ids.specs.PartyNumber.{party_number_of};
+
+    /// What the sender calls the publisher, perhaps nothing; else `Character` (CISAC CWR 2.2, IP #).
+    pub fn party(&self) -> Result<PartyNumber, IdFault>
+        ensures { result ≡ party_number_of self.now.party }
+    {
+        PartyNumber::from_field(&self.party.to_bytes())
+    }
 }
 
 const PUBLISHER_TERRITORY: [Position; 11] = [

@@ -33,58 +33,35 @@ pub fn read_record<'a>(line: Line<'a>) -> Record<'a>
     }
 }
 
+/// The record types that have a layout, each with its three letters.
+const TYPES: [([u8; 3], RecordType); 16] = [
+    (*b"HDR", RecordType::Hdr),
+    (*b"GRH", RecordType::Grh),
+    (*b"NWR", RecordType::Nwr),
+    (*b"REV", RecordType::Rev),
+    (*b"SPU", RecordType::Spu),
+    (*b"OPU", RecordType::Opu),
+    (*b"SPT", RecordType::Spt),
+    (*b"SWR", RecordType::Swr),
+    (*b"OWR", RecordType::Owr),
+    (*b"SWT", RecordType::Swt),
+    (*b"PWR", RecordType::Pwr),
+    (*b"ALT", RecordType::Alt),
+    (*b"REC", RecordType::Rec),
+    (*b"ACK", RecordType::Ack),
+    (*b"GRT", RecordType::Grt),
+    (*b"TRL", RecordType::Trl),
+];
+
 /// The record type of a line.
 fn record_type(line: &Line<'_>) -> RecordType
     ensures { result ≡ type_of (field line.now 1 3) }
 {
     let code = line.record_type();
-    if code.is(b"HDR") {
-        return RecordType::Hdr;
-    }
-    if code.is(b"GRH") {
-        return RecordType::Grh;
-    }
-    if code.is(b"NWR") {
-        return RecordType::Nwr;
-    }
-    if code.is(b"REV") {
-        return RecordType::Rev;
-    }
-    if code.is(b"SPU") {
-        return RecordType::Spu;
-    }
-    if code.is(b"OPU") {
-        return RecordType::Opu;
-    }
-    if code.is(b"SPT") {
-        return RecordType::Spt;
-    }
-    if code.is(b"SWR") {
-        return RecordType::Swr;
-    }
-    if code.is(b"OWR") {
-        return RecordType::Owr;
-    }
-    if code.is(b"SWT") {
-        return RecordType::Swt;
-    }
-    if code.is(b"PWR") {
-        return RecordType::Pwr;
-    }
-    if code.is(b"ALT") {
-        return RecordType::Alt;
-    }
-    if code.is(b"REC") {
-        return RecordType::Rec;
-    }
-    if code.is(b"ACK") {
-        return RecordType::Ack;
-    }
-    if code.is(b"GRT") {
-        return RecordType::Grt;
-    }
-    if code.is(b"TRL") {
-        return RecordType::Trl;
+    for (letters, kind) in &TYPES {
+        if code.is(letters) {
+            return *kind;
+        }
     }
     RecordType::Unknown
 }

@@ -34,7 +34,7 @@ impl Share {
         ensures { result ≡ share_of field.now }
     {
         if field.is_blank() {
-            return Some(Share { hundredths: 0 });
+            return Some(Share::none());
         }
         let hundredths = field.number()?;
         if hundredths > WHOLE {
@@ -43,6 +43,13 @@ impl Share {
         Some(Share {
             hundredths: hundredths as u16,
         })
+    }
+
+    /// The share of nothing.
+    pub fn none() -> Share
+        ensures { result ≡ 0 }
+    {
+        Share { hundredths: 0 }
     }
 
     /// How much it is, in hundredths of a percent.

@@ -3,6 +3,7 @@ use crate::field::Field;
 use crate::fixed::Fixed;
 use crate::kind::RecordKind;
 use crate::layout::{Layout, LineFields, Position};
+use work_ids::{IdFault, Iswc, WorkNumber};
 
 /// Whether a transaction registers a work or revises it.
 #[derive(Clone, Copy, Debug, PartialEq, Eq)]
@@ -58,6 +59,28 @@ pub struct WorkRecord<'a> {
     pub text_music_relationship: Fixed<'a, 3>,
     pub composite_type: Fixed<'a, 3>,
     pub version_type: Fixed<'a, 3>,
+}
+
+impl<'a> WorkRecord<'a> {
+    ghost use Rattle.std.specs.Prelude.{◌≡◌};
+    ghost use Rattle.work_ids.specs.Iswc.{iswc_field_of};
+    ghost use Rattle.work_ids.specs.WorkNumber.{work_number_of};
+
+    /// The ISWC, none where the field is blank; else the least of `Character` and `CheckDigit` that holds (CISAC CWR
+    /// 2.2, ISWC; ISO 15707).
+    pub fn iswc(&self) -> Result<Option<Iswc>, IdFault>
+        ensures { result ≡ iswc_field_of self.now.iswc }
+    {
+        Iswc::from_field(&self.iswc.to_bytes())
+    }
+
+    /// What the sender calls the work; else the least of `Length` (blank) and `Character` that holds (CISAC CWR 2.2,
+    /// submitter work number).
+    pub fn work_number(&self) -> Result<WorkNumber, IdFault>
+        ensures { result ≡ work_number_of self.now.work_number }
+    {
+        WorkNumber::from_bytes(&self.work_number.to_bytes())
+    }
 }
 
 const WORK: [Position; 15] = [

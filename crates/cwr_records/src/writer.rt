@@ -3,6 +3,7 @@ use crate::field::Field;
 use crate::fixed::Fixed;
 use crate::kind::RecordKind;
 use crate::layout::{Layout, LineFields, Position};
+use work_ids::{IdFault, IpiName, PartyNumber};
 
 /// Whether a writer is controlled by the submitter.
 #[derive(Clone, Copy, Debug, PartialEq, Eq)]
@@ -59,6 +60,27 @@ pub struct WriterRecord<'a> {
     pub mr_share: Fixed<'a, 5>,
     pub sr_society: Fixed<'a, 3>,
     pub sr_share: Fixed<'a, 5>,
+}
+
+impl<'a> WriterRecord<'a> {
+    ghost use Rattle.std.specs.Prelude.{◌≡◌};
+    ghost use Rattle.work_ids.specs.IpiName.{ipi_field_of};
+    ghost use Rattle.work_ids.specs.PartyNumber.{party_number_of};
+
+    /// What the sender calls the writer, perhaps nothing; else `Character` (CISAC CWR 2.2, IP #).
+    pub fn party(&self) -> Result<PartyNumber, IdFault>
+        ensures { result ≡ party_number_of self.now.party }
+    {
+        PartyNumber::from_field(&self.party.to_bytes())
+    }
+
+    /// The IPI name number of the writer, none where the field is blank or has zeros alone; else `Character` (CISAC CWR
+    /// 2.2, IPI name number).
+    pub fn ipi_name(&self) -> Result<Option<IpiName>, IdFault>
+        ensures { result ≡ ipi_field_of self.now.ipi_name }
+    {
+        IpiName::from_field(&self.ipi_name.to_bytes())
+    }
 }
 
 const WRITER: [Position; 16] = [
@@ -184,6 +206,18 @@ pub struct WriterTerritory<'a> {
     pub sequence: Fixed<'a, 3>,
 }
 
+impl<'a> WriterTerritory<'a> {
+    ghost use Rattle.std.specs.Prelude.{◌≡◌};
+    ghost use Rattle.work_ids.specs.PartyNumber.{party_number_of};
+
+    /// What the sender calls the writer, perhaps nothing; else `Character` (CISAC CWR 2.2, IP #).
+    pub fn party(&self) -> Result<PartyNumber, IdFault>
+        ensures { result ≡ party_number_of self.now.party }
+    {
+        PartyNumber::from_field(&self.party.to_bytes())
+    }
+}
+
 const WRITER_TERRITORY: [Position; 11] = [
     // record type
     Position { from: 1, to: 3 },
@@ -281,6 +315,25 @@ pub struct PublisherForWriter<'a> {
     pub submitter_agreement: Fixed<'a, 14>,
     pub society_agreement: Fixed<'a, 14>,
     pub writer_party: Fixed<'a, 9>,
+}
+
+impl<'a> PublisherForWriter<'a> {
+    ghost use Rattle.std.specs.Prelude.{◌≡◌};
+    ghost use Rattle.work_ids.specs.PartyNumber.{party_number_of};
+
+    /// What the sender calls the publisher, perhaps nothing; else `Character` (CISAC CWR 2.2, publisher IP #).
+    pub fn publisher_party(&self) -> Result<PartyNumber, IdFault>
+        ensures { result ≡ party_number_of self.now.publisher_party }
+    {
+        PartyNumber::from_field(&self.publisher_party.to_bytes())
+    }
+
+    /// What the sender calls the writer, perhaps nothing; else `Character` (CISAC CWR 2.2, writer IP #).
+    pub fn writer_party(&self) -> Result<PartyNumber, IdFault>
+        ensures { result ≡ party_number_of self.now.writer_party }
+    {
+        PartyNumber::from_field(&self.writer_party.to_bytes())
+    }
 }
 
 const PUBLISHER_FOR_WRITER: [Position; 8] = [

@@ -70,7 +70,8 @@ fn asked(alloc: Global, put: bool, target: &[u8]) -> Result<Option<u32>, AllocEr
     match request_for(&router, &mut scratch, put, target, b"") {
         Request::PutTransmission { number, .. } => Ok(Some(number)),
         Request::Acknowledgement { number, .. } => Ok(Some(number)),
-        Request::Elsewhere => Ok(None),
+        Request::Verdicts { number, .. } => Ok(Some(number)),
+        Request::Sender { .. } | Request::Work { .. } | Request::Elsewhere => Ok(None),
     }
 }
 

@@ -54,7 +54,7 @@ pub fn work_number(transaction: &Transaction<'_>) -> Option<WorkNumber>
     ensures { result ≡ result_ok (number_of_work transaction.now) }
 {
     let work = work_of(transaction.records.as_slice())?;
-    WorkNumber::from_bytes(&work.work_number.to_bytes()).ok()
+    work.work_number().ok()
 }
 
 /// The transaction's ISWC, none where its field is blank (ISO 15707); else the least of `Length`, `Character` and
@@ -64,7 +64,7 @@ pub fn iswc(transaction: &Transaction<'_>) -> Result<Option<Iswc>, IdFault>
     ensures { result ≡ iswc_of_work transaction.now }
 {
     match work_of(transaction.records.as_slice()) {
-        Some(work) => Iswc::from_field(&work.iswc.to_bytes()),
+        Some(work) => work.iswc(),
         None => Err(IdFault::Length),
     }
 }

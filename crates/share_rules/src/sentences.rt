@@ -9,7 +9,7 @@ use crate::party::{InterestedParty, Side, TerritoryRow};
 use crate::sought::Sought;
 use cwr_files::Transaction;
 use cwr_records::{Fixed, Record};
-use work_ids::{IpiName, Isrc, PartyNumber};
+use work_ids::{IpiName, PartyNumber};
 
 /// Whether the title is blank (profile).
 #[tactic(auto, unfolding(cwr_records::specs::Lines::is_blank))]
@@ -100,7 +100,7 @@ fn has_wrong_isrc(record: &Record<'_>) -> bool
     ensures { result ≡ has_wrong_isrc «record».now }
 {
     match record {
-        Record::Recording(recording) => Isrc::from_field(&recording.isrc.to_bytes()).is_err(),
+        Record::Recording(recording) => recording.isrc().is_err(),
         _ => false,
     }
 }

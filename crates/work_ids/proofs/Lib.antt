@@ -2,4 +2,8 @@ pub mod Capitals
 pub mod Joined
 pub mod Marks
 pub mod Sums
+pub mod Trailing
+pub mod Accounts
+pub mod IpiNames
+pub mod PartyNumbers
 mod Worked

@@ -1,10 +1,10 @@
 -- The accounts that money is credited to.
-use Rattle.std.specs.Prelude.{ℕ, Bool, List, [], ◌∷◌, ◌++◌, ◌-◌, Result, Ok, Err, length, take, drop, slice_index, not, if◌then◌else◌, ◌==◌, ◌&&◌, nat_le}
+use Rattle.std.specs.Prelude.{ℕ, Bool, true, List, [], ◌∷◌, ◌++◌, ◌-◌, Result, Ok, Err, length, take, drop, slice_index, not, if◌then◌else◌, ◌==◌, ◌&&◌, nat_le}
 use Rattle.std.specs.List.{list_all}
 use Rattle.std.specs.Str.{bytes_eq}
 use Rattle.work_ids.specs.Blanks.{is_blank_byte, fill, without_trailing_blanks}
-use Rattle.work_ids.specs.Characters.{is_digit, is_printable, is_capital_or_digit}
-use Rattle.work_ids.specs.IpiName.{is_zero}
+use Rattle.work_ids.specs.Characters.{is_printable, is_capital_or_digit}
+use Rattle.work_ids.specs.IpiName.{is_ipi_name}
 use Rattle.work_ids.specs.declared.account.Account.{Account}
 use Rattle.work_ids.specs.declared.account.Account.TheVariants.{Ipi, Party, Unclaimed}
 use Rattle.work_ids.specs.declared.fault.IdFault.{IdFault}
@@ -13,10 +13,6 @@ use Rattle.work_ids.specs.declared.fault.IdFault.TheVariants.{Length, Character}
 -- the text of the account of what nobody claims: UNCLAIMED (profile)
 abbrev pub unclaimed : List ℕ
 unclaimed = 85 ∷ 78 ∷ 67 ∷ 76 ∷ 65 ∷ 73 ∷ 77 ∷ 69 ∷ 68 ∷ []
-
--- the digits of an IPI name number that is not none (profile)
-abbrev pub is_ipi_name : List ℕ → Bool
-is_ipi_name digits = list_all is_digit digits && not (list_all is_zero digits)
 
 -- printable ASCII with no blank at either end (profile)
 unfoldable pub is_trimmed_printable : List ℕ → Bool
@@ -52,3 +48,9 @@ abbrev pub account_text : Account → List ℕ
 account_text (Ipi digits) = 73 ∷ digits
 account_text (Party sender number) = 80 ∷ (sender ++ without_trailing_blanks number)
 account_text Unclaimed = unclaimed
+
+-- an account that a text can spell: a party's number is not blank (profile)
+abbrev pub is_spelled : Account → Bool
+is_spelled (Ipi digits) = true
+is_spelled (Party sender number) = not (list_all is_blank_byte number)
+is_spelled Unclaimed = true

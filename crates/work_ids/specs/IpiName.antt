@@ -1,5 +1,5 @@
 -- The IPI name number of a party.
-use Rattle.std.specs.Prelude.{ℕ, Bool, List, ◌++◌, ◌-◌, Option, Some, None, Result, Ok, Err, length, replicate, if◌then◌else◌, ◌==◌, nat_le}
+use Rattle.std.specs.Prelude.{ℕ, Bool, List, ◌++◌, ◌-◌, Option, Some, None, Result, Ok, Err, length, replicate, if◌then◌else◌, ◌==◌, ◌&&◌, not, nat_le}
 use Rattle.std.specs.List.{list_all}
 use Rattle.work_ids.specs.Blanks.{trimmed}
 use Rattle.work_ids.specs.Characters.{is_digit}
@@ -9,6 +9,14 @@ use Rattle.work_ids.specs.declared.fault.IdFault.TheVariants.{Length, Character}
 -- the digit zero (profile)
 abbrev pub is_zero : ℕ → Bool
 is_zero byte = byte == 48
+
+-- the digits of an IPI name number that is not none (profile)
+abbrev pub is_ipi_name : List ℕ → Bool
+is_ipi_name digits = list_all is_digit digits && not (list_all is_zero digits)
+
+-- an IPI name number: eleven digits, not all zeros (CISAC CWR 2.2; not all zeros: profile)
+abbrev pub is_ipi_number : List ℕ → Bool
+is_ipi_number digits = length digits == 11 && is_ipi_name digits
 
 -- digits filled with zeros on the left to eleven (profile)
 abbrev pub eleven_digits : List ℕ → List ℕ

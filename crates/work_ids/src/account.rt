@@ -1,4 +1,4 @@
-ghost use Rattle.std.specs.Prelude.{◌≡◌, ◌≤◌, ◌++◌, length};
+ghost use Rattle.std.specs.Prelude.{◌≡◌, ◌≤◌, ◌++◌, length, IsTrue, Ok};
 
 use crate::blanks::is_blank_byte;
 use crate::characters::{are_capitals_or_digits, are_digits, are_printable};
@@ -23,7 +23,7 @@ pub enum Account {
 }
 
 impl Account {
-    ghost use Rattle.work_ids.specs.Account.{account_of, account_text, ipi_account_of, is_trimmed_printable, party_account_of};
+    ghost use Rattle.work_ids.specs.Account.{account_of, account_text, is_spelled, ipi_account_of, is_trimmed_printable, party_account_of};
 
     #[tactic(auto, unfolding(crate::specs::Account::is_trimmed_printable))]
     fn is_trimmed_printable(bytes: &[u8]) -> bool
@@ -48,7 +48,7 @@ impl Account {
     }
 
     /// The account of a sender key and a party number behind it.
-    #[tactic(auto, unfolding(crate::specs::Account::party_account_of))]
+    #[tactic(auto, using(crate::proofs::PartyNumbers::printable_of, crate::proofs::PartyNumbers::front_of), unfolding(crate::specs::Account::party_account_of))]
     fn from_party(bytes: &[u8]) -> Result<Account, IdFault>
         ensures { result ≡ party_account_of bytes.now }
     {
@@ -86,13 +86,15 @@ impl Account {
         }
     }
 
-    /// The text of the account, as three pieces that follow one another.
+    /// The text of the account, as three pieces that follow one another; `from_bytes` reads it back as the same account,
+    /// unless it is a party's with a blank number, which no text spells.
     pub fn pieces(&self) -> (&[u8], &[u8], &[u8])
-        ensures { result.0.now ++ result.1.now ++ result.2.now ≡ account_text self.now }
+        ensures text { result.0.now ++ result.1.now ++ result.2.now ≡ account_text self.now }
+        ensures back { IsTrue (is_spelled self.now) → account_of (account_text self.now) ≡ Ok self.now }
     {
         match self {
             Account::Ipi(name) => (b"I", name.as_bytes(), b""),
-            Account::Party(sender, number) => (b"P", sender.as_bytes(), number.as_bytes()),
+            Account::Party(sender, number) => (b"P", sender.as_bytes(), number.number()),
             Account::Unclaimed => (UNCLAIMED, b"", b""),
         }
     }

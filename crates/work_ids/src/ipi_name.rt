@@ -1,6 +1,6 @@
-ghost use Rattle.std.specs.Prelude.{◌≡◌, ◌≤◌, length};
+ghost use Rattle.std.specs.Prelude.{◌≡◌, ◌≤◌, length, true};
 ghost use Rattle.std.specs.List.{list_all};
-ghost use Rattle.work_ids.specs.IpiName.{eleven_digits, ipi_field_of, is_zero};
+ghost use Rattle.work_ids.specs.IpiName.{eleven_digits, ipi_field_of, is_ipi_name, is_ipi_number, is_zero};
 
 use crate::IdFault;
 use crate::blanks::trimmed;
@@ -17,11 +17,14 @@ pub struct IpiName {
 }
 
 impl Model for IpiName {
-    ghost use Rattle.std.specs.Prelude.{List, ℕ};
+    ghost use Rattle.std.specs.Prelude.{◌≡◌, List, ℕ, true};
+    ghost use Rattle.work_ids.specs.IpiName.{is_ipi_number};
 
     ghost Value = { List ℕ };
 
     ghost view = { λ n. n.bytes };
+
+    ghost invariant = { λ n. is_ipi_number n.bytes ≡ true };
 
     ghost inverse = { λ bytes. record { bytes = bytes } };
 }
@@ -39,15 +42,27 @@ pub(crate) fn are_zeros(bytes: &[u8]) -> bool
     bytes.iter().all(|byte| is_zero(*byte))
 }
 
+/// At most eleven digits, filled with zeros on the left.
+fn zero_filled(digits: &[u8]) -> [u8; 11]
+    requires { length digits.now ≤ 11 }
+    ensures { result ≡ eleven_digits digits.now }
+{
+    let mut bytes = [b'0'; 11];
+    bytes[IPI_NAME_LENGTH - digits.len()..].copy_from_slice(digits);
+    bytes
+}
+
 impl IpiName {
-    /// The number of at most eleven bytes, filled with zeros on the left.
+    /// The number of at most eleven digits, not all zeros, filled with zeros on the left.
+    #[tactic(auto, using(crate::proofs::IpiNames::ipi_filled))]
     pub(crate) fn from_digits(digits: &[u8]) -> IpiName
-        requires { length digits.now ≤ 11 }
+        requires room { length digits.now ≤ 11 }
+        requires digits { is_ipi_name digits.now ≡ true }
         ensures { result ≡ eleven_digits digits.now }
     {
-        let mut bytes = [b'0'; 11];
-        bytes[IPI_NAME_LENGTH - digits.len()..].copy_from_slice(digits);
-        IpiName { bytes }
+        IpiName {
+            bytes: zero_filled(digits),
+        }
     }
 
     /// The number that a field has, blanks at both ends aside, filled with zeros on the left; none where it is blank or
@@ -72,6 +87,7 @@ impl IpiName {
     pub fn as_bytes(&self) -> &[u8]
         ensures bytes { result.now ≡ self.now }
         ensures len { length result.now ≡ 11 }
+        ensures number { is_ipi_number self.now ≡ true }
     {
         &self.bytes
     }

@@ -16,8 +16,8 @@ mod sender_key;
 mod work_number;
 
 pub use account::Account;
-pub use blanks::filled;
-pub use characters::are_printable;
+pub use blanks::{are_blank, filled, trimmed, without_trailing_blanks};
+pub use characters::{are_capitals_or_digits, are_printable};
 pub use checksum::check_digit;
 pub use fault::IdFault;
 pub use ipi_name::IpiName;

@@ -1,7 +1,8 @@
-ghost use Rattle.std.specs.Prelude.{◌≡◌, ◌≤◌, length};
+ghost use Rattle.std.specs.Prelude.{◌≡◌, ◌≤◌, length, true};
 ghost use Rattle.std.specs.List.{list_all};
 ghost use Rattle.work_ids.specs.Blanks.{fill, is_blank_byte, without_trailing_blanks};
-ghost use Rattle.work_ids.specs.PartyNumber.{party_number_of};
+ghost use Rattle.work_ids.specs.Characters.{is_printable};
+ghost use Rattle.work_ids.specs.PartyNumber.{begins_printed, is_party_number, party_number_of};
 
 use crate::IdFault;
 use crate::blanks::{are_blank, filled, trimmed, without_trailing_blanks};
@@ -19,19 +20,25 @@ pub struct PartyNumber {
 }
 
 impl Model for PartyNumber {
-    ghost use Rattle.std.specs.Prelude.{List, ℕ};
+    ghost use Rattle.std.specs.Prelude.{◌≡◌, List, ℕ, true};
+    ghost use Rattle.work_ids.specs.PartyNumber.{is_party_number};
 
     ghost Value = { List ℕ };
 
     ghost view = { λ n. n.bytes };
 
+    ghost invariant = { λ n. is_party_number n.bytes ≡ true };
+
     ghost inverse = { λ bytes. record { bytes = bytes } };
 }
 
 impl PartyNumber {
-    /// The number of at most nine bytes.
+    /// The number of at most nine printable bytes with no blank in front.
+    #[tactic(auto, using(crate::proofs::PartyNumbers::number_filled))]
     pub(crate) fn from_trimmed(number: &[u8]) -> PartyNumber
-        requires { length number.now ≤ 9 }
+        requires room { length number.now ≤ 9 }
+        requires printable { list_all is_printable number.now ≡ true }
+        requires front { begins_printed number.now ≡ true }
         ensures { result ≡ fill 9 number.now }
     {
         PartyNumber {
@@ -41,6 +48,7 @@ impl PartyNumber {
 
     /// The number that a field has, blanks at both ends aside, a blank one too; else the least of `Length` (over nine
     /// bytes) and `Character` that holds (profile).
+    #[tactic(auto, using(crate::proofs::PartyNumbers::begins_printed_of_trimmed))]
     pub fn from_field(field: &[u8]) -> Result<PartyNumber, IdFault>
         ensures { result ≡ party_number_of field.now }
     {
@@ -61,10 +69,18 @@ impl PartyNumber {
         are_blank(&self.bytes)
     }
 
+    /// The number without blanks at its end, and what is known of each number.
+    pub(crate) fn number(&self) -> &[u8]
+        ensures bytes { result.now ≡ without_trailing_blanks self.now }
+        ensures number { is_party_number self.now ≡ true }
+    {
+        without_trailing_blanks(&self.bytes)
+    }
+
     /// The number without blanks at its end.
     pub fn as_bytes(&self) -> &[u8]
         ensures { result.now ≡ without_trailing_blanks self.now }
     {
-        without_trailing_blanks(&self.bytes)
+        self.number()
     }
 }

@@ -1,5 +1,5 @@
-ghost use Rattle.std.specs.Prelude.{◌≡◌, length, take, drop};
-ghost use Rattle.work_ids.specs.SenderKey.{sender_key_of};
+ghost use Rattle.std.specs.Prelude.{◌≡◌, length, take, drop, true};
+ghost use Rattle.work_ids.specs.SenderKey.{is_sender_key, sender_key_of};
 
 use crate::IdFault;
 use crate::characters::are_capitals_or_digits;
@@ -19,11 +19,14 @@ pub struct SenderKey {
 }
 
 impl Model for SenderKey {
-    ghost use Rattle.std.specs.Prelude.{List, ℕ};
+    ghost use Rattle.std.specs.Prelude.{◌≡◌, List, ℕ, true};
+    ghost use Rattle.work_ids.specs.SenderKey.{is_sender_key};
 
     ghost Value = { List ℕ };
 
     ghost view = { λ k. k.bytes };
+
+    ghost invariant = { λ k. is_sender_key k.bytes ≡ true };
 
     ghost inverse = { λ bytes. record { bytes = bytes } };
 }
@@ -42,9 +45,9 @@ impl SenderKey {
         Ok(SenderKey::from_characters(bytes))
     }
 
-    /// The key of eleven bytes.
+    /// The key of eleven of A-Z and 0-9.
     pub(crate) fn from_characters(bytes: &[u8]) -> SenderKey
-        requires { length bytes.now ≡ 11 }
+        requires { is_sender_key bytes.now ≡ true }
         ensures { result ≡ bytes.now }
     {
         let mut key = [0; 11];
@@ -56,6 +59,7 @@ impl SenderKey {
     pub fn as_bytes(&self) -> &[u8]
         ensures bytes { result.now ≡ self.now }
         ensures len { length result.now ≡ 11 }
+        ensures key { is_sender_key self.now ≡ true }
     {
         &self.bytes
     }

@@ -14,7 +14,7 @@ pub fn isrcs(alloc: Global, transaction: &Transaction<'_>) -> Result<Vec<Isrc>, 
     let mut list = Vec::new(alloc);
     for record in transaction.records.as_slice() {
         if let Record::Recording(recording) = record {
-            if let Ok(Some(isrc)) = Isrc::from_field(&recording.isrc.to_bytes()) {
+            if let Ok(Some(isrc)) = recording.isrc() {
                 list.push(isrc)?;
             }
         }

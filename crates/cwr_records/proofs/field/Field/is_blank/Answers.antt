@@ -7,4 +7,4 @@ pub returns : goal.returns
 unfolding is_blank
 returns c =
     let p = c.self.inside.present.now in
-    rw (← c.self.view_is) (c.all_blank.ensures ∙ is_blank-filled p _)
+    rw (← c.self.view_is) (c.are_blank.ensures ∙ is_blank-filled p _)

@@ -1,9 +1,11 @@
-use Rattle.std.proofs.Common.{◌∙◌, sym, ap}
-use Rattle.cwr_records.specs.Blanks.{trimmed, without_leading_blanks}
-use Rattle.cwr_records.proofs.Fields.{trailing-filled}
+use Rattle.std.proofs.Common.{◌∙◌, sym, arith}
+use Rattle.cwr_records.proofs.Fields.{trimmed-filled, length-trimmed, filled-length}
 use Rattle.cwr_records.proofs.field.Field.trimmed.Goals as goal
 
 pub returns-clause-value : goal.returns-clause-value
-unfolding trimmed
-returns-clause-value c =
-    rw (← c.self.view_is) (c.without_leading_blanks.ensures ∙ ap without_leading_blanks (c.without_trailing_blanks.ensures ∙ sym (trailing-filled c.self.inside.present.now _)))
+returns-clause-value c = rw (← c.self.view_is) (c.trimmed.ensures ∙ sym (trimmed-filled c.self.inside.present.now _))
+
+pub returns-clause-within : goal.returns-clause-within
+returns-clause-within c =
+    let p = c.self.inside.present.now in
+    rw (c.trimmed.ensures, ← c.self.view_is) (omega (arith, length-trimmed p, filled-length p c.self.inside.width c.self.invariant))

@@ -3,4 +3,4 @@ use Rattle.cwr_records.proofs.line.Line.is_blank.Goals as goal
 
 pub returns : goal.returns
 unfolding is_blank
-returns c = rw (← c.self.view_is) c.all_blank.ensures
+returns c = rw (← c.self.view_is) c.are_blank.ensures

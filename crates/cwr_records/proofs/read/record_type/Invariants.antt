@@ -1,0 +1,7 @@
+use Rattle.std.proofs.Common.{◌≡◌, drop}
+use Rattle.cwr_records.specs.Records.{type_of}
+use Rattle.cwr_records.proofs.RecordTypes.{first_of}
+use Rattle.cwr_records.proofs.read.record_type.Given as goal
+
+abbrev pub invariant-loop-letters : goal.invariant-loop-letters
+invariant-loop-letters l = first_of (drop l.letters-index l.letters-items) l.code ≡ type_of l.code
