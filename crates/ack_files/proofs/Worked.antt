@@ -1,7 +1,8 @@
 -- Worked values: the sample files' acknowledgements, byte for byte.
 use Rattle.std.specs.Prelude.{◌≡◌, ℕ, List, [], ◌∷◌, ◌++◌, refl, codes}
 use Rattle.std.proofs.Common.{lit≤}
-use Rattle.cwr_records.specs.Lines.{field, fill, is_blank, line_of, number_of}
+use Rattle.cwr_records.specs.Lines.{field, fill, is_blank, line_of}
+use Rattle.work_ids.specs.Digits.{number_of}
 use Rattle.cwr_records.specs.Records.{record_of}
 use Rattle.cwr_files.specs.Contents.{transmission_in}
 use Rattle.cwr_files.specs.RecordTypes.{has_type, is_read, type_of_group}

@@ -1,6 +1,7 @@
 -- Worked values: the faults of the sample files and of changed ones.
 use Rattle.std.specs.Prelude.{◌≡◌, ℕ, List, [], ◌∷◌, ◌++◌, Option, Some, None, refl, codes}
-use Rattle.cwr_records.specs.Lines.{field, fill, is_blank, line_of, number_of}
+use Rattle.cwr_records.specs.Lines.{field, fill, is_blank, line_of}
+use Rattle.work_ids.specs.Digits.{number_of}
 use Rattle.cwr_files.specs.Dates.{is_real_date, is_real_time, is_date, is_time}
 use Rattle.cwr_files.specs.FileFault.{file_fault, since, is_ended, is_open, open_type, groups_before, transactions_in_group, lines_in_group, next_number, begins_transaction, later_fault, fault_at}
 use Rattle.cwr_files.specs.LineFaults.{is_too_large, header_fault, opening_fault, trailer_fault, between_fault, closing_fault, record_fault, group_fault, ended_fault}

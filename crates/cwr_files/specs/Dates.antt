@@ -1,7 +1,7 @@
 -- Dates and times of a transmission header.
 use Rattle.std.specs.Prelude.{ℕ, ◌/◌, ◌%◌, Bool, false, ◌&&◌, List, Option, Some, None, nat_lt, nat_le, pos}
 use Rattle.jiff.specs.Words.{days_in_month}
-use Rattle.cwr_records.specs.Lines.{number_of}
+use Rattle.work_ids.specs.Digits.{number_of}
 
 -- whether eight digits, year, month and day, are a date of the calendar with a year from 1 (CISAC CWR 2.2, YYYYMMDD; the year: profile)
 unfoldable pub is_real_date : ℕ → Bool

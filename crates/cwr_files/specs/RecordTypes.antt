@@ -2,7 +2,8 @@
 use Rattle.std.specs.Prelude.{ℕ, Bool, not, ◌&&◌, ◌||◌, List, ◌==◌, codes, bytes_eq}
 use Rattle.std.specs.List.{list_all}
 use Rattle.work_ids.specs.Characters.{is_capital_or_digit}
-use Rattle.cwr_records.specs.Lines.{field, number_of}
+use Rattle.cwr_records.specs.Lines.{field}
+use Rattle.work_ids.specs.Digits.{number_of}
 use Rattle.cwr_files.specs.Dates.{passes, is_date, is_time}
 
 -- the record type of a transmission header (CISAC CWR 2.2)

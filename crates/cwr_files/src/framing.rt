@@ -1,6 +1,7 @@
 //! Record types, and what single lines bear.
 ghost use Rattle.std.specs.Prelude.{◌≡◌, ◌+◌, ◌≤◌, ◌<◌, length};
-ghost use Rattle.cwr_records.specs.Lines.{field, number_of};
+ghost use Rattle.cwr_records.specs.Lines.{field};
+ghost use Rattle.work_ids.specs.Digits.{number_of};
 ghost use Rattle.cwr_files.specs.RecordTypes.{has_type, is_frame, is_code, is_read, bears, is_numbered, has_counts, is_dated, type_of_group};
 
 use crate::dates::{is_date, is_time};

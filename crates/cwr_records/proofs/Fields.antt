@@ -1,15 +1,14 @@
 -- Facts on fields: blanks, fills and digits.
-use Rattle.std.proofs.Common.{◌≡◌, ℕ, ◌+◌, ◌-◌, ◌*◌, ◌^◌, ◌<◌, ◌≤◌, Bool, true, false, eqb, not, ◌&&◌, List, [], ◌∷◌, ◌++◌, length, take, drop, replicate, get_or, Some, None, refl, ap, sym, ◌∙◌, arith, suc, zero, min, IsTrue, ◌↔◌}
+use Rattle.std.proofs.Common.{◌≡◌, ℕ, ◌+◌, ◌-◌, ◌<◌, ◌≤◌, Bool, true, false, eqb, ◌&&◌, List, [], ◌∷◌, ◌++◌, length, take, drop, replicate, None, refl, ap, sym, ◌∙◌, arith, suc, zero, min, IsTrue, ◌↔◌}
 use Rattle.std.specs.List.{prefix_len, suffix_len}
 use Rattle.work_ids.specs.Blanks.{is_blank_byte, trimmed, without_leading_blanks, without_trailing_blanks}
 use Rattle.std.proofs.lemmas.Bool.Decides.{nat_tests}
-use Rattle.std.specs.Char.{is_ascii_digit}
 use Rattle.std.specs.List.{list_all}
 use Rattle.std.proofs.lemmas.List.{append-nil, append_assoc, replicate-append-replicate, take-append-le, reverse-append, take_at, drop_at, take-append-drop, length-append, length-replicate, length-drop, length-take, take_min, drop_min}
-use Rattle.std.proofs.lemmas.List.Folds.{list_all-append, list_all_at}
-use Rattle.std.proofs.lemmas.List.{take_all}
-use Rattle.std.proofs.Math.Nat.{pow-le-pow_right}
-use Rattle.cwr_records.specs.Lines.{is_blank, fill, field, number_of, value_of_digits}
+use Rattle.std.proofs.lemmas.List.Folds.{list_all-append}
+use Rattle.cwr_records.specs.Lines.{is_blank, fill, field}
+use Rattle.work_ids.specs.Characters.{is_digit}
+use Rattle.work_ids.specs.Digits.{number_of}
 
 and-true : (b : Bool) → (b && true) ≡ b
 and-true true = refl
@@ -79,7 +78,7 @@ pub number_of-blank : (present : List ℕ) (n : ℕ) → 0 < n → None ≡ numb
 unfolding number_of
 number_of-blank present zero some = absurd (omega arith)
 number_of-blank present (suc n) some =
-    rw (list_all-append is_ascii_digit present (replicate (suc n) 32), and-false (list_all is_ascii_digit present), and-false _) refl
+    rw (list_all-append is_digit present (replicate (suc n) 32), and-false (list_all is_digit present), and-false _) refl
 
 -- a field is what the line has there, filled up
 pub field-clipped : (line piece : List ℕ) (first last : ℕ) → 1 ≤ first → first ≤ last → piece ≡ take (min (last - (first - 1)) (length (drop (min (first - 1) (length line)) line))) (drop (min (first - 1) (length line)) line) → fill (last - (first - 1)) piece ≡ field line first last
@@ -87,34 +86,6 @@ unfolding field
 field-clipped line piece first last one order p =
     let w : last + 1 - first ≡ last - (first - 1) = omega arith in
     rw (w, p, take_min (last - (first - 1)) (drop (min (first - 1) (length line)) line), drop_min (first - 1) line) refl
-
--- bytes with one that is no digit are no number
-pub number_of-other : (bs : List ℕ) (i : ℕ) → i < length bs → is_ascii_digit (get_or bs i 0) ≡ false → None ≡ number_of bs
-unfolding number_of
-number_of-other bs i within other =
-    rw (list_all_at is_ascii_digit bs i 0 within other, and-false (not (eqb (length bs) 0))) refl
-
--- no bytes are no number
-pub number_of-none : (bs : List ℕ) → eqb (length bs) 0 ≡ true → None ≡ number_of bs
-unfolding number_of
-number_of-none bs none = rw none refl
-
--- digits alone are the number of their value
-pub number_of-digits : (bs : List ℕ) (n : ℕ) → 0 < length bs → length bs ≤ n → list_all is_ascii_digit (take n bs) ≡ true → Some (value_of_digits (take n bs)) ≡ number_of bs
-unfolding number_of
-number_of-digits bs n some whole digits =
-    let all = take_all n bs whole in
-    let more : eqb (length bs) 0 ≡ false = grind (arith, nat_tests) in
-    let every = rw all at digits in
-    rw (all, more, every) refl
-
--- one more digit on a number of fewer than 19 of them fits 64 bits
-pub digit_fits : (value digit i n : ℕ) → value < 10 ^ i → i < n → n ≤ 19 → digit < 10 → 10 * value + digit < 2 ^ 64
-digit_fits value digit i n room within few small =
-    let few_before : i ≤ 18 = omega arith in
-    let ten : 0 < 10 = omega arith in
-    let below = pow-le-pow_right {n = 10} ten few_before in
-    omega arith
 
 -- as many bytes as the width stay as they are
 pub fill-whole : (bs : List ℕ) → fill (length bs) bs ≡ bs

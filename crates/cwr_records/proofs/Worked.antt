@@ -1,7 +1,8 @@
 -- Worked values of lines, fields and the fields with a type of their own.
-use Rattle.std.specs.Prelude.{◌≡◌, ℕ, List, [], ◌∷◌, Some, None, refl, codes}
+use Rattle.std.specs.Prelude.{◌≡◌, [], ◌∷◌, Some, None, refl, codes}
 use Rattle.cwr_records.specs.Blanks.{trimmed}
-use Rattle.cwr_records.specs.Lines.{field, fill, is_blank, line_of, lines, number_of}
+use Rattle.cwr_records.specs.Lines.{field, fill, is_blank, line_of, lines}
+use Rattle.work_ids.specs.Digits.{number_of}
 use Rattle.cwr_records.specs.Typed.{indicator_of, share_of, territory_of}
 use Rattle.cwr_records.specs.declared.indicator.Indicator.TheVariants.{Excluded, Included}
 

@@ -1,6 +1,5 @@
 -- Lines of a transmission and fields of a line.
-use Rattle.std.specs.Prelude.{◌≡◌, ℕ, ◌+◌, ◌-◌, ◌*◌, ◌<◌, Bool, cond, ◌&&◌, not, eqb, List, [], ◌∷◌, ◌++◌, map, length, get_or, take, drop, fold, Option, Some, None}
-use Rattle.std.specs.Char.{is_ascii_digit}
+use Rattle.std.specs.Prelude.{◌≡◌, ℕ, ◌+◌, ◌-◌, ◌<◌, Bool, cond, eqb, List, [], ◌∷◌, ◌++◌, map, length, get_or, take, drop}
 use Rattle.std.specs.List.{list_all}
 use Rattle.work_ids.specs.Blanks.{is_blank_byte, fill as filled_with_blanks}
 
@@ -38,14 +37,6 @@ field line first last = fill (last + 1 - first) (take (last + 1 - first) (drop (
 -- whether all bytes are blanks (profile)
 unfoldable pub is_blank : List ℕ → Bool
 is_blank bs = list_all is_blank_byte bs
-
--- the decimal value of digits (profile)
-abbrev pub value_of_digits : List ℕ → ℕ
-value_of_digits bs = fold (λ n b. 10 * n + (b - 48)) 0 bs
-
--- the decimal value of bytes that are digits alone, at least one (profile)
-unfoldable pub number_of : List ℕ → Option ℕ
-number_of bs = cond (not (eqb (length bs) 0) && list_all is_ascii_digit bs) (Some (value_of_digits bs)) None
 
 -- what a body begins with: its first piece, as a line, and the rest of the body (profile)
 pub record IsFirstLine (body line rest : List ℕ) : Type 0 where

@@ -1,7 +1,8 @@
 -- What the fields with a type of their own say.
 use Rattle.std.specs.Prelude.{ℕ, cond, leb, List, Option, Some, None, codes, bytes_eq}
-use Rattle.cwr_records.specs.Lines.{is_blank, number_of}
+use Rattle.cwr_records.specs.Lines.{is_blank}
 use Rattle.work_ids.specs.Blanks.{trimmed}
+use Rattle.work_ids.specs.Digits.{number_of}
 use Rattle.cwr_records.specs.declared.indicator.Indicator.{Indicator}
 use Rattle.cwr_records.specs.declared.indicator.Indicator.TheVariants.{Included, Excluded}
 

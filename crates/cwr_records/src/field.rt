@@ -1,11 +1,12 @@
 //! A field of a line: lent bytes, and blanks up to the field's width.
 ghost use Rattle.std.specs.Prelude.{◌≡◌, ◌<◌, ◌≤◌, ◌+◌, ◌-◌, ◌↔◌, ◌==◌, ◌++◌, ℕ, List, length, get_or, replicate, IsTrue, IfSome, ◌^◌};
 ghost use Rattle.work_ids.specs.Blanks.{trimmed, without_trailing_blanks};
-ghost use Rattle.cwr_records.specs.Lines.{fill, is_blank, number_of};
+ghost use Rattle.work_ids.specs.Digits.{number_of};
+ghost use Rattle.cwr_records.specs.Lines.{fill, is_blank};
 
 use crate::fixed::Fixed;
 use std::marker::Model;
-use work_ids::{are_blank, trimmed, without_trailing_blanks};
+use work_ids::{are_blank, number, trimmed, without_trailing_blanks};
 
 /// A field: the bytes that its line has there, lent, and blanks past the line's end.
 #[derive(Drop)]
@@ -141,23 +142,4 @@ impl<'a> Field<'a> {
         }
         number(self.present)
     }
-}
-
-/// The decimal value of at most 19 bytes, where they are digits alone, and at least one.
-pub(crate) fn number(digits: &[u8]) -> Option<u64>
-    requires { length digits.now ≤ 19 }
-    ensures value { result ≡ number_of digits.now }
-    ensures limit { IfSome result (λ n. n < 10 ^ length digits.now) }
-{
-    if digits.is_empty() {
-        return None;
-    }
-    let mut value = 0;
-    for digit in digits {
-        if !digit.is_ascii_digit() {
-            return None;
-        }
-        value = 10 * value + u64::from(*digit - b'0');
-    }
-    Some(value)
 }

@@ -1,6 +1,7 @@
 //! Territories.
-use crate::field::{Field, number};
+use crate::field::Field;
 use std::marker::Model;
+use work_ids::number;
 
 /// A TIS code: the number of a territory, 0 to 9999.
 #[derive(Clone, Copy, Debug, PartialEq, Eq)]

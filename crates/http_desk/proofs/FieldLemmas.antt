@@ -1,9 +1,7 @@
--- Lemmas on fields: the values of a name, one field at a time, and digits.
+-- Lemmas on fields: the values of a name, one field at a time.
 use Rattle.std.proofs.Common.{◌≡◌, ℕ, ◌+◌, ◌-◌, ◌*◌, ◌<◌, ◌≤◌, min, Bool, true, false, cond, List, [], ◌∷◌, length, map, drop, get_or, Option, Some, None, Bor, refl, ◌∙◌, arith}
-use Rattle.std.specs.Char.{digit_value}
 use Rattle.std.proofs.lemmas.List.{at_drop_more}
-use Rattle.std.proofs.lemmas.Bool.Decides.{nat_tests}
-use Rattle.http_desk.specs.Framing.{is_named, values_of, is_digit}
+use Rattle.http_desk.specs.Framing.{is_named, values_of}
 
 -- the values that were found so far
 abbrev pub found_values : Option (Bor (List ℕ)) → List (List ℕ)
@@ -23,10 +21,3 @@ pub values_next : {X : Type 0} (name : List ℕ) (bytes_of : X → List ℕ × L
 values_next name bytes_of xs i d test l e =
     at_drop_more (λ ys. values_of name (map bytes_of ys)) xs i d l
     ∙ values_head name (bytes_of (get_or xs i d)) (map bytes_of (drop (i + 1) xs)) test e
-
-pub digit_is : (c : ℕ) → is_digit c ≡ true → (48 ≤ c) × (c ≤ 57) × (digit_value c ≡ c - 48)
-digit_is c e = (grind (arith, nat_tests), grind (arith, nat_tests), grind (arith, nat_tests))
-
--- one more digit of a number that stops above a limit
-pub min_more : (a b m d : ℕ) → b ≡ min a (m + 1) → d ≤ 9 → min (b * 10 + d) (m + 1) ≡ min (a * 10 + d) (m + 1)
-min_more a b m d e l = omega arith

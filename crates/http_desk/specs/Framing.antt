@@ -5,6 +5,7 @@ use Rattle.std.specs.Str.{str_eq_ignore_ascii_case}
 use Rattle.std.specs.Str.Parse.{digits_value}
 use Rattle.httparse.specs.Grammar.{RequestHead}
 use Rattle.httparse.specs.Spans.{name_and_value}
+use Rattle.work_ids.specs.Digits.{is_number}
 use Rattle.http_desk.specs.declared.framing.Framing.{Framing}
 use Rattle.http_desk.specs.declared.framing.Framing.TheVariants.{Sized, Faulty, Large}
 
@@ -19,14 +20,6 @@ is_named name field = str_eq_ignore_ascii_case field.0 name
 -- the values of the fields of this name, in their order
 abbrev pub values_of : List ℕ → List (List ℕ × List ℕ) → List (List ℕ)
 values_of name fields = map (λ field. field.1) (filter (is_named name) fields)
-
--- one of 0-9
-abbrev pub is_digit : ℕ → Bool
-is_digit byte = nat_le 48 byte && nat_le byte 57
-
--- one or more of 0-9
-abbrev pub is_number : List ℕ → Bool
-is_number bytes = nat_lt 0 (length bytes) && list_all is_digit bytes
 
 -- the body of so many bytes, where it is not too large (profile)
 abbrev pub sized : ℕ → Framing

@@ -12,11 +12,12 @@ use Rattle.matchit.specs.Params.{walk, named}
 use Rattle.matchit.specs.Seek.{first}
 use Rattle.matchit.specs.declared.error.InsertError.{InsertError}
 use Rattle.percent_encoding.specs.Percent.{percent_decode}
+use Rattle.work_ids.specs.Digits.{is_number}
 use Rattle.work_ids.specs.SenderKey.{sender_key_of}
 use Rattle.society_core.specs.Requests.{Query, Puts, AsksAck, AsksElsewhere}
 use Rattle.http_desk.specs.declared.routes.Route.{Route}
 use Rattle.http_desk.specs.declared.routes.Route.TheVariants.{Transmission, Acknowledgement}
-use Rattle.http_desk.specs.Framing.{is_number, is_put}
+use Rattle.http_desk.specs.Framing.{is_put}
 use Rattle.http_desk.specs.Part.{Part}
 
 -- a route's text that reads well takes its place among the routes

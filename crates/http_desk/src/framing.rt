@@ -5,9 +5,10 @@ ghost use Rattle.std.specs.Str.{str_eq_ignore_ascii_case};
 ghost use Rattle.std.specs.Str.Parse.{digits_value};
 ghost use Rattle.httparse.specs.Spans.{IsHeaderWithin, header_bytes};
 ghost use Rattle.http_desk.specs.Fields.{IsFound};
-ghost use Rattle.http_desk.specs.Framing.{is_digit, is_number, is_named, values_of, framing_by, framing_of, closes_by, says_close, is_put};
+ghost use Rattle.http_desk.specs.Framing.{is_named, values_of, framing_by, framing_of, closes_by, says_close, is_put};
 
 use httparse::spans::HeaderSpan;
+use work_ids::{is_number, number_up_to};
 
 /// The greatest body, in bytes.
 pub(crate) const MAX_BODY: u32 = 1_048_576;
@@ -88,38 +89,6 @@ pub(crate) fn closes(bytes: &[u8], headers: &[HeaderSpan], minor: u8) -> bool
         }
     }
     false
-}
-
-fn is_digit(byte: u8) -> bool
-    ensures { result ≡ is_digit byte }
-{
-    b'0' <= byte && byte <= b'9'
-}
-
-fn are_digits(bytes: &[u8]) -> bool
-    ensures { result ≡ list_all is_digit bytes.now }
-{
-    bytes.iter().all(|byte| is_digit(*byte))
-}
-
-/// Whether the bytes are one or more decimal digits.
-pub(crate) fn is_number(bytes: &[u8]) -> bool
-    ensures { result ≡ is_number bytes.now }
-{
-    !bytes.is_empty() && are_digits(bytes)
-}
-
-/// The number that decimal digits spell, or one more than `most` where it is above that.
-pub(crate) fn number_up_to(digits: &[u8], most: u32) -> u32
-    requires digits { IsTrue (list_all is_digit digits.now) }
-    requires most { most ≤ 1048576 }
-    ensures { result ≡ min (digits_value 10 digits.now) (most + 1) }
-{
-    let mut number = 0;
-    for digit in digits {
-        number = (number * 10 + u32::from(*digit - b'0')).min(most + 1);
-    }
-    number
 }
 
 // The framing by the value of a Content-Length field.

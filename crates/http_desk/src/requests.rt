@@ -6,13 +6,12 @@ ghost use Rattle.society_core.specs.Requests.{query_of, is_numbered};
 ghost use Rattle.http_desk.specs.Path.{office_routes, is_path_byte, is_path, parameter, sender_in, number_in, number_of, query_for};
 ghost use Rattle.http_desk.specs.Parameters.{IsDecoded, parts_of};
 
-use crate::framing::{is_number, number_up_to};
 use crate::routes::Route;
 use matchit::{Params, Router};
 use percent_encoding::percent_decode;
 use society_core::{MAX_NUMBER, Request};
 use std::str;
-use work_ids::SenderKey;
+use work_ids::{SenderKey, is_number, number_up_to};
 
 fn is_path_byte(byte: u8) -> bool
     ensures { result ≡ is_path_byte byte }

@@ -3,7 +3,8 @@ use Rattle.std.specs.Prelude.{◌≡◌, ℕ, List, [], ◌∷◌, ◌++◌, map
 use Rattle.std.proofs.Common.{lit≤}
 use Rattle.cwr_files.specs.Contents.{transactions_of, transmission_in}
 use Rattle.cwr_files.specs.RecordTypes.{has_type, is_read, type_of_group}
-use Rattle.cwr_records.specs.Lines.{field, fill, is_blank, line_of, number_of}
+use Rattle.cwr_records.specs.Lines.{field, fill, is_blank, line_of}
+use Rattle.work_ids.specs.Digits.{number_of}
 use Rattle.cwr_records.specs.Records.{record_of}
 use Rattle.cwr_records.specs.Typed.{indicator_of, share_of, territory_of}
 use Rattle.share_rules.specs.Fault.{fault_of}

@@ -2,7 +2,8 @@
 use Rattle.std.proofs.Common.{◌≡◌, ℕ, ◌-◌, ◌<◌, ◌≤◌, ◌++◌, true, false, List, [], ◌∷◌, Some, None, length, nat_le, leb, replicate, get_or, ap, ◌∙◌, arith}
 use Rattle.std.proofs.lemmas.Bool.Decides.{nat_tests}
 use Rattle.std.proofs.lemmas.List.{append-nil}
-use Rattle.cwr_records.specs.Lines.{fill, number_of}
+use Rattle.cwr_records.specs.Lines.{fill}
+use Rattle.work_ids.specs.Digits.{number_of}
 use Rattle.cwr_records.specs.Typed.{up_to}
 use Rattle.society.specs.Words.{are_options, asked, asked_at, number_in}
 

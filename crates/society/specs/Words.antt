@@ -1,6 +1,6 @@
 -- What the program's words ask for.
 use Rattle.std.specs.Prelude.{ℕ, Bool, ◌&&◌, List, [], ◌∷◌, Option, Some, None, bytes_eq, codes, if◌then◌else◌, length, nat_le}
-use Rattle.cwr_records.specs.Lines.{number_of}
+use Rattle.work_ids.specs.Digits.{number_of}
 use Rattle.cwr_records.specs.Typed.{up_to}
 use Rattle.share_rules.specs.Office.{IsOfficeOf, is_office}
 use Rattle.society.specs.declared.words.Words.{Words}

@@ -97,3 +97,37 @@ greatest_passes p (suc m) h =
 pub all_there : (b : Book) (s : List ℕ) → has_all b s (front b s) ≡ true
 unfolding front
 all_there b s = greatest_passes (has_all b s) (greatest_number b) refl
+
+-- a number that passes is at most the greatest one
+greatest_above : (p : ℕ → Bool) (limit n : ℕ) → p n ≡ true → n ≤ limit → n ≤ greatest_to limit p
+greatest_above p zero n h le = le
+greatest_above p (suc m) n h le =
+    ⊎_elim
+    (λ (yes : p (suc m) ≡ true). subst (λ (k : ℕ). n ≤ k) (sym (ap (λ (b : Bool). cond b (suc m) (greatest_to m p)) yes)) le)
+    (λ (no : p (suc m) ≡ false).
+    subst (λ (k : ℕ). n ≤ k) (sym (ap (λ (b : Bool). cond b (suc m) (greatest_to m p)) no))
+    (⊎_elim
+    (λ (below : n < suc m). greatest_above p m n h (omega arith))
+    (λ (reached : suc m ≤ n).
+    let same : n ≡ suc m = omega arith in
+    absurd (false≢true (sym no ∙ subst (λ (k : ℕ). p k ≡ true) same h)))
+    (cases_lt n (suc m))))
+    (cases_Bool (p (suc m)))
+
+all_to_next : (b : Book) (s : List ℕ) (n : ℕ) → has_all b s n ≡ true → is_there b s (n + 1) ≡ true → has_all b s (n + 1) ≡ true
+all_to_next b s n all there =
+    let same : suc n ≡ n + 1 = omega arith in
+    subst (λ (k : ℕ). has_all b s k ≡ true) same
+    (both_hold (is_there b s (suc n)) (has_all b s n) (subst (λ (k : ℕ). is_there b s k ≡ true) (sym same) there) all)
+
+-- behind the front stands the first gap
+pub front_gap : (b : Book) (s : List ℕ) → is_there b s (front b s + 1) ≡ false
+unfolding front
+front_gap b s =
+    ⊎_elim
+    (λ (there : is_there b s (front b s + 1) ≡ true).
+    let all : has_all b s (front b s + 1) ≡ true = all_to_next b s (front b s) (all_there b s) there in
+    let above : front b s + 1 ≤ front b s = greatest_above (has_all b s) (greatest_number b) (front b s + 1) all (at_most_greatest b s (front b s + 1) all) in
+    absurd (omega arith))
+    (λ (gap : is_there b s (front b s + 1) ≡ false). gap)
+    (cases_Bool (is_there b s (front b s + 1)))

@@ -128,7 +128,7 @@ brought_there o b (AsksVerdicts s n) r c step t m x brings = absurd brings
 brought_there o b AsksElsewhere r c step t m x brings = absurd brings
 
 -- a run keeps what is there
-run_keeps : (o : Office) (b : Book) (qs : List Query) (rs : List Reply) (c : Book) → Run o b qs rs c → (t : List ℕ) (m : ℕ) (x : List ℕ) → body_at b t m ≡ Some x → body_at c t m ≡ Some x
+pub run_keeps : (o : Office) (b : Book) (qs : List Query) (rs : List Reply) (c : Book) → Run o b qs rs c → (t : List ℕ) (m : ℕ) (x : List ℕ) → body_at b t m ≡ Some x → body_at c t m ≡ Some x
 run_keeps o b [] [] c run t m x there = subst (λ (d : Book). body_at d t m ≡ Some x) (sym run) there
 run_keeps o b (q ∷ qs) (r ∷ rs) c run t m x there =
     run_keeps o run.0 qs rs c run.2 t m x (step_keeps o b q r run.0 run.1 t m x there)
@@ -136,7 +136,7 @@ run_keeps o b [] (r ∷ rs) c run t m x there = absurd run
 run_keeps o b (q ∷ qs) [] c run t m x there = absurd run
 
 -- what is there after a run came
-run_from : (o : Office) (b : Book) (qs : List Query) (rs : List Reply) (c : Book) → Run o b qs rs c → (t : List ℕ) (m : ℕ) (x : List ℕ) → body_at c t m ≡ Some x → Came b qs rs t m x
+pub run_from : (o : Office) (b : Book) (qs : List Query) (rs : List Reply) (c : Book) → Run o b qs rs c → (t : List ℕ) (m : ℕ) (x : List ℕ) → body_at c t m ≡ Some x → Came b qs rs t m x
 run_from o b [] [] c run t m x there = inl (subst (λ (d : Book). body_at d t m ≡ Some x) run there)
 run_from o b (q ∷ qs) (r ∷ rs) c run t m x there =
     ⊎_elim

@@ -1,8 +1,8 @@
-ghost use Rattle.std.specs.Prelude.{◌≡◌, ℕ, List};
+ghost use Rattle.std.specs.Prelude.{◌≡◌, ◌≤◌, ◌+◌, ℕ, List, Some, true, false};
 ghost use Rattle.share_rules.specs.declared.office.Office.{Office};
 ghost use Rattle.society_core.specs.Answers.{answer};
-ghost use Rattle.society_core.specs.Book.{Book};
-ghost use Rattle.society_core.specs.Headline.{AlikeToTheGap, OneContent, HoldsWhatCame, BroughtAlike};
+ghost use Rattle.society_core.specs.Book.{Book, body_at, front, is_there};
+ghost use Rattle.society_core.specs.Headline.{AlikeToTheGap, Came, OneContent, HoldsWhatCame, BroughtAlike};
 ghost use Rattle.society_core.specs.Requests.{AsksAck, AsksVerdicts, AsksWork, Query, Reply};
 ghost use Rattle.society_core.specs.Runs.{Run};
 
@@ -12,6 +12,19 @@ ghost use Rattle.society_core.specs.Runs.{Run};
 /// Where no number came with two contents, the book after any list of requests holds exactly what came.
 pub fn book_holds_what_came()
     ensures { (office : Office) (before : Book) (queries : List Query) (replies : List Reply) (after : Book) → Run office before queries replies after → OneContent before queries replies → HoldsWhatCame before queries replies after }
+{}
+
+/// What was accepted stays, whatever contents came: a run keeps each body of its opening book under its number, so the
+/// first one of a number stands, and it adds only what some request brought.
+pub fn what_is_accepted_stays()
+    ensures stays { (office : Office) (before : Book) (queries : List Query) (replies : List Reply) (after : Book) → Run office before queries replies after → (sender : List ℕ) (n : ℕ) (body : List ℕ) → body_at before sender n ≡ Some body → body_at after sender n ≡ Some body }
+    ensures came { (office : Office) (before : Book) (queries : List Query) (replies : List Reply) (after : Book) → Run office before queries replies after → (sender : List ℕ) (n : ℕ) (body : List ℕ) → body_at after sender n ≡ Some body → Came before queries replies sender n body }
+{}
+
+/// A sender's front is where its first gap begins: 1 to the front are there, and the next number is not.
+pub fn front_is_the_first_gap()
+    ensures reached { (book : Book) (sender : List ℕ) (n : ℕ) → 1 ≤ n → n ≤ front book sender → is_there book sender n ≡ true }
+    ensures gap { (book : Book) (sender : List ℕ) → is_there book sender (front book sender + 1) ≡ false }
 {}
 
 /// Two lists that brought the same bodies, whatever was repeated, reordered or asked between, leave the same

@@ -1,4 +1,5 @@
 pub mod Capitals
+pub mod Decimals
 pub mod Joined
 pub mod Marks
 pub mod Sums

@@ -2,6 +2,7 @@ pub mod Account
 pub mod Blanks
 pub mod Characters
 pub mod CheckDigit
+pub mod Digits
 pub mod Fields
 pub mod IpiName
 pub mod Isrc

@@ -1,5 +1,6 @@
 use Rattle.std.proofs.Common.{length, ap, sym, ◌∙◌}
-use Rattle.cwr_records.specs.Lines.{fill, number_of}
+use Rattle.cwr_records.specs.Lines.{fill}
+use Rattle.work_ids.specs.Digits.{number_of}
 use Rattle.cwr_records.specs.Typed.{up_to}
 use Rattle.society.proofs.WordLemmas.{filled, short, too_great, within}
 use Rattle.society.proofs.words.number.Goals as goal

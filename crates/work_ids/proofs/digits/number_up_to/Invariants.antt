@@ -1,6 +1,6 @@
 use Rattle.std.proofs.Common.{◌≡◌, ◌+◌, min, take}
 use Rattle.std.specs.Str.Parse.{digits_value}
-use Rattle.http_desk.proofs.framing.number_up_to.Given as goal
+use Rattle.work_ids.proofs.digits.number_up_to.Given as goal
 
 abbrev pub invariant-loop-digit : goal.invariant-loop-digit
 invariant-loop-digit l = l.number ≡ min (digits_value 10 (take l.digit-index l.digits)) (l.most + 1)

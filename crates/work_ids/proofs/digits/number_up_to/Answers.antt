@@ -2,9 +2,9 @@ use Rattle.std.proofs.Common.{◌≡◌, ◌+◌, ◌-◌, ◌*◌, ◌∙◌, a
 use Rattle.std.specs.Str.Parse.{digits_value}
 use Rattle.std.proofs.lemmas.Int.Digits.{digits_value_more}
 use Rattle.std.proofs.lemmas.List.Sums.{AllPass-from_list_all}
-use Rattle.http_desk.specs.Framing.{is_digit}
-use Rattle.http_desk.proofs.FieldLemmas.{digit_is, min_more}
-use Rattle.http_desk.proofs.framing.number_up_to.Goals as goal
+use Rattle.work_ids.specs.Characters.{is_digit}
+use Rattle.work_ids.proofs.Decimals.{digit_is, min_more}
+use Rattle.work_ids.proofs.digits.number_up_to.Goals as goal
 
 pub loop-digit-preserved : goal.loop-digit-preserved
 loop-digit-preserved c =

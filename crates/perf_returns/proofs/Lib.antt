@@ -1,0 +1,4 @@
+pub mod Three
+pub mod Records
+pub mod Taken
+mod Worked

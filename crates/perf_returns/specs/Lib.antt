@@ -1,0 +1,5 @@
+pub mod Rows
+pub mod Returns
+pub mod Unread
+pub use Rattle.csv.specs.Reading
+pub use Rattle.csv.specs.Records

@@ -1,0 +1,43 @@
+ghost use Rattle.std.specs.Prelude.{◌≡◌, ◌≤◌, ◌<◌, ◌+◌, ◌^◌, IfSome, IsTrue, length, min};
+ghost use Rattle.std.specs.List.{list_all};
+ghost use Rattle.std.specs.Str.Parse.{digits_value};
+ghost use Rattle.work_ids.specs.Characters.{is_digit};
+ghost use Rattle.work_ids.specs.Digits.{is_number, number_of};
+
+use crate::characters::are_digits;
+
+/// Whether the bytes are one or more decimal digits.
+pub fn is_number(bytes: &[u8]) -> bool
+    ensures { result ≡ is_number bytes.now }
+{
+    !bytes.is_empty() && are_digits(bytes)
+}
+
+/// The decimal value of at most 19 bytes, where they are digits alone, and at least one.
+pub fn number(digits: &[u8]) -> Option<u64>
+    requires { length digits.now ≤ 19 }
+    ensures value { result ≡ number_of digits.now }
+    ensures limit { IfSome result (λ n. n < 10 ^ length digits.now) }
+{
+    if !is_number(digits) {
+        return None;
+    }
+    let mut value = 0;
+    for digit in digits {
+        value = 10 * value + u64::from(*digit - b'0');
+    }
+    Some(value)
+}
+
+/// The number that decimal digits spell, however many they are, or one more than `most` where it is above that.
+pub fn number_up_to(digits: &[u8], most: u32) -> u32
+    requires digits { IsTrue (list_all is_digit digits.now) }
+    requires most { most ≤ 99999999 }
+    ensures { result ≡ min (digits_value 10 digits.now) (most + 1) }
+{
+    let mut number = 0;
+    for digit in digits {
+        number = (number * 10 + u32::from(*digit - b'0')).min(most + 1);
+    }
+    number
+}
