@@ -1,26 +1,18 @@
--- The first of some record types whose letters a code is.
-use Rattle.std.proofs.Common.{◌≡◌, ℕ, ◌+◌, ◌<◌, false, cond, List, [], ◌∷◌, length, drop, get_or, bytes_eq, refl, IsTrue, ◌↔◌, Bool}
+-- Looking a code up in a table of record types.
+use Rattle.std.proofs.Common.{◌≡◌, ℕ, ◌+◌, ◌<◌, false, List, [], length, drop, get_or, bytes_eq, refl, IsTrue, ◌↔◌, Bool}
 use Rattle.std.proofs.lemmas.List.{drop_more}
 use Rattle.std.proofs.lemmas.Bool.Decides.{same_from_decides}
 use Rattle.std.proofs.lemmas.Slice.Eq.{bytes_eq-Decides}
 use Rattle.cwr_records.specs.declared.record.RecordType.{RecordType}
-use Rattle.cwr_records.specs.declared.record.RecordType.TheVariants.{Hdr, Unknown}
-
--- letters, and the record type that they say
-abbrev pub Lettered : Type 0
-Lettered = List ℕ × RecordType
-
--- the first record type whose letters a code is
-abbrev pub first_of : List Lettered → List ℕ → RecordType
-first_of [] code = Unknown
-first_of (x ∷ xs) code = cond (bytes_eq code x.0) x.1 (first_of xs code)
+use Rattle.cwr_records.specs.declared.record.RecordType.TheVariants.{Hdr}
+use Rattle.cwr_records.specs.Records.{first_of}
 
 -- what an index past the end of a table gives
-abbrev pub past_end : Lettered
+abbrev pub past_end : List ℕ × RecordType
 past_end = ([], Hdr)
 
 -- where the next letters are others, the first is among the rest
-pub first_of-other : (types : List Lettered) (i : ℕ) (code : List ℕ) → i < length types → bytes_eq code (get_or types i past_end).0 ≡ false → first_of (drop (i + 1) types) code ≡ first_of (drop i types) code
+pub first_of-other : (types : List (List ℕ × RecordType)) (i : ℕ) (code : List ℕ) → i < length types → bytes_eq code (get_or types i past_end).0 ≡ false → first_of (drop (i + 1) types) code ≡ first_of (drop i types) code
 first_of-other types i code within other = rw (drop_more types i past_end within, other) refl
 
 -- a test of whether two texts are equal

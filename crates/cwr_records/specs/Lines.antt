@@ -21,7 +21,7 @@ without_last b bs = cond (eqb (get_or bs (length bs - 1) 0) b) (take (length bs 
 unfoldable pub line_of : List ℕ → List ℕ
 line_of piece = without_last 13 (without_last 10 piece)
 
--- the lines of a body (CISAC CWR 2.2)
+-- the lines of a body (CISAC CWR 2.2; that the last line end may be missing: profile)
 abbrev pub lines : List ℕ → List (List ℕ)
 lines body = map line_of (pieces body)
 
@@ -29,7 +29,8 @@ lines body = map line_of (pieces body)
 unfoldable pub fill : ℕ → List ℕ → List ℕ
 fill width bs = filled_with_blanks width bs
 
--- the field of a line from one position to another, both counted from 1, with blanks past the line's end (CISAC CWR 2.2)
+-- the field of a line from one position to another, both counted from 1, with blanks past the line's end (CISAC CWR 2.2; the
+-- blanks: profile)
 unfoldable pub field : List ℕ → ℕ → ℕ → List ℕ
 unfolding fill
 field line first last = fill (last + 1 - first) (take (last + 1 - first) (drop (first - 1) line))

@@ -1,4 +1,5 @@
--- The layout of each record type, as a table of its fields.
+-- The layout of each record type, as a table of its fields: the office's profile of CISAC CWR 2.2. Positions that no field
+-- has are blank.
 use Rattle.std.specs.Prelude.{List, [], ◌∷◌, codes}
 use Rattle.cwr_records.specs.Layouts.{Place, place}
 

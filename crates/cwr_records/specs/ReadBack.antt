@@ -26,6 +26,7 @@ use Rattle.cwr_records.specs.declared.writer.WriterRole.TheVariants.{Controlled 
 use Rattle.cwr_records.specs.declared.record.Record.{Record}
 use Rattle.cwr_records.specs.declared.record.Record.TheVariants as kind
 
+-- the content with an index, from 0
 abbrev nth : List (List ℕ) → ℕ → List ℕ
 nth cs i = get_or cs i []
 
@@ -34,6 +35,7 @@ typed : (line code : List ℕ) (r : Record) → field line 1 3 ≡ code → reco
 unfolding record_of
 typed line code r at same = ap (λ (c : List ℕ). record_as (type_of c) line) at ∙ same
 
+-- a transmission header of these contents
 abbrev header_from : List (List ℕ) → Record
 header_from cs =
     kind.TransmissionHeader
@@ -48,10 +50,12 @@ header_from cs =
       character_set = nth cs 8;
     })
 
+-- a line with a transmission header's contents at its places is read as that header
 pub header_read_back : (r : TransmissionHeader) (line : List ℕ) → fields_at (positions_of header_places) line ≡ header_contents r → record_of line ≡ kind.TransmissionHeader r
 header_read_back r line h =
     typed line (codes "HDR") _ (ap (λ (cs : List (List ℕ)). nth cs 0) h) (ap header_from h)
 
+-- a group header of these contents
 abbrev group_header_from : List (List ℕ) → Record
 group_header_from cs =
     kind.GroupHeader
@@ -63,10 +67,12 @@ group_header_from cs =
       submission_type = nth cs 5;
     })
 
+-- a line with a group header's contents at its places is read as that header
 pub group_header_read_back : (r : GroupHeader) (line : List ℕ) → fields_at (positions_of group_header_places) line ≡ group_header_contents r → record_of line ≡ kind.GroupHeader r
 group_header_read_back r line h =
     typed line (codes "GRH") _ (ap (λ (cs : List (List ℕ)). nth cs 0) h) (ap group_header_from h)
 
+-- a work of these contents
 abbrev work_from : List (List ℕ) → Record
 work_from cs =
     kind.Work
@@ -88,18 +94,22 @@ work_from cs =
       version_type = nth cs 14;
     })
 
+-- a kind of transaction is what its record type says
 kind_of-code : (k : TransactionKind) → kind_of (kind_code k) ≡ k
 kind_of-code NwrTransaction = refl
 kind_of-code RevTransaction = refl
 
+-- a line of either record type of a work is read as one
 work_typed : (k : TransactionKind) (line : List ℕ) → record_as (type_of (kind_code k)) line ≡ kind.Work (work_of line)
 work_typed NwrTransaction line = refl
 work_typed RevTransaction line = refl
 
+-- a line with a work's contents at its places is read as that work
 pub work_read_back : (r : WorkRecord) (line : List ℕ) → fields_at (positions_of work_places) line ≡ work_contents r → record_of line ≡ kind.Work r
 work_read_back r line h =
     typed line (kind_code r.kind) _ (ap (λ (cs : List (List ℕ)). nth cs 0) h) (work_typed r.kind line ∙ ap work_from h ∙ ap (λ (k : TransactionKind). kind.Work (record r { kind = k })) (kind_of-code r.kind))
 
+-- a publisher of these contents
 abbrev publisher_from : List (List ℕ) → Record
 publisher_from cs =
     kind.Publisher
@@ -123,18 +133,22 @@ publisher_from cs =
       sr_share = nth cs 16;
     })
 
+-- a publisher's role is what its record type says
 publisher_role_of-code : (k : PublisherRole) → publisher_role_of (publisher_role_code k) ≡ k
 publisher_role_of-code ControlledPublisher = refl
 publisher_role_of-code OtherPublisher = refl
 
+-- a line of either record type of a publisher is read as one
 publisher_typed : (k : PublisherRole) (line : List ℕ) → record_as (type_of (publisher_role_code k)) line ≡ kind.Publisher (publisher_of line)
 publisher_typed ControlledPublisher line = refl
 publisher_typed OtherPublisher line = refl
 
+-- a line with a publisher's contents at its places is read as that publisher
 pub publisher_read_back : (r : PublisherRecord) (line : List ℕ) → fields_at (positions_of publisher_places) line ≡ publisher_contents r → record_of line ≡ kind.Publisher r
 publisher_read_back r line h =
     typed line (publisher_role_code r.role) _ (ap (λ (cs : List (List ℕ)). nth cs 0) h) (publisher_typed r.role line ∙ ap publisher_from h ∙ ap (λ (k : PublisherRole). kind.Publisher (record r { role = k })) (publisher_role_of-code r.role))
 
+-- a publisher's territory row of these contents
 abbrev publisher_territory_from : List (List ℕ) → Record
 publisher_territory_from cs =
     kind.PublisherTerritory
@@ -151,10 +165,12 @@ publisher_territory_from cs =
       sequence = nth cs 10;
     })
 
+-- a line with the contents of a publisher's territory row at its places is read as that row
 pub publisher_territory_read_back : (r : PublisherTerritory) (line : List ℕ) → fields_at (positions_of publisher_territory_places) line ≡ publisher_territory_contents r → record_of line ≡ kind.PublisherTerritory r
 publisher_territory_read_back r line h =
     typed line (codes "SPT") _ (ap (λ (cs : List (List ℕ)). nth cs 0) h) (ap publisher_territory_from h)
 
+-- a writer of these contents
 abbrev writer_from : List (List ℕ) → Record
 writer_from cs =
     kind.Writer
@@ -177,18 +193,22 @@ writer_from cs =
       sr_share = nth cs 15;
     })
 
+-- a writer's role is what its record type says
 writer_role_of-code : (k : WriterRole) → writer_role_of (writer_role_code k) ≡ k
 writer_role_of-code ControlledWriter = refl
 writer_role_of-code OtherWriter = refl
 
+-- a line of either record type of a writer is read as one
 writer_typed : (k : WriterRole) (line : List ℕ) → record_as (type_of (writer_role_code k)) line ≡ kind.Writer (writer_of line)
 writer_typed ControlledWriter line = refl
 writer_typed OtherWriter line = refl
 
+-- a line with a writer's contents at its places is read as that writer
 pub writer_read_back : (r : WriterRecord) (line : List ℕ) → fields_at (positions_of writer_places) line ≡ writer_contents r → record_of line ≡ kind.Writer r
 writer_read_back r line h =
     typed line (writer_role_code r.role) _ (ap (λ (cs : List (List ℕ)). nth cs 0) h) (writer_typed r.role line ∙ ap writer_from h ∙ ap (λ (k : WriterRole). kind.Writer (record r { role = k })) (writer_role_of-code r.role))
 
+-- a writer's territory row of these contents
 abbrev writer_territory_from : List (List ℕ) → Record
 writer_territory_from cs =
     kind.WriterTerritory
@@ -205,10 +225,12 @@ writer_territory_from cs =
       sequence = nth cs 10;
     })
 
+-- a line with the contents of a writer's territory row at its places is read as that row
 pub writer_territory_read_back : (r : WriterTerritory) (line : List ℕ) → fields_at (positions_of writer_territory_places) line ≡ writer_territory_contents r → record_of line ≡ kind.WriterTerritory r
 writer_territory_read_back r line h =
     typed line (codes "SWT") _ (ap (λ (cs : List (List ℕ)). nth cs 0) h) (ap writer_territory_from h)
 
+-- a publisher of a writer of these contents
 abbrev publisher_for_writer_from : List (List ℕ) → Record
 publisher_for_writer_from cs =
     kind.PublisherForWriter
@@ -222,10 +244,12 @@ publisher_for_writer_from cs =
       writer_party = nth cs 7;
     })
 
+-- a line with a publisher of a writer's contents at its places is read as that publisher
 pub publisher_for_writer_read_back : (r : PublisherForWriter) (line : List ℕ) → fields_at (positions_of publisher_for_writer_places) line ≡ publisher_for_writer_contents r → record_of line ≡ kind.PublisherForWriter r
 publisher_for_writer_read_back r line h =
     typed line (codes "PWR") _ (ap (λ (cs : List (List ℕ)). nth cs 0) h) (ap publisher_for_writer_from h)
 
+-- an alternate title of these contents
 abbrev alternate_title_from : List (List ℕ) → Record
 alternate_title_from cs =
     kind.AlternateTitle
@@ -237,10 +261,12 @@ alternate_title_from cs =
       language = nth cs 5;
     })
 
+-- a line with an alternate title's contents at its places is read as that title
 pub alternate_title_read_back : (r : AlternateTitle) (line : List ℕ) → fields_at (positions_of alternate_title_places) line ≡ alternate_title_contents r → record_of line ≡ kind.AlternateTitle r
 alternate_title_read_back r line h =
     typed line (codes "ALT") _ (ap (λ (cs : List (List ℕ)). nth cs 0) h) (ap alternate_title_from h)
 
+-- a recording of these contents
 abbrev recording_from : List (List ℕ) → Record
 recording_from cs =
     kind.Recording
@@ -256,10 +282,12 @@ recording_from cs =
       isrc = nth cs 9;
     })
 
+-- a line with a recording's contents at its places is read as that recording
 pub recording_read_back : (r : RecordingDetail) (line : List ℕ) → fields_at (positions_of recording_places) line ≡ recording_contents r → record_of line ≡ kind.Recording r
 recording_read_back r line h =
     typed line (codes "REC") _ (ap (λ (cs : List (List ℕ)). nth cs 0) h) (ap recording_from h)
 
+-- an acknowledgement of these contents
 abbrev acknowledgement_from : List (List ℕ) → Record
 acknowledgement_from cs =
     kind.Acknowledgement
@@ -278,10 +306,12 @@ acknowledgement_from cs =
       status = nth cs 12;
     })
 
+-- a line with an acknowledgement's contents at its places is read as that acknowledgement
 pub acknowledgement_read_back : (r : AcknowledgementRecord) (line : List ℕ) → fields_at (positions_of acknowledgement_places) line ≡ acknowledgement_contents r → record_of line ≡ kind.Acknowledgement r
 acknowledgement_read_back r line h =
     typed line (codes "ACK") _ (ap (λ (cs : List (List ℕ)). nth cs 0) h) (ap acknowledgement_from h)
 
+-- a group trailer of these contents
 abbrev group_trailer_from : List (List ℕ) → Record
 group_trailer_from cs =
     kind.GroupTrailer
@@ -291,10 +321,12 @@ group_trailer_from cs =
       record_count = nth cs 3;
     })
 
+-- a line with a group trailer's contents at its places is read as that trailer
 pub group_trailer_read_back : (r : GroupTrailer) (line : List ℕ) → fields_at (positions_of group_trailer_places) line ≡ group_trailer_contents r → record_of line ≡ kind.GroupTrailer r
 group_trailer_read_back r line h =
     typed line (codes "GRT") _ (ap (λ (cs : List (List ℕ)). nth cs 0) h) (ap group_trailer_from h)
 
+-- a transmission trailer of these contents
 abbrev trailer_from : List (List ℕ) → Record
 trailer_from cs =
     kind.TransmissionTrailer
@@ -304,6 +336,7 @@ trailer_from cs =
       record_count = nth cs 3;
     })
 
+-- a line with a transmission trailer's contents at its places is read as that trailer
 pub trailer_read_back : (r : TransmissionTrailer) (line : List ℕ) → fields_at (positions_of trailer_places) line ≡ trailer_contents r → record_of line ≡ kind.TransmissionTrailer r
 trailer_read_back r line h =
     typed line (codes "TRL") _ (ap (λ (cs : List (List ℕ)). nth cs 0) h) (ap trailer_from h)

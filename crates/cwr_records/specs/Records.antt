@@ -32,7 +32,7 @@ abbrev pub kind_code : TransactionKind → List ℕ
 kind_code NwrTransaction = codes "NWR"
 kind_code RevTransaction = codes "REV"
 
--- what a record type says of it (CISAC CWR 2.2)
+-- the kind of transaction that a record type says, of NWR and REV (CISAC CWR 2.2)
 abbrev pub kind_of : List ℕ → TransactionKind
 kind_of code = cond (bytes_eq code (codes "REV")) RevTransaction NwrTransaction
 
@@ -41,7 +41,7 @@ abbrev pub publisher_role_code : PublisherRole → List ℕ
 publisher_role_code ControlledPublisher = codes "SPU"
 publisher_role_code OtherPublisher = codes "OPU"
 
--- what a record type says of it (CISAC CWR 2.2)
+-- the publisher's role that a record type says, of SPU and OPU (CISAC CWR 2.2)
 abbrev pub publisher_role_of : List ℕ → PublisherRole
 publisher_role_of code = cond (bytes_eq code (codes "OPU")) OtherPublisher ControlledPublisher
 
@@ -50,7 +50,7 @@ abbrev pub writer_role_code : WriterRole → List ℕ
 writer_role_code ControlledWriter = codes "SWR"
 writer_role_code OtherWriter = codes "OWR"
 
--- what a record type says of it (CISAC CWR 2.2)
+-- the writer's role that a record type says, of SWR and OWR (CISAC CWR 2.2)
 abbrev pub writer_role_of : List ℕ → WriterRole
 writer_role_of code = cond (bytes_eq code (codes "OWR")) OtherWriter ControlledWriter
 
@@ -434,25 +434,35 @@ trailer_contents r =
     ∷ r.record_count
     ∷ []
 
+-- the record types that have a layout, each with its three letters (CISAC CWR 2.2)
+abbrev pub lettered_types : List (List ℕ × RecordType)
+lettered_types =
+    (codes "HDR", Hdr)
+    ∷ (codes "GRH", Grh)
+    ∷ (codes "NWR", Nwr)
+    ∷ (codes "REV", Rev)
+    ∷ (codes "SPU", Spu)
+    ∷ (codes "OPU", Opu)
+    ∷ (codes "SPT", Spt)
+    ∷ (codes "SWR", Swr)
+    ∷ (codes "OWR", Owr)
+    ∷ (codes "SWT", Swt)
+    ∷ (codes "PWR", Pwr)
+    ∷ (codes "ALT", Alt)
+    ∷ (codes "REC", Rec)
+    ∷ (codes "ACK", Ack)
+    ∷ (codes "GRT", Grt)
+    ∷ (codes "TRL", Trl)
+    ∷ []
+
+-- the first record type whose letters a code is, unknown where there is none (profile)
+abbrev pub first_of : List (List ℕ × RecordType) → List ℕ → RecordType
+first_of [] code = Unknown
+first_of (x ∷ xs) code = cond (bytes_eq code x.0) x.1 (first_of xs code)
+
 -- the record type that three bytes name (CISAC CWR 2.2)
 abbrev pub type_of : List ℕ → RecordType
-type_of code =
-    cond (bytes_eq code (codes "HDR")) Hdr
-    (cond (bytes_eq code (codes "GRH")) Grh
-    (cond (bytes_eq code (codes "NWR")) Nwr
-    (cond (bytes_eq code (codes "REV")) Rev
-    (cond (bytes_eq code (codes "SPU")) Spu
-    (cond (bytes_eq code (codes "OPU")) Opu
-    (cond (bytes_eq code (codes "SPT")) Spt
-    (cond (bytes_eq code (codes "SWR")) Swr
-    (cond (bytes_eq code (codes "OWR")) Owr
-    (cond (bytes_eq code (codes "SWT")) Swt
-    (cond (bytes_eq code (codes "PWR")) Pwr
-    (cond (bytes_eq code (codes "ALT")) Alt
-    (cond (bytes_eq code (codes "REC")) Rec
-    (cond (bytes_eq code (codes "ACK")) Ack
-    (cond (bytes_eq code (codes "GRT")) Grt
-    (cond (bytes_eq code (codes "TRL")) Trl Unknown)))))))))))))))
+type_of code = first_of lettered_types code
 
 -- the record of a line, of a record type (CISAC CWR 2.2)
 abbrev pub record_as : RecordType → List ℕ → Record

@@ -11,7 +11,7 @@ abbrev pub up_to : ℕ → Option ℕ → Option ℕ
 up_to limit None = None
 up_to limit (Some n) = cond (leb n limit) (Some n) None
 
--- the share of a field, in hundredths of a percent up to 10000: digits alone, or blanks for 0 (CISAC CWR 2.2)
+-- the share of a field of five bytes, in hundredths of a percent up to 10000: digits alone, or blanks for 0 (CISAC CWR 2.2)
 unfoldable pub share_of : List ℕ → Option ℕ
 share_of bs = cond (is_blank bs) (Some 0) (up_to 10000 (number_of bs))
 
@@ -19,6 +19,6 @@ share_of bs = cond (is_blank bs) (Some 0) (up_to 10000 (number_of bs))
 unfoldable pub indicator_of : List ℕ → Option Indicator
 indicator_of bs = cond (bytes_eq bs (codes "I")) (Some Included) (cond (bytes_eq bs (codes "E")) (Some Excluded) None)
 
--- the territory that a TIS code names: digits alone once the blanks at both ends are off (CISAC CWR 2.2)
+-- the territory that a TIS code of four bytes names: digits alone once the blanks at both ends are off (CISAC CWR 2.2)
 unfoldable pub territory_of : List ℕ → Option ℕ
 territory_of bs = number_of (trimmed bs)

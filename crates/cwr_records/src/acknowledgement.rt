@@ -4,7 +4,8 @@ use crate::fixed::Fixed;
 use crate::kind::RecordKind;
 use crate::layout::{Layout, LineFields, Position};
 
-/// ACK, what became of a transaction.
+/// ACK, what became of a transaction. Its dates are YYYYMMDD, its time is HHMMSS, its status is AS (accepted) or RJ
+/// (rejected).
 #[derive(Drop)]
 pub struct AcknowledgementRecord<'a> {
     pub transaction_sequence: Fixed<'a, 8>,

@@ -132,7 +132,7 @@ impl<'a> Field<'a> {
         Fixed::new(self.present)
     }
 
-    /// The decimal value, where the field is digits alone.
+    /// The decimal value, where the field is digits alone, and has at least one; else none.
     pub fn number(&self) -> Option<u64>
         requires { length self.now ≤ 19 }
         ensures { result ≡ number_of self.now }

@@ -4,7 +4,7 @@ use crate::fixed::Fixed;
 use crate::kind::RecordKind;
 use crate::layout::{Layout, LineFields, Position};
 
-/// HDR, the header of a transmission.
+/// HDR, the header of a transmission. Its dates are YYYYMMDD, its time is HHMMSS.
 #[derive(Drop)]
 pub struct TransmissionHeader<'a> {
     pub sender_type: Fixed<'a, 2>,

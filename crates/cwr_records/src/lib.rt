@@ -15,8 +15,6 @@ mod read;
 mod record;
 mod share;
 mod territory;
-#[cfg(test)]
-mod tests;
 mod work;
 mod write;
 mod writer;
@@ -38,3 +36,6 @@ pub use territory::TisCode;
 pub use work::{TransactionKind, WorkRecord};
 pub use write::write_record;
 pub use writer::{PublisherForWriter, WriterRecord, WriterRole, WriterTerritory};
+
+#[cfg(test)]
+mod tests;

@@ -18,7 +18,7 @@ impl PublisherRole {
     ghost use Rattle.std.specs.Prelude.{◌≡◌, length};
     ghost use Rattle.cwr_records.specs.Records.{publisher_role_of, publisher_role_code};
 
-    /// The record type that says so.
+    /// The record type that says so, SPU or OPU.
     pub fn code<'a>(self) -> Field<'a>
         ensures value { result ≡ publisher_role_code self }
         ensures width { length result ≡ 3 }
@@ -41,7 +41,7 @@ impl PublisherRole {
     }
 }
 
-/// SPU or OPU, a publisher of a work with its ownership shares.
+/// SPU or OPU, a publisher of a work with its ownership shares, each five digits, in hundredths of a percent.
 #[derive(Drop)]
 pub struct PublisherRecord<'a> {
     pub role: PublisherRole,
@@ -196,7 +196,8 @@ impl<'a> RecordKind<'a> for PublisherRecord<'a> {
     }
 }
 
-/// SPT, the collection shares of a publisher in a territory.
+/// SPT, the collection shares of a publisher in a territory, each five digits, in hundredths of a percent. The
+/// indicator is I (included) or E (excluded).
 #[derive(Drop)]
 pub struct PublisherTerritory<'a> {
     pub transaction_sequence: Fixed<'a, 8>,

@@ -18,7 +18,7 @@ impl TransactionKind {
     ghost use Rattle.std.specs.Prelude.{◌≡◌, length};
     ghost use Rattle.cwr_records.specs.Records.{kind_of, kind_code};
 
-    /// The record type that says so.
+    /// The record type that says so, NWR or REV.
     pub fn code<'a>(self) -> Field<'a>
         ensures value { result ≡ kind_code self }
         ensures width { length result ≡ 3 }

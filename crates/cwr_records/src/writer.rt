@@ -18,7 +18,7 @@ impl WriterRole {
     ghost use Rattle.std.specs.Prelude.{◌≡◌, length};
     ghost use Rattle.cwr_records.specs.Records.{writer_role_of, writer_role_code};
 
-    /// The record type that says so.
+    /// The record type that says so, SWR or OWR.
     pub fn code<'a>(self) -> Field<'a>
         ensures value { result ≡ writer_role_code self }
         ensures width { length result ≡ 3 }
@@ -41,7 +41,7 @@ impl WriterRole {
     }
 }
 
-/// SWR or OWR, a writer of a work with its ownership shares.
+/// SWR or OWR, a writer of a work with its ownership shares, each five digits, in hundredths of a percent.
 #[derive(Drop)]
 pub struct WriterRecord<'a> {
     pub role: WriterRole,
@@ -191,7 +191,8 @@ impl<'a> RecordKind<'a> for WriterRecord<'a> {
     }
 }
 
-/// SWT, the collection shares of a writer in a territory.
+/// SWT, the collection shares of a writer in a territory, each five digits, in hundredths of a percent. The indicator is I
+/// (included) or E (excluded).
 #[derive(Drop)]
 pub struct WriterTerritory<'a> {
     pub transaction_sequence: Fixed<'a, 8>,

@@ -5,6 +5,7 @@ pub mod Marks
 pub mod Sums
 pub mod Trailing
 pub mod Accounts
+pub mod Refilled
 pub mod IpiNames
 pub mod PartyNumbers
 mod Worked

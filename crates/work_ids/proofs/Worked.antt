@@ -1,15 +1,34 @@
 -- Worked values of the identifiers.
-use Rattle.std.specs.Prelude.{◌≡◌, ℕ, Bool, true, false, List, [], ◌∷◌, Some, None, Ok, Err, refl, codes}
-use Rattle.work_ids.specs.Account.{account_of, ipi_account_of, is_trimmed_printable, party_account_of}
-use Rattle.work_ids.specs.Blanks.{fill, trimmed}
+use Rattle.std.specs.Prelude.{◌≡◌, true, false, [], ◌∷◌, Some, None, Ok, Err, map, refl, codes}
+use Rattle.work_ids.specs.Account.{account_of, account_text, ipi_account_of, is_trimmed_printable, party_account_of}
+use Rattle.work_ids.specs.Blanks.{trimmed}
+use Rattle.work_ids.specs.Characters.{capital, is_capital, is_capital_or_digit, is_digit, is_printable}
 use Rattle.work_ids.specs.CheckDigit.{is_check_digit, weighted_sum}
 use Rattle.work_ids.specs.IpiName.{ipi_field_of}
-use Rattle.work_ids.specs.Isrc.{has_isrc_form, has_isrc_marks, isrc_field_of, isrc_of, isrc_of_text, without_isrc_marks}
+use Rattle.work_ids.specs.Isrc.{has_isrc_form, has_isrc_marks, isrc_field_of, isrc_of, isrc_of_text, printed as printed_isrc, without_isrc_marks}
 use Rattle.work_ids.specs.Iswc.{has_iswc_form, has_iswc_marks, has_right_check_digit, iswc_field_of, iswc_of, iswc_of_text, printed, without_iswc_marks}
 use Rattle.work_ids.specs.PartyNumber.{party_number_of}
+use Rattle.work_ids.specs.Reporter.{reporter_of}
+use Rattle.work_ids.specs.SenderKey.{sender_key_of}
 use Rattle.work_ids.specs.WorkNumber.{work_number_of}
 use Rattle.work_ids.specs.declared.account.Account.TheVariants.{Ipi, Party, Unclaimed}
 use Rattle.work_ids.specs.declared.fault.IdFault.TheVariants.{Character, CheckDigit, Length}
+
+-- the first and the last character of each kind, and their neighbours
+capitals : map is_capital (codes "@AZ[az") ≡ false ∷ true ∷ true ∷ false ∷ false ∷ false ∷ []
+capitals = refl
+
+digits : map is_digit (codes "/09:") ≡ false ∷ true ∷ true ∷ false ∷ []
+digits = refl
+
+capitals_or_digits : map is_capital_or_digit (codes "/09:@AZ[") ≡ false ∷ true ∷ true ∷ false ∷ false ∷ true ∷ true ∷ false ∷ []
+capitals_or_digits = refl
+
+printable : map is_printable (0x1F ∷ 0x20 ∷ 0x7E ∷ 0x7F ∷ []) ≡ false ∷ true ∷ true ∷ false ∷ []
+printable = refl
+
+made_capital : map capital (codes "`az{A9") ≡ codes "`AZ{A9"
+made_capital = refl
 
 -- the weighted sums of two ISWC, and their check digits
 first_sum : weighted_sum (codes "034524680") ≡ 179
@@ -56,6 +75,19 @@ short_iswc : iswc_field_of (codes "T034524680") ≡ Err Length
 unfolding iswc_of
 short_iswc = refl
 
+-- where several refusals hold it is the least
+character_before_digit : iswc_field_of (codes "X0345246802") ≡ Err Character
+unfolding iswc_of has_iswc_form
+character_before_digit = refl
+
+long_iswc : iswc_field_of (codes "T03452468010") ≡ Err Length
+unfolding iswc_of
+long_iswc = refl
+
+length_before_character : iswc_field_of (codes "X034524680") ≡ Err Length
+unfolding iswc_of
+length_before_character = refl
+
 printed_iswc : printed (codes "T0345246801") ≡ codes "T-034.524.680-1"
 unfolding printed
 printed_iswc = refl
@@ -64,7 +96,34 @@ read_back : iswc_of_text (codes "T-034.524.680-1") ≡ Ok (codes "T0345246801")
 unfolding iswc_of_text has_iswc_marks without_iswc_marks iswc_of has_iswc_form has_right_check_digit is_check_digit weighted_sum
 read_back = refl
 
+wrong_point : iswc_of_text (codes "T-034.524-680-1") ≡ Err Character
+unfolding iswc_of_text has_iswc_marks
+wrong_point = refl
+
 -- ISRC
+right_isrc : isrc_field_of (codes "ATABC2600001") ≡ Ok (Some (codes "ATABC2600001"))
+unfolding isrc_of has_isrc_form
+right_isrc = refl
+
+no_isrc : isrc_field_of (codes "            ") ≡ Ok None
+no_isrc = refl
+
+digit_for_a_letter : isrc_field_of (codes "A1ABC2600001") ≡ Err Character
+unfolding isrc_of has_isrc_form
+digit_for_a_letter = refl
+
+isrc_in_print : printed_isrc (codes "ATABC2600001") ≡ codes "AT-ABC-26-00001"
+unfolding printed_isrc
+isrc_in_print = refl
+
+wrong_hyphen : isrc_of_text (codes "AT-ABC-260-0001") ≡ Err Character
+unfolding isrc_of_text has_isrc_marks
+wrong_hyphen = refl
+
+short_isrc : isrc_of_text (codes "AT") ≡ Err Length
+unfolding isrc_of_text isrc_of
+short_isrc = refl
+
 small_letters : isrc_of_text (codes "at-abc-26-00001") ≡ Ok (codes "ATABC2600001")
 unfolding isrc_of_text has_isrc_marks without_isrc_marks isrc_of has_isrc_form
 small_letters = refl
@@ -82,17 +141,83 @@ lettered_ipi : ipi_field_of (codes "0000000019A") ≡ Err Character
 unfolding trimmed
 lettered_ipi = refl
 
+blank_in_an_ipi : ipi_field_of (codes "00000 00199") ≡ Err Character
+unfolding trimmed
+blank_in_an_ipi = refl
+
 zero_ipi : ipi_field_of (codes "00000000000") ≡ Ok None
 unfolding trimmed
 zero_ipi = refl
+
+blank_ipi : ipi_field_of (codes "           ") ≡ Ok None
+unfolding trimmed
+blank_ipi = refl
+
+empty_ipi : ipi_field_of [] ≡ Ok None
+unfolding trimmed
+empty_ipi = refl
+
+twelve_digits : ipi_field_of (codes "000000000199") ≡ Err Length
+unfolding trimmed
+twelve_digits = refl
 
 -- numbers that a sender gives
 trimmed_party : party_number_of (codes " A 1     ") ≡ Ok (codes "A 1      ")
 unfolding trimmed
 trimmed_party = refl
 
+blank_party : party_number_of [] ≡ Ok (codes "         ")
+unfolding trimmed
+blank_party = refl
+
+nine_byte_party : party_number_of (codes "123456789") ≡ Ok (codes "123456789")
+unfolding trimmed
+nine_byte_party = refl
+
+ten_byte_party : party_number_of (codes "1234567890") ≡ Err Length
+unfolding trimmed
+ten_byte_party = refl
+
+other_party : party_number_of (codes "P\t1") ≡ Err Character
+unfolding trimmed
+other_party = refl
+
+trimmed_work : work_number_of (codes "W1            ") ≡ Ok (codes "W1            ")
+trimmed_work = refl
+
+blank_work : work_number_of (codes "              ") ≡ Err Length
+blank_work = refl
+
+whole_work : work_number_of (codes "12345678901234") ≡ Ok (codes "12345678901234")
+whole_work = refl
+
 long_work : work_number_of (codes "123456789012345") ≡ Err Length
 long_work = refl
+
+-- senders and reporters
+sender : sender_key_of (codes "PB000000012") ≡ Ok (codes "PB000000012")
+sender = refl
+
+short_sender : sender_key_of (codes "PB00000001") ≡ Err Length
+short_sender = refl
+
+small_sender : sender_key_of (codes "pb000000012") ≡ Err Character
+small_sender = refl
+
+reporter : reporter_of (codes "RADIO1") ≡ Ok (codes "RADIO1              ")
+reporter = refl
+
+whole_reporter : reporter_of (codes "12345678901234567890") ≡ Ok (codes "12345678901234567890")
+whole_reporter = refl
+
+long_reporter : reporter_of (codes "123456789012345678901") ≡ Err Length
+long_reporter = refl
+
+no_reporter : reporter_of [] ≡ Err Length
+no_reporter = refl
+
+blank_in_a_reporter : reporter_of (codes "RADIO 1") ≡ Err Character
+blank_in_a_reporter = refl
 
 -- accounts
 nobody : account_of (codes "UNCLAIMED") ≡ Ok Unclaimed
@@ -109,3 +234,35 @@ zero_account = refl
 by_number : account_of (codes "PPB000000012P1") ≡ Ok (Party (codes "PB000000012") (codes "P1       "))
 unfolding party_account_of is_trimmed_printable
 by_number = refl
+
+no_account : account_of [] ≡ Err Length
+no_account = refl
+
+other_letter : account_of (codes "UNCLAIMEE") ≡ Err Character
+other_letter = refl
+
+short_account : account_of (codes "I0000000019") ≡ Err Length
+unfolding ipi_account_of
+short_account = refl
+
+nine_byte_number : account_of (codes "PPB000000012123456789") ≡ Ok (Party (codes "PB000000012") (codes "123456789"))
+unfolding party_account_of is_trimmed_printable
+nine_byte_number = refl
+
+ten_byte_number : account_of (codes "PPB0000000121234567890") ≡ Err Length
+unfolding party_account_of
+ten_byte_number = refl
+
+no_number : account_of (codes "PPB000000012") ≡ Err Length
+unfolding party_account_of
+no_number = refl
+
+blank_in_front : account_of (codes "PPB000000012 P1") ≡ Err Character
+unfolding party_account_of is_trimmed_printable
+blank_in_front = refl
+
+text_by_ipi : account_text (Ipi (codes "00000000199")) ≡ codes "I00000000199"
+text_by_ipi = refl
+
+text_by_number : account_text (Party (codes "PB000000012") (codes "P1       ")) ≡ codes "PPB000000012P1"
+text_by_number = refl

@@ -94,7 +94,7 @@ impl Account {
     {
         match self {
             Account::Ipi(name) => (b"I", name.as_bytes(), b""),
-            Account::Party(sender, number) => (b"P", sender.as_bytes(), number.number()),
+            Account::Party(sender, number) => (b"P", sender.as_bytes(), number.as_bytes()),
             Account::Unclaimed => (UNCLAIMED, b"", b""),
         }
     }

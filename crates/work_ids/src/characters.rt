@@ -42,7 +42,7 @@ pub fn capital(byte: u8) -> u8
 fn is_capital_or_digit(byte: u8) -> bool
     ensures { result ≡ is_capital_or_digit byte }
 {
-    (b'A' <= byte && byte <= b'Z') || (b'0' <= byte && byte <= b'9')
+    is_capital(byte) || is_digit(byte)
 }
 
 /// Whether each byte is one of A-Z and 0-9.

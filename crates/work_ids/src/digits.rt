@@ -13,7 +13,7 @@ pub fn is_number(bytes: &[u8]) -> bool
     !bytes.is_empty() && are_digits(bytes)
 }
 
-/// The decimal value of at most 19 bytes, where they are digits alone, and at least one.
+/// The decimal value of at most 19 bytes, where they are digits alone, and at least one; else none.
 pub fn number(digits: &[u8]) -> Option<u64>
     requires { length digits.now ≤ 19 }
     ensures value { result ≡ number_of digits.now }

@@ -1,6 +1,6 @@
-ghost use Rattle.std.specs.Prelude.{◌≡◌, Ok, length, map};
+ghost use Rattle.std.specs.Prelude.{◌≡◌, Ok, length, map, true};
 ghost use Rattle.work_ids.specs.Characters.{capital};
-ghost use Rattle.work_ids.specs.Isrc.{has_isrc_form, has_isrc_marks, isrc_field_of, isrc_of, isrc_of_text, printed, without_isrc_marks};
+ghost use Rattle.work_ids.specs.Isrc.{has_isrc_form, has_isrc_marks, is_isrc, isrc_field_of, isrc_of, isrc_of_text, printed, without_isrc_marks};
 
 use crate::IdFault;
 use crate::blanks::are_blank;
@@ -136,6 +136,7 @@ impl Isrc {
     pub fn as_bytes(&self) -> &[u8]
         ensures bytes { result.now ≡ self.now }
         ensures len { length result.now ≡ 12 }
+        ensures isrc { is_isrc self.now ≡ true }
     {
         &self.bytes
     }

@@ -1,4 +1,4 @@
-ghost use Rattle.std.specs.Prelude.{◌≡◌, Ok, length};
+ghost use Rattle.std.specs.Prelude.{◌≡◌, Ok, length, true};
 ghost use Rattle.work_ids.specs.Iswc.{has_iswc_form, has_iswc_marks, has_right_check_digit, is_iswc, iswc_field_of, iswc_of, iswc_of_text, printed, without_iswc_marks};
 
 use crate::IdFault;
@@ -130,6 +130,7 @@ impl Iswc {
     pub fn as_bytes(&self) -> &[u8]
         ensures bytes { result.now ≡ self.now }
         ensures len { length result.now ≡ 11 }
+        ensures iswc { is_iswc self.now ≡ true }
     {
         &self.bytes
     }

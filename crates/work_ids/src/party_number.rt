@@ -69,18 +69,11 @@ impl PartyNumber {
         are_blank(&self.bytes)
     }
 
-    /// The number without blanks at its end, and what is known of each number.
-    pub(crate) fn number(&self) -> &[u8]
+    /// The number without blanks at its end, up to nine bytes.
+    pub fn as_bytes(&self) -> &[u8]
         ensures bytes { result.now ≡ without_trailing_blanks self.now }
         ensures number { is_party_number self.now ≡ true }
     {
         without_trailing_blanks(&self.bytes)
-    }
-
-    /// The number without blanks at its end.
-    pub fn as_bytes(&self) -> &[u8]
-        ensures { result.now ≡ without_trailing_blanks self.now }
-    {
-        self.number()
     }
 }

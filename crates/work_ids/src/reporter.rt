@@ -1,4 +1,4 @@
-ghost use Rattle.std.specs.Prelude.{◌≡◌};
+ghost use Rattle.std.specs.Prelude.{◌≡◌, Ok};
 ghost use Rattle.work_ids.specs.Blanks.{without_trailing_blanks};
 ghost use Rattle.work_ids.specs.Reporter.{reporter_of};
 
@@ -18,17 +18,24 @@ pub struct Reporter {
 }
 
 impl Model for Reporter {
-    ghost use Rattle.std.specs.Prelude.{List, ℕ};
+    ghost use Rattle.std.specs.Prelude.{◌≡◌, List, ℕ, Ok};
+    ghost use Rattle.work_ids.specs.Blanks.{without_trailing_blanks};
+    ghost use Rattle.work_ids.specs.Reporter.{reporter_of};
 
     ghost Value = { List ℕ };
 
     ghost view = { λ r. r.bytes };
 
+    // It is what its own text is read as.
+    ghost invariant = { λ r. reporter_of (without_trailing_blanks r.bytes) ≡ Ok r.bytes };
+
     ghost inverse = { λ bytes. record { bytes = bytes } };
 }
 
 impl Reporter {
-    /// The reporter that the bytes spell, or the least of `Length` and `Character` that holds (profile).
+    /// The reporter that the bytes spell; else the least of `Length` (no byte, or over 20) and `Character` that holds
+    /// (profile).
+    #[tactic(auto, using(crate::proofs::Refilled::reporter_back))]
     pub fn from_bytes(bytes: &[u8]) -> Result<Reporter, IdFault>
         ensures { result ≡ reporter_of bytes.now }
     {
@@ -43,9 +50,10 @@ impl Reporter {
         })
     }
 
-    /// The bytes without the blanks behind them.
+    /// The bytes without the blanks behind them, 1 to 20; `from_bytes` reads them back as the same reporter.
     pub fn as_bytes(&self) -> &[u8]
-        ensures { result.now ≡ without_trailing_blanks self.now }
+        ensures bytes { result.now ≡ without_trailing_blanks self.now }
+        ensures back { reporter_of result.now ≡ Ok self.now }
     {
         without_trailing_blanks(&self.bytes)
     }

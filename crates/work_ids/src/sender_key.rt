@@ -32,7 +32,7 @@ impl Model for SenderKey {
 }
 
 impl SenderKey {
-    /// The key that the bytes spell, or the least of `Length` and `Character` that holds (profile).
+    /// The key that the eleven bytes spell; else the least of `Length` and `Character` that holds (profile).
     pub fn from_bytes(bytes: &[u8]) -> Result<SenderKey, IdFault>
         ensures { result ≡ sender_key_of bytes.now }
     {

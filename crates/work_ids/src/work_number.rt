@@ -1,4 +1,4 @@
-ghost use Rattle.std.specs.Prelude.{◌≡◌};
+ghost use Rattle.std.specs.Prelude.{◌≡◌, Ok};
 ghost use Rattle.work_ids.specs.Blanks.{without_trailing_blanks};
 ghost use Rattle.work_ids.specs.WorkNumber.{work_number_of};
 
@@ -18,18 +18,24 @@ pub struct WorkNumber {
 }
 
 impl Model for WorkNumber {
-    ghost use Rattle.std.specs.Prelude.{List, ℕ};
+    ghost use Rattle.std.specs.Prelude.{◌≡◌, List, ℕ, Ok};
+    ghost use Rattle.work_ids.specs.Blanks.{without_trailing_blanks};
+    ghost use Rattle.work_ids.specs.WorkNumber.{work_number_of};
 
     ghost Value = { List ℕ };
 
     ghost view = { λ n. n.bytes };
 
+    // It is what its own text is read as.
+    ghost invariant = { λ n. work_number_of (without_trailing_blanks n.bytes) ≡ Ok n.bytes };
+
     ghost inverse = { λ bytes. record { bytes = bytes } };
 }
 
 impl WorkNumber {
-    /// The number that the bytes spell, blanks at their end aside, or the least of `Length` and
-    /// `Character` that holds (profile).
+    /// The number that the bytes spell, blanks at their end aside; else the least of `Length` (nothing left, or over 14
+    /// bytes) and `Character` that holds (profile).
+    #[tactic(auto, using(crate::proofs::Refilled::work_number_back))]
     pub fn from_bytes(bytes: &[u8]) -> Result<WorkNumber, IdFault>
         ensures { result ≡ work_number_of bytes.now }
     {
@@ -45,9 +51,10 @@ impl WorkNumber {
         })
     }
 
-    /// The number without blanks at its end.
+    /// The number without blanks at its end, 1 to 14 bytes; `from_bytes` reads it back as the same number.
     pub fn as_bytes(&self) -> &[u8]
-        ensures { result.now ≡ without_trailing_blanks self.now }
+        ensures bytes { result.now ≡ without_trailing_blanks self.now }
+        ensures back { work_number_of result.now ≡ Ok self.now }
     {
         without_trailing_blanks(&self.bytes)
     }

@@ -1,6 +1,5 @@
 use Rattle.std.proofs.Common.{◌≡◌, drop}
-use Rattle.cwr_records.specs.Records.{type_of}
-use Rattle.cwr_records.proofs.RecordTypes.{first_of}
+use Rattle.cwr_records.specs.Records.{first_of, type_of}
 use Rattle.cwr_records.proofs.read.record_type.Given as goal
 
 abbrev pub invariant-loop-letters : goal.invariant-loop-letters

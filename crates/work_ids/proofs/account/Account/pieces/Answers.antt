@@ -6,4 +6,4 @@ returns-in-Ipi-clause-back c = rw c.in-Ipi.is (λ spelled. ipi_back c.in-Ipi.nam
 
 pub returns-in-Party-clause-back : goal.returns-in-Party-clause-back
 returns-in-Party-clause-back c =
-    rw c.in-Party.is (λ spelled. party_back c.in-Party.sender c.in-Party.number c.as_bytes-in-Party.ensures.key c.number.ensures.number spelled)
+    rw c.in-Party.is (λ spelled. party_back c.in-Party.sender c.in-Party.number c.as_bytes-in-Party.ensures.key c.as_bytes-in-Party-2.ensures.number spelled)
