@@ -1,14 +1,16 @@
 -- Bytes are cut into requests in one way.
-use Rattle.std.proofs.Common.{◌≡◌, ◌≢◌, inl, inr, ℕ, true, false, List, [], ◌∷◌, ◌++◌, length, take, drop, refl, sym, ◌∙◌, ap, subst, arith, append_assoc, length-append}
+use Rattle.std.proofs.Common.{◌≡◌, ◌≢◌, inl, inr, ℕ, true, false, List, [], ◌∷◌, ◌++◌, ◌+◌, ◌<◌, Result, Ok, Err, OnErr, length, take, drop, refl, sym, ◌∙◌, ap, subst, arith, append_assoc, length-append}
 use Rattle.std.specs.List.{flat_map, AllByRecursion}
 use Rattle.std.proofs.lemmas.List.{take_at, drop_at}
-use Rattle.httparse.specs.Grammar.{RequestHead, print_request}
+use Rattle.httparse.specs.Grammar.{RequestHead, HasNoRequest, print_request}
 use Rattle.http_desk.specs.declared.end.End.{End}
 use Rattle.http_desk.specs.declared.end.End.TheVariants.{Quiet, Closed, Bad, TooLarge, Busy}
+use Rattle.http_desk.specs.declared.head.Head.{Head}
+use Rattle.http_desk.specs.Head.{HasHead}
 use Rattle.http_desk.specs.declared.framing.Framing.TheVariants.{Sized, Faulty, Large}
 use Rattle.http_desk.specs.Framing.{framing, closes}
 use Rattle.http_desk.specs.Part.{Part, print_part, Begins, IsPart, IsOpenPart}
-use Rattle.http_desk.specs.Reads.{Reads, Ends, IsBad, IsTooLarge, IsLast}
+use Rattle.http_desk.specs.Reads.{Reads, Ends, IsBad, IsTooLarge, IsLast, HasNoPart}
 use Rattle.http_desk.proofs.HeadLemmas.{Begins-unique}
 use Rattle.http_desk.proofs.ServeLemmas.{print_request-some}
 
@@ -75,6 +77,28 @@ large_not_part bytes rest part large is e =
 
 nil_not_part : (bytes rest : List ℕ) (part : Part) → bytes ≡ [] → IsPart part → bytes ≡ print_part part ++ rest → ⊥
 nil_not_part bytes rest part nil is e = not_nil bytes (part.body ++ rest) part.head (begins_of part bytes rest is e) nil
+
+-- ---- no whole request yet
+
+-- bytes of which no head is whole hold no request
+pub none_while_partial : (bytes : List ℕ) → (bytes ≢ [] → HasNoRequest bytes) → HasNoPart bytes
+none_while_partial bytes none part rest is e =
+    none (λ nil. nil_not_part bytes rest part nil is e) part.head (part.body ++ rest) (begins_of part bytes rest is e).reads
+
+-- a head and less than its body are no request
+pub none_while_short : (bytes : List ℕ) (kept : Head) → HasHead bytes kept → length bytes < kept.length + kept.body → HasNoPart bytes
+none_while_short bytes kept h short part rest is e =
+    let same = Begins-unique bytes _ _ _ _ h.2 (begins_of part bytes rest is e) in
+    let sizes : kept.body ≡ length part.body = same_size _ _ (sym h.3.body ∙ ap framing same.0 ∙ is.body) in
+    let heads : length (print_request h.0) ≡ length (print_request part.head) = ap (λ (x : RequestHead). length (print_request x)) same.0 in
+    omega (arith, sizes, short, h.3.size, heads, ap length e, length-append (print_part part) rest, length-append (print_request part.head) part.body)
+
+-- what holds after a call holds where it failed
+pub after_failure : {T E : Type 0} (r : Result T E) {P : Type 0} → P → OnErr r P
+after_failure (Ok x) p = tt
+after_failure (Err e) p = p
+
+-- ---- ends
 
 -- the ends that bytes tell, each with its last requests
 data Stops : List ℕ → List Part → End → Type 0 where

@@ -6,3 +6,4 @@ pub mod NextLemmas
 pub mod PathLemmas
 pub mod ServeLemmas
 pub mod TextLemmas
+mod Worked

@@ -10,7 +10,7 @@ use Rattle.share_rules.specs.declared.office.Office.{Office}
 use Rattle.society_core.specs.Requests.{Query, Reply}
 use Rattle.society_core.specs.Runs.{Step, Run}
 use Rattle.society_core.proofs.RunLemmas.{run_on}
-use Rattle.society_core.specs.State.{State}
+use Rattle.society_core.specs.State.{Rises, State}
 use Rattle.http_desk.specs.declared.end.End.{End}
 use Rattle.http_desk.specs.declared.end.End.TheVariants.{Closed}
 use Rattle.http_desk.specs.declared.connection.Served.{Served}
@@ -19,14 +19,14 @@ use Rattle.http_desk.specs.declared.fault.FaultKind.{FaultKind}
 use Rattle.http_desk.specs.declared.fault.FaultKind.TheVariants.{Read, Write, Turns, Memory}
 use Rattle.http_desk.specs.declared.head.Head.{Head}
 use Rattle.http_desk.specs.declared.input.Input.{Input}
-use Rattle.http_desk.specs.Counted.{AppendsFront, Rises, TakesAtLeast, TakesAtMost}
+use Rattle.http_desk.specs.Counted.{AppendsFront, TakesAtLeast, TakesAtMost}
 use Rattle.http_desk.specs.Input.{unread, ReadsOn, FailsBy}
 use Rattle.http_desk.specs.Framing.{closes}
 use Rattle.http_desk.specs.Next.{EndsSo, HasPart}
 use Rattle.http_desk.specs.Part.{Part, print_part, IsOpenPart}
 use Rattle.http_desk.specs.Path.{request_of}
-use Rattle.http_desk.specs.Reads.{Cuts, Reads, Ends}
-use Rattle.http_desk.specs.Serves.{Answers, Serves, Breaks, Written, Stopped, Unwritten}
+use Rattle.http_desk.specs.Reads.{Cuts, Reads, Ends, HasNoPart}
+use Rattle.http_desk.specs.Serves.{Answers, Serves, Breaks, NeedsMore, Written, Stopped, Unwritten}
 use Rattle.http_desk.specs.Text.{text, texts, ending}
 use Rattle.http_desk.proofs.Known.{Appends-join, Appends-is, Appends-none, Consumes-none, Consumes-join, Consumes-is, AppendsFront-after}
 
@@ -189,6 +189,10 @@ module _ (known now : Option (List ℕ)) (input : Input) (turns : ℕ) (old mid 
 
   pub turns_so : input.turns ≡ 0 → TakesAtLeast known now turns
   turns_so e = (flat_map print_part so.parts ++ unread input, so.consumed, omega (arith, so.least, e))
+
+  pub needed_so : HasNoPart (unread input) → NeedsMore known now requests
+  needed_so none =
+      record { parts = so.parts; rest = unread input; each = so.each; consumed = so.consumed; none = none; count = so.count }
 
   pub most_so : TakesAtMost known now (turns * 4096)
   most_so = (flat_map print_part so.parts ++ unread input, so.consumed, omega (arith, so.most))

@@ -1,5 +1,5 @@
 -- A reader or a writer whose failures are counted.
-use Rattle.std.specs.Prelude.{◌≡◌, ◌⊎◌, ℕ, ◌-◌, ◌^◌, ◌<◌, ◌≤◌, List, ◌++◌, length, Option, Result, MatchResult}
+use Rattle.std.specs.Prelude.{◌≡◌, ℕ, ◌≤◌, List, ◌++◌, length, Option, Result, MatchResult}
 use Rattle.std.specs.Io.KnownBytes.{Appends, Consumes}
 use Rattle.http_desk.specs.declared.counted.Counted.{Counted}
 
@@ -10,10 +10,6 @@ inner_of counted = counted.inner
 -- how often it failed
 abbrev pub failures_of : {T : Type 0} → Counted T → ℕ
 failures_of counted = counted.failures
-
--- a count of failures rose, or stood at the greatest u64
-abbrev pub Rises : ℕ → ℕ → Type 0
-Rises old new = (old < new) ⊎ (old ≡ 2 ^ 64 - 1)
 
 -- a front of these bytes was appended
 abbrev pub AppendsFront : Option (List ℕ) → Option (List ℕ) → List ℕ → Type 0

@@ -4,7 +4,7 @@ use Rattle.std.specs.Io.KnownBytes.{Consumes}
 use Rattle.http_desk.specs.declared.fault.FaultKind.{FaultKind}
 use Rattle.http_desk.specs.declared.fault.FaultKind.TheVariants.{Read, Write, Turns, Memory}
 use Rattle.http_desk.specs.declared.input.Input.{Input}
-use Rattle.http_desk.specs.Counted.{Rises}
+use Rattle.society_core.specs.State.{Rises}
 
 -- the bytes that were read and not taken yet
 abbrev pub unread : Input → List ℕ

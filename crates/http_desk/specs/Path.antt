@@ -14,6 +14,7 @@ use Rattle.matchit.specs.declared.error.InsertError.{InsertError}
 use Rattle.percent_encoding.specs.Percent.{percent_decode}
 use Rattle.work_ids.specs.Digits.{is_number}
 use Rattle.work_ids.specs.SenderKey.{sender_key_of}
+use Rattle.society_core.specs.Slot as slot
 use Rattle.society_core.specs.Requests.{Query, Puts, AsksAck, AsksElsewhere}
 use Rattle.http_desk.specs.declared.routes.Route.{Route}
 use Rattle.http_desk.specs.declared.routes.Route.TheVariants.{Transmission, Acknowledgement}
@@ -51,16 +52,10 @@ parameter name parts = option_map percent_decode (named name parts)
 abbrev pub sender_of : List ℕ → Option (List ℕ)
 sender_of bytes = result_ok (sender_key_of bytes)
 
--- the greatest number of a transmission (profile)
-abbrev pub max_number : ℕ
-max_number = 999999
-
--- the number within 1 to 999,999 that the digits without a leading zero spell (profile)
+-- the number of a transmission, within its limits, that the digits without a leading zero spell (profile)
 abbrev pub number_of : List ℕ → Option ℕ
 number_of bytes =
-    if is_number bytes && not (slice_index bytes 0 == 48) && nat_le 1 (digits_value 10 bytes) && nat_le (digits_value 10 bytes) max_number
-    then Some (digits_value 10 bytes)
-    else None
+    if is_number bytes && not (slice_index bytes 0 == 48) && slot.is_number (digits_value 10 bytes) then Some (digits_value 10 bytes) else None
 
 -- a sender with a number
 pub record Numbered : Type 0 where

@@ -17,6 +17,10 @@ pub record Cuts (bytes : List ℕ) (parts : List Part) (rest : List ℕ) : Type 
 abbrev pub HasNoHead : List ℕ → Type 0
 HasNoHead bytes = (head : RequestHead) (rest : List ℕ) → ¬ (Begins bytes head rest)
 
+-- no whole request stands at the front of the bytes
+abbrev pub HasNoPart : List ℕ → Type 0
+HasNoPart bytes = (part : Part) (rest : List ℕ) → IsPart part → bytes ≢ print_part part ++ rest
+
 -- the framing of a head is at fault, or its body is cut short
 abbrev pub IsFaulty : RequestHead → List ℕ → Type 0
 IsFaulty head rest = (framing head ≡ Faulty) ⊎ ((size : ℕ) × (framing head ≡ Sized size) × (length rest < size))

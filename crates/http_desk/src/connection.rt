@@ -1,13 +1,14 @@
 //! A connection is served: requests are read, answered in turn, and their answers written.
-ghost use Rattle.std.specs.Prelude.{◌≡◌, ◌≢◌, ◌≤◌, ◌<◌, ◌+◌, ◌*◌, ◌^◌, [], drop, IfOk, IfErr, IfSome, OnOk, OnErr, IsTrue, vec_capacity};
+ghost use Rattle.std.specs.Prelude.{◌≡◌, ◌≢◌, ◌⊎◌, ◌≤◌, ◌<◌, ◌+◌, ◌*◌, ◌^◌, [], drop, IfOk, IfErr, IfSome, OnOk, OnErr, IsTrue, vec_capacity};
 ghost use Rattle.std.specs.Io.KnownBytes.{Appends};
 ghost use Rattle.society_core.specs.Requests.{reply_of};
 ghost use Rattle.society_core.specs.Runs.{Step};
-ghost use Rattle.http_desk.specs.Counted.{inner_of, failures_of, Rises, AppendsFront, Writes, TakesAtMost, TakesAtLeast};
+ghost use Rattle.http_desk.specs.Counted.{inner_of, failures_of, AppendsFront, Writes, TakesAtMost, TakesAtLeast};
+ghost use Rattle.society_core.specs.State.{Rises};
 ghost use Rattle.http_desk.specs.Input.{unread};
 ghost use Rattle.http_desk.specs.Next.{HasPart};
 ghost use Rattle.http_desk.specs.Path.{office_routes, request_of};
-ghost use Rattle.http_desk.specs.Serves.{Serves, Breaks};
+ghost use Rattle.http_desk.specs.Serves.{Serves, Breaks, NeedsMore};
 ghost use Rattle.http_desk.specs.Text.{text, ending};
 ghost use Rattle.http_desk.specs.Room.{IsReady};
 
@@ -146,7 +147,9 @@ fn close_with<W: Write>(
 
 /// Serves one connection: reads requests, answers each at the desk in turn and writes its answer,
 /// until the bytes end, a request ends the connection, or bytes are no request. A turn is one read
-/// that gives bytes, at most 4,096. After a fault the book is that of the requests counted in it.
+/// that gives bytes, at most 4,096. It is given up by `Read` and `Write` where that side failed, by
+/// `Turns` where all turns gave bytes and a further read was needed, and by `Memory` before the first
+/// read alone; the book is then that of the requests counted in the fault.
 pub fn serve<S: Store, R: Read, W: Write>(
     alloc: Global,
     desk: &mut Desk<S>,
@@ -171,6 +174,8 @@ pub fn serve<S: Store, R: Read, W: Write>(
         → Rises (failures_of writer.old) (failures_of writer.new)) }
     ensures turns { IfErr result (λ fault. fault.kind ≡ FaultKind.Turns
         → TakesAtLeast (R.remaining (inner_of reader.old)) (R.remaining (inner_of reader.new)) turns) }
+    ensures needed { IfErr result (λ fault. (fault.kind ≡ FaultKind.Read) ⊎ (fault.kind ≡ FaultKind.Turns)
+        → NeedsMore (R.remaining (inner_of reader.old)) (R.remaining (inner_of reader.new)) fault.requests) }
     ensures memory { IfErr result (λ fault. fault.kind ≡ FaultKind.Memory
         → (desk.new ≡ desk.old) × (reader.new ≡ reader.old) × (writer.new ≡ writer.old)) }
 
@@ -217,6 +222,8 @@ fn serve_in<S: Store, R: Read, W: Write>(
         → Rises (failures_of writer.old) (failures_of writer.new)) }
     ensures turns { IfErr result (λ fault. fault.kind ≡ FaultKind.Turns
         → TakesAtLeast (R.remaining (inner_of reader.old)) (R.remaining (inner_of reader.new)) room.old.input.turns) }
+    ensures needed { IfErr result (λ fault. (fault.kind ≡ FaultKind.Read) ⊎ (fault.kind ≡ FaultKind.Turns)
+        → NeedsMore (R.remaining (inner_of reader.old)) (R.remaining (inner_of reader.new)) fault.requests) }
     ensures memory { IfErr result (λ fault. fault.kind ≢ FaultKind.Memory) }
 
     // Whatever the bytes are.

@@ -1,7 +1,8 @@
 ghost use Rattle.std.specs.Prelude.{◌≡◌, ◌-◌, ◌<◌, OnOk, OnErr};
 ghost use Rattle.std.specs.Io.{ReadsAtMost};
 ghost use Rattle.std.specs.Io.KnownBytes.{ReadConsumes};
-ghost use Rattle.http_desk.specs.Counted.{inner_of, failures_of, Rises, Writes};
+ghost use Rattle.http_desk.specs.Counted.{inner_of, failures_of, Writes};
+ghost use Rattle.society_core.specs.State.{Rises};
 
 use std::io::{self, Read, Write};
 

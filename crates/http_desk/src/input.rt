@@ -97,6 +97,7 @@ impl Input {
         ensures turn { IfOk result (λ gave. gave ≡ true → self.new.turns < self.old.turns) }
         ensures end { IfOk result (λ gave. gave ≡ false
             → (unread self.new ≡ unread self.old) × IsAtEnd (R.remaining (inner_of reader.new))) }
+        ensures stays { OnErr result (unread self.new ≡ unread self.old) }
         ensures kept { OnOk result (failures_of reader.new ≡ failures_of reader.old) }
         ensures fault { IfErr result (λ kind.
             FailsBy kind self.new.turns (failures_of reader.old) (failures_of reader.new)) }

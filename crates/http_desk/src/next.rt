@@ -1,9 +1,10 @@
 //! The next request of a connection, or its end.
-ghost use Rattle.std.specs.Prelude.{◌≡◌, IfOk, IfErr, OnOk};
+ghost use Rattle.std.specs.Prelude.{◌≡◌, IfOk, IfErr, OnErr, OnOk};
 ghost use Rattle.http_desk.specs.Counted.{inner_of, failures_of};
 ghost use Rattle.http_desk.specs.Head.{HasHead};
 ghost use Rattle.http_desk.specs.Input.{unread, ReadsOn, FailsBy};
 ghost use Rattle.http_desk.specs.Next.{IsNextHead, IsNext, ended_with};
+ghost use Rattle.http_desk.specs.Reads.{HasNoPart};
 
 use crate::counted::Counted;
 use crate::end::End;
@@ -30,6 +31,7 @@ pub(crate) fn next_request<R: Read>(
         (R.remaining (inner_of reader.new)) }
     ensures next { IfOk result (λ next.
         IsNext next (unread input.new) (R.remaining (inner_of reader.new))) }
+    ensures waits { OnErr result (HasNoPart (unread input.new)) }
     ensures kept { OnOk result (failures_of reader.new ≡ failures_of reader.old) }
     ensures fault { IfErr result (λ kind.
         FailsBy kind input.new.turns (failures_of reader.old) (failures_of reader.new)) }
@@ -46,6 +48,7 @@ fn next_head<R: Read>(reader: &mut Counted<R>, input: &mut Input) -> Result<Next
         (R.remaining (inner_of reader.new)) }
     ensures next { IfOk result (λ next.
         IsNextHead next (unread input.new) (R.remaining (inner_of reader.new))) }
+    ensures waits { OnErr result (HasNoPart (unread input.new)) }
     ensures kept { OnOk result (failures_of reader.new ≡ failures_of reader.old) }
     ensures fault { IfErr result (λ kind.
         FailsBy kind input.new.turns (failures_of reader.old) (failures_of reader.new)) }
@@ -85,6 +88,7 @@ fn whole_request<R: Read>(
         (R.remaining (inner_of reader.new)) }
     ensures next { IfOk result (λ next.
         IsNext next (unread input.new) (R.remaining (inner_of reader.new))) }
+    ensures waits { OnErr result (HasNoPart (unread input.new)) }
     ensures kept { OnOk result (failures_of reader.new ≡ failures_of reader.old) }
     ensures fault { IfErr result (λ kind.
         FailsBy kind input.new.turns (failures_of reader.old) (failures_of reader.new)) }

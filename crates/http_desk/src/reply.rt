@@ -1,7 +1,8 @@
 //! Answers and endings are written.
 ghost use Rattle.std.specs.Prelude.{◌≡◌, ◌≤◌, OnOk, OnErr, vec_capacity};
 ghost use Rattle.society_core.specs.Requests.{reply_of};
-ghost use Rattle.http_desk.specs.Counted.{inner_of, failures_of, Rises, Writes};
+ghost use Rattle.http_desk.specs.Counted.{inner_of, failures_of, Writes};
+ghost use Rattle.society_core.specs.State.{Rises};
 ghost use Rattle.http_desk.specs.Text.{answer_text, arrival_status, refusal_status, refused_text, text, ending};
 
 use crate::counted::{Counted, NotWritten};

@@ -1,16 +1,9 @@
 -- What the program's words are.
-use Rattle.std.proofs.Common.{◌≡◌, ℕ, ◌-◌, ◌<◌, ◌≤◌, ◌++◌, true, false, List, [], ◌∷◌, Some, None, length, nat_le, leb, replicate, get_or, ap, ◌∙◌, arith}
+use Rattle.std.proofs.Common.{◌≡◌, ℕ, ◌<◌, ◌≤◌, true, false, List, [], ◌∷◌, Some, None, length, nat_le, leb, get_or, arith}
 use Rattle.std.proofs.lemmas.Bool.Decides.{nat_tests}
-use Rattle.std.proofs.lemmas.List.{append-nil}
-use Rattle.cwr_records.specs.Lines.{fill}
 use Rattle.work_ids.specs.Digits.{number_of}
 use Rattle.cwr_records.specs.Typed.{up_to}
 use Rattle.society.specs.Words.{are_options, asked, asked_at, number_in}
-
--- bytes that fill their width have no blanks behind them
-pub filled : (bytes : List ℕ) → fill (length bytes) bytes ≡ bytes
-unfolding fill
-filled bytes = let none : length bytes - length bytes ≡ 0 = omega arith in ap (λ (n : ℕ). bytes ++ replicate n 32) none ∙ append-nil bytes
 
 -- a number of at most four digits
 pub short : (digits : List ℕ) → length digits ≤ 4 → number_in digits ≡ up_to 9999 (number_of digits)

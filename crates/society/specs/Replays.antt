@@ -13,6 +13,10 @@ use Rattle.society_core.specs.Book.{Book, empty_book}
 use Rattle.society_core.specs.Requests.{Reply}
 use Rattle.society_core.specs.Runs.{Run}
 
+-- the most reads of one stream that give bytes (profile)
+abbrev pub most_turns : ℕ
+most_turns = 100000000
+
 -- the bytes are requests and an end; what is written are the texts of their answers from the empty book on, in order, then that of the end, and nothing else
 pub record Replays (office : Office) (bytes : List ℕ) (holds new_holds : Option (List ℕ)) : Type 0 where
   pub parts : List Part

@@ -26,6 +26,8 @@ enum Row<'a> {
     Ack(u32, &'a [u8]),
     /// The transmission has no verdicts and no acknowledgement.
     Waits(u32),
+    /// W1 is not shown.
+    NoWork,
     /// W1 is shown so: transmission, revision, and the weights of its two holders and of what nobody claims.
     Work(u32, u64, [u64; 3]),
 }
@@ -176,6 +178,11 @@ fn check(
             assert!(rt; matches!(desk.ack(alloc, &sender, number), Err(Refusal::Unknown)));
             Ok(())
         }
+        Row::NoWork => {
+            let work = desk.work(alloc, &sender, &first_work()?);
+            assert!(rt; matches!(work, Err(Refusal::Unknown)));
+            Ok(())
+        }
         Row::Work(transmission, revision, weights) => {
             check_work(rt, alloc, desk, *transmission, *revision, *weights)
         }
@@ -228,6 +235,7 @@ fn reverse_arrival(rt: HostRuntime) -> Result<(), Fail> {
             Row::Put(3, F3, held(0)),
             Row::Put(2, f2, held(0)),
             Row::Sender(0, &[2, 3]),
+            Row::NoWork,
             Row::Put(1, F1, applied(3)),
             Row::Work(2, 1, [0, 10_000, 0]),
         ],
@@ -293,7 +301,9 @@ fn revision_before_its_work(rt: HostRuntime) -> Result<(), Fail> {
         &rt,
         rt.alloc(),
         &[
+            Row::Sender(0, &[]),
             Row::Put(2, F1, held(0)),
+            Row::NoWork,
             Row::Put(1, f2.as_slice(), applied(2)),
             Row::Verdicts(1, &[Verdict::Rejected(21)]),
             Row::Verdicts(2, &[REGISTERED]),

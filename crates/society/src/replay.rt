@@ -1,6 +1,7 @@
 ghost use Rattle.std.specs.Prelude.{◌≡◌, ◌⊎◌, IfSome};
-ghost use Rattle.http_desk.specs.Counted.{inner_of, failures_of, Rises, TakesAtLeast};
-ghost use Rattle.society.specs.Replays.{Replays, BreaksOff};
+ghost use Rattle.http_desk.specs.Counted.{inner_of, failures_of, TakesAtLeast};
+ghost use Rattle.society_core.specs.State.{Rises};
+ghost use Rattle.society.specs.Replays.{Replays, BreaksOff, most_turns};
 
 use http_desk::{Counted, DeskFault, FaultKind, serve};
 use share_rules::Office;
@@ -37,7 +38,7 @@ pub fn replay<R: Read, W: Write, E: Write>(
     // before anything was read or written.
     ensures cause { result ≡ 1 → Rises (failures_of reader.old) (failures_of reader.new)
         ⊎ (Rises (failures_of out.old) (failures_of out.new)
-        ⊎ (TakesAtLeast (R.remaining (inner_of reader.old)) (R.remaining (inner_of reader.new)) TURNS
+        ⊎ (TakesAtLeast (R.remaining (inner_of reader.old)) (R.remaining (inner_of reader.new)) most_turns
         ⊎ ((reader.new ≡ reader.old) × (out.new ≡ out.old)))) }
 {
     let mut desk = Desk::new(PlainStore::new(alloc, office));

@@ -1,9 +1,11 @@
 //! The program's rows: what is written for streams of requests, byte for byte.
 use crate::replay::replay;
 use crate::samples::{F1, F3, F3_ACK, changed};
-use http_desk::Counted;
+use http_desk::{Counted, DeskFault, FaultKind, Served, serve};
 use share_rules::Office;
+use society_core::{Desk, PlainStore};
 use std::alloc::{AllocError, Global};
+use std::io::{ErrorKind, Read, Write};
 use std::process::Abort;
 use std::test::Fail;
 
@@ -20,6 +22,34 @@ fn replayed(alloc: Global, input: &[u8]) -> Result<(Vec<u8>, u8), Fail> {
     let mut err = Vec::<u8>::new(alloc);
     let status = replay(alloc, &office, &mut reader, &mut out, &mut err);
     Ok((out.into_inner(), status))
+}
+
+/// A reader and a writer that fail at once.
+#[derive(Drop)]
+struct Broken;
+
+impl Read for Broken {
+    fn read(&mut self, _buf: &mut [u8]) -> std::io::Result<usize> {
+        Err(ErrorKind::ConnectionReset.into())
+    }
+}
+
+impl Write for Broken {
+    fn write(&mut self, _buf: &[u8]) -> std::io::Result<usize> {
+        Err(ErrorKind::BrokenPipe.into())
+    }
+
+    fn flush(&mut self) -> std::io::Result<()> {
+        Ok(())
+    }
+}
+
+/// What a connection with these bytes comes to that may take so many turns.
+fn served(alloc: Global, input: &[u8], turns: u64) -> Result<Result<Served, DeskFault>, Fail> {
+    let mut desk = Desk::new(PlainStore::new(alloc, &office()?));
+    let mut reader = Counted::new(input);
+    let mut out = Counted::new(Vec::new(alloc));
+    Ok(serve(alloc, &mut desk, &mut reader, &mut out, turns))
 }
 
 /// Appends the put of a transmission.
@@ -204,4 +234,55 @@ fn line_feeds_alone(rt: HostRuntime) -> Result<(), Fail> {
             "{\"front\":1,\"state\":\"applied\"}",
         )],
     )
+}
+
+#[test]
+fn one_turn_for_each_read(rt: HostRuntime) -> Result<(), Fail> {
+    let alloc = rt.alloc();
+    let mut input = Vec::new(alloc);
+    put(alloc, &mut input, "1", F1)?;
+    get(alloc, &mut input, "1")?;
+    let input = input.as_slice();
+    let no_turn = |requests: u128| -> Result<Served, DeskFault> {
+        Err(DeskFault {
+            kind: FaultKind::Turns,
+            requests,
+        })
+    };
+    assert_eq!(rt; served(alloc, input, 2)?, Ok(Served { requests: 2 }));
+    assert_eq!(rt; served(alloc, input, 1)?, no_turn(2));
+    assert_eq!(rt; served(alloc, input, 0)?, no_turn(0));
+    Ok(())
+}
+
+#[test]
+fn broken_streams(rt: HostRuntime) -> Result<(), Fail> {
+    let alloc = rt.alloc();
+    let office = office()?;
+    let mut err = Vec::<u8>::new(alloc);
+    let mut out = Counted::new(Vec::<u8>::new(alloc));
+    let status = replay(
+        alloc,
+        &office,
+        &mut Counted::new(Broken),
+        &mut out,
+        &mut err,
+    );
+    assert_eq!(rt; status, 1);
+    assert_eq!(rt; out.into_inner().len(), 0);
+    let mut input = Vec::new(alloc);
+    get(alloc, &mut input, "1")?;
+    get(alloc, &mut input, "2")?;
+    let mut reader = Counted::new(input.as_slice());
+    let status = replay(
+        alloc,
+        &office,
+        &mut reader,
+        &mut Counted::new(Broken),
+        &mut err,
+    );
+    assert_eq!(rt; status, 1);
+    let lines = b"society: read fault after 0 requests\nsociety: write fault after 1 requests\n";
+    assert_eq!(rt; err.as_slice(), lines.as_slice());
+    Ok(())
 }

@@ -1,8 +1,8 @@
 ghost use Rattle.std.specs.Prelude.{◌≡◌, map, string_bytes};
 ghost use Rattle.society.specs.Words.{Reads, are_options, asked, asked_at, number_in};
 
-use cwr_records::Field;
 use share_rules::Office;
+use work_ids::number;
 
 /// What the program's words ask for.
 #[derive(Debug)]
@@ -21,13 +21,13 @@ const MAX_DIGITS: usize = 4;
 const MAX_NUMBER: u64 = 9_999;
 
 /// A number of one to four decimal digits.
-fn number(text: &str) -> Option<u16>
+fn short_number(text: &str) -> Option<u16>
     ensures { result ≡ number_in text.now }
 {
     if text.len() > MAX_DIGITS {
         return None;
     }
-    let value = Field::new(text.as_bytes(), text.len()).number()?;
+    let value = number(text.as_bytes())?;
     if value > MAX_NUMBER {
         return None;
     }
@@ -80,10 +80,10 @@ pub fn office_in(words: &[String]) -> Words
     ) {
         return Words::BadWords;
     }
-    let Some(society) = number(society.as_str()) else {
+    let Some(society) = short_number(society.as_str()) else {
         return Words::BadWords;
     };
-    let Some(territory) = number(territory.as_str()) else {
+    let Some(territory) = short_number(territory.as_str()) else {
         return Words::BadWords;
     };
     replay_at(society, territory, name.as_str().as_bytes())

@@ -17,21 +17,22 @@ use Rattle.society_core.specs.Book.{Book, ack, body_at, front, transmissions_to,
 use Rattle.society_core.specs.Headline.{AlikeToTheGap}
 use Rattle.society_core.specs.Requests.{AsksAck, AsksVerdicts, AsksWork, Judged, Refused, Reply}
 use Rattle.society_core.specs.declared.request.Refusal.TheVariants.{Unknown}
-use Rattle.society_core.proofs.Fronts.{second_holds}
+use Rattle.society_core.proofs.Fronts.{first_holds, second_holds}
 
 -- transactions of transmissions up to a limit
 pub record Within (limit : ℕ) (t : Placed) : Type 0 where
+  pub first : 1 ≤ t.transmission
   pub within : t.transmission ≤ limit
 
-more_within : (limit : ℕ) (past : List Placed) (n place : ℕ) (judged : List judgement.Judged) → n ≤ limit → AllByRecursion (Within limit) past → AllByRecursion (Within limit) (placed_behind past n place judged)
-more_within limit past n place [] le all = all
-more_within limit past n place (j ∷ judged) le all = more_within limit (placed_at n place j ∷ past) n (place + 1) judged le (record { within = le }, all)
+more_within : (limit : ℕ) (past : List Placed) (n place : ℕ) (judged : List judgement.Judged) → 1 ≤ n → n ≤ limit → AllByRecursion (Within limit) past → AllByRecursion (Within limit) (placed_behind past n place judged)
+more_within limit past n place [] some le all = all
+more_within limit past n place (j ∷ judged) some le all = more_within limit (placed_at n place j ∷ past) n (place + 1) judged some le (record { first = some; within = le }, all)
 
-all_within : (limit : ℕ) (past : List Placed) (n : ℕ) (line : List (List judgement.Judged)) → n + length line ≤ limit + 1 → AllByRecursion (Within limit) past → AllByRecursion (Within limit) (placed_behind_all past n line)
-all_within limit past n [] le all = all
-all_within limit past n (judged ∷ line) le all = all_within limit (placed_behind past n 0 judged) (n + 1) line (omega arith) (more_within limit past n 0 judged (omega arith) all)
+all_within : (limit : ℕ) (past : List Placed) (n : ℕ) (line : List (List judgement.Judged)) → 1 ≤ n → n + length line ≤ limit + 1 → AllByRecursion (Within limit) past → AllByRecursion (Within limit) (placed_behind_all past n line)
+all_within limit past n [] some le all = all
+all_within limit past n (judged ∷ line) some le all = all_within limit (placed_behind past n 0 judged) (n + 1) line (omega arith) (omega arith) (more_within limit past n 0 judged some (omega arith) all)
 
-last_within : (limit : ℕ) (work : List ℕ) (past : List Placed) (v : WorkVersion) → AllByRecursion (Within limit) past → last_version work past ≡ Some v → v.transmission ≤ limit
+last_within : (limit : ℕ) (work : List ℕ) (past : List Placed) (v : WorkVersion) → AllByRecursion (Within limit) past → last_version work past ≡ Some v → (1 ≤ v.transmission) × (v.transmission ≤ limit)
 last_within limit work [] v all e = absurd (none_found e)
   where
     none_found : ◌≡◌ {A = Option WorkVersion} None (Some v) → ⊥
@@ -41,27 +42,27 @@ last_within limit work (t ∷ past) v all e =
     (λ (yes : is_version work past t ≡ true).
     let found : Some (version_of work past t) ≡ Some v = sym (ap (λ (b : Bool). cond b (Some (version_of work past t)) (last_version work past)) yes) ∙ e in
     let same : version_of work past t ≡ v = cc in
-    subst (λ (w : WorkVersion). w.transmission ≤ limit) same all.0.within)
+    subst (λ (w : WorkVersion). (1 ≤ w.transmission) × (w.transmission ≤ limit)) same (all.0.first, all.0.within))
     (λ (no : is_version work past t ≡ false).
     last_within limit work past v all.1 (sym (ap (λ (b : Bool). cond b (Some (version_of work past t)) (last_version work past)) no) ∙ e))
     (cases_Bool (is_version work past t))
 
 -- the version of a work at a cut is of a transmission up to the cut
-version_within : (line : List (List judgement.Judged)) (work : List ℕ) (cut : ℕ) (v : WorkVersion) → work_at line work cut ≡ Some v → v.transmission ≤ cut
+version_within : (line : List (List judgement.Judged)) (work : List ℕ) (cut : ℕ) (v : WorkVersion) → work_at line work cut ≡ Some v → (1 ≤ v.transmission) × (v.transmission ≤ cut)
 unfolding work_at
 version_within line work cut v e =
-    last_within cut work (placed_line (take cut line)) v (all_within cut [] 1 (take cut line) (let short : length (take cut line) ≡ min cut (length line) = length-take cut line in omega arith) tt) e
+    last_within cut work (placed_line (take cut line)) v (all_within cut [] 1 (take cut line) (omega arith) (let short : length (take cut line) ≡ min cut (length line) = length-take cut line in omega arith) tt) e
 
 -- a sender's transmissions up to a number are alike where the bodies are
-transmissions_alike : (a b : Book) (s : List ℕ) (n : ℕ) → ((k : ℕ) → k ≤ n → body_at a s k ≡ body_at b s k) → transmissions_to a s n ≡ transmissions_to b s n
+transmissions_alike : (a b : Book) (s : List ℕ) (n : ℕ) → ((k : ℕ) → 1 ≤ k → k ≤ n → body_at a s k ≡ body_at b s k) → transmissions_to a s n ≡ transmissions_to b s n
 transmissions_alike a b s zero same = refl
 transmissions_alike a b s (suc n) same =
-    ap (λ (ts : List Transmission). ts ++ transmission_in (unwrap_or (body_at a s (suc n)) []) ∷ []) (transmissions_alike a b s n (λ k le. same k (omega arith)))
-    ∙ ap (λ (o : Option (List ℕ)). transmissions_to b s n ++ transmission_in (unwrap_or o []) ∷ []) (same (suc n) (omega arith))
+    ap (λ (ts : List Transmission). ts ++ transmission_in (unwrap_or (body_at a s (suc n)) []) ∷ []) (transmissions_alike a b s n (λ k some le. same k some (omega arith)))
+    ∙ ap (λ (o : Option (List ℕ)). transmissions_to b s n ++ transmission_in (unwrap_or o []) ∷ []) (same (suc n) (omega arith) (omega arith))
 
 -- the same up to a number that is at most the front
 alike_to : (a b : Book) (s : List ℕ) (n : ℕ) → AlikeToTheGap a b s → n ≤ front a s → transmissions_to a s n ≡ transmissions_to b s n
-alike_to a b s n alike le = transmissions_alike a b s n (λ k within. alike.same_bodies k (omega arith))
+alike_to a b s n alike le = transmissions_alike a b s n (λ k some within. alike.same_bodies k some (omega arith))
 
 version_alike : (o : Office) (a b : Book) (s work : List ℕ) → AlikeToTheGap a b s → version_in o a s work (front a s) ≡ version_in o b s work (front b s)
 version_alike o a b s work alike =
@@ -72,7 +73,7 @@ shown_alike : (o : Office) (a b : Book) (s work : List ℕ) (v : Option WorkVers
 shown_alike o a b s work None alike e = refl
 shown_alike o a b s work (Some v) alike e =
     ap (λ (x : Option (List ℕ)). shown_transaction o s work v (slice_get (transactions_of (transmission_in (unwrap_or x []))) v.place))
-    (alike.same_bodies v.transmission (version_within (line_of o (transmissions_to a s (front a s))) work (front a s) v e))
+    (let place = version_within (line_of o (transmissions_to a s (front a s))) work (front a s) v e in alike.same_bodies v.transmission place.0 place.1)
 
 -- what is asked of a work is answered alike
 pub works_alike : (o : Office) (a b : Book) (s work : List ℕ) → AlikeToTheGap a b s → answer o a (AsksWork s work) ≡ answer o b (AsksWork s work)
@@ -81,13 +82,16 @@ works_alike o a b s work alike =
     ∙ ap (shown_version o b s work) (version_alike o a b s work alike)
 
 -- a test whose number is at most the front
-shown_at : (f : ℕ) (n : ℕ) → (nat_le 1 n && nat_le n f) ≡ true → n ≤ f
-shown_at f n h = let high : nat_le n f ≡ true = second_holds (nat_le 1 n) (nat_le n f) h in grind (arith, nat_tests)
+shown_at : (f : ℕ) (n : ℕ) → (nat_le 1 n && nat_le n f) ≡ true → (1 ≤ n) × (n ≤ f)
+shown_at f n h =
+    let low : nat_le 1 n ≡ true = first_holds (nat_le 1 n) (nat_le n f) h in
+    let high : nat_le n f ≡ true = second_holds (nat_le 1 n) (nat_le n f) h in
+    (grind (arith, nat_tests), grind (arith, nat_tests))
 
-chosen_alike : {X : Type 0} (f n : ℕ) (x y z : X) → (n ≤ f → x ≡ y) → cond (nat_le 1 n && nat_le n f) x z ≡ cond (nat_le 1 n && nat_le n f) y z
+chosen_alike : {X : Type 0} (f n : ℕ) (x y z : X) → (1 ≤ n → n ≤ f → x ≡ y) → cond (nat_le 1 n && nat_le n f) x z ≡ cond (nat_le 1 n && nat_le n f) y z
 chosen_alike f n x y z same =
     ⊎_elim
-    (λ (yes : (nat_le 1 n && nat_le n f) ≡ true). ap (λ (b : Bool). cond b x z) yes ∙ same (shown_at f n yes) ∙ sym (ap (λ (b : Bool). cond b y z) yes))
+    (λ (yes : (nat_le 1 n && nat_le n f) ≡ true). ap (λ (b : Bool). cond b x z) yes ∙ same (shown_at f n yes).0 (shown_at f n yes).1 ∙ sym (ap (λ (b : Bool). cond b y z) yes))
     (λ (no : (nat_le 1 n && nat_le n f) ≡ false). ap (λ (b : Bool). cond b x z) no ∙ sym (ap (λ (b : Bool). cond b y z) no))
     (cases_Bool (nat_le 1 n && nat_le n f))
 
@@ -95,14 +99,14 @@ chosen_alike f n x y z same =
 pub verdicts_alike : (o : Office) (a b : Book) (s : List ℕ) (n : ℕ) → AlikeToTheGap a b s → answer o a (AsksVerdicts s n) ≡ answer o b (AsksVerdicts s n)
 verdicts_alike o a b s n alike =
     chosen_alike (front a s) n (Judged (verdicts_in o a s n)) (Judged (verdicts_in o b s n)) (Refused Unknown)
-    (λ le. ap (λ (ts : List Transmission). Judged (verdicts_at (line_of o ts) n)) (alike_to a b s n alike le))
+    (λ some le. ap (λ (ts : List Transmission). Judged (verdicts_at (line_of o ts) n)) (alike_to a b s n alike le))
     ∙ ap (λ (f : ℕ). cond (nat_le 1 n && nat_le n f) (Judged (verdicts_in o b s n)) (Refused Unknown)) alike.same_front
 
 ack_alike : (o : Office) (a b : Book) (s : List ℕ) (n : ℕ) → AlikeToTheGap a b s → ack o a s n ≡ ack o b s n
 ack_alike o a b s n alike =
     let text = λ (body : Option (List ℕ)) (ts : List Transmission). Some (acknowledgement o s (transmission_in (unwrap_or body [])) (verdicts_at (line_of o ts) n)) in
     chosen_alike (front a s) n (text (body_at a s n) (transmissions_to a s n)) (text (body_at b s n) (transmissions_to b s n)) None
-    (λ le. ap (λ (body : Option (List ℕ)). text body (transmissions_to a s n)) (alike.same_bodies n le) ∙ ap (text (body_at b s n)) (alike_to a b s n alike le))
+    (λ some le. ap (λ (body : Option (List ℕ)). text body (transmissions_to a s n)) (alike.same_bodies n some le) ∙ ap (text (body_at b s n)) (alike_to a b s n alike le))
     ∙ ap (λ (f : ℕ). cond (nat_le 1 n && nat_le n f) (text (body_at b s n) (transmissions_to b s n)) None) alike.same_front
 
 -- and its acknowledgement

@@ -50,4 +50,4 @@ TellsWhatCame before after requests old new =
 -- two books have the same transmissions of a sender up to its first gap
 pub record AlikeToTheGap (a b : Book) (sender : List ℕ) : Type 0 where
   pub same_front : front a sender ≡ front b sender
-  pub same_bodies : (n : ℕ) → n ≤ front a sender → body_at a sender n ≡ body_at b sender n
+  pub same_bodies : (n : ℕ) → 1 ≤ n → n ≤ front a sender → body_at a sender n ≡ body_at b sender n

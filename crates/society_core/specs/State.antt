@@ -33,9 +33,9 @@ pub record Asks (old new : State) : Type 0 where
   pub goes : Goes old new (λ _. ⊥)
   pub same : IsTrue new.is_clean → new.book ≡ old.book
 
--- a count of failures rose, or stood at the greatest number of 64 bits
+-- a count of failures rose, or stood at the greatest number of 64 bits and stays there
 abbrev pub Rises : ℕ → ℕ → Type 0
-Rises old new = (old < new) ⊎ (old ≡ 2 ^ 64 - 1)
+Rises old new = (old < new) ⊎ ((old ≡ 2 ^ 64 - 1) × (new ≡ old))
 
 -- a store refuses only where its medium failed in that call
 abbrev pub HasCause : State → State → StoreFault → Type 0

@@ -1,10 +1,11 @@
-ghost use Rattle.std.specs.Prelude.{◌≡◌, ◌≤◌, ◌+◌, ℕ, List, Some, true, false};
+ghost use Rattle.std.specs.Prelude.{◌≡◌, ◌≢◌, ◌≤◌, ◌+◌, ℕ, List, Some, true, false};
 ghost use Rattle.share_rules.specs.declared.office.Office.{Office};
 ghost use Rattle.society_core.specs.Answers.{answer};
 ghost use Rattle.society_core.specs.Book.{Book, body_at, front, is_there};
 ghost use Rattle.society_core.specs.Headline.{AlikeToTheGap, Came, OneContent, HoldsWhatCame, BroughtAlike};
-ghost use Rattle.society_core.specs.Requests.{AsksAck, AsksVerdicts, AsksWork, Query, Reply};
+ghost use Rattle.society_core.specs.Requests.{AsksAck, AsksVerdicts, AsksWork, Puts, Query, Refused, Reply};
 ghost use Rattle.society_core.specs.Runs.{Run};
+ghost use Rattle.society_core.specs.declared.request.Refusal.TheVariants.{Reused};
 
 /// Laws of every run of requests, whichever store is under the desk: each is the contract of a function that
 /// does nothing, over the same definitions that `run` and `answer` are proved to meet.
@@ -15,10 +16,11 @@ pub fn book_holds_what_came()
 {}
 
 /// What was accepted stays, whatever contents came: a run keeps each body of its opening book under its number, so the
-/// first one of a number stands, and it adds only what some request brought.
+/// first one of a number stands, it adds only what some request brought, and other contents of a number are answered as reused.
 pub fn what_is_accepted_stays()
     ensures stays { (office : Office) (before : Book) (queries : List Query) (replies : List Reply) (after : Book) → Run office before queries replies after → (sender : List ℕ) (n : ℕ) (body : List ℕ) → body_at before sender n ≡ Some body → body_at after sender n ≡ Some body }
     ensures came { (office : Office) (before : Book) (queries : List Query) (replies : List Reply) (after : Book) → Run office before queries replies after → (sender : List ℕ) (n : ℕ) (body : List ℕ) → body_at after sender n ≡ Some body → Came before queries replies sender n body }
+    ensures reused { (office : Office) (book : Book) (sender : List ℕ) (n : ℕ) (body other : List ℕ) → body_at book sender n ≡ Some body → other ≢ body → answer office book (Puts sender n other) ≡ Refused Reused }
 {}
 
 /// A sender's front is where its first gap begins: 1 to the front are there, and the next number is not.

@@ -9,7 +9,9 @@ use works_core::{Verdict, WorkVersion};
 /// Whether a transmission counts: applied where its number is at most its sender's front, else held.
 #[derive(Clone, Copy, Debug, PartialEq, Eq)]
 pub enum Standing {
+    /// It counts: all numbers before it have come.
     Applied,
+    /// It waits behind its sender's first gap.
     Held,
 }
 
@@ -20,6 +22,7 @@ pub struct Arrival {
     pub known: bool,
     /// The sender's front: the greatest n such that 1 to n have come.
     pub front: u32,
+    /// Where its number stands against the front.
     pub standing: Standing,
 }
 
@@ -129,10 +132,16 @@ pub enum Request<'a> {
 /// What the office answers.
 #[derive(Debug, Drop)]
 pub enum Answer {
+    /// A put was taken: how the transmission stands.
     Arrived(Arrival),
+    /// The bytes of an acknowledgement.
     Acknowledgement(Vec<u8>),
+    /// How a sender stands.
     Sender(SenderStatus),
+    /// What is shown of a work.
     Work(Work),
+    /// One verdict for each NWR and REV transaction, in the order of the file.
     Verdicts(Vec<Verdict>),
+    /// Why the request is refused.
     Refused(Refusal),
 }

@@ -58,6 +58,8 @@ pub fn run<S: Store>(
     ensures ran { OnOk result (AppendsRun (S.state desk.old).office (S.state desk.old).book (S.state desk.new).book (S.state desk.new).is_clean requests.now answers.old.items answers.new.items) }
     // Whatever was lost, repeated or reordered, the book holds exactly what came, each content once.
     ensures headline { OnOk result (IsTrue (S.state desk.new).is_clean → TellsWhatCame (S.state desk.old).book (S.state desk.new).book requests.now answers.old.items answers.new.items) }
+    ensures office { (S.state desk.new).office ≡ (S.state desk.old).office }
+    ensures clean { IsTrue (S.state desk.new).is_clean → IsTrue (S.state desk.old).is_clean }
     ensures err { OnErr result ((desk.new ≡ desk.old) × (answers.new.items ≡ answers.old.items)) }
 {
     answers.reserve(requests.len())?;

@@ -1,9 +1,9 @@
 use Rattle.std.proofs.Common.{◌∙◌, ℕ, refl, ap, arith, subst}
 use Rattle.society_core.specs.Requests.{reply_of}
 use Rattle.http_desk.specs.declared.input.Input.{Input}
-use Rattle.http_desk.specs.Counted.{Rises}
+use Rattle.society_core.specs.State.{Rises}
 use Rattle.http_desk.specs.Input.{unread}
-use Rattle.http_desk.proofs.ServeLemmas.{SoFar-start, SoFar-reads, ended_served, ended_fault, ended_write, stopped_so, turns_so, most_so, fails_read, fails_turns, countable, goes_on, closed, failed, fewer, smaller}
+use Rattle.http_desk.proofs.ServeLemmas.{SoFar-start, SoFar-reads, ended_served, ended_fault, ended_write, stopped_so, needed_so, turns_so, most_so, fails_read, fails_turns, countable, goes_on, closed, failed, fewer, smaller}
 use Rattle.http_desk.proofs.connection.serve_in.Goals as goal
 
 pub loop-head-init : goal.loop-head-init
@@ -128,3 +128,8 @@ pub returns-then-head-clause-most : goal.returns-then-head-clause-most
 returns-then-head-clause-most g c =
     let so = SoFar-reads _ _ _ _ c.next_request.new.input _ _ _ _ _ _ c.loop-head.invariant.0 c.next_request.ensures.reads in
     most_so _ _ c.next_request.new.input _ _ _ _ _ (g.W.Write.contents c.loop-head.writer.inner) _ so
+
+pub returns-in-Err-clause-needed : goal.returns-in-Err-clause-needed
+returns-in-Err-clause-needed g c = λ kind.
+    let so = SoFar-reads _ _ _ _ c.next_request.new.input _ _ _ _ _ _ c.loop-head.invariant.0 c.next_request.ensures.reads in
+    needed_so _ _ c.next_request.new.input _ _ _ _ _ (g.W.Write.contents c.loop-head.writer.inner) _ so c.in-Err.ensures.waits
