@@ -1,5 +1,5 @@
 -- Worked values: the sample files' acknowledgements, byte for byte.
-use Rattle.std.specs.Prelude.{◌≡◌, ℕ, List, [], ◌∷◌, ◌++◌, refl, codes}
+use Rattle.std.specs.Prelude.{◌≡◌, [], ◌∷◌, refl, codes}
 use Rattle.std.proofs.Common.{lit≤}
 use Rattle.cwr_records.specs.Lines.{field, fill, is_blank, line_of}
 use Rattle.work_ids.specs.Digits.{number_of}

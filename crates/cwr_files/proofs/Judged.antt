@@ -7,7 +7,7 @@ use Rattle.std.proofs.lemmas.List.Elements.{All-from_recursion, recursion_from_A
 use Rattle.std.proofs.lemmas.List.Sums.{sum_by-cons}
 use Rattle.cwr_records.specs.Lines.{pieces, onto_first, line_of, lines, field}
 use Rattle.cwr_files.specs.declared.fault.FileFault.{FileFault}
-use Rattle.cwr_files.specs.declared.limits.TheConstants.{MAX_LINE, MAX_BODY}
+use Rattle.cwr_files.specs.Sizes.{max_line, max_body}
 use Rattle.cwr_files.specs.declared.transmission.Transmission.{Transmission}
 use Rattle.cwr_files.specs.RecordTypes.{hdr, has_type, is_header, is_dated}
 use Rattle.cwr_files.specs.LineFaults.{is_too_large}
@@ -92,27 +92,27 @@ unfolding total
 pieces-total [] = refl
 pieces-total (b ∷ bs) = omega (arith, cut-total (eqb b 10) b (pieces bs), pieces-total bs)
 
-too_large-parts : (end : ℕ) (line : List ℕ) → is_too_large end line ≡ false → (length line ≤ MAX_LINE) × (end ≤ MAX_BODY)
+too_large-parts : (end : ℕ) (line : List ℕ) → is_too_large end line ≡ false → (length line ≤ max_line) × (end ≤ max_body)
 unfolding is_too_large
 too_large-parts end line e =
-    let p = or_parts (nat_lt MAX_LINE (length line)) (nat_lt MAX_BODY end) e in
-    (ltb-false MAX_LINE (length line) p.0, ltb-false MAX_BODY end p.1)
+    let p = or_parts (nat_lt max_line (length line)) (nat_lt max_body end) e in
+    (ltb-false max_line (length line) p.0, ltb-false max_body end p.1)
 
-too_large-from : (end : ℕ) (line : List ℕ) → length line ≤ MAX_LINE → end ≤ MAX_BODY → is_too_large end line ≡ false
+too_large-from : (end : ℕ) (line : List ℕ) → length line ≤ max_line → end ≤ max_body → is_too_large end line ≡ false
 unfolding is_too_large
-too_large-from end line a b = or_from _ _ (le-ltb MAX_LINE (length line) a) (le-ltb MAX_BODY end b)
+too_large-from end line a b = or_from _ _ (le-ltb max_line (length line) a) (le-ltb max_body end b)
 
-lines-fit : (n : ℕ) (ps : List (List ℕ)) → HaveSizes n ps → AllByRecursion (λ l. length l ≤ MAX_LINE) (map line_of ps)
+lines-fit : (n : ℕ) (ps : List (List ℕ)) → HaveSizes n ps → AllByRecursion (λ l. length l ≤ max_line) (map line_of ps)
 unfolding HaveSizes
 lines-fit n [] h = tt
 lines-fit n (p ∷ ps) h = ((too_large-parts (n + length p) (line_of p) h.0).0, lines-fit (n + length p) ps h.1)
 
-body-fits : (n : ℕ) (ps : List (List ℕ)) → HaveSizes n ps → n ≤ MAX_BODY → n + total ps ≤ MAX_BODY
+body-fits : (n : ℕ) (ps : List (List ℕ)) → HaveSizes n ps → n ≤ max_body → n + total ps ≤ max_body
 unfolding HaveSizes total
 body-fits n [] h small = omega arith
 body-fits n (p ∷ ps) h small = omega (arith, body-fits (n + length p) ps h.1 (too_large-parts (n + length p) (line_of p) h.0).1)
 
-have-sizes : (n : ℕ) (ps : List (List ℕ)) → AllByRecursion (λ l. length l ≤ MAX_LINE) (map line_of ps) → n + total ps ≤ MAX_BODY → HaveSizes n ps
+have-sizes : (n : ℕ) (ps : List (List ℕ)) → AllByRecursion (λ l. length l ≤ max_line) (map line_of ps) → n + total ps ≤ max_body → HaveSizes n ps
 unfolding HaveSizes total
 have-sizes n [] a b = tt
 have-sizes n (p ∷ ps) a b = (too_large-from (n + length p) (line_of p) a.0 (omega arith), have-sizes (n + length p) ps a.1 (omega arith))
@@ -128,9 +128,9 @@ unfolding file_fault transmission_in
 holds sender body e =
     let p = passing sender [] (pieces body) e in
     let f = sound sender (lines body) (passes-from sender _ _ (lines body) start-is p.0) in
-    let room : 0 ≤ MAX_BODY = omega arith in (
+    let room : 0 ≤ max_body = omega arith in (
       record { shape = f.0; joined = f.1; is_file = f.2; told = ap contents f.1 ∙ told sender f.0 f.2 },
-      record { lines_fit = All-from_recursion (λ l. length l ≤ MAX_LINE) (lines body) (lines-fit 0 (pieces body) p.1); body_fits = omega (arith, pieces-total body, body-fits 0 (pieces body) p.1 room) },
+      record { lines_fit = All-from_recursion (λ l. length l ≤ max_line) (lines body) (lines-fit 0 (pieces body) p.1); body_fits = omega (arith, pieces-total body, body-fits 0 (pieces body) p.1 room) },
     )
 
 pub no_fault : (sender body : List ℕ) (t : Transmission) → Holds body sender t → file_fault sender body ≡ None
@@ -138,7 +138,7 @@ unfolding file_fault
 no_fault sender body t h =
     let p = complete sender h.0.shape h.0.is_file in
     let q : Passes sender at_header (lines body) = subst (λ ls. Passes sender at_header ls) (sym h.0.joined) p in
-    let fits = recursion_from_All (λ l. length l ≤ MAX_LINE) (lines body) h.1.lines_fit in
+    let fits = recursion_from_All (λ l. length l ≤ max_line) (lines body) h.1.lines_fit in
     faultless sender [] (pieces body) (passes-from sender _ _ (lines body) (sym start-is) q) (have-sizes 0 (pieces body) fits (omega (arith, pieces-total body, h.1.body_fits)))
 
 pub only_one : (sender body : List ℕ) (t : Transmission) → File (lines body) sender t → t ≡ transmission_in body

@@ -5,7 +5,7 @@ use Rattle.std.proofs.lemmas.Bool.{or_parts, ltb-false}
 use Rattle.std.proofs.lemmas.List.{length-map}
 use Rattle.std.proofs.lemmas.List.Sums.{sum_by-cons}
 use Rattle.cwr_records.specs.Lines.{pieces, line_of, IsFirstLine}
-use Rattle.cwr_files.specs.declared.limits.TheConstants.{MAX_LINE, MAX_BODY}
+use Rattle.cwr_files.specs.Sizes.{max_line, max_body}
 use Rattle.cwr_files.specs.declared.counts.Counts.{Counts}
 use Rattle.cwr_files.specs.declared.counts.OpenGroup.{OpenGroup}
 use Rattle.cwr_files.specs.declared.counts.Stage.TheVariants.{Between, Within, Ended}
@@ -21,7 +21,7 @@ pub record IsReading (sender body rest : List ℕ) (counts : Counts) : Type 0 wh
   pub same : first_fault sender past (pieces rest) ≡ file_fault sender body
   pub read : sum_by length past + length rest ≡ length body
   pub lines : length past + length rest ≤ length body
-  pub bounded : length past ≤ MAX_BODY
+  pub bounded : length past ≤ max_body
 
 pub reading-start : (sender body : List ℕ) (counts : Counts) → counts ≡ counts_of [] → IsReading sender body body counts
 unfolding file_fault
@@ -45,9 +45,9 @@ sized-none a b f e = (or_parts a b (chosen (a || b) e)).1 where
   chosen true h = absurd cc
   chosen false h = refl
 
-body-fits : (sender : List ℕ) (past : List (List ℕ)) (end : ℕ) (line : List ℕ) → fault_at sender past end line ≡ None → end ≤ MAX_BODY
+body-fits : (sender : List ℕ) (past : List (List ℕ)) (end : ℕ) (line : List ℕ) → fault_at sender past end line ≡ None → end ≤ max_body
 unfolding fault_at is_too_large
-body-fits sender past end line none = ltb-false MAX_BODY end (sized-none (nat_lt MAX_LINE (length line)) (nat_lt MAX_BODY end) _ none)
+body-fits sender past end line none = ltb-false max_body end (sized-none (nat_lt max_line (length line)) (nat_lt max_body end) _ none)
 
 -- where the next line ends
 ends-at : (sender body rest line after : List ℕ) (counts : Counts) (end : ℕ) (r : IsReading sender body rest counts) (f : IsFirstLine rest line after) → end ≡ length body - length after → end ≡ sum_by length r.past + length f.piece

@@ -1,12 +1,12 @@
 -- Which fault a line has, in each place where it may stand. The least number is first.
 use Rattle.std.specs.Prelude.{ℕ, ◌+◌, ◌-◌, Bool, not, ◌&&◌, ◌||◌, List, length, Option, Some, None, nat_lt, if◌then◌else◌, ◌==◌, bytes_eq}
 use Rattle.cwr_records.specs.Lines.{field, is_blank}
-use Rattle.cwr_files.specs.declared.limits.TheConstants.{MAX_LINE, MAX_BODY}
+use Rattle.cwr_files.specs.Sizes.{max_line, max_body}
 use Rattle.cwr_files.specs.RecordTypes.{hdr, grh, grt, trl, has_type, is_frame, is_code, is_read, bears, is_numbered, has_counts, is_dated, type_of_group}
 
 -- whether a line is over 2,000 bytes, or the body over 1,048,576 bytes at the end of it, its LF included (profile)
 unfoldable pub is_too_large : ℕ → List ℕ → Bool
-is_too_large end line = nat_lt MAX_LINE (length line) || nat_lt MAX_BODY end
+is_too_large end line = nat_lt max_line (length line) || nat_lt max_body end
 
 -- line 1: 1 no HDR, 2 another sender, 3 a date or time that is none (CISAC CWR 2.2)
 unfoldable pub header_fault : List ℕ → List ℕ → Option ℕ

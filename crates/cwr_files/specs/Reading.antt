@@ -18,11 +18,11 @@ Answers t (Ok u) = u ≡ t
 Answers t (Err (read_faults.File f)) = ⊥
 Answers t (Err read_faults.Memory) = Unit {0}
 
--- a reader answered this fault and no other, and a transmission only where there is none; memory may run out (profile)
+-- a reader answered this fault and no other; a transmission, or that memory ran out, only where there is none (profile)
 abbrev pub TellsFault : Option FileFault → Result Transmission ReadFault → Type 0
 TellsFault fault (Ok t) = fault ≡ None
 TellsFault fault (Err (read_faults.File f)) = fault ≡ Some f
-TellsFault fault (Err read_faults.Memory) = Unit {0}
+TellsFault fault (Err read_faults.Memory) = fault ≡ None
 
 -- Where a body has no file fault, it is a transmission of the sender, and only one. Where it has one, it is none. (profile)
 abbrev pub IsJudged : List ℕ → List ℕ → Option FileFault → Type 0

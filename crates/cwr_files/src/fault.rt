@@ -15,8 +15,10 @@ pub struct FileFault {
 /// Why a body was not read: it has a file fault, or memory ran out.
 #[derive(Debug, Drop, Error)]
 pub enum ReadFault {
+    /// It has this fault, the first.
     #[error("the body is no transmission of the sender")]
     File(FileFault),
+    /// Memory ran out; it may be read again.
     #[error("out of memory")]
     Memory,
 }

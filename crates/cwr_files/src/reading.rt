@@ -12,8 +12,9 @@ use crate::transmission::Transmission;
 use std::alloc::Global;
 use work_ids::SenderKey;
 
-/// The transmission of a sender that a body is, lent out of the body; else the file fault, or `Memory` where
-/// memory ran out while the contents of a right body were listed (CISAC CWR 2.2, in this office's profile).
+/// The transmission of a sender that a body is, lent out of the body; else the file fault, which takes no memory to
+/// find; `Memory` where it ran out while the contents of a right body were listed (CISAC CWR 2.2, in this office's
+/// profile).
 pub fn read_transmission<'a>(
     alloc: Global,
     body: &'a [u8],

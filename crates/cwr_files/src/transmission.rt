@@ -125,7 +125,7 @@ impl<'a> Transmission<'a> {
     ghost use Rattle.std.specs.Option.{option_copied};
     ghost use Rattle.cwr_files.specs.Contents.{transactions_of};
 
-    /// The transaction at a place, from 0, among those of types NWR and REV in the order of the file.
+    /// The transaction at a place, from 0, among those of types NWR and REV in the order of the file; none past the last.
     pub fn transaction(&self, place: usize) -> Option<&Transaction<'a>>
         ensures { option_copied result ≡ slice_get (transactions_of self.now) place }
     {

@@ -1,5 +1,5 @@
 -- The routes of the office, and the request that a method, a target and a body make.
-use Rattle.std.specs.Prelude.{ℕ, Bool, true, false, List, [], ◌==◌, ◌&&◌, ◌||◌, not, nat_lt, nat_le, codes, if◌then◌else◌, Option, Some, None, Result, Ok, Err, option_and_then, slice_index}
+use Rattle.std.specs.Prelude.{ℕ, Bool, true, false, List, [], ◌==◌, ◌&&◌, ◌||◌, not, nat_lt, codes, if◌then◌else◌, Option, Some, None, Result, Ok, Err, option_and_then, slice_index}
 use Rattle.std.specs.List.{list_all}
 use Rattle.std.specs.Option.{option_map}
 use Rattle.std.specs.Result.{result_ok}

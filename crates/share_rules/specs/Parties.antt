@@ -40,7 +40,7 @@ same_side side.Publisher side.Publisher = true
 same_side side.Writer side.Writer = true
 same_side _ _ = false
 
--- an interested party of a side with a number, and a territory row of one
+-- whether there is an interested party of a side with a number
 abbrev pub party_is : Side → List ℕ → Option InterestedParty → Bool
 party_is s number None = false
 party_is s number (Some party) = same_side party.side s && same_number party.number number

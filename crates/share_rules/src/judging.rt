@@ -1,3 +1,4 @@
+//! The least fault of a transaction, and what its first record tells.
 ghost use Rattle.std.specs.Prelude.{◌≡◌};
 ghost use Rattle.std.specs.Option.{option_copied};
 ghost use Rattle.std.specs.Result.{result_ok};
@@ -13,27 +14,37 @@ use cwr_files::Transaction;
 use cwr_records::{Record, WorkRecord};
 use work_ids::{IdFault, Iswc, WorkNumber};
 
-/// The faults of a transaction (profile).
+/// Fault: the title is blank (profile).
 const BLANK_TITLE: u8 = 1;
 
-const NO_WORK_NUMBER: u8 = 2;
+/// Fault: the work number is blank or not printable ASCII (profile).
+pub const NO_WORK_NUMBER: u8 = 2;
 
+/// Fault: the ISWC is neither blank nor right (profile).
 const WRONG_ISWC: u8 = 3;
 
+/// Fault: a share is neither blank nor five digits, or is over 10000 (profile).
 const WRONG_SHARE: u8 = 4;
 
+/// Fault: the ownership shares of a right add up to more than the limit (profile).
 const OWNS_TOO_MUCH: u8 = 5;
 
+/// Fault: a territory row has no party of its side with its number before it (profile).
 const ROW_WITHOUT_PARTY: u8 = 6;
 
+/// Fault: a PWR names a publisher that is not there (profile).
 const NO_PUBLISHER: u8 = 7;
 
+/// Fault: the collection shares of a right at the office add up to more than the limit (profile).
 const COLLECTS_TOO_MUCH: u8 = 8;
 
+/// Fault: an IPI name number is not all digits (profile).
 const WRONG_IPI: u8 = 9;
 
+/// Fault: an ISRC is neither blank nor right (profile).
 const WRONG_ISRC: u8 = 10;
 
+/// Fault: a number of a party is not printable ASCII (profile).
 const WRONG_NUMBER: u8 = 11;
 
 /// The record that begins a transaction's records, if it is a work.

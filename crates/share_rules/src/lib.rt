@@ -1,13 +1,13 @@
-//! The office's rules on a transaction: which faults it has.
+//! The office's rules on a transaction: which faults it has, and who holds its work with which weight.
 #![tactic(auto)]
 
 mod collecting;
-pub mod holder;
-pub mod judging;
-pub mod office;
-pub mod party;
+mod holder;
+mod judging;
+mod office;
+mod party;
 mod sentences;
-pub mod shares;
+mod shares;
 mod sought;
 mod sums;
 #[cfg(test)]
@@ -15,7 +15,7 @@ mod tests;
 mod totals;
 
 pub use holder::{Holder, weights};
-pub use judging::{iswc, judge, work_number, work_of};
+pub use judging::{NO_WORK_NUMBER, iswc, judge, work_number, work_of};
 pub use office::Office;
 pub use party::{InterestedParty, ShareFields, Side, TerritoryRow};
 pub use shares::Shares;

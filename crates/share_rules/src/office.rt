@@ -1,3 +1,4 @@
+//! Who the office is.
 ghost use Rattle.std.specs.Prelude.{◌≡◌, ◌≤◌, ◌↔◌, IfSome, IsSome, IsTrue, length};
 
 use work_ids::{are_printable, filled};

@@ -1,12 +1,12 @@
 -- A sender's front is the only number up to which all are there and after which there is a gap.
-use Rattle.std.proofs.Common.{◌≡◌, ℕ, zero, suc, ◌+◌, ◌<◌, ◌≤◌, max, Bool, true, false, cond, ◌&&◌, ◌||◌, List, [], ◌∷◌, Option, Some, refl, ap, sym, subst, ◌∙◌, arith, is_some, ⊎_elim}
+use Rattle.std.proofs.Common.{◌≡◌, ℕ, zero, suc, ◌+◌, ◌<◌, ◌≤◌, max, Bool, true, false, cond, ◌&&◌, ◌||◌, List, [], ◌∷◌, refl, ap, sym, subst, ◌∙◌, arith, ⊎_elim}
 use Rattle.std.specs.List.{list_any}
 use Rattle.std.specs.Ordering.{is_eq, eq_by_cmp}
 use Rattle.std.specs.declared.cmp.Ordering.{Ordering}
 use Rattle.std.specs.declared.cmp.Ordering.TheVariants.{Less, Equal, Greater}
 use Rattle.std.specs.FinMap as finite
 use Rattle.std.proofs.lemmas.Bool.{false≢true, cases_lt, cases_Bool}
-use Rattle.society_core.specs.Book.{Book, body_at, is_there, has_all, greatest_to, greatest_of, greatest_number, front}
+use Rattle.society_core.specs.Book.{Book, is_there, has_all, greatest_to, greatest_of, greatest_number, front}
 use Rattle.society_core.specs.Slot.{slot_of, slot_cmp}
 use Rattle.society_core.specs.declared.slot.Slot.{Slot}
 use Rattle.society_core.proofs.Slots.{exact_slots}

@@ -1,5 +1,5 @@
 -- What stands behind a sender's first gap counts nowhere.
-use Rattle.std.proofs.Common.{◌≡◌, ℕ, zero, suc, ◌+◌, ◌<◌, ◌≤◌, ◌&&◌, Bool, true, false, cond, List, [], ◌∷◌, ◌++◌, Option, Some, None, length, take, min, nat_le, unwrap_or, refl, ap, sym, subst, ◌∙◌, arith, ⊎_elim}
+use Rattle.std.proofs.Common.{◌≡◌, ℕ, zero, suc, ◌+◌, ◌≤◌, ◌&&◌, Bool, true, false, cond, List, [], ◌∷◌, ◌++◌, Option, Some, None, length, take, min, nat_le, unwrap_or, refl, ap, sym, subst, ◌∙◌, arith, ⊎_elim}
 use Rattle.std.specs.List.{AllByRecursion, slice_get}
 use Rattle.std.proofs.lemmas.Bool.{cases_Bool}
 use Rattle.std.proofs.lemmas.List.{length-take}
@@ -15,7 +15,7 @@ use Rattle.works_core.specs.declared.version.WorkVersion.{WorkVersion}
 use Rattle.society_core.specs.Answers.{answer, shown_ack, shown_transaction, shown_version}
 use Rattle.society_core.specs.Book.{Book, ack, body_at, front, transmissions_to, verdicts_in, version_in}
 use Rattle.society_core.specs.Headline.{AlikeToTheGap}
-use Rattle.society_core.specs.Requests.{AsksAck, AsksVerdicts, AsksWork, Judged, Refused, Reply}
+use Rattle.society_core.specs.Requests.{AsksAck, AsksVerdicts, AsksWork, Judged, Refused}
 use Rattle.society_core.specs.declared.request.Refusal.TheVariants.{Unknown}
 use Rattle.society_core.proofs.Fronts.{first_holds, second_holds}
 

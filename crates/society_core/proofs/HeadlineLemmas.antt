@@ -1,5 +1,5 @@
 -- The book after a run holds what came, and no order of arrival makes a difference.
-use Rattle.std.proofs.Common.{IsTrue, map, ◌≡◌, ◌≢◌, ℕ, Bool, true, false, cond, List, [], ◌∷◌, ◌++◌, ◌⊎◌, inl, inr, ⊎_elim, ◌↔◌, Option, Some, None, is_some, refl, sym, ap, subst, ◌∙◌}
+use Rattle.std.proofs.Common.{IsTrue, map, ◌≡◌, ℕ, Bool, true, false, cond, List, [], ◌∷◌, ◌⊎◌, inl, inr, ⊎_elim, Option, Some, None, is_some, refl, sym, ap, subst, ◌∙◌}
 use Rattle.std.specs.Ordering.{eq_by_cmp, is_eq}
 use Rattle.std.specs.Str.{bytes_eq}
 use Rattle.std.specs.FinMap as finite
@@ -11,13 +11,12 @@ use Rattle.cwr_files.specs.declared.fault.FileFault.{FileFault}
 use Rattle.share_rules.specs.declared.office.Office.{Office}
 use Rattle.society_core.specs.Book.{Book, body_at, is_there, with_transmission}
 use Rattle.society_core.specs.Slot.{slot_of, slot_cmp}
-use Rattle.society_core.specs.Requests.{Query, Puts, AsksAck, AsksSender, AsksWork, AsksVerdicts, AsksElsewhere, Reply, Arrived, Acknowledged, Refused, query_of, reply_of}
+use Rattle.society_core.specs.Requests.{Query, Puts, AsksAck, AsksSender, AsksWork, AsksVerdicts, AsksElsewhere, Reply, Refused, query_of, reply_of}
 use Rattle.society_core.specs.Answers.{answer, next, known_by, put_answer, put_book, added_answer, added_book}
 use Rattle.society_core.specs.Runs.{Step, Run, AppendsRun}
 use Rattle.society_core.specs.Headline.{Brings, IsBrought, Came, OneContent, HoldsWhatCame, BroughtAlike, TellsWhatCame}
 use Rattle.society_core.specs.declared.request.Refusal.TheVariants.{Unavailable}
-use Rattle.society_core.specs.declared.store.Known.{Known}
-use Rattle.society_core.specs.declared.store.Known.TheVariants.{Absent, Same, Other}
+use Rattle.society_core.specs.declared.store.Known.TheVariants.{Same, Other}
 use Rattle.society_core.specs.declared.request.Request.{Request}
 use Rattle.society_core.specs.declared.request.Answer.{Answer}
 use Rattle.society_core.specs.declared.slot.Slot.{Slot}

@@ -1,11 +1,10 @@
 -- A sender's line up to a number.
-use Rattle.std.proofs.Common.{◌≡◌, ℕ, zero, suc, ◌+◌, List, [], ◌∷◌, ◌++◌, Option, map, unwrap_or, length, refl, sym, ap, ◌∙◌, add-one, arith, length-append}
+use Rattle.std.proofs.Common.{◌≡◌, ℕ, zero, suc, ◌+◌, List, [], ◌∷◌, ◌++◌, unwrap_or, length, refl, sym, ap, ◌∙◌, add-one, arith, length-append}
 use Rattle.std.proofs.lemmas.List.{length-map, map_push}
 use Rattle.cwr_files.specs.Contents.{transmission_in}
 use Rattle.cwr_files.specs.declared.transmission.Transmission.{Transmission}
 use Rattle.share_rules.specs.declared.office.Office.{Office}
 use Rattle.works_core.specs.Line.{judged_in, line_of}
-use Rattle.works_core.specs.declared.judged.Judged.{Judged}
 use Rattle.society_core.specs.Book.{Book, body_at, transmissions_to}
 
 -- the line up to the next number ends with what is judged of its body

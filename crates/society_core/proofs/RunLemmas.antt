@@ -1,5 +1,5 @@
 -- A run goes on by one step.
-use Rattle.std.proofs.Common.{◌≡◌, Bool, IsTrue, ◌+◌, List, [], ◌∷◌, ◌++◌, refl, sym, ap, subst, ◌∙◌, map, length, append_assoc, arith}
+use Rattle.std.proofs.Common.{◌≡◌, Bool, IsTrue, ◌+◌, List, [], ◌∷◌, ◌++◌, refl, sym, ap, subst, ◌∙◌, map, append_assoc}
 use Rattle.std.proofs.lemmas.List.{length_push, map_push}
 use Rattle.share_rules.specs.declared.office.Office.{Office}
 use Rattle.society_core.specs.Book.{Book}

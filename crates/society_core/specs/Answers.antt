@@ -1,5 +1,5 @@
 -- The answer to each request over a book, and the book after it.
-use Rattle.std.specs.Prelude.{ℕ, Bool, true, false, List, Option, Some, None, cond, if◌then◌else◌, nat_le, ◌&&◌, ◌≡◌, ◌⊎◌}
+use Rattle.std.specs.Prelude.{ℕ, Bool, true, false, List, Option, Some, None, if◌then◌else◌, nat_le, ◌&&◌}
 use Rattle.std.specs.Str.{bytes_eq}
 use Rattle.cwr_records.specs.Blanks.{without_trailing_blanks}
 use Rattle.cwr_files.specs.FileFault.{file_fault}
@@ -17,7 +17,6 @@ use Rattle.society_core.specs.declared.request.Refusal.TheVariants.{Reused, File
 use Rattle.society_core.specs.declared.store.Known.{Known}
 use Rattle.society_core.specs.declared.store.Known.TheVariants.{Absent, Same, Other}
 use Rattle.works_core.specs.Recordings.{isrcs_of, right_one}
-use Rattle.works_core.specs.declared.verdict.Verdict.{Verdict}
 use Rattle.works_core.specs.declared.version.WorkVersion.{WorkVersion}
 
 -- a transmission is applied where its number is at most the front, else it is held (profile)

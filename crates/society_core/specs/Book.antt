@@ -1,5 +1,5 @@
 -- The book: what has been accepted, as finite maps that know no order of arrival.
-use Rattle.std.specs.Prelude.{ℕ, zero, suc, Bool, true, List, [], ◌∷◌, ◌++◌, ◌≡◌, ◌+◌, ◌&&◌, Option, Some, None, is_some, is_none, IsTrue, map, fold, max, unwrap_or, if◌then◌else◌, nat_le, nat_lt, bytes_eq}
+use Rattle.std.specs.Prelude.{ℕ, zero, suc, Bool, true, List, [], ◌∷◌, ◌++◌, ◌≡◌, ◌&&◌, Option, Some, None, is_some, is_none, map, max, unwrap_or, if◌then◌else◌, nat_le, nat_lt, bytes_eq}
 use Rattle.std.specs.FinMap as finite
 use Rattle.std.specs.List.{filter, slice_get}
 use Rattle.cwr_files.specs.Contents.{transmission_in, transactions_of}

@@ -1,5 +1,5 @@
 -- What the book holds after any list of requests, whatever was lost, repeated or reordered.
-use Rattle.std.specs.Prelude.{ℕ, List, [], ◌∷◌, ◌++◌, ◌≡◌, ◌≢◌, ◌≤◌, ◌⊎◌, ◌↔◌, Option, Some, None, map}
+use Rattle.std.specs.Prelude.{ℕ, List, [], ◌∷◌, ◌++◌, ◌≡◌, ◌≢◌, ◌≤◌, ◌⊎◌, ◌↔◌, Some, None, map}
 use Rattle.cwr_files.specs.FileFault.{file_fault}
 use Rattle.society_core.specs.Book.{Book, body_at, front}
 use Rattle.society_core.specs.Requests.{Query, Puts, AsksAck, AsksSender, AsksWork, AsksVerdicts, AsksElsewhere, Reply, Refused, query_of, reply_of}

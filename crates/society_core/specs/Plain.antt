@@ -1,5 +1,5 @@
 -- A store in memory that keeps the maps of the book alone.
-use Rattle.std.specs.Prelude.{ℕ, ◌≡◌, List, true}
+use Rattle.std.specs.Prelude.{ℕ, List, true}
 use Rattle.std.specs.FinMap as finite
 use Rattle.share_rules.specs.declared.office.Office.{Office}
 use Rattle.society_core.specs.Book.{Book}

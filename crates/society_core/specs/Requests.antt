@@ -1,5 +1,5 @@
 -- What is asked and what is answered, without where its bytes lie in memory.
-use Rattle.std.specs.Prelude.{ℕ, List, Option, IsTrue, Bool, true, Result, Ok, Err}
+use Rattle.std.specs.Prelude.{ℕ, List, Option, Bool, true, Result, Ok, Err}
 use Rattle.share_rules.specs.declared.holder.Holder.{Holder}
 use Rattle.society_core.specs.Slot.{is_number}
 use Rattle.society_core.specs.declared.request.Arrival.{Arrival}

@@ -1,5 +1,5 @@
 -- Steps and runs: what is answered to a list of requests, one after another.
-use Rattle.std.specs.Prelude.{List, [], ◌∷◌, ◌++◌, ◌≡◌, ◌⊎◌, map, length, IsTrue, Bool, true}
+use Rattle.std.specs.Prelude.{List, [], ◌∷◌, ◌++◌, ◌≡◌, ◌⊎◌, map, length, IsTrue, Bool}
 use Rattle.share_rules.specs.declared.office.Office.{Office}
 use Rattle.society_core.specs.Book.{Book}
 use Rattle.society_core.specs.Requests.{Query, Reply, Refused, query_of, reply_of}

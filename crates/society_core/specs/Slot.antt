@@ -1,5 +1,5 @@
 -- Where a transmission stands in the book.
-use Rattle.std.specs.Prelude.{ℕ, List, ◌≡◌, ◌≤◌, refl, ◌&&◌, Bool, nat_le}
+use Rattle.std.specs.Prelude.{ℕ, List, refl, ◌&&◌, Bool, nat_le}
 use Rattle.std.specs.Ordering.{nat_cmp, ordering_then}
 use Rattle.std.specs.declared.cmp.Ordering.{Ordering}
 use Rattle.std.specs.Cmp.Lexicographic.{slice_cmp}

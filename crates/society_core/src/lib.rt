@@ -12,7 +12,10 @@ pub mod store;
 mod work;
 
 pub use desk::Desk;
-pub use laws::{book_holds_what_came, front_is_the_first_gap, order_of_arrival_is_free, what_is_accepted_stays, what_waits_is_unapplied};
+pub use laws::{
+    book_holds_what_came, front_is_the_first_gap, order_of_arrival_is_free, what_is_accepted_stays,
+    what_waits_is_unapplied,
+};
 pub use plain_store::PlainStore;
 pub use request::{Answer, Arrival, Refusal, Request, SenderStatus, Standing, Work};
 pub use runs::{answer, run};

@@ -7,7 +7,7 @@ use Rattle.std.proofs.lemmas.Slice.Eq.{bytes_eq-Decides}
 use Rattle.cwr_records.specs.declared.work.TransactionKind.TheVariants.{Nwr, Rev}
 use Rattle.works_core.specs.Verdicts.{registers, concerns, is_registered, is_accepted, works_in, versions_of, ordinal_of}
 use Rattle.works_core.specs.Versions.{Placed, placed_at, judged_of, is_version, version_of}
-use Rattle.works_core.specs.Tracks.{work_in, accepted_in, last_index, linked_version, linked_versions}
+use Rattle.works_core.specs.Tracks.{number_in, accepted_in, last_index, linked_version, linked_versions}
 use Rattle.works_core.specs.declared.judged.Judged.{Judged}
 use Rattle.works_core.specs.declared.judged.Judged.TheVariants.{Clean, Faulty}
 use Rattle.works_core.specs.declared.version.LinkedVersion.{LinkedVersion}
@@ -18,7 +18,7 @@ pub same_bytes : (v w : List ℕ) → bytes_eq v w ≡ true → v ≡ w
 same_bytes v w e = (bytes_eq-Decides v w).0 e
 
 -- the work that a transaction concerns is its own
-pub concerned : (w : List ℕ) (x : Judged) → concerns w x ≡ true → work_in x ≡ w
+pub concerned : (w : List ℕ) (x : Judged) → concerns w x ≡ true → number_in x ≡ w
 concerned w (Clean kind u) e = same_bytes u w e
 concerned w (Faulty fault) e = absurd (false≢true e)
 

@@ -20,9 +20,9 @@ abbrev pub same_key : WorkKey → WorkKey → Bool
 same_key x y = bytes_eq x.number y.number
 
 -- the work number of a clean transaction
-abbrev pub work_in : Judged → List ℕ
-work_in (Clean kind number) = number
-work_in (Faulty fault) = []
+abbrev pub number_in : Judged → List ℕ
+number_in (Clean kind number) = number
+number_in (Faulty fault) = []
 
 -- how many transactions are accepted
 abbrev pub accepted_in : List Placed → ℕ
@@ -36,7 +36,7 @@ last_index work (t ∷ past) = if is_version work past t then Some (accepted_in 
 
 -- an accepted transaction as a version, with the place of the one before it of its work
 abbrev pub linked_version : List Placed → Placed → LinkedVersion
-linked_version past t = record { version = version_of (work_in t.judged) past t; before = last_index (work_in t.judged) past }
+linked_version past t = record { version = version_of (number_in t.judged) past t; before = last_index (number_in t.judged) past }
 
 -- the accepted transactions as versions, in the order of the line
 abbrev pub linked_versions : List Placed → List LinkedVersion

@@ -1,3 +1,4 @@
+//! What is judged of a transaction.
 use cwr_records::TransactionKind;
 use work_ids::WorkNumber;
 

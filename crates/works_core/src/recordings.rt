@@ -7,7 +7,8 @@ use cwr_records::Record;
 use std::alloc::{AllocError, Global};
 use work_ids::Isrc;
 
-/// The ISRCs of a transaction's REC records in order, repeats kept, blank ones left out (ISO 3901).
+/// The ISRCs of a transaction's REC records in order, repeats kept, blank and wrong ones left out (ISO 3901); an error
+/// where memory runs out.
 pub fn isrcs(alloc: Global, transaction: &Transaction<'_>) -> Result<Vec<Isrc>, AllocError>
     ensures { IfOk result (λ list. list.items ≡ isrcs_of transaction.now) }
 {

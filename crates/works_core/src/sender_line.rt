@@ -1,3 +1,4 @@
+//! One sender's line.
 ghost use Rattle.std.specs.Prelude.{◌≡◌, ◌+◌, ◌≤◌, ◌<◌, ◌++◌, ◌∷◌, [], map, IfOk, OnOk, OnErr, length, flat_map, List, vec_len, vec_capacity};
 ghost use Rattle.works_core.specs.Line.{judged, judged_in};
 ghost use Rattle.works_core.specs.Tracks.{HasRoom, IsTracked, Tracks};
@@ -6,11 +7,11 @@ ghost use Rattle.works_core.specs.Versions.{judged_of, placed_behind, Placed, wo
 
 use crate::judged::Judged;
 use crate::key::WorkKey;
-use crate::verdict::{NO_WORK_NUMBER, Verdict};
+use crate::verdict::Verdict;
 use crate::version::WorkVersion;
 use crate::works::{Place, Works};
 use cwr_files::{Group, Transaction, Transmission};
-use share_rules::{Office, judge, work_number};
+use share_rules::{NO_WORK_NUMBER, Office, judge, work_number};
 use std::alloc::{AllocError, Global};
 use std::marker::Model;
 use work_ids::WorkNumber;

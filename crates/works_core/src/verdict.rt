@@ -1,6 +1,4 @@
-/// Fault of a transaction whose work number is blank or not printable ASCII (profile).
-pub const NO_WORK_NUMBER: u8 = 2;
-
+//! Verdicts.
 /// Fault of a registration whose work number is registered already (profile).
 pub const REGISTERED_BEFORE: u8 = 20;
 

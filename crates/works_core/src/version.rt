@@ -1,3 +1,4 @@
+//! Versions of works.
 /// An accepted version of a work: the number of its transmission, its place there from 0 among the transactions of types
 /// NWR and REV, its work's number among the sender's accepted works from 1, and which revision it is from 0 (profile).
 #[derive(Clone, Copy, Debug, PartialEq, Eq)]

@@ -1,3 +1,4 @@
+//! The works of a line: their versions, and the last one of each.
 ghost use Rattle.std.specs.Prelude.{◌≡◌, ◌+◌, ◌∷◌, ◌++◌, [], ℕ, length, List, OnOk, is_some, if◌then◌else◌};
 ghost use Rattle.std.specs.HashMap.{get, hash_map_len};
 ghost use Rattle.std.specs.Str.{bytes_eq};

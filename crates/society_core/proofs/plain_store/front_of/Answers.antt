@@ -1,4 +1,4 @@
-use Rattle.std.proofs.Common.{◌≡◌, ◌+◌, arith, sym, ◌∙◌}
+use Rattle.std.proofs.Common.{◌≡◌, ◌+◌, arith, ◌∙◌}
 use Rattle.society_core.specs.Book.{body_at}
 use Rattle.society_core.specs.Plain.{book_with}
 use Rattle.society_core.proofs.Books.{none_past}

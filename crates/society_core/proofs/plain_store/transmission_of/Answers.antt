@@ -1,4 +1,4 @@
-use Rattle.std.proofs.Common.{◌≡◌, Some, ap, sym, ◌∙◌}
+use Rattle.std.proofs.Common.{ap, sym, ◌∙◌}
 use Rattle.cwr_files.specs.FileFault.{file_fault}
 use Rattle.society_core.specs.Plain.{book_with}
 use Rattle.society_core.proofs.Books.{no_fault}

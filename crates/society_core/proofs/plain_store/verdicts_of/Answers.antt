@@ -1,4 +1,4 @@
-use Rattle.std.proofs.Common.{◌≡◌, ◌<◌, ◌≤◌, ℕ, length, arith, ap, ◌∙◌, ⊎_elim}
+use Rattle.std.proofs.Common.{◌≡◌, ◌<◌, length, arith, ap, ◌∙◌, ⊎_elim}
 use Rattle.society_core.specs.Plain.{book_with}
 use Rattle.society_core.proofs.Lines.{line_counted}
 use Rattle.society_core.proofs.plain_store.verdicts_of.Goals as goal

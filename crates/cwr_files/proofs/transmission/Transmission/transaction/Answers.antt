@@ -1,4 +1,4 @@
-use Rattle.std.proofs.Common.{◌≡◌, ◌++◌, drop, ap, refl, sym, ◌∙◌, ◌+◌, ◌-◌, length, List, Some}
+use Rattle.std.proofs.Common.{◌≡◌, drop, ap, refl, sym, ◌∙◌, ◌+◌, ◌-◌, length, List, Some}
 use Rattle.std.specs.List.{slice_get, flat_map}
 use Rattle.std.proofs.lemmas.Option.{slice_get_read}
 use Rattle.cwr_files.specs.declared.transmission.Group.{Group}

@@ -1,6 +1,3 @@
-use Rattle.std.proofs.Common.{subst, sym, ap}
-use Rattle.society_core.specs.Book.{IsSound}
-use Rattle.society_core.specs.Plain.{book_with}
 use Rattle.society_core.proofs.Books.{empty_book_sound}
 use Rattle.society_core.proofs.plain_store.PlainStore.new.Goals as goal
 
