@@ -3,7 +3,9 @@ use Rattle.std.proofs.Common.{◌≡◌, ℕ, ◌<◌, ◌≤◌, true, false, L
 use Rattle.std.proofs.lemmas.Bool.Decides.{nat_tests}
 use Rattle.work_ids.specs.Digits.{number_of}
 use Rattle.cwr_records.specs.Typed.{up_to}
-use Rattle.society.specs.Words.{are_options, asked, asked_at, number_in}
+use Rattle.share_rules.specs.declared.office.Office.{Office}
+use Rattle.society.specs.Words.{Asked, AsksFor, AsksReplay, HasBadName, HasBadWords, Reads, are_options, asked, asked_at, number_in}
+use Rattle.society.specs.declared.words.Words.TheVariants as words
 
 -- a number of at most four digits
 pub short : (digits : List ℕ) → length digits ≤ 4 → number_in digits ≡ up_to 9999 (number_of digits)
@@ -31,3 +33,9 @@ eight (p ∷ w1 ∷ w2 ∷ w3 ∷ w4 ∷ w5 ∷ w6 ∷ w7 ∷ w8 ∷ ws) a b c d
 -- what eight words ask for, where those between the values are the program's and two values are numbers
 pub asked_is : (p r so s te t na name : List ℕ) (n m : ℕ) → are_options r so te na ≡ true → number_in s ≡ Some n → number_in t ≡ Some m → asked (p ∷ r ∷ so ∷ s ∷ te ∷ t ∷ na ∷ name ∷ []) ≡ asked_at n m name
 asked_is p r so s te t na name n m options society territory = rw (options, society, territory)
+
+-- words that are read as a replay ask for one
+pub asks_for : (a : Asked) (office : Office) → Reads a (words.Replay office) → AsksFor a office
+asks_for (AsksReplay society territory name) office reads = reads
+asks_for HasBadName office reads = absurd reads
+asks_for HasBadWords office reads = absurd reads

@@ -3,6 +3,7 @@ use Rattle.std.specs.Prelude.{ℕ, Bool, ◌&&◌, List, [], ◌∷◌, Option, 
 use Rattle.work_ids.specs.Digits.{number_of}
 use Rattle.cwr_records.specs.Typed.{up_to}
 use Rattle.share_rules.specs.Office.{IsOfficeOf, is_office}
+use Rattle.share_rules.specs.declared.office.Office.{Office}
 use Rattle.society.specs.declared.words.Words.{Words}
 use Rattle.society.specs.declared.words.Words.TheVariants as words
 
@@ -49,3 +50,15 @@ Reads HasBadName words.BadWords = ⊥
 Reads HasBadWords words.BadWords = Unit {0}
 Reads HasBadWords (words.Replay office) = ⊥
 Reads HasBadWords words.BadName = ⊥
+
+-- the words ask for a replay at this office
+abbrev pub AsksFor : Asked → Office → Type 0
+AsksFor (AsksReplay society territory name) office = IsOfficeOf society territory name office
+AsksFor HasBadName office = ⊥
+AsksFor HasBadWords office = ⊥
+
+-- the words are wrong, or the name is
+abbrev pub IsWrong : Asked → Type 0
+IsWrong (AsksReplay society territory name) = ⊥
+IsWrong HasBadName = Unit {0}
+IsWrong HasBadWords = Unit {0}

@@ -7,18 +7,16 @@ mod desk_tests;
 mod replay;
 #[cfg(test)]
 mod samples;
+mod starting;
 #[cfg(test)]
 mod tests;
 mod words;
 
 use http_desk::Counted;
-use replay::{BROKEN_OFF, replay};
+use replay::BROKEN_OFF;
+use starting::start;
 use std::env;
 use std::process::ExitCode;
-use words::{Words, office_in};
-
-/// Status where the words are none that the program knows.
-const WRONG_WORDS: u8 = 2;
 
 /// Ends before any request, where memory was refused for the words.
 fn no_memory(rt: &impl Eprint) -> ExitCode {
@@ -34,19 +32,13 @@ fn main(rt: HostRuntime) -> ExitCode {
     let Ok(words) = args.collect::<Vec<String>>(alloc) else {
         return no_memory(&rt);
     };
-    match office_in(words.as_slice()) {
-        Words::Replay(office) => {
-            let mut reader = Counted::new(rt.stdin());
-            let mut out = Counted::new(rt.stdout());
-            ExitCode::from(replay(alloc, &office, &mut reader, &mut out, &mut rt.stderr()))
-        }
-        Words::BadName => {
-            let _ = eprintln!(rt; "society: bad name");
-            ExitCode::from(WRONG_WORDS)
-        }
-        Words::BadWords => {
-            let _ = eprintln!(rt; "society: bad words");
-            ExitCode::from(WRONG_WORDS)
-        }
-    }
+    let mut reader = Counted::new(rt.stdin());
+    let mut out = Counted::new(rt.stdout());
+    ExitCode::from(start(
+        alloc,
+        words.as_slice(),
+        &mut reader,
+        &mut out,
+        &mut rt.stderr(),
+    ))
 }

@@ -1,6 +1,7 @@
 //! The program's rows: what is written for streams of requests, byte for byte.
 use crate::replay::replay;
 use crate::samples::{F1, F3, F3_ACK, changed};
+use crate::starting::start;
 use http_desk::{Counted, DeskFault, FaultKind, Served, serve};
 use share_rules::Office;
 use society_core::{Desk, PlainStore};
@@ -284,5 +285,139 @@ fn broken_streams(rt: HostRuntime) -> Result<(), Fail> {
     assert_eq!(rt; status, 1);
     let lines = b"society: read fault after 0 requests\nsociety: write fault after 1 requests\n";
     assert_eq!(rt; err.as_slice(), lines.as_slice());
+    Ok(())
+}
+
+/// Words of the program after its name, the status, and the line on standard error.
+type WordsRow = (&'static [&'static str], u8, &'static str);
+
+const WORDS: [WordsRow; 9] = [
+    (
+        &[
+            "replay",
+            "--society",
+            "900",
+            "--territory",
+            "40",
+            "--name",
+            "X",
+        ],
+        0,
+        "",
+    ),
+    (
+        &[
+            "replay",
+            "--society",
+            "900",
+            "--territory",
+            "40",
+            "--name",
+            "",
+        ],
+        2,
+        "society: bad name\n",
+    ),
+    (
+        &[
+            "replay",
+            "--society",
+            "900",
+            "--territory",
+            "40",
+            "--name",
+            "caf\u{e9}",
+        ],
+        2,
+        "society: bad name\n",
+    ),
+    (
+        &[
+            "replay",
+            "--society",
+            "1000",
+            "--territory",
+            "40",
+            "--name",
+            "X",
+        ],
+        2,
+        "society: bad words\n",
+    ),
+    (
+        &[
+            "replay",
+            "--society",
+            "900",
+            "--territory",
+            "00040",
+            "--name",
+            "X",
+        ],
+        2,
+        "society: bad words\n",
+    ),
+    (
+        &[
+            "replay",
+            "--territory",
+            "40",
+            "--society",
+            "900",
+            "--name",
+            "X",
+        ],
+        2,
+        "society: bad words\n",
+    ),
+    (
+        &[
+            "serve",
+            "--society",
+            "900",
+            "--territory",
+            "40",
+            "--name",
+            "X",
+        ],
+        2,
+        "society: bad words\n",
+    ),
+    (
+        &[
+            "replay",
+            "--society",
+            "900",
+            "--territory",
+            "40",
+            "--name",
+            "X",
+            "Y",
+        ],
+        2,
+        "society: bad words\n",
+    ),
+    (&[], 2, "society: bad words\n"),
+];
+
+#[test]
+fn words_of_the_program(rt: HostRuntime) -> Result<(), Fail> {
+    let alloc = rt.alloc();
+    for (words, status, line) in WORDS {
+        let mut list = Vec::new(alloc);
+        list.push(format!(in alloc; "society")?)?;
+        for word in words {
+            list.push(format!(in alloc; "{word}")?)?;
+        }
+        let mut input = Vec::new(alloc);
+        get(alloc, &mut input, "1")?;
+        let mut reader = Counted::new(input.as_slice());
+        let mut out = Counted::new(Vec::<u8>::new(alloc));
+        let mut err = Vec::<u8>::new(alloc);
+        let told = start(alloc, list.as_slice(), &mut reader, &mut out, &mut err);
+        assert_eq!(rt; told, status);
+        assert_eq!(rt; err.as_slice(), line.as_bytes());
+        assert_eq!(rt; out.into_inner().is_empty(), status != 0);
+    }
     Ok(())
 }
