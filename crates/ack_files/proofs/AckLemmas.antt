@@ -2,7 +2,7 @@
 use Rattle.std.proofs.Common.{◌≡◌, ℕ, suc, ◌+◌, ◌<◌, List, [], ◌∷◌, ◌++◌, length, drop, get_or, refl, sym, ap, ◌∙◌, append_assoc, arith, add-zero}
 use Rattle.std.specs.List.{zip}
 use Rattle.std.proofs.lemmas.List.{drop_more, drop-drop}
-use Rattle.cwr_records.specs.declared.framing.TransmissionHeader.{TransmissionHeader}
+use Rattle.cwr_records.specs.declared.transmission_header.TransmissionHeader.{TransmissionHeader}
 use Rattle.cwr_files.specs.declared.transmission.Transaction.{Transaction}
 use Rattle.works_core.specs.declared.verdict.Verdict.{Verdict}
 use Rattle.ack_files.specs.Acknowledgement.{ack_lines, ack_record}

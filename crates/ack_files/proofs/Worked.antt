@@ -11,9 +11,10 @@ use Rattle.works_core.specs.declared.verdict.Verdict.TheVariants.{Accepted, Reje
 use Rattle.ack_files.specs.Acknowledgement.{acknowledgement, recipient_number, status_of}
 use Rattle.ack_files.specs.Digits.{digits}
 use Rattle.ack_files.specs.Lines.{acknowledgement_line, group_header_line, group_trailer_line, header_line, trailer_line}
+use Rattle.work_ids.specs.Blanks.{fill as filled}
 
 abbrev office : Office
-office = record { society = 900; territory = 40; name = fill 45 (codes "EXAMPLE SOCIETY"); name_length = 15; society_in_range = lit≤ tt; territory_in_range = lit≤ tt; name_in_range = lit≤ tt }
+office = record { society = 900; territory = 40; name = filled 45 (codes "EXAMPLE SOCIETY"); name_length = 15; within_limits = refl; name_filled = refl; name_in_range = lit≤ tt }
 
 -- a transmission with no group
 no_group : acknowledgement office (codes "PB000000012") (transmission_in (codes "HDRPB000000012EXAMPLE MUSIC                                01.102026010510150020260106\r\nTRL000000000000000000002\r\n")) [] ≡ codes "HDRSO000000900EXAMPLE SOCIETY                              01.102026010600000020260106               \r\nTRL000000000000000000002\r\n"

@@ -4,15 +4,15 @@ use Rattle.std.specs.List.{zip}
 use Rattle.cwr_records.specs.Lines.{fill}
 use Rattle.cwr_records.specs.Records.{kind_code}
 use Rattle.cwr_records.specs.declared.acknowledgement.AcknowledgementRecord.{AcknowledgementRecord}
-use Rattle.cwr_records.specs.declared.framing.GroupHeader.{GroupHeader}
-use Rattle.cwr_records.specs.declared.framing.GroupTrailer.{GroupTrailer}
-use Rattle.cwr_records.specs.declared.framing.TransmissionHeader.{TransmissionHeader}
-use Rattle.cwr_records.specs.declared.framing.TransmissionTrailer.{TransmissionTrailer}
+use Rattle.cwr_records.specs.declared.group_header.GroupHeader.{GroupHeader}
+use Rattle.cwr_records.specs.declared.group_trailer.GroupTrailer.{GroupTrailer}
+use Rattle.cwr_records.specs.declared.transmission_header.TransmissionHeader.{TransmissionHeader}
+use Rattle.cwr_records.specs.declared.transmission_trailer.TransmissionTrailer.{TransmissionTrailer}
 use Rattle.cwr_files.specs.Contents.{transactions_of}
 use Rattle.cwr_files.specs.declared.transmission.Group.{Group}
 use Rattle.cwr_files.specs.declared.transmission.Transaction.{Transaction}
 use Rattle.cwr_files.specs.declared.transmission.Transmission.{Transmission}
-use Rattle.share_rules.specs.Fault.{first_work, title_of, submitter_number}
+use Rattle.cwr_files.specs.Transaction.{first_work, title_of, submitter_number}
 use Rattle.share_rules.specs.declared.office.Office.{Office}
 use Rattle.works_core.specs.declared.verdict.Verdict.{Verdict}
 use Rattle.works_core.specs.declared.verdict.Verdict.TheVariants.{Accepted, Rejected}

@@ -4,10 +4,10 @@ use Rattle.cwr_records.specs.Layouts.{row, ended}
 use Rattle.cwr_records.specs.Places.{header_places, group_header_places, acknowledgement_places, group_trailer_places, trailer_places}
 use Rattle.cwr_records.specs.Records.{header_contents, group_header_contents, acknowledgement_contents, group_trailer_contents, trailer_contents}
 use Rattle.cwr_records.specs.declared.acknowledgement.AcknowledgementRecord.{AcknowledgementRecord}
-use Rattle.cwr_records.specs.declared.framing.GroupHeader.{GroupHeader}
-use Rattle.cwr_records.specs.declared.framing.GroupTrailer.{GroupTrailer}
-use Rattle.cwr_records.specs.declared.framing.TransmissionHeader.{TransmissionHeader}
-use Rattle.cwr_records.specs.declared.framing.TransmissionTrailer.{TransmissionTrailer}
+use Rattle.cwr_records.specs.declared.group_header.GroupHeader.{GroupHeader}
+use Rattle.cwr_records.specs.declared.group_trailer.GroupTrailer.{GroupTrailer}
+use Rattle.cwr_records.specs.declared.transmission_header.TransmissionHeader.{TransmissionHeader}
+use Rattle.cwr_records.specs.declared.transmission_trailer.TransmissionTrailer.{TransmissionTrailer}
 
 -- the line of an HDR record
 unfoldable pub header_line : TransmissionHeader → List ℕ

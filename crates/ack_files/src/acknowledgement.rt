@@ -2,7 +2,7 @@ ghost use Rattle.std.specs.Prelude.{◌≡◌, ◌≤◌, ◌<◌, ◌+◌, ◌^
 ghost use Rattle.std.specs.List.{zip};
 ghost use Rattle.std.specs.Option.{option_copied};
 ghost use Rattle.cwr_records.specs.Lines.{fill};
-ghost use Rattle.share_rules.specs.Fault.{title_of, first_work, submitter_number};
+ghost use Rattle.cwr_files.specs.Transaction.{title_of, first_work, submitter_number};
 ghost use Rattle.ack_files.specs.Acknowledgement.{acknowledgement, ack_body, ack_group_header, ack_group_trailer, ack_header, ack_lines, ack_record, ack_trailer, has_transactions, recipient_number, status_of};
 ghost use Rattle.ack_files.specs.Lines.{header_line, group_header_line, acknowledgement_line, group_trailer_line, trailer_line};
 
@@ -16,7 +16,7 @@ use cwr_records::{
     AcknowledgementRecord, Field, Fixed, GroupHeader, GroupTrailer, TransmissionHeader,
     TransmissionTrailer,
 };
-use share_rules::{Office, work_of};
+use share_rules::Office;
 use std::alloc::{AllocError, Global};
 use work_ids::SenderKey;
 use works_core::Verdict;
@@ -138,20 +138,14 @@ fn status<'a>(verdict: &Verdict) -> Fixed<'a, 2>
 fn title<'a>(transaction: &Transaction<'a>) -> Fixed<'a, 60>
     ensures { result ≡ fill 60 (title_of transaction.now) }
 {
-    match work_of(transaction.records.as_slice()) {
-        Some(work) => work.title.field().widened(),
-        None => Fixed::new(b""),
-    }
+    transaction.title().widened()
 }
 
 /// A transaction's work number, as it came.
 fn submitter_number<'a>(transaction: &Transaction<'a>) -> Fixed<'a, 20>
     ensures { result ≡ fill 20 (submitter_number (first_work transaction.now.records)) }
 {
-    match work_of(transaction.records.as_slice()) {
-        Some(work) => work.work_number.field().widened(),
-        None => Fixed::new(b""),
-    }
+    transaction.submitter_number().widened()
 }
 
 /// Appends the ACK line of the transaction with this number, from 0.

@@ -10,8 +10,11 @@ use Rattle.cwr_files.specs.declared.counts.OpenGroup.{OpenGroup}
 use Rattle.cwr_files.specs.declared.counts.Stage.{Stage}
 use Rattle.cwr_files.specs.declared.counts.Stage.TheVariants.{Header, Between, Within, Ended}
 use Rattle.cwr_files.specs.RecordTypes.{hdr, grh, grt, trl, has_type, is_frame, type_of_group}
-use Rattle.cwr_files.specs.LineFaults.{is_too_large, header_fault, between_fault, group_fault, record_fault, ended_fault, number_at}
-use Rattle.cwr_files.specs.FileFault.{since, is_ended, is_open, open_type, groups_before, transactions_in_group, lines_in_group, next_number, begins_transaction, transactions_before, later_fault, structure_fault, fault_at}
+use Rattle.cwr_files.specs.LineFaults.{is_too_large, number_at}
+use Rattle.cwr_files.specs.Chain.{header_fault, between_fault, group_fault, record_fault, ended_fault}
+use Rattle.cwr_files.specs.LinesBefore.{since, is_ended, is_open, open_type, groups_before, transactions_in_group, lines_in_group, next_number, begins_transaction, transactions_before}
+use Rattle.cwr_files.proofs.Chained.{later_fault, structure_fault, fault-chained}
+use Rattle.cwr_files.specs.FileFault.{fault_at}
 use Rattle.cwr_files.specs.Counts.{stage_of, counts_of, stage_fault, counted_fault, group_after, opened_by, after_in, counts_after}
 use Rattle.cwr_files.proofs.LineFacts.{other_type, NoFrame, no_frame, blank_is_no_grh}
 
@@ -31,8 +34,9 @@ structure-behind sender (l ∷ past) line = stage_fault-chosen sender (is_ended 
 
 -- the running counts find the fault that stands behind the lines
 pub fault-behind : (sender : List ℕ) (past : List (List ℕ)) (end : ℕ) (line : List ℕ) → counted_fault sender (counts_of past) end line ≡ fault_at sender past end line
-unfolding counted_fault fault_at
-fault-behind sender past end line = ap (λ f. cond (is_too_large end line) (Some 12) f) (structure-behind sender past line)
+unfolding counted_fault
+fault-behind sender past end line =
+    ap (λ f. cond (is_too_large end line) (Some 12) f) (structure-behind sender past line) ∙ sym (fault-chained sender past end line)
 
 -- one line more
 
@@ -320,8 +324,7 @@ sized-none true f e = absurd cc
 sized-none false f e = e
 
 pub structure-none : (sender : List ℕ) (past : List (List ℕ)) (end : ℕ) (line : List ℕ) → fault_at sender past end line ≡ None → structure_fault sender past line ≡ None
-unfolding fault_at
-structure-none sender past end line e = sized-none (is_too_large end line) _ e
+structure-none sender past end line e = sized-none (is_too_large end line) _ (sym (fault-chained sender past end line) ∙ e)
 
 pub step-behind : (sender : List ℕ) (past : List (List ℕ)) (end : ℕ) (line : List ℕ) (counts more : Counts) → counts ≡ counts_of past → counted_fault sender counts end line ≡ None → more ≡ counts_after counts line → (fault_at sender past end line ≡ None) × (more ≡ counts_of (line ∷ past))
 step-behind sender past end line counts more e none is =

@@ -5,7 +5,8 @@ use Rattle.std.specs.List.{list_all}
 use Rattle.std.proofs.lemmas.Bool.{and_parts, ne_eqb}
 use Rattle.std.proofs.lemmas.List.Sums.{sum_by-cons}
 use Rattle.cwr_records.specs.Lines.{is_blank}
-use Rattle.cwr_files.specs.RecordTypes.{grh, trl, has_type, type_of_group, is_closing, is_trailer, is_record}
+use Rattle.cwr_files.specs.RecordTypes.{grh, trl, has_type, type_of_group}
+use Rattle.cwr_files.specs.RightLines.{is_closing, is_trailer, is_record}
 use Rattle.cwr_files.specs.File.{GroupLines, FileLines, group_lines, file_lines, AreFurther, AreTransactions, IsGroup, AreGroups, IsFile}
 use Rattle.cwr_files.proofs.LineFacts.{other_type}
 use Rattle.cwr_files.proofs.Passing.{Passes, passes-from}

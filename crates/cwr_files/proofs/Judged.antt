@@ -5,13 +5,16 @@ use Rattle.std.specs.List.{AllByRecursion}
 use Rattle.std.proofs.lemmas.Bool.{and_parts, or_parts, or_from, ltb-false, le-ltb}
 use Rattle.std.proofs.lemmas.List.Elements.{All-from_recursion, recursion_from_All}
 use Rattle.std.proofs.lemmas.List.Sums.{sum_by-cons}
-use Rattle.cwr_records.specs.Lines.{pieces, onto_first, line_of, lines, field}
+use Rattle.cwr_records.specs.Lines.{pieces, onto_first, line_of, lines}
 use Rattle.cwr_files.specs.declared.fault.FileFault.{FileFault}
 use Rattle.cwr_files.specs.Sizes.{max_line, max_body}
 use Rattle.cwr_files.specs.declared.transmission.Transmission.{Transmission}
-use Rattle.cwr_files.specs.RecordTypes.{hdr, has_type, is_header, is_dated}
+use Rattle.cwr_files.specs.RecordTypes.{hdr, has_type}
+use Rattle.cwr_files.specs.RightLines.{is_header, is_dated, sender_in}
 use Rattle.cwr_files.specs.LineFaults.{is_too_large}
-use Rattle.cwr_files.specs.FileFault.{groups_before, fault_at, structure_fault, fault_or, first_fault, file_fault}
+use Rattle.cwr_files.specs.LinesBefore.{groups_before}
+use Rattle.cwr_files.specs.FileFault.{fault_at, fault_or, fault_from, file_fault}
+use Rattle.cwr_files.proofs.Chained.{structure_fault, fault-chained}
 use Rattle.cwr_files.specs.Counts.{counts_of}
 use Rattle.cwr_files.specs.File.{File}
 use Rattle.cwr_files.specs.Contents.{contents, transmission_in, is_headed}
@@ -38,21 +41,21 @@ sized-parts true f e = absurd cc
 sized-parts false f e = (refl, e)
 
 fault_at-none : (sender : List ℕ) (past : List (List ℕ)) (end : ℕ) (line : List ℕ) → fault_at sender past end line ≡ None → (is_too_large end line ≡ false) × (structure_fault sender past line ≡ None)
-unfolding fault_at
-fault_at-none sender past end line e = sized-parts (is_too_large end line) (structure_fault sender past line) e
+fault_at-none sender past end line e =
+    sized-parts (is_too_large end line) (structure_fault sender past line) (sym (fault-chained sender past end line) ∙ e)
 
 fault_at-free : (sender : List ℕ) (past : List (List ℕ)) (end : ℕ) (line : List ℕ) → is_too_large end line ≡ false → structure_fault sender past line ≡ None → fault_at sender past end line ≡ None
-unfolding fault_at
-fault_at-free sender past end line s f = ap (λ b. cond b (Some 12) (structure_fault sender past line)) s ∙ f
+fault_at-free sender past end line s f =
+    fault-chained sender past end line ∙ ap (λ b. cond b (Some 12) (structure_fault sender past line)) s ∙ f
 
 bytes-more : (p : List ℕ) (past : List (List ℕ)) → sum_by length (p ∷ past) ≡ sum_by length past + length p
 bytes-more p past = omega (arith, sum_by-cons length p past)
 
-passing : (sender : List ℕ) (past ps : List (List ℕ)) → first_fault sender past ps ≡ None → Passes sender (counts_of (map line_of past)) (map line_of ps) × HaveSizes (sum_by length past) ps
+passing : (sender : List ℕ) (past ps : List (List ℕ)) → fault_from sender past ps ≡ None → Passes sender (counts_of (map line_of past)) (map line_of ps) × HaveSizes (sum_by length past) ps
 unfolding HaveSizes
 passing sender past [] e = (end-behind (map line_of past) ∙ e, tt)
 passing sender past (p ∷ ps) e =
-    let f = fault_or-none (fault_at sender (map line_of past) (sum_by length past + length p) (line_of p)) (length past + 1) (first_fault sender (p ∷ past) ps) e in
+    let f = fault_or-none (fault_at sender (map line_of past) (sum_by length past + length p) (line_of p)) (length past + 1) (fault_from sender (p ∷ past) ps) e in
     let a = fault_at-none sender (map line_of past) (sum_by length past + length p) (line_of p) f.0 in
     let rest = passing sender (p ∷ past) ps f.1 in (
       (
@@ -62,13 +65,13 @@ passing sender past (p ∷ ps) e =
       (a.0, subst (λ n. HaveSizes n ps) (bytes-more p past) rest.1),
     )
 
-faultless : (sender : List ℕ) (past ps : List (List ℕ)) → Passes sender (counts_of (map line_of past)) (map line_of ps) → HaveSizes (sum_by length past) ps → first_fault sender past ps ≡ None
+faultless : (sender : List ℕ) (past ps : List (List ℕ)) → Passes sender (counts_of (map line_of past)) (map line_of ps) → HaveSizes (sum_by length past) ps → fault_from sender past ps ≡ None
 unfolding HaveSizes
 faultless sender past [] h s = sym (end-behind (map line_of past)) ∙ h
 faultless sender past (p ∷ ps) h s =
     let here : structure_fault sender (map line_of past) (line_of p) ≡ None = sym (structure-behind sender (map line_of past) (line_of p)) ∙ h.0 in
     let rest = faultless sender (p ∷ past) ps (passes-from sender _ _ (map line_of ps) (counts-behind sender (map line_of past) (line_of p) here) h.1) (subst (λ n. HaveSizes n ps) (sym (bytes-more p past)) s.1) in
-    ap (λ o. fault_or o (length past + 1) (first_fault sender (p ∷ past) ps)) (fault_at-free sender (map line_of past) (sum_by length past + length p) (line_of p) s.0 here) ∙ rest
+    ap (λ o. fault_or o (length past + 1) (fault_from sender (p ∷ past) ps)) (fault_at-free sender (map line_of past) (sum_by length past + length p) (line_of p) s.0 here) ∙ rest
 
 -- sizes
 
@@ -146,7 +149,7 @@ unfolding transmission_in
 only_one sender body t h = h.told ∙ sym (told sender h.shape h.is_file) ∙ ap contents (sym h.joined)
 
 judged : (sender body : List ℕ) (o : Option FileFault) → file_fault sender body ≡ o → IsJudged sender body o
-judged sender body None e = (transmission_in body, holds sender body e, λ u h. only_one sender body u h)
+judged sender body None e = (holds sender body e, λ u h. only_one sender body u h)
 judged sender body (Some f) e = λ t h. differ (sym (no_fault sender body t h) ∙ e) where
   differ : None ≡ Some f → ⊥
   differ e = cc
@@ -156,7 +159,7 @@ is_judged sender body = judged sender body (file_fault sender body) refl
 
 header-type : (sender line : List ℕ) → is_header sender line ≡ true → has_type hdr line ≡ true
 unfolding is_header
-header-type sender line f = (and_parts (has_type hdr line) _ (and_parts (has_type hdr line && bytes_eq (field line 4 14) sender) (is_dated line) f).0).0
+header-type sender line f = (and_parts (has_type hdr line) _ (and_parts (has_type hdr line && bytes_eq (sender_in line) sender) (is_dated line) f).0).0
 
 -- a body without a fault begins with a header, and is not large
 pub headed : (sender body : List ℕ) → file_fault sender body ≡ None → is_headed (lines body) ≡ true

@@ -1,14 +1,15 @@
 pub mod LineFacts
+pub mod Chained
 pub mod Behind
 pub mod Room
 pub mod OnePass
 pub mod Listing
-pub mod HeaderRecords
 pub mod Steps
 pub mod Passing
 pub mod Sound
 pub mod Complete
 pub mod Told
 pub mod Judged
+pub mod SenderKeys
 pub mod Placed
 mod Worked

@@ -5,6 +5,7 @@ use Rattle.std.proofs.lemmas.Bool.{eqb-true, or_parts, and_parts}
 use Rattle.std.proofs.lemmas.Slice.Eq.{bytes_eq-Decides}
 use Rattle.std.proofs.lemmas.List.{length-append, length-take, length-replicate}
 use Rattle.cwr_records.specs.Lines.{field, fill, is_blank}
+use Rattle.cwr_records.specs.Places.{record_type_in}
 use Rattle.cwr_files.specs.RecordTypes.{hdr, grh, grt, trl, has_type, is_frame}
 
 -- a field has its width
@@ -23,7 +24,7 @@ three_are (a ∷ b ∷ c ∷ d ∷ xs) e = absurd (omega arith)
 -- a line has one record type
 pub other_type : (a b line : List ℕ) → bytes_eq a b ≡ false → has_type a line ≡ true → has_type b line ≡ false
 unfolding has_type
-other_type a b line differ is = ap (λ x. bytes_eq x b) ((bytes_eq-Decides (field line 1 3) a).0 is) ∙ differ
+other_type a b line differ is = ap (λ x. bytes_eq x b) ((bytes_eq-Decides (record_type_in line) a).0 is) ∙ differ
 
 -- a record that frames nothing has none of the four types
 pub record NoFrame (line : List ℕ) : Type 0 where

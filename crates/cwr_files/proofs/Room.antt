@@ -7,7 +7,7 @@ use Rattle.std.proofs.lemmas.List.Sums.{count_by-le-length}
 use Rattle.cwr_files.specs.declared.counts.OpenGroup.{OpenGroup}
 use Rattle.cwr_files.specs.declared.counts.Stage.TheVariants.{Between, Within, Ended}
 use Rattle.cwr_files.specs.RecordTypes.{grh, has_type}
-use Rattle.cwr_files.specs.FileFault.{since, is_ended, is_open, open_type, groups_before, transactions_in_group, lines_in_group, next_number, begins_transaction, transactions_before}
+use Rattle.cwr_files.specs.LinesBefore.{since, is_ended, is_open, open_type, groups_before, transactions_in_group, lines_in_group, next_number, begins_transaction, transactions_before}
 use Rattle.cwr_files.specs.Counts.{stage_of, counts_of, StageHasRoom, HasRoom}
 
 length-since : (code : List ℕ) (past : List (List ℕ)) → length (since code past) ≤ length past

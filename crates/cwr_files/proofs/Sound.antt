@@ -5,7 +5,8 @@ use Rattle.std.specs.List.{list_all}
 use Rattle.std.proofs.lemmas.Bool.{cases_Bool, and_from, eqb-false}
 use Rattle.std.proofs.lemmas.List.Sums.{sum_by-cons}
 use Rattle.cwr_records.specs.Lines.{is_blank}
-use Rattle.cwr_files.specs.RecordTypes.{grh, grt, has_type, type_of_group, is_opening, is_closing, is_trailer, is_record}
+use Rattle.cwr_files.specs.RecordTypes.{grh, grt, has_type, type_of_group}
+use Rattle.cwr_files.specs.RightLines.{is_opening, is_closing, is_trailer, is_record}
 use Rattle.cwr_files.specs.File.{GroupLines, FileLines, group_lines, file_lines, AreFurther, AreTransactions, AreGroups, IsFile}
 use Rattle.cwr_files.proofs.Passing.{Passes, passes-from}
 use Rattle.cwr_files.proofs.Steps.{at_header, at_between, at_end, at_within, header-good, after-header, opening-good, after-opening, trailer-good, after-trailer, closing-good, after-closing, IsGood, record-good, after-record, blank-good, after-blank}

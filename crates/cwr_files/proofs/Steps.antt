@@ -2,11 +2,15 @@
 use Rattle.std.proofs.Common.{◌≡◌, ℕ, ◌+◌, Bool, true, false, cond, eqb, List, refl, ap}
 use Rattle.std.specs.Prelude.{not, ◌&&◌, ◌||◌, bytes_eq, None, Some, Option}
 use Rattle.std.proofs.lemmas.Bool.{and_parts, and_from}
-use Rattle.cwr_records.specs.Lines.{field, is_blank}
+use Rattle.cwr_records.specs.Lines.{is_blank}
+use Rattle.cwr_records.specs.Places.{record_type_in}
+use Rattle.cwr_records.specs.Records.{group_header_of}
 use Rattle.cwr_files.specs.declared.counts.Counts.{Counts}
 use Rattle.cwr_files.specs.declared.counts.Stage.TheVariants.{Header, Between, Within, Ended}
-use Rattle.cwr_files.specs.RecordTypes.{hdr, grh, grt, trl, has_type, is_frame, is_read, is_numbered, is_code, is_dated, type_of_group, bears, has_counts, is_header, is_opening, is_closing, is_trailer, is_record}
-use Rattle.cwr_files.specs.LineFaults.{header_fault, opening_fault, trailer_fault, between_fault, closing_fault, record_fault, group_fault, ended_fault, sequence_at, number_at}
+use Rattle.cwr_files.specs.RecordTypes.{hdr, grh, grt, trl, has_type, is_frame, is_read, is_code, type_of_group}
+use Rattle.cwr_files.specs.RightLines.{is_numbered, is_dated, bears, has_group_counts, has_file_counts, is_header, is_opening, is_closing, is_trailer, is_record, sender_in}
+use Rattle.cwr_files.specs.Chain.{header_fault, opening_fault, trailer_fault, between_fault, closing_fault, record_fault, group_fault, ended_fault}
+use Rattle.cwr_files.specs.LineFaults.{sequence_at, number_at}
 use Rattle.cwr_files.specs.Counts.{group_after, opened_by, counts_after}
 use Rattle.cwr_files.proofs.LineFacts.{other_type, NoFrame, no_frame}
 
@@ -67,15 +71,15 @@ pub header-good : (sender line : List ℕ) → header_fault sender line ≡ None
 unfolding header_fault is_header
 header-good sender line e =
     let a = guard-not (has_type hdr line) 1 _ e in
-    let b = guard-not (bytes_eq (field line 4 14) sender) 2 _ a.1 in
+    let b = guard-not (bytes_eq (sender_in line) sender) 2 _ a.1 in
     let c = guard-not (is_dated line) 3 _ b.1 in
     and_from _ _ (and_from _ _ a.0 b.0) c.0
 
 pub header-faultless : (sender line : List ℕ) → is_header sender line ≡ true → header_fault sender line ≡ None
 unfolding header_fault is_header
 header-faultless sender line e =
-    let a = and_parts (has_type hdr line && bytes_eq (field line 4 14) sender) (is_dated line) e in
-    let b = and_parts (has_type hdr line) (bytes_eq (field line 4 14) sender) a.0 in
+    let a = and_parts (has_type hdr line && bytes_eq (sender_in line) sender) (is_dated line) e in
+    let b = and_parts (has_type hdr line) (bytes_eq (sender_in line) sender) a.0 in
     rw (b.0, b.1, a.1) refl
 
 pub after-header : (line : List ℕ) → counts_after at_header line ≡ at_between 1 0 0
@@ -88,20 +92,20 @@ pub opening-good : (m t n : ℕ) (line : List ℕ) → between_fault m t n line 
 unfolding between_fault opening_fault is_opening
 opening-good m t n line e h =
     let o : cond true (opening_fault m line) (cond (has_type trl line) (trailer_fault m t n line) (Some 4)) ≡ None = rw h at e in
-    let a = guard-not (bears (field line 7 11) (m + 1)) 5 _ o in
+    let a = guard-not (bears (group_header_of line).group_id (m + 1)) 5 _ o in
     let b = guard-not (is_code (type_of_group line)) 13 _ a.1 in
     and_from _ _ (and_from _ _ h a.0) b.0
 
 pub opening-type : (m : ℕ) (line : List ℕ) → is_opening m line ≡ true → has_type grh line ≡ true
 unfolding is_opening
 opening-type m line e =
-    (and_parts (has_type grh line) _ (and_parts (has_type grh line && bears (field line 7 11) m) (is_code (type_of_group line)) e).0).0
+    (and_parts (has_type grh line) _ (and_parts (has_type grh line && bears (group_header_of line).group_id m) (is_code (type_of_group line)) e).0).0
 
 pub opening-faultless : (m t n : ℕ) (line : List ℕ) → is_opening (m + 1) line ≡ true → between_fault m t n line ≡ None
 unfolding between_fault opening_fault is_opening
 opening-faultless m t n line e =
-    let a = and_parts (has_type grh line && bears (field line 7 11) (m + 1)) (is_code (type_of_group line)) e in
-    let b = and_parts (has_type grh line) (bears (field line 7 11) (m + 1)) a.0 in
+    let a = and_parts (has_type grh line && bears (group_header_of line).group_id (m + 1)) (is_code (type_of_group line)) e in
+    let b = and_parts (has_type grh line) (bears (group_header_of line).group_id (m + 1)) a.0 in
     rw (b.0, b.1, a.1) refl
 
 pub after-opening : (n m t : ℕ) (line : List ℕ) → has_type grh line ≡ true → counts_after (at_between n m t) line ≡ at_within (type_of_group line) 0 1 1 (n + 1) (m + 1) t
@@ -114,7 +118,7 @@ pub trailer-good : (m t n : ℕ) (line : List ℕ) → between_fault m t n line 
 unfolding between_fault trailer_fault is_trailer
 trailer-good m t n line e h =
     let o : cond false (opening_fault m line) (cond (has_type trl line) (trailer_fault m t n line) (Some 4)) ≡ None = rw h at e in
-    let a = trailer-parts (has_type trl line) (has_counts m t (n + 1) line) o in
+    let a = trailer-parts (has_type trl line) (has_file_counts m t (n + 1) line) o in
     and_from _ _ a.0 a.1 where
       trailer-parts : (a b : Bool) → cond {A = Option ℕ} a (cond b None (Some 9)) (Some 4) ≡ None → (a ≡ true) × (b ≡ true)
       trailer-parts true true f = (refl, refl)
@@ -128,7 +132,7 @@ trailer-type m t n line e = (and_parts (has_type trl line) _ e).0
 pub trailer-faultless : (m t n : ℕ) (line : List ℕ) → is_trailer m t (n + 1) line ≡ true → between_fault m t n line ≡ None
 unfolding between_fault trailer_fault is_trailer
 trailer-faultless m t n line e =
-    let a = and_parts (has_type trl line) (has_counts m t (n + 1) line) e in
+    let a = and_parts (has_type trl line) (has_file_counts m t (n + 1) line) e in
     let no = other_type trl grh line refl a.0 in
     rw (no, a.0, a.1) refl
 
@@ -142,7 +146,7 @@ pub closing-good : (m r q k : ℕ) (kind line : List ℕ) → group_fault m kind
 unfolding group_fault closing_fault is_closing
 closing-good m r q k kind line e h =
     let o : cond true (closing_fault m r q line) (record_fault kind r k line) ≡ None = rw h at e in
-    and_from _ _ h (kept (has_counts m r (q + 1) line) 8 o)
+    and_from _ _ h (kept (has_group_counts m r (q + 1) line) 8 o)
 
 pub closing-type : (m r q : ℕ) (line : List ℕ) → is_closing m r q line ≡ true → has_type grt line ≡ true
 unfolding is_closing
@@ -151,7 +155,7 @@ closing-type m r q line e = (and_parts (has_type grt line) _ e).0
 pub closing-faultless : (m r q k : ℕ) (kind line : List ℕ) → is_closing m r (q + 1) line ≡ true → group_fault m kind r q k line ≡ None
 unfolding group_fault closing_fault is_closing
 closing-faultless m r q k kind line e =
-    let a = and_parts (has_type grt line) (has_counts m r (q + 1) line) e in
+    let a = and_parts (has_type grt line) (has_group_counts m r (q + 1) line) e in
     rw (a.0, a.1) refl
 
 pub after-closing : (kind : List ℕ) (r q k n m t : ℕ) (line : List ℕ) → has_type grt line ≡ true → counts_after (at_within kind r q k n m t) line ≡ at_between (n + 1) m t
@@ -168,7 +172,7 @@ pub record IsGood (kind : List ℕ) (r k : ℕ) (line : List ℕ) : Type 0 where
 pub record-free : (kind : List ℕ) (j k : ℕ) (line : List ℕ) → is_record kind j k line ≡ true → NoFrame line
 unfolding is_record
 record-free kind j k line e =
-    let a = and_parts (not (is_frame line) && (not (is_read kind) || is_numbered j k line)) (is_code (field line 1 3)) e in
+    let a = and_parts (not (is_frame line) && (not (is_read kind) || is_numbered j k line)) (is_code (record_type_in line)) e in
     let b = and_parts (not (is_frame line)) (not (is_read kind) || is_numbered j k line) a.0 in
     no_frame line (not-is (is_frame line) b.0)
 
@@ -178,7 +182,7 @@ record-good m r q k kind line e h =
     let o : cond false (closing_fault m r q line) (record_fault kind r k line) ≡ None = rw h at e in
     let a = guard (is_frame line || (not (has_type kind line) && eqb r 0)) 6 _ o in
     let b = guard (is_read kind && not (is_numbered (sequence_at kind r line) (number_at kind k line) line)) 7 _ a.1 in
-    let c = guard-not (is_code (field line 1 3)) 13 _ b.1 in
+    let c = guard-not (is_code (record_type_in line)) 13 _ b.1 in
     let d = or-parts (is_frame line) (not (has_type kind line) && eqb r 0) a.0 in
     record {
       begun = d.1;
@@ -189,7 +193,7 @@ pub record-faultless : (m r q k : ℕ) (kind line : List ℕ) → IsGood kind r 
 unfolding group_fault record_fault is_record
 record-faultless m r q k kind line g =
     let numbered = is_numbered (sequence_at kind r line) (number_at kind k line) line in
-    let a = and_parts (not (is_frame line) && (not (is_read kind) || is_numbered (sequence_at kind r line) (number_at kind k line) line)) (is_code (field line 1 3)) g.is_record' in
+    let a = and_parts (not (is_frame line) && (not (is_read kind) || is_numbered (sequence_at kind r line) (number_at kind k line) line)) (is_code (record_type_in line)) g.is_record' in
     let b = and_parts (not (is_frame line)) (not (is_read kind) || is_numbered (sequence_at kind r line) (number_at kind k line) line) a.0 in
     let free = no_frame line (not-is (is_frame line) b.0) in
     rw (free.no_grt, not-is (is_frame line) b.0, g.begun, back-way (is_read kind) (is_numbered (sequence_at kind r line) (number_at kind k line) line) b.1, a.1) refl

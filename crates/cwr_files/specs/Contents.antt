@@ -25,13 +25,13 @@ group_of id opening transactions = record {
       then numbered_transactions (kind_of (type_of_group opening)) id transactions else []);
 }
 
--- each line that opens a part, with the lines after it up to the next one that ends it (profile)
+-- each line that opens a part, with the lines after it up to the next one that ends it
 abbrev pub parts : (List ℕ → Bool) → (List ℕ → Bool) → List (List ℕ) → List (List (List ℕ))
 parts opens ends [] = []
 parts opens ends (line ∷ more) =
     if opens line then (line ∷ take_while (λ l. not (ends l)) more) ∷ parts opens ends more else parts opens ends more
 
--- the lines of a group up to its trailer (profile)
+-- the lines of a group up to its trailer
 abbrev pub group_part : List (List ℕ) → List (List ℕ)
 group_part more = take_while (λ l. not (has_type grt l)) more
 
@@ -44,7 +44,7 @@ abbrev pub transactions_in : List ℕ → ℕ → List (List ℕ) → List Trans
 transactions_in type group more =
     numbered_transactions (kind_of type) group (parts (has_type type) (has_type type) (group_part more))
 
--- the group with this ID in a group header and the lines after it up to the group's trailer (profile)
+-- the group with this ID in a group header and the lines after it up to the group's trailer
 abbrev pub group_in : ℕ → List (List ℕ) → Group
 group_in id [] = group_of id [] []
 group_in id (opening ∷ more) =
@@ -54,12 +54,12 @@ group_in id (opening ∷ more) =
 abbrev pub groups_in : List (List ℕ) → List Group
 groups_in more = map (λ p. group_in p.0 p.1) (enumerate_from 1 (parts (has_type grh) (has_type grt) more))
 
--- whether the first line is a transmission header (profile)
+-- whether the first line is a transmission header
 abbrev pub is_headed : List (List ℕ) → Bool
 is_headed [] = false
 is_headed (line ∷ more) = has_type hdr line
 
--- what the lines of a transmission tell (profile)
+-- what the lines of a transmission tell
 abbrev pub contents : List (List ℕ) → Transmission
 contents [] = record { header = header_of []; groups = [] }
 contents (line ∷ more) = record { header = header_of line; groups = groups_in more }
@@ -68,6 +68,6 @@ contents (line ∷ more) = record { header = header_of line; groups = groups_in 
 unfoldable pub transmission_in : List ℕ → Transmission
 transmission_in body = contents (lines body)
 
--- all transactions of a transmission, in order (profile)
+-- all transactions of a transmission, in order
 abbrev pub transactions_of : Transmission → List Transaction
 transactions_of t = flat_map (λ g. g.transactions) t.groups

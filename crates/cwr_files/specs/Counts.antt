@@ -1,4 +1,4 @@
--- The running counts of a reader that goes line by line.
+-- Representation: the running counts of the one pass over a body. What they stand for is said by LinesBefore, what is found by LineFaults.
 use Rattle.std.specs.Prelude.{◌≡◌, ℕ, ◌+◌, ◌^◌, ◌<◌, List, [], ◌∷◌, length, Option, Some, None, Result, MatchResult, if◌then◌else◌}
 use Rattle.cwr_files.specs.declared.fault.FileFault.{FileFault}
 use Rattle.cwr_files.specs.declared.counts.Counts.{Counts}
@@ -6,10 +6,12 @@ use Rattle.cwr_files.specs.declared.counts.OpenGroup.{OpenGroup}
 use Rattle.cwr_files.specs.declared.counts.Stage.{Stage}
 use Rattle.cwr_files.specs.declared.counts.Stage.TheVariants.{Header, Between, Within, Ended}
 use Rattle.cwr_files.specs.RecordTypes.{grh, grt, has_type, type_of_group}
-use Rattle.cwr_files.specs.LineFaults.{is_too_large, header_fault, between_fault, group_fault, ended_fault, number_at}
-use Rattle.cwr_files.specs.FileFault.{is_ended, is_open, open_type, groups_before, transactions_in_group, lines_in_group, next_number, transactions_before, fault_at}
+use Rattle.cwr_files.specs.LineFaults.{is_too_large, number_at}
+use Rattle.cwr_files.specs.Chain.{header_fault, between_fault, group_fault, ended_fault}
+use Rattle.cwr_files.specs.LinesBefore.{is_ended, is_open, open_type, groups_before, transactions_in_group, lines_in_group, next_number, transactions_before}
+use Rattle.cwr_files.specs.FileFault.{fault_at}
 
--- where the next line stands, behind those lines, the nearest first (profile)
+-- where the next line stands, behind those lines, the nearest first
 abbrev pub stage_of : List (List ℕ) → Stage
 stage_of [] = Header
 stage_of (nearest ∷ past) =
@@ -23,7 +25,7 @@ stage_of (nearest ∷ past) =
     })
     else Between)
 
--- the counts behind those lines, the nearest first (profile)
+-- the counts behind those lines, the nearest first
 unfoldable pub counts_of : List (List ℕ) → Counts
 counts_of past = record {
   lines = length past;
@@ -32,19 +34,19 @@ counts_of past = record {
   stage = stage_of past;
 }
 
--- the fault of a line by running counts, its size aside (profile)
+-- the fault of a line by running counts, its size aside
 abbrev pub stage_fault : List ℕ → Stage → Counts → List ℕ → Option ℕ
 stage_fault sender Header counts line = header_fault sender line
 stage_fault sender Between counts line = between_fault counts.groups counts.transactions counts.lines line
 stage_fault sender (Within g) counts line = group_fault counts.groups g.kind g.transactions g.lines g.further line
 stage_fault sender Ended counts line = ended_fault line
 
--- the fault of a line by running counts, where the body has so many bytes at the line's end (profile)
+-- the fault of a line by running counts, where the body has so many bytes at the line's end
 unfoldable pub counted_fault : List ℕ → Counts → ℕ → List ℕ → Option ℕ
 counted_fault sender counts end line =
     if is_too_large end line then Some 12 else stage_fault sender counts.stage counts line
 
--- the open group after one more of its records (profile)
+-- the open group after one more of its records
 unfoldable pub group_after : OpenGroup → List ℕ → OpenGroup
 group_after g line = record {
   kind = g.kind;
@@ -53,11 +55,11 @@ group_after g line = record {
   further = number_at g.kind g.further line + 1;
 }
 
--- a group that has just begun (profile)
+-- a group that has just begun
 unfoldable pub opened_by : List ℕ → OpenGroup
 opened_by line = record { kind = type_of_group line; transactions = 0; lines = 1; further = 1 }
 
--- the counts after a line that has no fault (profile)
+-- the counts after a line that has no fault
 abbrev pub after_in : Stage → Counts → List ℕ → Counts
 after_in Header c line = record c { lines = c.lines + 1; stage = Between }
 after_in Between c line =
@@ -74,43 +76,43 @@ after_in (Within g) c line =
     }
 after_in Ended c line = record c { lines = c.lines + 1 }
 
--- the counts after a line that has no fault (profile)
+-- the counts after a line that has no fault
 unfoldable pub counts_after : Counts → List ℕ → Counts
 counts_after c line = after_in c.stage c line
 
--- the fault of a body that ends behind these counts: 1 it has no line, 10 it has no trailer (profile)
+-- the fault of a body that ends behind these counts: 1 it has no line, 10 it has no trailer
 abbrev pub end_in : Stage → Counts → Option FileFault
 end_in Header c = Some (record { number = 1; line = 1 })
 end_in Ended c = None
 end_in Between c = Some (record { number = 10; line = c.lines + 1 })
 end_in (Within g) c = Some (record { number = 10; line = c.lines + 1 })
 
--- the fault of a body that ends behind these counts (profile)
+-- the fault of a body that ends behind these counts
 abbrev pub counted_end : Counts → Option FileFault
 counted_end c = end_in c.stage c
 
--- an open group's counts are far from the limits of their types (profile)
+-- an open group's counts are far from the limits of their types
 abbrev pub StageHasRoom : Stage → Type 0
 StageHasRoom Header = Unit {0}
 StageHasRoom Between = Unit {0}
 StageHasRoom (Within g) = (g.transactions < 2 ^ 63) × (g.lines < 2 ^ 63) × (g.further < 2 ^ 63)
 StageHasRoom Ended = Unit {0}
 
--- counts are far from the limits of their types (profile)
+-- counts are far from the limits of their types
 pub record HasRoom (c : Counts) : Type 0 where
   pub lines : c.lines < 2 ^ 63
   pub groups : c.groups < 2 ^ 63
   pub transactions : c.transactions < 2 ^ 63
   pub stage : StageHasRoom c.stage
 
--- a line step answered the counts after the line, or the line's fault (profile)
+-- a line step answered the counts after the line, or the line's fault
 abbrev pub IsStep : List ℕ → Counts → ℕ → List ℕ → Result Counts ℕ → Type 0
 IsStep sender counts end line answer =
     MatchResult answer
     (λ c. (counted_fault sender counts end line ≡ None) × (c ≡ counts_after counts line))
     (λ n. counted_fault sender counts end line ≡ Some n)
 
--- a line step from the counts behind any lines answered the counts behind one more, or the line's fault behind them (profile)
+-- a line step from the counts behind any lines answered the counts behind one more, or the line's fault behind them
 abbrev pub IsStepBehind : List ℕ → Counts → ℕ → List ℕ → Result Counts ℕ → Type 0
 IsStepBehind sender counts end line answer =
     (past : List (List ℕ)) → counts ≡ counts_of past →

@@ -15,15 +15,15 @@ unfoldable pub is_real_time : ℕ → Bool
 is_real_time digits =
     nat_le (digits / 10000) 23 && nat_le (digits / 100 % 100) 59 && nat_le (digits % 100) 59
 
--- whether there is a number that passes (profile)
+-- whether there is a number that passes
 abbrev pub passes : (ℕ → Bool) → Option ℕ → Bool
 passes test None = false
 passes test (Some number) = test number
 
--- whether a field is a date, in digits alone (profile)
+-- whether a field is a date, in digits alone
 unfoldable pub is_date : List ℕ → Bool
 is_date bytes = passes is_real_date (number_of bytes)
 
--- whether a field is a time of day, in digits alone (profile)
+-- whether a field is a time of day, in digits alone
 unfoldable pub is_time : List ℕ → Bool
 is_time bytes = passes is_real_time (number_of bytes)

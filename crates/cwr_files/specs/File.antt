@@ -4,7 +4,8 @@ use Rattle.std.specs.List.{list_all, enumerate_from}
 use Rattle.cwr_records.specs.Lines.{is_blank}
 use Rattle.cwr_records.specs.Records.{header_of}
 use Rattle.cwr_files.specs.declared.transmission.Transmission.{Transmission}
-use Rattle.cwr_files.specs.RecordTypes.{has_type, type_of_group, is_header, is_opening, is_closing, is_trailer, is_record}
+use Rattle.cwr_files.specs.RecordTypes.{has_type, type_of_group}
+use Rattle.cwr_files.specs.RightLines.{is_header, is_opening, is_closing, is_trailer, is_record}
 use Rattle.cwr_files.specs.Contents.{group_of}
 
 -- the lines of a group: its header, its transactions, its trailer (CISAC CWR 2.2)
@@ -20,11 +21,11 @@ pub record FileLines : Type 0 where
   pub trailer : List ℕ
   pub rest : List (List ℕ)
 
--- the lines of a group, joined (profile)
+-- the lines of a group, joined
 abbrev pub group_lines : GroupLines → List (List ℕ)
 group_lines g = g.opening ∷ (flat_map (λ (x : List (List ℕ)). x) g.transactions ++ g.closing ∷ [])
 
--- the lines of a file, joined (profile)
+-- the lines of a file, joined
 abbrev pub file_lines : FileLines → List (List ℕ)
 file_lines f = f.header ∷ (flat_map group_lines f.groups ++ f.trailer ∷ f.rest)
 
@@ -56,7 +57,7 @@ abbrev pub AreGroups : ℕ → List GroupLines → Type 0
 AreGroups id [] = Unit {0}
 AreGroups id (g ∷ gs) = IsGroup id g × AreGroups (id + 1) gs
 
--- how many lines a file has from its header to its trailer (profile)
+-- how many lines a file has from its header to its trailer
 abbrev pub record_count : FileLines → ℕ
 record_count f = length (flat_map group_lines f.groups) + 2
 
@@ -67,7 +68,7 @@ pub record IsFile (sender : List ℕ) (f : FileLines) : Type 0 where
   pub trailer : IsTrue (is_trailer (length f.groups) (sum_by (λ g. length g.transactions) f.groups) (record_count f) f.trailer)
   pub rest : IsTrue (list_all is_blank f.rest)
 
--- what a file tells: its header's fields, and its groups in order, with IDs from 1 (profile)
+-- what a file tells: its header's fields, and its groups in order, with IDs from 1
 abbrev pub transmission_of : FileLines → Transmission
 transmission_of f = record {
   header = header_of f.header;

@@ -1,11 +1,16 @@
 pub mod Dates
 pub mod RecordTypes
+pub mod RightLines
+pub mod Sentences
+pub mod LinesBefore
 pub mod File
 pub mod Sizes
 pub mod LineFaults
 pub mod FileFault
+pub mod Chain
 pub mod Counts
 pub mod Contents
+pub mod Transaction
 pub mod Reading
 pub use Rattle.cwr_records.specs.Lines
 pub use Rattle.cwr_records.specs.Records

@@ -1,64 +1,112 @@
--- Which fault a line has, in each place where it may stand. The least number is first.
-use Rattle.std.specs.Prelude.{ℕ, ◌+◌, ◌-◌, Bool, not, ◌&&◌, ◌||◌, List, length, Option, Some, None, nat_lt, if◌then◌else◌, ◌==◌, bytes_eq}
-use Rattle.cwr_records.specs.Lines.{field, is_blank}
+-- The faults of a line: for each number a sentence over the lines before it, the nearest first, and the line itself.
+use Rattle.std.specs.Prelude.{ℕ, ◌+◌, ◌-◌, Bool, not, ◌&&◌, ◌||◌, List, [], ◌∷◌, length, nat_lt, if◌then◌else◌, ◌==◌, bytes_eq}
+use Rattle.cwr_records.specs.Lines.{is_blank}
+use Rattle.cwr_records.specs.Places.{record_type_in}
+use Rattle.cwr_records.specs.Records.{group_header_of}
+use Rattle.cwr_files.specs.LinesBefore.{is_first, is_between, is_within, is_ended, open_type, groups_before, transactions_before, transactions_in_group, lines_in_group, next_number}
+use Rattle.cwr_files.specs.RecordTypes.{hdr, grh, grt, trl, has_type, is_code, is_read, type_of_group}
+use Rattle.cwr_files.specs.RightLines.{bears, is_dated, is_numbered, has_group_counts, has_file_counts, sender_in}
+use Rattle.cwr_files.specs.Sentences.{Sentence, sentence}
 use Rattle.cwr_files.specs.Sizes.{max_line, max_body}
-use Rattle.cwr_files.specs.RecordTypes.{hdr, grh, grt, trl, has_type, is_frame, is_code, is_read, bears, is_numbered, has_counts, is_dated, type_of_group}
 
--- whether a line is over 2,000 bytes, or the body over 1,048,576 bytes at the end of it, its LF included (profile)
-unfoldable pub is_too_large : ℕ → List ℕ → Bool
-is_too_large end line = nat_lt max_line (length line) || nat_lt max_body end
+-- 1: the first line is no HDR (CISAC CWR 2.2; the number: profile)
+abbrev pub is_no_header : List (List ℕ) → List ℕ → Bool
+is_no_header past line = is_first past && not (has_type hdr line)
 
--- line 1: 1 no HDR, 2 another sender, 3 a date or time that is none (CISAC CWR 2.2)
-unfoldable pub header_fault : List ℕ → List ℕ → Option ℕ
-header_fault sender line =
-    if not (has_type hdr line) then Some 1
-    else (if not (bytes_eq (field line 4 14) sender) then Some 2
-    else (if not (is_dated line) then Some 3 else None))
+-- 2: the first line bears another sender key than the one that was handed in (profile)
+abbrev pub has_other_sender : List ℕ → List (List ℕ) → List ℕ → Bool
+has_other_sender sender past line = is_first past && not (bytes_eq (sender_in line) sender)
 
--- a group header behind so many groups: 5 another group ID than the next, 13 a transaction type that is none (CISAC CWR 2.2)
-unfoldable pub opening_fault : ℕ → List ℕ → Option ℕ
-opening_fault groups line =
-    if not (bears (field line 7 11) (groups + 1)) then Some 5
-    else (if not (is_code (type_of_group line)) then Some 13 else None)
+-- 3: the first line's creation date, creation time or transmission date is none (CISAC CWR 2.2; the number: profile)
+abbrev pub has_wrong_date : List (List ℕ) → List ℕ → Bool
+has_wrong_date past line = is_first past && not (is_dated line)
 
--- a transmission trailer behind so many groups, transactions and lines: 9 another count (CISAC CWR 2.2)
-unfoldable pub trailer_fault : ℕ → ℕ → ℕ → List ℕ → Option ℕ
-trailer_fault groups transactions lines line =
-    if has_counts groups transactions (lines + 1) line then None else Some 9
+-- 4: between groups, neither GRH nor TRL (CISAC CWR 2.2; the number: profile)
+abbrev pub is_outside_groups : List (List ℕ) → List ℕ → Bool
+is_outside_groups past line = is_between past && not (has_type grh line) && not (has_type trl line)
 
--- between groups, behind so many groups, transactions and lines: 4 neither GRH nor TRL, else theirs (CISAC CWR 2.2)
-unfoldable pub between_fault : ℕ → ℕ → ℕ → List ℕ → Option ℕ
-between_fault groups transactions lines line =
-    if has_type grh line then opening_fault groups line
-    else (if has_type trl line then trailer_fault groups transactions lines line else Some 4)
+-- 5: between groups, a GRH whose group ID is not digits alone that are the next number (CISAC CWR 2.2; the number: profile)
+abbrev pub has_wrong_group_id : List (List ℕ) → List ℕ → Bool
+has_wrong_group_id past line =
+    is_between past && has_type grh line && not (bears (group_header_of line).group_id (groups_before past + 1))
 
--- a group trailer in the group with this ID, behind so many of its transactions and of its lines: 8 another ID or count (CISAC CWR 2.2)
-unfoldable pub closing_fault : ℕ → ℕ → ℕ → List ℕ → Option ℕ
-closing_fault group transactions lines line =
-    if has_counts group transactions (lines + 1) line then None else Some 8
+-- HDR, GRH or TRL (CISAC CWR 2.2)
+abbrev pub is_frame_of_groups : List ℕ → Bool
+is_frame_of_groups line = has_type hdr line || has_type grh line || has_type trl line
 
--- the transaction sequence of a line, behind so many transactions of its group (profile)
+-- another record than GRT, where no transaction of the group has begun and the record begins none (CISAC CWR 2.2)
+abbrev pub is_before_transactions : List (List ℕ) → List ℕ → Bool
+is_before_transactions past line =
+    not (has_type grt line) && not (has_type (open_type past) line) && transactions_in_group past == 0
+
+-- 6: within a group, HDR, GRH or TRL; or another record than GRT before the group's first transaction began (CISAC CWR 2.2; the number: profile)
+abbrev pub is_misplaced_in_group : List (List ℕ) → List ℕ → Bool
+is_misplaced_in_group past line = is_within past && (is_frame_of_groups line || is_before_transactions past line)
+
+-- the transaction sequence of a line, behind so many transactions of its group (CISAC CWR 2.2)
 abbrev pub sequence_at : List ℕ → ℕ → List ℕ → ℕ
 sequence_at type transactions line = if has_type type line then transactions else transactions - 1
 
--- the record sequence of a line, where a line that begins no transaction would have this one (profile)
+-- the record sequence of a line, where a line that begins no transaction would have this one (CISAC CWR 2.2)
 abbrev pub number_at : List ℕ → ℕ → List ℕ → ℕ
 number_at type further line = if has_type type line then 0 else further
 
--- a record in a group of a type, behind so many of its transactions, the next line of the last one having this record sequence:
--- 6 a frame record or one before the first transaction, 7 another sequence number, 13 a record type that is none (CISAC CWR 2.2)
-unfoldable pub record_fault : List ℕ → ℕ → ℕ → List ℕ → Option ℕ
-record_fault type transactions further line =
-    if is_frame line || (not (has_type type line) && transactions == 0) then Some 6
-    else (if is_read type && not (is_numbered (sequence_at type transactions line) (number_at type further line) line) then Some 7
-    else (if not (is_code (field line 1 3)) then Some 13 else None))
+-- 7: within a group of type NWR or REV, another record than GRT whose transaction or record sequence is not digits alone that are the right number (CISAC CWR 2.2; groups of other types, the number: profile)
+abbrev pub has_wrong_sequence : List (List ℕ) → List ℕ → Bool
+has_wrong_sequence past line =
+    is_within past && not (has_type grt line) && is_read (open_type past)
+    && not (is_numbered (sequence_at (open_type past) (transactions_in_group past) line) (number_at (open_type past) (next_number past) line) line)
 
--- within the group with this ID and type: a group trailer's fault, or that of another record (CISAC CWR 2.2)
-unfoldable pub group_fault : ℕ → List ℕ → ℕ → ℕ → ℕ → List ℕ → Option ℕ
-group_fault group type transactions lines further line =
-    if has_type grt line then closing_fault group transactions lines line
-    else record_fault type transactions further line
+-- 8: within a group, a GRT whose group ID, transaction count or record count is not digits alone that are right (CISAC CWR 2.2; the number: profile)
+abbrev pub has_wrong_group_counts : List (List ℕ) → List ℕ → Bool
+has_wrong_group_counts past line =
+    is_within past && has_type grt line
+    && not (has_group_counts (groups_before past) (transactions_in_group past) (lines_in_group past + 1) line)
 
--- after the transmission trailer: 11 a line that is not blank (profile)
-unfoldable pub ended_fault : List ℕ → Option ℕ
-ended_fault line = if is_blank line then None else Some 11
+-- 9: between groups, a TRL whose group, transaction or record count is not digits alone that are right (CISAC CWR 2.2; the number: profile)
+abbrev pub has_wrong_file_counts : List (List ℕ) → List ℕ → Bool
+has_wrong_file_counts past line =
+    is_between past && has_type trl line
+    && not (has_file_counts (groups_before past) (transactions_before past) (length past + 1) line)
+
+-- 10: the body has a first line and ends behind these lines, before TRL (CISAC CWR 2.2; the number: profile)
+abbrev pub lacks_trailer : List (List ℕ) → Bool
+lacks_trailer past = not (is_first past) && not (is_ended past)
+
+-- 11: after TRL, a line that is not all blanks (profile)
+abbrev pub is_behind_trailer : List (List ℕ) → List ℕ → Bool
+is_behind_trailer past line = is_ended past && not (is_blank line)
+
+-- 12: the line is over 2,000 bytes without its end, or the body over 1,048,576 bytes at the end of it, its LF included (profile)
+unfoldable pub is_too_large : ℕ → List ℕ → Bool
+is_too_large end line = nat_lt max_line (length line) || nat_lt max_body end
+
+-- 13: the transaction type of a GRH between groups, or the record type of a line within a group, is not three of A-Z and 0-9 (CISAC CWR 2.2; the characters, the number: profile)
+abbrev pub has_wrong_type : List (List ℕ) → List ℕ → Bool
+has_wrong_type past line =
+    (is_between past && has_type grh line && not (is_code (type_of_group line)))
+    || (is_within past && not (is_code (record_type_in line)))
+
+-- the sentences on the structure, in the order of their numbers (profile)
+abbrev pub structure_sentences : List ℕ → List (List ℕ) → List ℕ → List Sentence
+structure_sentences sender past line =
+    sentence 1 (is_no_header past line)
+    ∷ sentence 2 (has_other_sender sender past line)
+    ∷ sentence 3 (has_wrong_date past line)
+    ∷ sentence 4 (is_outside_groups past line)
+    ∷ sentence 5 (has_wrong_group_id past line)
+    ∷ sentence 6 (is_misplaced_in_group past line)
+    ∷ sentence 7 (has_wrong_sequence past line)
+    ∷ sentence 8 (has_wrong_group_counts past line)
+    ∷ sentence 9 (has_wrong_file_counts past line)
+    ∷ sentence 11 (is_behind_trailer past line)
+    ∷ sentence 13 (has_wrong_type past line)
+    ∷ []
+
+-- the sentences on a line behind those lines, where the body has so many bytes at its end: 12 comes first, then the others by their numbers (profile)
+abbrev pub line_sentences : List ℕ → List (List ℕ) → ℕ → List ℕ → List Sentence
+line_sentences sender past end line = sentence 12 (is_too_large end line) ∷ structure_sentences sender past line
+
+-- the sentences on the end of a body behind those lines: 1 there is no line, 10 (profile)
+abbrev pub end_sentences : List (List ℕ) → List Sentence
+end_sentences past = sentence 1 (is_first past) ∷ sentence 10 (lacks_trailer past) ∷ []

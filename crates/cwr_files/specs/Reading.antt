@@ -5,6 +5,7 @@ use Rattle.cwr_files.specs.declared.transmission.Transmission.{Transmission}
 use Rattle.cwr_files.specs.declared.fault.FileFault.{FileFault}
 use Rattle.cwr_files.specs.declared.fault.ReadFault.{ReadFault}
 use Rattle.cwr_files.specs.declared.fault.ReadFault.TheVariants as read_faults
+use Rattle.cwr_files.specs.Contents.{transmission_in}
 use Rattle.cwr_files.specs.File.{File}
 use Rattle.cwr_files.specs.Sizes.{IsWithinSizes}
 
@@ -12,19 +13,20 @@ use Rattle.cwr_files.specs.Sizes.{IsWithinSizes}
 abbrev pub Holds : List ℕ → List ℕ → Transmission → Type 0
 Holds body sender t = File (lines body) sender t × IsWithinSizes body
 
--- a reader answered this transmission, unless memory ran out (profile)
+-- a reader answered this transmission, unless memory ran out
 abbrev pub Answers : Transmission → Result Transmission ReadFault → Type 0
 Answers t (Ok u) = u ≡ t
 Answers t (Err (read_faults.File f)) = ⊥
 Answers t (Err read_faults.Memory) = Unit {0}
 
--- a reader answered this fault and no other; a transmission, or that memory ran out, only where there is none (profile)
+-- a reader answered this fault and no other; a transmission, or that memory ran out, only where there is none
 abbrev pub TellsFault : Option FileFault → Result Transmission ReadFault → Type 0
 TellsFault fault (Ok t) = fault ≡ None
 TellsFault fault (Err (read_faults.File f)) = fault ≡ Some f
 TellsFault fault (Err read_faults.Memory) = fault ≡ None
 
--- Where a body has no file fault, it is a transmission of the sender, and only one. Where it has one, it is none. (profile)
+-- Where a body has no file fault, it is the transmission that it tells, of the sender, and no other. Where it has one, it is none. (profile)
 abbrev pub IsJudged : List ℕ → List ℕ → Option FileFault → Type 0
-IsJudged sender body None = (t : Transmission) × Holds body sender t × ((u : Transmission) → File (lines body) sender u → u ≡ t)
+IsJudged sender body None =
+    Holds body sender (transmission_in body) × ((t : Transmission) → File (lines body) sender t → t ≡ transmission_in body)
 IsJudged sender body (Some f) = (t : Transmission) → Holds body sender t → ⊥

@@ -3,8 +3,8 @@ ghost use Rattle.std.specs.Prelude.{◌≡◌, ◌+◌, ◌^◌, ◌<◌, []};
 ghost use Rattle.cwr_files.specs.declared.counts.Stage.TheVariants.{Between, Within};
 ghost use Rattle.cwr_files.specs.Counts.{HasRoom, StageHasRoom, IsStep, IsStepBehind, counts_of, counts_after, counted_fault, after_in, group_after};
 
-use crate::framing::{has_type, type_of_group};
 use crate::line_faults::{between_fault, ended_fault, group_fault, header_fault, is_too_large};
+use crate::record_types::{has_type, type_of_group};
 use cwr_records::Line;
 use work_ids::SenderKey;
 
@@ -56,7 +56,7 @@ impl Counts {
 }
 
 /// The counts after a line, at whose end the body has so many bytes; or the line's fault, 1 to 13.
-pub fn next(sender: &SenderKey, counts: &Counts, end: usize, line: &Line) -> Result<Counts, u8>
+pub fn step(sender: &SenderKey, counts: &Counts, end: usize, line: &Line) -> Result<Counts, u8>
     requires { HasRoom counts.now }
     ensures step { IsStep sender.now counts.now end line.now result }
     ensures behind { IsStepBehind sender.now counts.now end line.now result }
@@ -78,15 +78,8 @@ fn counted_fault(sender: &SenderKey, counts: &Counts, end: usize, line: &Line) -
     }
     match counts.stage {
         Stage::Header => header_fault(sender, line),
-        Stage::Between => { between_fault(counts.groups, counts.transactions, counts.lines, line) }
-        Stage::Within(group) => group_fault(
-            counts.groups,
-            &group.kind,
-            group.transactions,
-            group.lines,
-            group.further,
-            line,
-        ),
+        Stage::Between => between_fault(counts, line),
+        Stage::Within(group) => group_fault(counts.groups, &group, line),
         Stage::Ended => ended_fault(line),
     }
 }

@@ -1,10 +1,9 @@
 //! Dates and times of a transmission header.
-ghost use Rattle.std.specs.Prelude.{◌≡◌, ◌+◌, ◌<◌, ◌≤◌};
+ghost use Rattle.std.specs.Prelude.{◌≡◌};
 ghost use Rattle.cwr_files.specs.Dates.{is_real_date, is_real_time, is_date, is_time};
-ghost use Rattle.cwr_records.specs.Lines.{field};
+ghost use Rattle.cwr_files.specs.RightLines.{is_dated};
 
-use crate::framing::number;
-use cwr_records::Line;
+use cwr_records::{Fixed, Line, TransmissionHeader, read_as};
 use jiff::civil::Date;
 
 /// Whether eight digits, year, month and day, are a date of the calendar with a year from 1.
@@ -29,28 +28,35 @@ fn is_real_time(digits: u64) -> bool
     digits / 10_000 <= 23 && digits / 100 % 100 <= 59 && digits % 100 <= 59
 }
 
-/// Whether the field of a line at these eight positions is a date, in digits alone.
+/// Whether a field is a date, in digits alone.
 #[tactic(auto, unfolding(crate::specs::Dates::is_date))]
-pub fn is_date(line: &Line, first: usize, last: usize) -> bool
-    requires from_one { 1 ≤ first }
-    requires width { last + 1 ≡ first + 8 }
-    ensures { result ≡ is_date (field line.now first last) }
+fn is_date(field: &Fixed<'_, 8>) -> bool
+    ensures { result ≡ is_date field.now }
 {
-    match number(line, first, last) {
+    match field.field().number() {
         Some(digits) => is_real_date(digits),
         None => false,
     }
 }
 
-/// Whether the field of a line at these six positions is a time of day, in digits alone.
+/// Whether a field is a time of day, in digits alone.
 #[tactic(auto, unfolding(crate::specs::Dates::is_time))]
-pub fn is_time(line: &Line, first: usize, last: usize) -> bool
-    requires from_one { 1 ≤ first }
-    requires width { last + 1 ≡ first + 6 }
-    ensures { result ≡ is_time (field line.now first last) }
+fn is_time(field: &Fixed<'_, 6>) -> bool
+    ensures { result ≡ is_time field.now }
 {
-    match number(line, first, last) {
+    match field.field().number() {
         Some(digits) => is_real_time(digits),
         None => false,
     }
+}
+
+/// Whether a header's creation date, creation time and transmission date are right.
+#[tactic(auto, unfolding(crate::specs::RightLines::is_dated))]
+pub fn is_dated(line: &Line) -> bool
+    ensures { result ≡ is_dated line.now }
+{
+    let header: TransmissionHeader = read_as(line);
+    is_date(&header.creation_date)
+        && is_time(&header.creation_time)
+        && is_date(&header.transmission_date)
 }

@@ -1,15 +1,15 @@
 //! Which fault a line has, in each place where it may stand. Where several hold it is the least.
 ghost use Rattle.std.specs.Prelude.{◌≡◌, ◌+◌, ◌^◌, ◌<◌, bytes_eq};
-ghost use Rattle.cwr_records.specs.Lines.{field};
-ghost use Rattle.cwr_files.specs.RecordTypes.{has_type, is_numbered};
-ghost use Rattle.cwr_files.specs.LineFaults.{is_too_large, header_fault, opening_fault, trailer_fault, between_fault, closing_fault, record_fault, group_fault, ended_fault, sequence_at, number_at};
+ghost use Rattle.cwr_files.specs.LineFaults.{is_too_large, sequence_at, number_at};
+ghost use Rattle.cwr_files.specs.Chain.{header_fault, opening_fault, trailer_fault, between_fault, closing_fault, record_fault, group_fault, ended_fault};
+ghost use Rattle.cwr_files.specs.RightLines.{is_numbered, sender_in};
 
-use crate::framing::{
-    bears, has_counts, has_type, is_code, is_dated, is_frame, is_numbered, is_read, record_type,
-    type_of_group,
-};
+use crate::counts::{Counts, OpenGroup};
+use crate::dates::is_dated;
 use crate::limits::{MAX_BODY, MAX_LINE};
-use cwr_records::Line;
+use crate::line_numbers::{has_file_counts, has_group_counts, has_group_id, is_numbered};
+use crate::record_types::{has_type, is_code, is_frame, is_read, record_type, type_of_group};
+use cwr_records::{Line, TransmissionHeader, read_as};
 use work_ids::SenderKey;
 
 /// Whether a line is too long, or the body at the end of it, of so many bytes.
@@ -21,7 +21,7 @@ pub fn is_too_large(end: usize, line: &Line) -> bool
 }
 
 /// The fault of a transmission's first line: 1 another record, 2 another sender, 3 a wrong date or time.
-#[tactic(auto, unfolding(crate::specs::LineFaults::header_fault))]
+#[tactic(auto, unfolding(crate::specs::Chain::header_fault))]
 pub fn header_fault(sender: &SenderKey, line: &Line) -> Option<u8>
     ensures { result ≡ header_fault sender.now line.now }
 {
@@ -39,18 +39,20 @@ pub fn header_fault(sender: &SenderKey, line: &Line) -> Option<u8>
 
 /// Whether a header bears the sender key.
 fn is_of_sender(sender: &SenderKey, line: &Line) -> bool
-    ensures { result ≡ bytes_eq (field line.now 4 14) sender.now }
+    ensures { result ≡ bytes_eq (sender_in line.now) sender.now }
 {
-    line.field(4, 14).is(sender.as_bytes())
+    let header: TransmissionHeader = read_as(line);
+    header.sender_type.field().is(sender.sender_type())
+        && header.sender_id.field().is(sender.sender_id())
 }
 
 /// The fault of a group header behind so many groups: 5 another group ID, 13 a transaction type that is none.
-#[tactic(auto, unfolding(crate::specs::LineFaults::opening_fault))]
+#[tactic(auto, unfolding(crate::specs::Chain::opening_fault))]
 fn opening_fault(groups: u64, line: &Line) -> Option<u8>
     requires { groups < 2 ^ 63 }
     ensures { result ≡ opening_fault groups line.now }
 {
-    if !bears(line, 7, 11, groups + 1) {
+    if !has_group_id(line, groups + 1) {
         return Some(5);
     }
     if !is_code(&type_of_group(line)) {
@@ -59,13 +61,13 @@ fn opening_fault(groups: u64, line: &Line) -> Option<u8>
     None
 }
 
-/// The fault of a transmission trailer behind so many groups, transactions and lines: 9 another count.
-#[tactic(auto, unfolding(crate::specs::LineFaults::trailer_fault))]
-fn trailer_fault(groups: u64, transactions: u64, lines: u64, line: &Line) -> Option<u8>
-    requires { lines < 2 ^ 63 }
-    ensures { result ≡ trailer_fault groups transactions lines line.now }
+/// The fault of a transmission trailer behind these counts: 9 another count.
+#[tactic(auto, unfolding(crate::specs::Chain::trailer_fault))]
+fn trailer_fault(counts: &Counts, line: &Line) -> Option<u8>
+    requires { counts.now.lines < 2 ^ 63 }
+    ensures { result ≡ trailer_fault counts.now.groups counts.now.transactions counts.now.lines line.now }
 {
-    if has_counts(line, groups, transactions, lines + 1) {
+    if has_file_counts(line, counts.groups, counts.transactions, counts.lines + 1) {
         None
     } else {
         Some(9)
@@ -73,58 +75,58 @@ fn trailer_fault(groups: u64, transactions: u64, lines: u64, line: &Line) -> Opt
 }
 
 /// The fault of a line between groups: 4 neither a group header nor the trailer, else theirs.
-#[tactic(auto, unfolding(crate::specs::LineFaults::between_fault))]
-pub fn between_fault(groups: u64, transactions: u64, lines: u64, line: &Line) -> Option<u8>
-    requires groups_room { groups < 2 ^ 63 }
-    requires lines_room { lines < 2 ^ 63 }
-    ensures { result ≡ between_fault groups transactions lines line.now }
+#[tactic(auto, unfolding(crate::specs::Chain::between_fault))]
+pub fn between_fault(counts: &Counts, line: &Line) -> Option<u8>
+    requires groups_room { counts.now.groups < 2 ^ 63 }
+    requires lines_room { counts.now.lines < 2 ^ 63 }
+    ensures { result ≡ between_fault counts.now.groups counts.now.transactions counts.now.lines line.now }
 {
     if has_type(line, b"GRH") {
-        return opening_fault(groups, line);
+        return opening_fault(counts.groups, line);
     }
     if has_type(line, b"TRL") {
-        return trailer_fault(groups, transactions, lines, line);
+        return trailer_fault(counts, line);
     }
     Some(4)
 }
 
-/// The fault of a group trailer behind so many transactions and lines of its group: 8 another ID or count.
-#[tactic(auto, unfolding(crate::specs::LineFaults::closing_fault))]
-fn closing_fault(group: u64, transactions: u64, lines: u64, line: &Line) -> Option<u8>
-    requires { lines < 2 ^ 63 }
-    ensures { result ≡ closing_fault group transactions lines line.now }
+/// The fault of the trailer of the open group with this ID: 8 another ID or count.
+#[tactic(auto, unfolding(crate::specs::Chain::closing_fault))]
+fn closing_fault(id: u64, group: &OpenGroup, line: &Line) -> Option<u8>
+    requires { group.now.lines < 2 ^ 63 }
+    ensures { result ≡ closing_fault id group.now.transactions group.now.lines line.now }
 {
-    if has_counts(line, group, transactions, lines + 1) {
+    if has_group_counts(line, id, group.transactions, group.lines + 1) {
         None
     } else {
         Some(8)
     }
 }
 
-/// Whether a line bears the sequence numbers that are right behind so many transactions of its group.
-fn is_in_sequence(kind: &[u8; 3], transactions: u64, further: u64, line: &Line) -> bool
-    ensures { result ≡ is_numbered (sequence_at kind.now transactions line.now) (number_at kind.now further line.now) line.now }
+/// Whether a line bears the sequence numbers that are right in an open group.
+fn is_in_sequence(group: &OpenGroup, line: &Line) -> bool
+    ensures { result ≡ is_numbered (sequence_at group.now.kind group.now.transactions line.now) (number_at group.now.kind group.now.further line.now) line.now }
 {
-    if has_type(line, kind) {
-        is_numbered(line, transactions, 0)
+    if has_type(line, &group.kind) {
+        is_numbered(line, group.transactions, 0)
     } else {
-        is_numbered(line, transactions.saturating_sub(1), further)
+        is_numbered(line, group.transactions.saturating_sub(1), group.further)
     }
 }
 
-/// The fault of a record in a group of a type: 6 a frame record or one before the first transaction,
-/// 7 another sequence number, 13 a record type that is none.
-#[tactic(auto, unfolding(crate::specs::LineFaults::record_fault))]
-fn record_fault(kind: &[u8; 3], transactions: u64, further: u64, line: &Line) -> Option<u8>
-    ensures { result ≡ record_fault kind.now transactions further line.now }
+/// The fault of a record in an open group: 6 a frame record or one before the first transaction, 7 another sequence
+/// number, 13 a record type that is none.
+#[tactic(auto, unfolding(crate::specs::Chain::record_fault))]
+fn record_fault(group: &OpenGroup, line: &Line) -> Option<u8>
+    ensures { result ≡ record_fault group.now.kind group.now.transactions group.now.further line.now }
 {
     if is_frame(line) {
         return Some(6);
     }
-    if !has_type(line, kind) && transactions == 0 {
+    if !has_type(line, &group.kind) && group.transactions == 0 {
         return Some(6);
     }
-    if is_read(kind) && !is_in_sequence(kind, transactions, further, line) {
+    if is_read(&group.kind) && !is_in_sequence(group, line) {
         return Some(7);
     }
     if !is_code(&record_type(line)) {
@@ -133,27 +135,20 @@ fn record_fault(kind: &[u8; 3], transactions: u64, further: u64, line: &Line) ->
     None
 }
 
-/// The fault of a line within a group: a group trailer's, or that of another record.
-#[tactic(auto, unfolding(crate::specs::LineFaults::group_fault))]
-pub fn group_fault(
-    group: u64,
-    kind: &[u8; 3],
-    transactions: u64,
-    lines: u64,
-    further: u64,
-    line: &Line,
-) -> Option<u8>
-    requires { lines < 2 ^ 63 }
-    ensures { result ≡ group_fault group kind.now transactions lines further line.now }
+/// The fault of a line within the open group with this ID: a group trailer's, or that of another record.
+#[tactic(auto, unfolding(crate::specs::Chain::group_fault))]
+pub fn group_fault(id: u64, group: &OpenGroup, line: &Line) -> Option<u8>
+    requires { group.now.lines < 2 ^ 63 }
+    ensures { result ≡ group_fault id group.now.kind group.now.transactions group.now.lines group.now.further line.now }
 {
     if has_type(line, b"GRT") {
-        return closing_fault(group, transactions, lines, line);
+        return closing_fault(id, group, line);
     }
-    record_fault(kind, transactions, further, line)
+    record_fault(group, line)
 }
 
 /// The fault of a line after the transmission trailer: 11 it is not blank.
-#[tactic(auto, unfolding(crate::specs::LineFaults::ended_fault))]
+#[tactic(auto, unfolding(crate::specs::Chain::ended_fault))]
 pub fn ended_fault(line: &Line) -> Option<u8>
     ensures { result ≡ ended_fault line.now }
 {

@@ -3,7 +3,7 @@ use super::*;
 use cwr_records::TransactionKind;
 use std::alloc::{AllocError, Global};
 use std::test::Fail;
-use work_ids::SenderKey;
+use work_ids::{SenderKey, WorkNumber};
 
 /// A file of one work, without its line ends.
 const SONG: [&[u8]; 11] = [
@@ -64,7 +64,7 @@ fn changed(alloc: Global, number: usize, by: &[&[u8]]) -> Result<Vec<u8>, AllocE
 /// A line, the lines that stand for it, and the fault, as number and line.
 type Row = (usize, &'static [&'static [u8]], (u8, usize));
 
-const ROWS: [Row; 17] = [
+const ROWS: [Row; 19] = [
     (
         1,
         &[
@@ -91,7 +91,9 @@ const ROWS: [Row; 17] = [
     (2, &[b"GRHN_R0000102.200000000000"], (13, 2)),
     (2, &[b"GRHN_R0000202.200000000000"], (5, 2)),
     (3, &[], (6, 3)),
+    (3, &[b"S_T0000000900000009"], (6, 3)),
     (4, &[b"HDR"], (6, 4)),
+    (4, &[b"GRHN_R0000902.200000000000"], (6, 4)),
     (
         5,
         &[b"SPT0000000000000003P1             050001000010000I2136 001"],
@@ -221,6 +223,122 @@ fn group_that_is_not_read(rt: HostRuntime) -> Result<(), Fail> {
             (TransactionKind::Nwr, 2, 0)
         );
         assert_eq!(rt; song.records.as_slice().len(), 7);
+    }
+    Ok(())
+}
+
+#[test]
+fn what_a_transaction_tells(rt: HostRuntime) -> Result<(), Fail> {
+    let key = sender().ok_or("a key")?;
+    let body = joined(rt.alloc(), SONG.as_slice(), b"\r\n")?;
+    let transmission = read_transmission(rt.alloc(), body.as_slice(), &key)?;
+    let song = transmission.transaction(0).ok_or("a song")?;
+    assert!(rt; song.work().is_some());
+    assert_eq!(rt; song.title().trimmed_end(), b"FIRST SONG".as_slice());
+    assert_eq!(rt; song.submitter_number().trimmed_end(), b"W1".as_slice());
+    assert_eq!(rt; song.work_number(), WorkNumber::from_bytes(b"W1").ok());
+    let iswc = song.iswc().ok().flatten().ok_or("a code")?;
+    assert_eq!(rt; iswc.as_bytes(), b"T0345246801".as_slice());
+    assert!(rt; transmission.transaction(1).is_none());
+    Ok(())
+}
+
+/// Bytes of a body, at most.
+const LARGEST: usize = 1_048_576;
+
+/// The song with blank lines behind it, up to so many bytes.
+fn with_blank_lines(alloc: Global, bytes: usize) -> Result<Vec<u8>, AllocError> {
+    let mut body = joined(alloc, SONG.as_slice(), b"\r\n")?;
+    for at in body.len()..bytes {
+        body.push(if at % 1_024 == 0 { b'\n' } else { b' ' })?;
+    }
+    Ok(body)
+}
+
+#[test]
+fn largest_body(rt: HostRuntime) -> Result<(), Fail> {
+    let key = sender().ok_or("a key")?;
+    let largest = with_blank_lines(rt.alloc(), LARGEST)?;
+    assert_eq!(rt; largest.len(), LARGEST);
+    let transmission = read_transmission(rt.alloc(), largest.as_slice(), &key)?;
+    assert_eq!(rt; transmission.groups.as_slice().len(), 1);
+    assert!(rt; transmission.transaction(0).is_some());
+    let larger = with_blank_lines(rt.alloc(), LARGEST + 1)?;
+    let fault = find_fault(larger.as_slice(), &key).ok_or("a fault")?;
+    assert_eq!(rt; fault.number, 12);
+    Ok(())
+}
+
+/// What the digits of a field are worth.
+const EIGHT: [u32; 8] = [10_000_000, 1_000_000, 100_000, 10_000, 1_000, 100, 10, 1];
+
+const FIVE: [u32; 5] = [10_000, 1_000, 100, 10, 1];
+
+/// Appends a number, a digit for each of these worths.
+fn push_number(body: &mut Vec<u8>, number: usize, worths: &[u32]) -> Result<(), AllocError> {
+    for worth in worths {
+        let worth = *worth as usize;
+        if worth > 0 {
+            body.push(b'0' + (number / worth % 10) as u8)?;
+        }
+    }
+    Ok(())
+}
+
+/// Appends a registration of one record.
+fn push_song(body: &mut Vec<u8>, sequence: usize) -> Result<(), AllocError> {
+    body.extend_from_slice(b"NWR")?;
+    push_number(body, sequence, EIGHT.as_slice())?;
+    body.extend_from_slice(b"00000000SONG\r\n")
+}
+
+/// Appends a group of so many registrations of one record.
+fn push_group(body: &mut Vec<u8>, id: usize, songs: usize) -> Result<(), AllocError> {
+    body.extend_from_slice(b"GRHNWR")?;
+    push_number(body, id, FIVE.as_slice())?;
+    body.extend_from_slice(b"02.200000000000\r\n")?;
+    for sequence in 0..songs {
+        push_song(body, sequence)?;
+    }
+    body.extend_from_slice(b"GRT")?;
+    push_number(body, id, FIVE.as_slice())?;
+    push_number(body, songs, EIGHT.as_slice())?;
+    push_number(body, songs.saturating_add(2), EIGHT.as_slice())?;
+    body.extend_from_slice(b"\r\n")
+}
+
+/// A file of so many groups, each of so many registrations of one record.
+fn grouped(alloc: Global, groups: usize, songs: usize) -> Result<Vec<u8>, AllocError> {
+    let mut body = Vec::from_slice(alloc, SONG[0])?;
+    body.extend_from_slice(b"\r\n")?;
+    for before in 0..groups {
+        push_group(&mut body, before.saturating_add(1), songs)?;
+    }
+    let records = songs
+        .saturating_add(2)
+        .saturating_mul(groups)
+        .saturating_add(2);
+    body.extend_from_slice(b"TRL")?;
+    push_number(&mut body, groups, FIVE.as_slice())?;
+    push_number(&mut body, songs.saturating_mul(groups), EIGHT.as_slice())?;
+    push_number(&mut body, records, EIGHT.as_slice())?;
+    Ok(body)
+}
+
+#[test]
+fn many_groups_and_many_songs(rt: HostRuntime) -> Result<(), Fail> {
+    let key = sender().ok_or("a key")?;
+    for (groups, songs) in [(200, 1), (1, 1_000), (0, 0), (3, 0)] {
+        let body = grouped(rt.alloc(), groups, songs)?;
+        let transmission = read_transmission(rt.alloc(), body.as_slice(), &key)?;
+        assert_eq!(rt; transmission.groups.as_slice().len(), groups);
+        let all = songs.saturating_mul(groups);
+        assert!(rt; transmission.transaction(all).is_none());
+        if all > 0 {
+            let last = transmission.transaction(all - 1).ok_or("the last song")?;
+            assert_eq!(rt; last.group as usize, groups);
+            assert_eq!(rt; last.sequence as usize, songs.saturating_sub(1));
+        }
     }
     Ok(())
 }

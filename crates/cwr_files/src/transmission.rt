@@ -1,8 +1,9 @@
 //! A transmission, lent out of its body: header, groups, transactions, records.
 ghost use Rattle.std.specs.Prelude.{◌≡◌};
 
-use cwr_records::{GroupHeader, Record, TransactionKind, TransmissionHeader};
+use cwr_records::{Field, GroupHeader, Record, TransactionKind, TransmissionHeader, WorkRecord};
 use std::marker::Model;
+use work_ids::{IdFault, Iswc, WorkNumber};
 
 /// The records of a transaction, one for each line, in order.
 #[derive(Drop)]
@@ -42,6 +43,68 @@ pub struct Transaction<'a> {
     pub group: u32,
     pub sequence: u32,
     pub records: Records<'a>,
+}
+
+impl<'a> Transaction<'a> {
+    ghost use Rattle.std.specs.Prelude.{length, ◌≤◌};
+    ghost use Rattle.std.specs.Option.{option_copied};
+    ghost use Rattle.std.specs.Result.{result_ok};
+    ghost use Rattle.cwr_files.specs.Transaction.{first_work, iswc_of_work, number_of_work, submitter_number, title_of};
+
+    /// The record that begins the transaction, NWR or REV; none where another one does.
+    pub fn work(&self) -> Option<&WorkRecord<'a>>
+        ensures { option_copied result ≡ first_work self.now.records }
+    {
+        match self.records.as_slice() {
+            [first, ..] => match first {
+                Record::Work(work) => Some(work),
+                _ => None,
+            },
+            [] => None,
+        }
+    }
+
+    /// The title, as it came; no bytes where the transaction begins with no work.
+    pub fn title(&self) -> Field<'a>
+        ensures value { result ≡ title_of self.now }
+        ensures width { length result ≤ 60 }
+    {
+        match self.work() {
+            Some(work) => work.title.field(),
+            None => Field::new(b"", 0),
+        }
+    }
+
+    /// The submitter's number of the work, as it came; no bytes where the transaction begins with no work.
+    pub fn submitter_number(&self) -> Field<'a>
+        ensures value { result ≡ submitter_number (first_work self.now.records) }
+        ensures width { length result ≤ 14 }
+    {
+        match self.work() {
+            Some(work) => work.work_number.field(),
+            None => Field::new(b"", 0),
+        }
+    }
+
+    /// The work number, if it is one (CISAC CWR 2.2; the characters: profile).
+    pub fn work_number(&self) -> Option<WorkNumber>
+        ensures { result ≡ result_ok (number_of_work self.now) }
+    {
+        let work = self.work()?;
+        work.work_number().ok()
+    }
+
+    /// The ISWC, none where its field is blank (ISO 15707); else the least of `Length`, `Character` and `CheckDigit`
+    /// that holds; `Length` where the transaction begins with no work.
+    #[tactic(auto, unfolding(work_ids::specs::Iswc::iswc_of))]
+    pub fn iswc(&self) -> Result<Option<Iswc>, IdFault>
+        ensures { result ≡ iswc_of_work self.now }
+    {
+        match self.work() {
+            Some(work) => work.iswc(),
+            None => Err(IdFault::Length),
+        }
+    }
 }
 
 /// The transactions of a group, in order.

@@ -3,7 +3,7 @@ use Rattle.std.specs.Prelude.{◌≡◌, ℕ, ◌+◌, ◌-◌, ◌<◌, Bool, c
 use Rattle.std.specs.List.{list_all}
 use Rattle.work_ids.specs.Blanks.{is_blank_byte, fill as filled_with_blanks}
 
--- a byte in front of the first of some pieces, where there is none as a piece of its own (profile)
+-- a byte in front of the first of some pieces, where there is none as a piece of its own
 abbrev pub onto_first : ℕ → List (List ℕ) → List (List ℕ)
 onto_first b [] = (b ∷ []) ∷ []
 onto_first b (p ∷ ps) = (b ∷ p) ∷ ps
@@ -13,7 +13,7 @@ abbrev pub pieces : List ℕ → List (List ℕ)
 pieces [] = []
 pieces (b ∷ bs) = cond (eqb b 10) ((b ∷ []) ∷ pieces bs) (onto_first b (pieces bs))
 
--- bytes without their last one, where that is b (profile)
+-- bytes without their last one, where that is b
 abbrev pub without_last : ℕ → List ℕ → List ℕ
 without_last b bs = cond (eqb (get_or bs (length bs - 1) 0) b) (take (length bs - 1) bs) bs
 
@@ -25,21 +25,20 @@ line_of piece = without_last 13 (without_last 10 piece)
 abbrev pub lines : List ℕ → List (List ℕ)
 lines body = map line_of (pieces body)
 
--- bytes with blanks after them, up to a width (CISAC CWR 2.2)
+-- bytes with blanks after them, up to a width
 unfoldable pub fill : ℕ → List ℕ → List ℕ
 fill width bs = filled_with_blanks width bs
 
--- the field of a line from one position to another, both counted from 1, with blanks past the line's end (CISAC CWR 2.2; the
--- blanks: profile)
+-- the field of a line from one position to another, both from 1, with blanks past the line's end (CISAC CWR 2.2; the blanks: profile)
 unfoldable pub field : List ℕ → ℕ → ℕ → List ℕ
 unfolding fill
 field line first last = fill (last + 1 - first) (take (last + 1 - first) (drop (first - 1) line))
 
--- whether all bytes are blanks (profile)
+-- whether all bytes are blanks
 unfoldable pub is_blank : List ℕ → Bool
 is_blank bs = list_all is_blank_byte bs
 
--- what a body begins with: its first piece, as a line, and the rest of the body (profile)
+-- what a body begins with: its first piece, as a line, and the rest of the body
 pub record IsFirstLine (body line rest : List ℕ) : Type 0 where
   pub piece : List ℕ
   pub joined : body ≡ piece ++ rest

@@ -1,12 +1,36 @@
 -- The layout of each record type, as a table of its fields: the office's profile of CISAC CWR 2.2. Positions that no field
 -- has are blank.
-use Rattle.std.specs.Prelude.{List, [], ◌∷◌, codes}
-use Rattle.cwr_records.specs.Layouts.{Place, place}
+use Rattle.std.specs.Prelude.{ℕ, List, [], ◌∷◌, ◌++◌, codes}
+use Rattle.cwr_records.specs.Layouts.{Place, place, named}
+
+-- where every record has its record type (CISAC CWR 2.2)
+abbrev pub record_type_place : Place
+record_type_place = place (codes "record type") 1 3
+
+-- what every record of a transaction begins with (CISAC CWR 2.2)
+abbrev pub record_prefix : List Place
+record_prefix =
+    record_type_place
+    ∷ place (codes "transaction sequence number") 4 11
+    ∷ place (codes "record sequence number") 12 19
+    ∷ []
+
+-- the record type of a line (CISAC CWR 2.2)
+abbrev pub record_type_in : List ℕ → List ℕ
+record_type_in line = named (codes "record type") record_prefix line
+
+-- the transaction sequence number of a record of a transaction (CISAC CWR 2.2)
+abbrev pub transaction_sequence_in : List ℕ → List ℕ
+transaction_sequence_in line = named (codes "transaction sequence number") record_prefix line
+
+-- the record sequence number of a record of a transaction (CISAC CWR 2.2)
+abbrev pub record_sequence_in : List ℕ → List ℕ
+record_sequence_in line = named (codes "record sequence number") record_prefix line
 
 -- HDR, the header of a transmission (CISAC CWR 2.2)
 abbrev pub header_places : List Place
 header_places =
-    place (codes "record type") 1 3
+    record_type_place
     ∷ place (codes "sender type") 4 5
     ∷ place (codes "sender ID") 6 14
     ∷ place (codes "sender name") 15 59
@@ -20,7 +44,7 @@ header_places =
 -- GRH, the header of a group (CISAC CWR 2.2)
 abbrev pub group_header_places : List Place
 group_header_places =
-    place (codes "record type") 1 3
+    record_type_place
     ∷ place (codes "transaction type") 4 6
     ∷ place (codes "group ID") 7 11
     ∷ place (codes "version") 12 16
@@ -31,10 +55,8 @@ group_header_places =
 -- NWR and REV, a work that is registered or revised (CISAC CWR 2.2)
 abbrev pub work_places : List Place
 work_places =
-    place (codes "record type") 1 3
-    ∷ place (codes "transaction sequence number") 4 11
-    ∷ place (codes "record sequence number") 12 19
-    ∷ place (codes "title") 20 79
+    record_prefix
+    ++ place (codes "title") 20 79
     ∷ place (codes "language") 80 81
     ∷ place (codes "submitter work number") 82 95
     ∷ place (codes "ISWC") 96 106
@@ -51,10 +73,8 @@ work_places =
 -- SPU and OPU, a publisher with its ownership shares (CISAC CWR 2.2)
 abbrev pub publisher_places : List Place
 publisher_places =
-    place (codes "record type") 1 3
-    ∷ place (codes "transaction sequence number") 4 11
-    ∷ place (codes "record sequence number") 12 19
-    ∷ place (codes "publisher sequence") 20 21
+    record_prefix
+    ++ place (codes "publisher sequence") 20 21
     ∷ place (codes "IP #") 22 30
     ∷ place (codes "name") 31 75
     ∷ place (codes "unknown indicator") 76 76
@@ -73,10 +93,8 @@ publisher_places =
 -- SPT, the collection shares of a publisher in a territory (CISAC CWR 2.2)
 abbrev pub publisher_territory_places : List Place
 publisher_territory_places =
-    place (codes "record type") 1 3
-    ∷ place (codes "transaction sequence number") 4 11
-    ∷ place (codes "record sequence number") 12 19
-    ∷ place (codes "IP #") 20 28
+    record_prefix
+    ++ place (codes "IP #") 20 28
     ∷ place (codes "PR share") 35 39
     ∷ place (codes "MR share") 40 44
     ∷ place (codes "SR share") 45 49
@@ -89,10 +107,8 @@ publisher_territory_places =
 -- SWR and OWR, a writer with its ownership shares (CISAC CWR 2.2)
 abbrev pub writer_places : List Place
 writer_places =
-    place (codes "record type") 1 3
-    ∷ place (codes "transaction sequence number") 4 11
-    ∷ place (codes "record sequence number") 12 19
-    ∷ place (codes "IP #") 20 28
+    record_prefix
+    ++ place (codes "IP #") 20 28
     ∷ place (codes "last name") 29 73
     ∷ place (codes "first name") 74 103
     ∷ place (codes "unknown indicator") 104 104
@@ -110,10 +126,8 @@ writer_places =
 -- SWT, the collection shares of a writer in a territory (CISAC CWR 2.2)
 abbrev pub writer_territory_places : List Place
 writer_territory_places =
-    place (codes "record type") 1 3
-    ∷ place (codes "transaction sequence number") 4 11
-    ∷ place (codes "record sequence number") 12 19
-    ∷ place (codes "IP #") 20 28
+    record_prefix
+    ++ place (codes "IP #") 20 28
     ∷ place (codes "PR share") 29 33
     ∷ place (codes "MR share") 34 38
     ∷ place (codes "SR share") 39 43
@@ -126,10 +140,8 @@ writer_territory_places =
 -- PWR, the publisher of a writer (CISAC CWR 2.2)
 abbrev pub publisher_for_writer_places : List Place
 publisher_for_writer_places =
-    place (codes "record type") 1 3
-    ∷ place (codes "transaction sequence number") 4 11
-    ∷ place (codes "record sequence number") 12 19
-    ∷ place (codes "publisher IP #") 20 28
+    record_prefix
+    ++ place (codes "publisher IP #") 20 28
     ∷ place (codes "publisher name") 29 73
     ∷ place (codes "submitter agreement number") 74 87
     ∷ place (codes "society agreement number") 88 101
@@ -139,10 +151,8 @@ publisher_for_writer_places =
 -- ALT, a further title of a work (CISAC CWR 2.2)
 abbrev pub alternate_title_places : List Place
 alternate_title_places =
-    place (codes "record type") 1 3
-    ∷ place (codes "transaction sequence number") 4 11
-    ∷ place (codes "record sequence number") 12 19
-    ∷ place (codes "title") 20 79
+    record_prefix
+    ++ place (codes "title") 20 79
     ∷ place (codes "title type") 80 81
     ∷ place (codes "language") 82 83
     ∷ []
@@ -150,10 +160,8 @@ alternate_title_places =
 -- REC, a recording of a work (CISAC CWR 2.2)
 abbrev pub recording_places : List Place
 recording_places =
-    place (codes "record type") 1 3
-    ∷ place (codes "transaction sequence number") 4 11
-    ∷ place (codes "record sequence number") 12 19
-    ∷ place (codes "release date") 20 27
+    record_prefix
+    ++ place (codes "release date") 20 27
     ∷ place (codes "release duration") 88 93
     ∷ place (codes "album title") 99 158
     ∷ place (codes "label") 159 218
@@ -165,10 +173,8 @@ recording_places =
 -- ACK, what became of a transaction (CISAC CWR 2.2)
 abbrev pub acknowledgement_places : List Place
 acknowledgement_places =
-    place (codes "record type") 1 3
-    ∷ place (codes "transaction sequence number") 4 11
-    ∷ place (codes "record sequence number") 12 19
-    ∷ place (codes "original creation date") 20 27
+    record_prefix
+    ++ place (codes "original creation date") 20 27
     ∷ place (codes "original creation time") 28 33
     ∷ place (codes "original group ID") 34 38
     ∷ place (codes "original transaction sequence") 39 46
@@ -183,7 +189,7 @@ acknowledgement_places =
 -- GRT, the trailer of a group (CISAC CWR 2.2)
 abbrev pub group_trailer_places : List Place
 group_trailer_places =
-    place (codes "record type") 1 3
+    record_type_place
     ∷ place (codes "group ID") 4 8
     ∷ place (codes "transaction count") 9 16
     ∷ place (codes "record count") 17 24
@@ -192,7 +198,7 @@ group_trailer_places =
 -- TRL, the trailer of a transmission (CISAC CWR 2.2)
 abbrev pub trailer_places : List Place
 trailer_places =
-    place (codes "record type") 1 3
+    record_type_place
     ∷ place (codes "group count") 4 8
     ∷ place (codes "transaction count") 9 16
     ∷ place (codes "record count") 17 24

@@ -1,22 +1,21 @@
 -- For each kind, that what is read from a line with a record's contents is that record.
 use Rattle.std.proofs.Common.{◌≡◌, ℕ, List, [], refl, ap, ◌∙◌, codes, get_or}
-use Rattle.cwr_records.specs.Lines.{field}
 use Rattle.cwr_records.specs.Layouts.{positions_of, fields_at}
-use Rattle.cwr_records.specs.Places.{header_places, group_header_places, work_places, publisher_places, publisher_territory_places, writer_places, writer_territory_places, publisher_for_writer_places, alternate_title_places, recording_places, acknowledgement_places, group_trailer_places, trailer_places}
+use Rattle.cwr_records.specs.Places.{record_type_in, header_places, group_header_places, work_places, publisher_places, publisher_territory_places, writer_places, writer_territory_places, publisher_for_writer_places, alternate_title_places, recording_places, acknowledgement_places, group_trailer_places, trailer_places}
 use Rattle.cwr_records.specs.Records.{record_of, record_as, type_of, header_contents, group_header_contents, work_of, work_contents, publisher_of, publisher_contents, publisher_territory_contents, writer_of, writer_contents, writer_territory_contents, publisher_for_writer_contents, alternate_title_contents, recording_contents, acknowledgement_contents, group_trailer_contents, trailer_contents, kind_of, kind_code, publisher_role_of, publisher_role_code, writer_role_of, writer_role_code}
-use Rattle.cwr_records.specs.declared.framing.TransmissionHeader.{TransmissionHeader}
-use Rattle.cwr_records.specs.declared.framing.GroupHeader.{GroupHeader}
+use Rattle.cwr_records.specs.declared.transmission_header.TransmissionHeader.{TransmissionHeader}
+use Rattle.cwr_records.specs.declared.group_header.GroupHeader.{GroupHeader}
 use Rattle.cwr_records.specs.declared.work.WorkRecord.{WorkRecord}
 use Rattle.cwr_records.specs.declared.publisher.PublisherRecord.{PublisherRecord}
-use Rattle.cwr_records.specs.declared.publisher.PublisherTerritory.{PublisherTerritory}
+use Rattle.cwr_records.specs.declared.publisher_territory.PublisherTerritory.{PublisherTerritory}
 use Rattle.cwr_records.specs.declared.writer.WriterRecord.{WriterRecord}
-use Rattle.cwr_records.specs.declared.writer.WriterTerritory.{WriterTerritory}
-use Rattle.cwr_records.specs.declared.writer.PublisherForWriter.{PublisherForWriter}
-use Rattle.cwr_records.specs.declared.detail.AlternateTitle.{AlternateTitle}
-use Rattle.cwr_records.specs.declared.detail.RecordingDetail.{RecordingDetail}
+use Rattle.cwr_records.specs.declared.writer_territory.WriterTerritory.{WriterTerritory}
+use Rattle.cwr_records.specs.declared.publisher_for_writer.PublisherForWriter.{PublisherForWriter}
+use Rattle.cwr_records.specs.declared.alternate_title.AlternateTitle.{AlternateTitle}
+use Rattle.cwr_records.specs.declared.recording.RecordingDetail.{RecordingDetail}
 use Rattle.cwr_records.specs.declared.acknowledgement.AcknowledgementRecord.{AcknowledgementRecord}
-use Rattle.cwr_records.specs.declared.framing.GroupTrailer.{GroupTrailer}
-use Rattle.cwr_records.specs.declared.framing.TransmissionTrailer.{TransmissionTrailer}
+use Rattle.cwr_records.specs.declared.group_trailer.GroupTrailer.{GroupTrailer}
+use Rattle.cwr_records.specs.declared.transmission_trailer.TransmissionTrailer.{TransmissionTrailer}
 use Rattle.cwr_records.specs.declared.work.TransactionKind.{TransactionKind}
 use Rattle.cwr_records.specs.declared.work.TransactionKind.TheVariants.{Nwr as NwrTransaction, Rev as RevTransaction}
 use Rattle.cwr_records.specs.declared.publisher.PublisherRole.{PublisherRole}
@@ -31,7 +30,7 @@ abbrev nth : List (List ℕ) → ℕ → List ℕ
 nth cs i = get_or cs i []
 
 -- a line's record, once its record type is known
-typed : (line code : List ℕ) (r : Record) → field line 1 3 ≡ code → record_as (type_of code) line ≡ r → record_of line ≡ r
+typed : (line code : List ℕ) (r : Record) → record_type_in line ≡ code → record_as (type_of code) line ≡ r → record_of line ≡ r
 unfolding record_of
 typed line code r at same = ap (λ (c : List ℕ). record_as (type_of c) line) at ∙ same
 

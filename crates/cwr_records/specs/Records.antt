@@ -1,21 +1,21 @@
 -- What each record type says: the record of a line, and the contents of a record.
 use Rattle.std.specs.Prelude.{◌≡◌, ℕ, cond, List, [], ◌∷◌, ◌++◌, codes, bytes_eq}
-use Rattle.cwr_records.specs.Lines.{field, lines}
+use Rattle.cwr_records.specs.Lines.{lines}
 use Rattle.cwr_records.specs.Layouts.{named, ended}
-use Rattle.cwr_records.specs.Places.{header_places, group_header_places, work_places, publisher_places, publisher_territory_places, writer_places, writer_territory_places, publisher_for_writer_places, alternate_title_places, recording_places, acknowledgement_places, group_trailer_places, trailer_places}
-use Rattle.cwr_records.specs.declared.framing.TransmissionHeader.{TransmissionHeader}
-use Rattle.cwr_records.specs.declared.framing.GroupHeader.{GroupHeader}
+use Rattle.cwr_records.specs.Places.{record_type_in, header_places, group_header_places, work_places, publisher_places, publisher_territory_places, writer_places, writer_territory_places, publisher_for_writer_places, alternate_title_places, recording_places, acknowledgement_places, group_trailer_places, trailer_places}
+use Rattle.cwr_records.specs.declared.transmission_header.TransmissionHeader.{TransmissionHeader}
+use Rattle.cwr_records.specs.declared.group_header.GroupHeader.{GroupHeader}
 use Rattle.cwr_records.specs.declared.work.WorkRecord.{WorkRecord}
 use Rattle.cwr_records.specs.declared.publisher.PublisherRecord.{PublisherRecord}
-use Rattle.cwr_records.specs.declared.publisher.PublisherTerritory.{PublisherTerritory}
+use Rattle.cwr_records.specs.declared.publisher_territory.PublisherTerritory.{PublisherTerritory}
 use Rattle.cwr_records.specs.declared.writer.WriterRecord.{WriterRecord}
-use Rattle.cwr_records.specs.declared.writer.WriterTerritory.{WriterTerritory}
-use Rattle.cwr_records.specs.declared.writer.PublisherForWriter.{PublisherForWriter}
-use Rattle.cwr_records.specs.declared.detail.AlternateTitle.{AlternateTitle}
-use Rattle.cwr_records.specs.declared.detail.RecordingDetail.{RecordingDetail}
+use Rattle.cwr_records.specs.declared.writer_territory.WriterTerritory.{WriterTerritory}
+use Rattle.cwr_records.specs.declared.publisher_for_writer.PublisherForWriter.{PublisherForWriter}
+use Rattle.cwr_records.specs.declared.alternate_title.AlternateTitle.{AlternateTitle}
+use Rattle.cwr_records.specs.declared.recording.RecordingDetail.{RecordingDetail}
 use Rattle.cwr_records.specs.declared.acknowledgement.AcknowledgementRecord.{AcknowledgementRecord}
-use Rattle.cwr_records.specs.declared.framing.GroupTrailer.{GroupTrailer}
-use Rattle.cwr_records.specs.declared.framing.TransmissionTrailer.{TransmissionTrailer}
+use Rattle.cwr_records.specs.declared.group_trailer.GroupTrailer.{GroupTrailer}
+use Rattle.cwr_records.specs.declared.transmission_trailer.TransmissionTrailer.{TransmissionTrailer}
 use Rattle.cwr_records.specs.declared.work.TransactionKind.{TransactionKind}
 use Rattle.cwr_records.specs.declared.work.TransactionKind.TheVariants.{Nwr as NwrTransaction, Rev as RevTransaction}
 use Rattle.cwr_records.specs.declared.publisher.PublisherRole.{PublisherRole}
@@ -486,7 +486,7 @@ record_as Unknown line = kind.Other line
 
 -- the record of a line, by the record type at 1-3 (CISAC CWR 2.2)
 unfoldable pub record_of : List ℕ → Record
-record_of line = record_as (type_of (field line 1 3)) line
+record_of line = record_as (type_of (record_type_in line)) line
 
 -- that a line with its line end is read as a record again, whatever follows: it is one line, and the line's record is that record (profile)
 pub record IsReadBack (line : List ℕ) (r : Record) : Type 0 where

@@ -6,7 +6,7 @@ use Rattle.work_ids.specs.Digits.{number_of}
 use Rattle.cwr_records.specs.declared.indicator.Indicator.{Indicator}
 use Rattle.cwr_records.specs.declared.indicator.Indicator.TheVariants.{Included, Excluded}
 
--- a number that is not above a limit (profile)
+-- a number that is not above a limit
 abbrev pub up_to : ℕ → Option ℕ → Option ℕ
 up_to limit None = None
 up_to limit (Some n) = cond (leb n limit) (Some n) None

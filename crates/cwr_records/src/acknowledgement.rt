@@ -2,7 +2,9 @@
 use crate::field::Field;
 use crate::fixed::Fixed;
 use crate::kind::RecordKind;
-use crate::layout::{Layout, LineFields, Position};
+use crate::layout::{
+    Layout, LineFields, Position, RECORD_SEQUENCE, RECORD_TYPE, TRANSACTION_SEQUENCE,
+};
 
 /// ACK, what became of a transaction. Its dates are YYYYMMDD, its time is HHMMSS, its status is AS (accepted) or RJ
 /// (rejected).
@@ -23,12 +25,9 @@ pub struct AcknowledgementRecord<'a> {
 }
 
 const ACKNOWLEDGEMENT: [Position; 13] = [
-    // record type
-    Position { from: 1, to: 3 },
-    // transaction sequence number
-    Position { from: 4, to: 11 },
-    // record sequence number
-    Position { from: 12, to: 19 },
+    RECORD_TYPE,
+    TRANSACTION_SEQUENCE,
+    RECORD_SEQUENCE,
     // original creation date
     Position { from: 20, to: 27 },
     // original creation time

@@ -20,8 +20,8 @@ pub trait RecordKind<'a>: Layout {
         ensures width { length result ≡ width_of (get_or (positions_of Self.places) index nowhere) };
 }
 
-/// The record of a line.
-pub(crate) fn read<'a, K: RecordKind<'a>>(line: &Line<'a>) -> K
+/// The record of a line by the layout of a kind, whatever its record type.
+pub fn read_as<'a, K: RecordKind<'a>>(line: &Line<'a>) -> K
     ensures { result ≡ K.of_line line.now }
 {
     K::from_fields(&LineFields {

@@ -12,6 +12,15 @@ pub struct Position {
     pub to: usize,
 }
 
+/// Where every record has its record type (CISAC CWR 2.2).
+pub(crate) const RECORD_TYPE: Position = Position { from: 1, to: 3 };
+
+/// Where a record of a transaction has its transaction sequence number (CISAC CWR 2.2).
+pub(crate) const TRANSACTION_SEQUENCE: Position = Position { from: 4, to: 11 };
+
+/// Where a record of a transaction has its record sequence number (CISAC CWR 2.2).
+pub(crate) const RECORD_SEQUENCE: Position = Position { from: 12, to: 19 };
+
 /// A record type's layout: the places of its fields, the record that a line is by them, and what a record has there.
 pub trait Layout: Sized {
     ghost use Rattle.std.specs.Prelude.{◌≡◌, ℕ, List, length, IsTrue};
@@ -55,7 +64,7 @@ impl<'a> LineFields<'a> {
         ensures { result ≡ field_at self.now.positions.now index self.now.line }
     {
         let position = position_at(self.positions, index);
-        self.line.field(position.from, position.to).fixed()
+        self.line.at(position).fixed()
     }
 }
 

@@ -1,8 +1,11 @@
 //! A line of a transmission, and the cutting of a body into lines.
 ghost use Rattle.std.specs.Prelude.{◌≡◌, ◌<◌, ◌≤◌, ◌-◌, ◌+◌, ◌∷◌, [], ◌≢◌, ◌==◌, ℕ, List, length, take, drop, position};
+ghost use Rattle.cwr_records.specs.Layouts.{field_in, width_of};
+ghost use Rattle.cwr_records.specs.Places.{record_sequence_in, record_type_in, transaction_sequence_in};
 ghost use Rattle.cwr_records.specs.Lines.{field, fill, is_blank, pieces, without_last, IsFirstLine};
 
 use crate::field::Field;
+use crate::layout::{Position, RECORD_SEQUENCE, RECORD_TYPE, TRANSACTION_SEQUENCE};
 use std::marker::Model;
 use work_ids::are_blank;
 
@@ -13,6 +16,8 @@ pub struct Line<'a> {
 }
 
 impl<'a> Model for Line<'a> {
+    ghost use Rattle.std.specs.Prelude.{ℕ, List};
+
     ghost Value = { List ℕ };
 
     ghost view = { λ l. l.bytes.now };
@@ -44,7 +49,8 @@ impl<'a> Line<'a> {
     pub fn field(&self, first: usize, last: usize) -> Field<'a>
         requires from_one { 1 ≤ first }
         requires in_order { first ≤ last }
-        ensures { result ≡ field self.now first last }
+        ensures value { result ≡ field self.now first last }
+        ensures width { length result ≡ last + 1 - first }
     {
         let width = last - (first - 1);
         let start = (first - 1).min(self.bytes.len());
@@ -60,25 +66,38 @@ impl<'a> Line<'a> {
         are_blank(self.bytes)
     }
 
-    /// The record type, at 1-3.
+    /// The field of the line at a position of a layout.
+    pub(crate) fn at(&self, position: Position) -> Field<'a>
+        requires from_one { 1 ≤ position.from }
+        requires in_order { position.from ≤ position.to }
+        ensures value { result ≡ field_in self.now position }
+        ensures width { length result ≡ width_of position }
+    {
+        self.field(position.from, position.to)
+    }
+
+    /// The record type.
     pub fn record_type(&self) -> Field<'a>
-        ensures { result ≡ field self.now 1 3 }
+        ensures value { result ≡ record_type_in self.now }
+        ensures width { length result ≡ 3 }
     {
-        self.field(1, 3)
+        self.at(RECORD_TYPE)
     }
 
-    /// The transaction sequence number of a transaction record, at 4-11.
+    /// The transaction sequence number of a record of a transaction.
     pub fn transaction_sequence(&self) -> Field<'a>
-        ensures { result ≡ field self.now 4 11 }
+        ensures value { result ≡ transaction_sequence_in self.now }
+        ensures width { length result ≡ 8 }
     {
-        self.field(4, 11)
+        self.at(TRANSACTION_SEQUENCE)
     }
 
-    /// The record sequence number of a transaction record, at 12-19.
+    /// The record sequence number of a record of a transaction.
     pub fn record_sequence(&self) -> Field<'a>
-        ensures { result ≡ field self.now 12 19 }
+        ensures value { result ≡ record_sequence_in self.now }
+        ensures width { length result ≡ 8 }
     {
-        self.field(12, 19)
+        self.at(RECORD_SEQUENCE)
     }
 }
 

@@ -1,9 +1,9 @@
 //! The reader of records of any type.
 ghost use Rattle.std.specs.Prelude.{◌≡◌};
-ghost use Rattle.cwr_records.specs.Lines.{field};
-ghost use Rattle.cwr_records.specs.Records.{type_of, record_of};
+ghost use Rattle.cwr_records.specs.Places.{record_type_in};
+ghost use Rattle.cwr_records.specs.Records.{record_of, type_of};
 
-use crate::kind::read;
+use crate::kind::read_as;
 use crate::line::Line;
 use crate::record::{Record, RecordType};
 
@@ -13,22 +13,22 @@ pub fn read_record<'a>(line: Line<'a>) -> Record<'a>
     ensures { result ≡ record_of line.entry }
 {
     match record_type(&line) {
-        RecordType::Hdr => Record::TransmissionHeader(read(&line)),
-        RecordType::Grh => Record::GroupHeader(read(&line)),
-        RecordType::Nwr => Record::Work(read(&line)),
-        RecordType::Rev => Record::Work(read(&line)),
-        RecordType::Spu => Record::Publisher(read(&line)),
-        RecordType::Opu => Record::Publisher(read(&line)),
-        RecordType::Spt => Record::PublisherTerritory(read(&line)),
-        RecordType::Swr => Record::Writer(read(&line)),
-        RecordType::Owr => Record::Writer(read(&line)),
-        RecordType::Swt => Record::WriterTerritory(read(&line)),
-        RecordType::Pwr => Record::PublisherForWriter(read(&line)),
-        RecordType::Alt => Record::AlternateTitle(read(&line)),
-        RecordType::Rec => Record::Recording(read(&line)),
-        RecordType::Ack => Record::Acknowledgement(read(&line)),
-        RecordType::Grt => Record::GroupTrailer(read(&line)),
-        RecordType::Trl => Record::TransmissionTrailer(read(&line)),
+        RecordType::Hdr => Record::TransmissionHeader(read_as(&line)),
+        RecordType::Grh => Record::GroupHeader(read_as(&line)),
+        RecordType::Nwr => Record::Work(read_as(&line)),
+        RecordType::Rev => Record::Work(read_as(&line)),
+        RecordType::Spu => Record::Publisher(read_as(&line)),
+        RecordType::Opu => Record::Publisher(read_as(&line)),
+        RecordType::Spt => Record::PublisherTerritory(read_as(&line)),
+        RecordType::Swr => Record::Writer(read_as(&line)),
+        RecordType::Owr => Record::Writer(read_as(&line)),
+        RecordType::Swt => Record::WriterTerritory(read_as(&line)),
+        RecordType::Pwr => Record::PublisherForWriter(read_as(&line)),
+        RecordType::Alt => Record::AlternateTitle(read_as(&line)),
+        RecordType::Rec => Record::Recording(read_as(&line)),
+        RecordType::Ack => Record::Acknowledgement(read_as(&line)),
+        RecordType::Grt => Record::GroupTrailer(read_as(&line)),
+        RecordType::Trl => Record::TransmissionTrailer(read_as(&line)),
         RecordType::Unknown => Record::Other(line),
     }
 }
@@ -55,7 +55,7 @@ const TYPES: [([u8; 3], RecordType); 16] = [
 
 /// The record type of a line.
 fn record_type(line: &Line<'_>) -> RecordType
-    ensures { result ≡ type_of (field line.now 1 3) }
+    ensures { result ≡ type_of (record_type_in line.now) }
 {
     let code = line.record_type();
     for (letters, kind) in &TYPES {

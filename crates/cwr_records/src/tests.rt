@@ -188,22 +188,6 @@ fn identifiers_read_with_their_types(rt: HostRuntime) {
     assert_eq!(rt; iswc.as_bytes(), b"T0345246801".as_slice());
     let number = work.work_number().expect(&rt, "a work number");
     assert_eq!(rt; number.as_bytes(), b"W1".as_slice());
-    let Record::Publisher(publisher) = read_record(Line::new(REGISTRATION[3].0)) else {
-        panic!(rt; "not a publisher");
-    };
-    let name = publisher
-        .ipi_name()
-        .expect(&rt, "an IPI field")
-        .expect(&rt, "a number");
-    assert_eq!(rt; name.as_bytes(), b"00000000199".as_slice());
-    let party = publisher.party().expect(&rt, "a party");
-    assert_eq!(rt; party.as_bytes(), b"P1".as_slice());
-    let Record::PublisherForWriter(link) = read_record(Line::new(REGISTRATION[7].0)) else {
-        panic!(rt; "not a publisher for a writer");
-    };
-    assert_eq!(rt; link.publisher_party(), Ok(party));
-    let writer = link.writer_party().expect(&rt, "a party");
-    assert_eq!(rt; writer.as_bytes(), b"A1".as_slice());
     let Record::Recording(recording) = read_record(Line::new(REGISTRATION[8].0)) else {
         panic!(rt; "not a recording");
     };

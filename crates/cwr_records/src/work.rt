@@ -2,7 +2,9 @@
 use crate::field::Field;
 use crate::fixed::Fixed;
 use crate::kind::RecordKind;
-use crate::layout::{Layout, LineFields, Position};
+use crate::layout::{
+    Layout, LineFields, Position, RECORD_SEQUENCE, RECORD_TYPE, TRANSACTION_SEQUENCE,
+};
 use work_ids::{IdFault, Iswc, WorkNumber};
 
 /// Whether a transaction registers a work or revises it.
@@ -84,12 +86,9 @@ impl<'a> WorkRecord<'a> {
 }
 
 const WORK: [Position; 15] = [
-    // record type
-    Position { from: 1, to: 3 },
-    // transaction sequence number
-    Position { from: 4, to: 11 },
-    // record sequence number
-    Position { from: 12, to: 19 },
+    RECORD_TYPE,
+    TRANSACTION_SEQUENCE,
+    RECORD_SEQUENCE,
     // title
     Position { from: 20, to: 79 },
     // language

@@ -1,18 +1,15 @@
 -- Bytes are cut into requests in one way.
-use Rattle.std.proofs.Common.{◌≡◌, ◌≢◌, inl, inr, ℕ, true, false, List, [], ◌∷◌, ◌++◌, ◌+◌, ◌<◌, Result, Ok, Err, OnErr, length, take, drop, refl, sym, ◌∙◌, ap, subst, arith, append_assoc, length-append}
+use Rattle.std.proofs.Common.{◌≡◌, ◌≢◌, inl, inr, ℕ, true, false, List, [], ◌∷◌, ◌++◌, Result, Ok, Err, OnErr, length, take, drop, refl, sym, ◌∙◌, ap, subst, arith, append_assoc, length-append}
 use Rattle.std.specs.List.{flat_map, AllByRecursion}
 use Rattle.std.proofs.lemmas.List.{take_at, drop_at}
-use Rattle.httparse.specs.Grammar.{RequestHead, HasNoRequest, print_request}
-use Rattle.http_desk.specs.declared.end.End.{End}
-use Rattle.http_desk.specs.declared.end.End.TheVariants.{Quiet, Closed, Bad, TooLarge, Busy}
-use Rattle.http_desk.specs.declared.head.Head.{Head}
-use Rattle.http_desk.specs.Head.{HasHead}
-use Rattle.http_desk.specs.declared.framing.Framing.TheVariants.{Sized, Faulty, Large}
-use Rattle.http_desk.specs.Framing.{framing, closes}
+use Rattle.httparse.specs.Grammar.{RequestHead, print_request}
+use Rattle.http_desk.specs.declared.connection_end.End.{End}
+use Rattle.http_desk.specs.declared.connection_end.End.TheVariants.{Quiet, Closed, Bad, TooLarge, Busy}
+use Rattle.http_desk.specs.declared.body_length.BodyLength.TheVariants.{Sized, Faulty, Large}
+use Rattle.http_desk.specs.BodyLength.{body_length, closes}
 use Rattle.http_desk.specs.Part.{Part, print_part, Begins, IsPart, IsOpenPart}
-use Rattle.http_desk.specs.Reads.{Reads, Ends, IsBad, IsTooLarge, IsLast, HasNoPart}
-use Rattle.http_desk.proofs.HeadLemmas.{Begins-unique}
-use Rattle.http_desk.proofs.ServeLemmas.{print_request-some}
+use Rattle.http_desk.specs.Reads.{Awaits, Reads, Ends, IsBad, IsTooLarge, IsLast, HasNoPart}
+use Rattle.http_desk.proofs.HeadLemmas.{Begins-unique, print_request-some}
 
 begins_of : (part : Part) (bytes rest : List ℕ) → IsPart part → bytes ≡ print_part part ++ rest → Begins bytes part.head (part.body ++ rest)
 begins_of part bytes rest is e =
@@ -27,7 +24,7 @@ same_part p q h b = λ i. record { head = h i; body = b i }
 part_unique : (p q : Part) (bytes r s : List ℕ) → IsPart p → IsPart q → bytes ≡ print_part p ++ r → bytes ≡ print_part q ++ s → (p ≡ q) × (r ≡ s)
 part_unique p q bytes r s a b e f =
     let same = Begins-unique bytes _ _ _ _ (begins_of p bytes r a e) (begins_of q bytes s b f) in
-    let long : length p.body ≡ length q.body = same_size _ _ (sym a.body ∙ ap framing same.0 ∙ b.body) in
+    let long : length p.body ≡ length q.body = same_size _ _ (sym a.body ∙ ap body_length same.0 ∙ b.body) in
     let bodies : p.body ≡ q.body =
     sym (take_at p.body r (length p.body) refl) ∙ ap (λ (v : List ℕ). take (length p.body) v) same.1 ∙ take_at q.body s (length p.body) (sym long) in
     let rests : r ≡ s =
@@ -56,42 +53,38 @@ bad_not_nil bytes (inr bad) e = not_nil bytes bad.1 bad.0 bad.2 e
 bad_not_large : (bytes : List ℕ) → IsBad bytes → IsTooLarge bytes → ⊥
 bad_not_large bytes (inl bad) large = bad.1 large.0 large.1 large.2
 bad_not_large bytes (inr (head, rest, begins, inl faulty)) large =
-    faulty_not_large (sym faulty ∙ ap framing (Begins-unique bytes _ _ _ _ begins large.2).0 ∙ large.3)
+    faulty_not_large (sym faulty ∙ ap body_length (Begins-unique bytes _ _ _ _ begins large.2).0 ∙ large.3)
 bad_not_large bytes (inr (head, rest, begins, inr (size, sized, short))) large =
-    sized_not_large size (sym sized ∙ ap framing (Begins-unique bytes _ _ _ _ begins large.2).0 ∙ large.3)
+    sized_not_large size (sym sized ∙ ap body_length (Begins-unique bytes _ _ _ _ begins large.2).0 ∙ large.3)
 
 bad_not_part : (bytes rest : List ℕ) (part : Part) → IsBad bytes → IsPart part → bytes ≡ print_part part ++ rest → ⊥
 bad_not_part bytes rest part (inl bad) is e = bad.1 part.head (part.body ++ rest) (begins_of part bytes rest is e)
 bad_not_part bytes rest part (inr (head, left, begins, inl faulty)) is e =
     let same = Begins-unique bytes _ _ _ _ begins (begins_of part bytes rest is e) in
-    sized_not_faulty _ (sym is.body ∙ ap framing (sym same.0) ∙ faulty)
+    sized_not_faulty _ (sym is.body ∙ ap body_length (sym same.0) ∙ faulty)
 bad_not_part bytes rest part (inr (head, left, begins, inr (size, sized, short))) is e =
     let same = Begins-unique bytes _ _ _ _ begins (begins_of part bytes rest is e) in
-    let sizes = same_size _ _ (sym sized ∙ ap framing same.0 ∙ is.body) in
+    let sizes = same_size _ _ (sym sized ∙ ap body_length same.0 ∙ is.body) in
     omega (arith, sizes, short, ap length same.1, length-append part.body rest)
 
 large_not_part : (bytes rest : List ℕ) (part : Part) → IsTooLarge bytes → IsPart part → bytes ≡ print_part part ++ rest → ⊥
 large_not_part bytes rest part large is e =
     let same = Begins-unique bytes _ _ _ _ large.2 (begins_of part bytes rest is e) in
-    sized_not_large _ (sym is.body ∙ ap framing (sym same.0) ∙ large.3)
+    sized_not_large _ (sym is.body ∙ ap body_length (sym same.0) ∙ large.3)
 
 nil_not_part : (bytes rest : List ℕ) (part : Part) → bytes ≡ [] → IsPart part → bytes ≡ print_part part ++ rest → ⊥
 nil_not_part bytes rest part nil is e = not_nil bytes (part.body ++ rest) part.head (begins_of part bytes rest is e) nil
 
 -- ---- no whole request yet
 
--- bytes of which no head is whole hold no request
-pub none_while_partial : (bytes : List ℕ) → (bytes ≢ [] → HasNoRequest bytes) → HasNoPart bytes
-none_while_partial bytes none part rest is e =
-    none (λ nil. nil_not_part bytes rest part nil is e) part.head (part.body ++ rest) (begins_of part bytes rest is e).reads
-
--- a head and less than its body are no request
-pub none_while_short : (bytes : List ℕ) (kept : Head) → HasHead bytes kept → length bytes < kept.length + kept.body → HasNoPart bytes
-none_while_short bytes kept h short part rest is e =
-    let same = Begins-unique bytes _ _ _ _ h.2 (begins_of part bytes rest is e) in
-    let sizes : kept.body ≡ length part.body = same_size _ _ (sym h.3.body ∙ ap framing same.0 ∙ is.body) in
-    let heads : length (print_request h.0) ≡ length (print_request part.head) = ap (λ (x : RequestHead). length (print_request x)) same.0 in
-    omega (arith, sizes, short, h.3.size, heads, ap length e, length-append (print_part part) rest, length-append (print_request part.head) part.body)
+-- bytes of which more are awaited hold no request
+pub none_while_awaited : (bytes : List ℕ) → Awaits bytes → HasNoPart bytes
+none_while_awaited bytes (inl awaits) part rest is e =
+    awaits.none part.head (part.body ++ rest) (begins_of part bytes rest is e).reads
+none_while_awaited bytes (inr awaits) part rest is e =
+    let same = Begins-unique bytes _ _ _ _ awaits.begins (begins_of part bytes rest is e) in
+    let sizes = same_size _ _ (sym awaits.sized ∙ ap body_length same.0 ∙ is.body) in
+    omega (arith, sizes, awaits.short, ap length same.1, length-append part.body rest)
 
 -- what holds after a call holds where it failed
 pub after_failure : {T E : Type 0} (r : Result T E) {P : Type 0} → P → OnErr r P

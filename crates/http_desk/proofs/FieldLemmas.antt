@@ -1,7 +1,7 @@
 -- Lemmas on fields: the values of a name, one field at a time.
 use Rattle.std.proofs.Common.{◌≡◌, ℕ, ◌+◌, ◌<◌, Bool, true, false, cond, List, [], ◌∷◌, length, map, drop, get_or, Option, Some, None, Bor, refl, ◌∙◌}
 use Rattle.std.proofs.lemmas.List.{at_drop_more}
-use Rattle.http_desk.specs.Framing.{is_named, values_of}
+use Rattle.http_desk.specs.BodyLength.{is_named, values_of}
 
 -- the values that were found so far
 abbrev pub found_values : Option (Bor (List ℕ)) → List (List ℕ)

@@ -1,17 +1,35 @@
 -- Lemmas on heads at the front of bytes: what follows changes nothing.
-use Rattle.std.proofs.Common.{◌≡◌, ◌≢◌, inl, inr, ℕ, ◌-◌, ◌<◌, ◌≤◌, List, [], ◌∷◌, ◌++◌, length, map, take, drop, refl, sym, ◌∙◌, ap, arith, length-take, length-drop}
+use Rattle.std.proofs.Common.{◌≡◌, ◌≢◌, inl, inr, ℕ, ◌-◌, ◌<◌, ◌≤◌, List, [], ◌∷◌, ◌++◌, length, map, take, drop, refl, sym, ◌∙◌, ap, arith, length-take, length-drop, length-append}
 use Rattle.std.specs.Prelude.{slice_range, false, ◌==◌}
 use Rattle.std.proofs.lemmas.Bool.{false≢true}
 use Rattle.std.proofs.lemmas.List.{length-map, take_at, take-append-le, drop-append-le, take-append-drop}
-use Rattle.httparse.specs.Grammar.{RequestHead, print_request, ReadsRequest, HasNoRequest}
+use Rattle.httparse.specs.Grammar.{RequestHead, print_request, print_blank, print_version, print_end, print_section, ReadsRequest, HasNoRequest}
 use Rattle.httparse.specs.Spans.{IsRequestAt, RequestOverflows, name_and_value, header_bytes, AreFieldsAt}
 use Rattle.httparse.specs.declared.spans.HeaderSpan.{HeaderSpan}
 use Rattle.httparse.specs.declared.spans.RequestSpans.{RequestSpans}
 use Rattle.httparse.proofs.GrammarLemmas.{request_unique, request_prefix_free, ReadsRequest-append}
-use Rattle.http_desk.specs.declared.framing.Framing.TheVariants.{Faulty, Large}
-use Rattle.http_desk.specs.Framing.{framing, framing_of, closes, closes_by}
+use Rattle.http_desk.specs.declared.body_length.BodyLength.TheVariants.{Faulty, Large}
+use Rattle.http_desk.specs.BodyLength.{body_length, body_length_of, closes, closes_by}
 use Rattle.http_desk.specs.Part.{Begins, max_head, max_fields}
-use Rattle.http_desk.specs.Reads.{IsBad, IsTooLarge, HasNoHead}
+use Rattle.http_desk.specs.Reads.{AwaitsHead, IsBad, IsTooLarge, HasNoHead}
+
+pub print_request-some : (head : RequestHead) → 1 ≤ length (print_request head)
+unfolding print_request
+print_request-some head =
+    some_in (print_blank head.blank ++ head.method) head.target (32 ∷ print_version head.minor) (print_end head.line_end) (print_section head.fields head.last) 32
+  where
+    some_in : (front t u v w : List ℕ) (x : ℕ) → 1 ≤ length (front ++ x ∷ t ++ u ++ v ++ w)
+    some_in front t u v w x =
+        omega (arith, length-append (front ++ x ∷ t ++ u ++ v) w, length-append (front ++ x ∷ t ++ u) v, length-append (front ++ x ∷ t) u, length-append front (x ∷ t))
+
+-- no bytes are no head yet
+none_in_nil : HasNoRequest []
+none_in_nil head rest reads =
+    omega (arith, ap length reads.1, length-append (print_request head) rest, print_request-some head)
+
+pub awaits_first : (bytes : List ℕ) → length bytes ≡ 0 → AwaitsHead bytes
+awaits_first [] e = record { none = none_in_nil; short = omega arith; possible = λ some. absurd (some refl) }
+awaits_first (b ∷ bytes) e = absurd (omega arith)
 
 pub Begins-append : (bytes more rest : List ℕ) (head : RequestHead) → Begins bytes head rest → Begins (bytes ++ more) head (rest ++ more)
 Begins-append bytes more rest head b =
@@ -63,11 +81,11 @@ nonempty-append (b ∷ bytes) more some e = cc
 pub bad_from_none : (bytes more : List ℕ) → bytes ≢ [] → HasNoHead (bytes ++ more) → IsBad (bytes ++ more)
 bad_from_none bytes more some none = inl (nonempty-append bytes more some, none)
 
-pub bad_from_faulty : (bytes more rest : List ℕ) (head : RequestHead) → Begins bytes head rest → framing head ≡ Faulty → IsBad (bytes ++ more)
+pub bad_from_faulty : (bytes more rest : List ℕ) (head : RequestHead) → Begins bytes head rest → body_length head ≡ Faulty → IsBad (bytes ++ more)
 bad_from_faulty bytes more rest head begins faulty =
     inr (head, rest ++ more, Begins-append bytes more rest head begins, inl faulty)
 
-pub large_from_head : (bytes more rest : List ℕ) (head : RequestHead) → Begins bytes head rest → framing head ≡ Large → IsTooLarge (bytes ++ more)
+pub large_from_head : (bytes more rest : List ℕ) (head : RequestHead) → Begins bytes head rest → body_length head ≡ Large → IsTooLarge (bytes ++ more)
 large_from_head bytes more rest head begins large = (head, rest ++ more, Begins-append bytes more rest head begins, large)
 
 -- ---- what the parser answered
@@ -77,9 +95,9 @@ pub begins_at : (bytes : List ℕ) (headers : List HeaderSpan) (spans : RequestS
     → Begins bytes head (drop spans.len bytes)
 begins_at bytes headers spans head at short few = record { reads = at.reads; short = short; few = few }
 
-pub framing_at : (head : RequestHead) (method : List ℕ) (fields : List (List ℕ × List ℕ)) → method ≡ head.method
-    → fields ≡ map name_and_value head.fields → framing_of method fields ≡ framing head
-framing_at head method fields m f = rw (m, f) refl
+pub body_length_at : (head : RequestHead) (method : List ℕ) (fields : List (List ℕ × List ℕ)) → method ≡ head.method
+    → fields ≡ map name_and_value head.fields → body_length_of method fields ≡ body_length head
+body_length_at head method fields m f = rw (m, f) refl
 
 pub closes_at : (head : RequestHead) (minor : ℕ) (fields : List (List ℕ × List ℕ)) → minor ≡ head.minor
     → fields ≡ map name_and_value head.fields → closes_by minor fields ≡ closes head

@@ -1,47 +1,55 @@
 -- Lemmas on a connection: what was served so far, one more request, and its end.
-use Rattle.std.proofs.Common.{◌≡◌, inl, inr, ℕ, ◌+◌, ◌*◌, ◌<◌, ◌≤◌, Bool, true, false, List, [], ◌∷◌, ◌++◌, length, map, drop, Option, Some, None, Result, Ok, Err, refl, sym, ◌∙◌, ap, subst, arith, append_assoc, length-append}
-use Rattle.std.specs.Prelude.{IsTrue, IfSome, IfOk, IfErr}
+use Rattle.std.proofs.Common.{◌≡◌, ◌≢◌, inl, inr, ℕ, ◌+◌, ◌*◌, ◌<◌, ◌≤◌, Bool, true, false, List, [], ◌∷◌, ◌++◌, length, map, drop, Option, Result, Ok, Err, refl, sym, ◌∙◌, ap, subst, arith, append_assoc, length-append}
+use Rattle.std.specs.Prelude.{IsTrue, IfSome, IfOk, IfErr, unwrap_or, ◌^◌}
 use Rattle.std.specs.List.{flat_map, AllByRecursion}
 use Rattle.std.proofs.lemmas.List.{append-nil, map-append, drop_at}
 use Rattle.std.proofs.lemmas.Grind.{flat_map-append}
 use Rattle.std.specs.Io.KnownBytes.{Appends, Consumes}
-use Rattle.httparse.specs.Grammar.{RequestHead, print_request, print_blank, print_version, print_end, print_section}
+use Rattle.httparse.specs.Grammar.{print_request}
 use Rattle.share_rules.specs.declared.office.Office.{Office}
 use Rattle.society_core.specs.Requests.{Query, Reply}
 use Rattle.society_core.specs.Runs.{Step, Run}
-use Rattle.society_core.proofs.RunLemmas.{run_on}
 use Rattle.society_core.specs.State.{Rises, State}
-use Rattle.http_desk.specs.declared.end.End.{End}
-use Rattle.http_desk.specs.declared.end.End.TheVariants.{Closed}
+use Rattle.society_core.proofs.HeadlineLemmas.{holds_what_came}
+use Rattle.society_core.proofs.RunLemmas.{run_on}
 use Rattle.http_desk.specs.declared.connection.Served.{Served}
+use Rattle.http_desk.specs.declared.connection_end.End.{End}
+use Rattle.http_desk.specs.declared.connection_end.End.TheVariants.{Closed}
+use Rattle.http_desk.specs.declared.counted.Counted.{Counted}
 use Rattle.http_desk.specs.declared.fault.DeskFault.{DeskFault}
 use Rattle.http_desk.specs.declared.fault.FaultKind.{FaultKind}
 use Rattle.http_desk.specs.declared.fault.FaultKind.TheVariants.{Read, Write, Turns, Memory}
 use Rattle.http_desk.specs.declared.head.Head.{Head}
 use Rattle.http_desk.specs.declared.input.Input.{Input}
-use Rattle.http_desk.specs.Counted.{AppendsFront, TakesAtLeast, TakesAtMost}
-use Rattle.http_desk.specs.Input.{unread, ReadsOn, FailsBy}
-use Rattle.http_desk.specs.Framing.{closes}
-use Rattle.http_desk.specs.Next.{EndsSo, HasPart}
+use Rattle.http_desk.specs.BodyLength.{closes}
+use Rattle.http_desk.specs.Counted.{AppendsFront, TakesAtLeast, TakesAtMost, counted_on, failures_of, inner_of, reads_of}
+use Rattle.http_desk.specs.Input.{unread, ReadsOn}
+use Rattle.http_desk.specs.Outbox.{Sends}
 use Rattle.http_desk.specs.Part.{Part, print_part, IsOpenPart}
 use Rattle.http_desk.specs.Path.{request_of}
-use Rattle.http_desk.specs.Reads.{Cuts, Reads, Ends, HasNoPart}
-use Rattle.http_desk.specs.Serves.{Answers, Serves, Breaks, NeedsMore, Written, Stopped, Unwritten}
+use Rattle.http_desk.specs.Reads.{Awaits, Cuts, Reads}
+use Rattle.http_desk.specs.Serves.{AreAnswered, Breaks, CausedBy, IsGivenUp, KeepsTurns, NeedsMore, Serves, Stopped, Unwritten, Written}
 use Rattle.http_desk.specs.Text.{text, texts, ending}
-use Rattle.http_desk.proofs.Known.{Appends-join, Appends-is, Appends-none, Consumes-none, Consumes-join, Consumes-is, AppendsFront-after}
+use Rattle.http_desk.specs.Upcoming.{EndsSo, HasPart, StopsBy}
+use Rattle.http_desk.proofs.CuttingLemmas.{none_while_awaited}
+use Rattle.http_desk.proofs.HeadLemmas.{print_request-some}
+use Rattle.http_desk.proofs.Known.{Appends-none, AppendsFront-is, Consumes-none, Consumes-join, Consumes-is, Sends-cut, Sends-flushed, Sends-front, Sends-is, Sends-more, Sends-none, Sends-then, counted_join, counted_most, counted_none, given_of}
 
--- what was served so far: requests that left the connection open, and bytes that were read and not taken yet
-pub record SoFar (known now_known : Option (List ℕ)) (input : Input) (turns : ℕ) (old now : State) (holds now_holds : Option (List ℕ)) (requests : ℕ) : Type 0 where
+-- what was served so far: requests that left the connection open, bytes that were read and not taken yet, and texts that wait
+pub record SoFar (known now_known : Option (List ℕ)) (input : Input) (turns reads now_reads : ℕ) (old now : State) (holds now_holds : Option (List ℕ)) (waiting : List ℕ) (requests : ℕ) : Type 0 where
   pub parts : List Part
   pub replies : List Reply
+  pub spent : ℕ
   pub each : AllByRecursion IsOpenPart parts
   pub consumed : Consumes known now_known (flat_map print_part parts ++ unread input)
-  pub answers : Answers parts replies old now
-  pub written : Appends holds now_holds (texts parts replies)
+  pub answers : AreAnswered parts replies old now
+  pub written : Sends holds now_holds (texts parts replies) waiting
   pub count : requests ≡ length parts
-  pub fits : requests + length (unread input) + input.turns * 4096 ≤ turns * 4096
-  pub least : turns ≤ input.turns + length (flat_map print_part parts ++ unread input)
-  pub most : length (flat_map print_part parts ++ unread input) + input.turns * 4096 ≤ turns * 4096
+  pub turned : turns ≡ input.turns + spent
+  pub counts : now_reads ≡ counted_on reads spent
+  pub fits : requests + length (unread input) ≤ spent * 16384
+  pub least : spent ≤ length (flat_map print_part parts ++ unread input)
+  pub most : length (flat_map print_part parts ++ unread input) ≤ spent * 16384
 
 -- ---- one more
 
@@ -62,152 +70,301 @@ printed-more : (parts : List Part) (part : Part) → flat_map print_part (parts 
 printed-more parts part =
     flat_map-append print_part parts (part ∷ []) ∙ ap (λ (v : List ℕ). flat_map print_part parts ++ v) (append-nil (print_part part))
 
-pub Answers-none : (state : State) → Answers [] [] state state
-Answers-none state = record { each = refl; office = refl; run = λ clean. refl }
-
-pub Answers-more : (parts : List Part) (replies : List Reply) (old mid new : State) (part : Part) (reply : Reply) → Answers parts replies old mid
-    → new.office ≡ mid.office → (IsTrue new.is_clean → IsTrue mid.is_clean)
-    → (IsTrue new.is_clean → Step mid.office mid.book (request_of part) reply new.book) → Answers (parts ++ part ∷ []) (replies ++ reply ∷ []) old new
-Answers-more parts replies old mid new part reply a office clean step = record {
-  each = omega (arith, length-append replies (reply ∷ []), length-append parts (part ∷ []), a.each);
-  office = office ∙ a.office;
-  run = λ c.
-      let P : List Query → Type 0 = λ qs. Run old.office old.book qs (replies ++ reply ∷ []) new.book in
-      subst P (sym (map-append request_of parts (part ∷ [])))
-      (run_on old.office old.book (map request_of parts) replies mid.book (request_of part) reply new.book (a.run (clean c)) (let Q : Office → Type 0 = λ o. Step o mid.book (request_of part) reply new.book in subst Q a.office (step c)));
+pub AreAnswered-none : (state : State) → AreAnswered [] [] state state
+AreAnswered-none state = record {
+  each = refl;
+  office = refl;
+  run = λ clean. refl;
+  came = λ clean. holds_what_came state.office state.book [] [] state.book refl;
 }
 
-pub print_request-some : (head : RequestHead) → 1 ≤ length (print_request head)
-unfolding print_request
-print_request-some head =
-    some_in (print_blank head.blank ++ head.method) head.target (32 ∷ print_version head.minor) (print_end head.line_end) (print_section head.fields head.last) 32
+pub AreAnswered-more : (parts : List Part) (replies : List Reply) (old mid new : State) (part : Part) (reply : Reply) → AreAnswered parts replies old mid
+    → new.office ≡ mid.office → (IsTrue new.is_clean → IsTrue mid.is_clean)
+    → (IsTrue new.is_clean → Step mid.office mid.book (request_of part) reply new.book) → AreAnswered (parts ++ part ∷ []) (replies ++ reply ∷ []) old new
+AreAnswered-more parts replies old mid new part reply a office clean step = record {
+  each = omega (arith, length-append replies (reply ∷ []), length-append parts (part ∷ []), a.each);
+  office = office ∙ a.office;
+  run = ran;
+  came = λ c. holds_what_came old.office old.book _ _ new.book (ran c);
+}
   where
-    some_in : (front t u v w : List ℕ) (x : ℕ) → 1 ≤ length (front ++ x ∷ t ++ u ++ v ++ w)
-    some_in front t u v w x =
-        omega (arith, length-append (front ++ x ∷ t ++ u ++ v) w, length-append (front ++ x ∷ t ++ u) v, length-append (front ++ x ∷ t) u, length-append front (x ∷ t))
+    ran : IsTrue new.is_clean → Run old.office old.book (map request_of (parts ++ part ∷ [])) (replies ++ reply ∷ []) new.book
+    ran c =
+        let P : List Query → Type 0 = λ qs. Run old.office old.book qs (replies ++ reply ∷ []) new.book in
+        subst P (sym (map-append request_of parts (part ∷ [])))
+        (run_on old.office old.book (map request_of parts) replies mid.book (request_of part) reply new.book (a.run (clean c)) (let Q : Office → Type 0 = λ o. Step o mid.book (request_of part) reply new.book in subst Q a.office (step c)))
 
 pub print_part-some : (part : Part) → 1 ≤ length (print_part part)
 print_part-some part = omega (arith, length-append (print_request part.head) part.body, print_request-some part.head)
 
 -- ---- so far
 
-pub SoFar-start : (known : Option (List ℕ)) (input : Input) (turns : ℕ) (state : State) (holds : Option (List ℕ)) → unread input ≡ [] → input.turns ≡ turns
-    → SoFar known known input turns state state holds holds 0
-SoFar-start known input turns state holds e t = record {
+pub SoFar-start : (known : Option (List ℕ)) (input : Input) (turns reads : ℕ) (state : State) (holds : Option (List ℕ)) (waiting : List ℕ)
+    → unread input ≡ [] → input.turns ≡ turns → waiting ≡ [] → reads < 2 ^ 64
+    → SoFar known known input turns reads reads state state holds holds waiting 0
+SoFar-start known input turns reads state holds waiting e t w small = record {
   parts = [];
   replies = [];
+  spent = 0;
   each = tt;
   consumed = Consumes-is known known [] (unread input) (Consumes-none known) (sym e);
-  answers = Answers-none state;
-  written = Appends-none holds;
+  answers = AreAnswered-none state;
+  written = Sends-is holds holds waiting [] waiting (Sends-none holds waiting) w;
   count = refl;
-  fits = omega (arith, ap length e, t);
-  least = omega (arith, t);
-  most = omega (arith, ap length e, t);
+  turned = omega (arith, t);
+  counts = counted_none reads small;
+  fits = omega (arith, ap length e);
+  least = omega arith;
+  most = omega (arith, ap length e);
 }
 
-pub SoFar-reads : (known now later : Option (List ℕ)) (input next : Input) (turns : ℕ) (old mid : State) (holds mid_holds : Option (List ℕ)) (requests : ℕ)
-    → SoFar known now input turns old mid holds mid_holds requests → ReadsOn input next now later → SoFar known later next turns old mid holds mid_holds requests
-SoFar-reads known now later input next turns old mid holds mid_holds requests so r =
+pub SoFar-reads : (known now later : Option (List ℕ)) (input next : Input) (turns reads now_reads later_reads : ℕ) (old mid : State) (holds mid_holds : Option (List ℕ)) (waiting : List ℕ) (requests : ℕ)
+    → SoFar known now input turns reads now_reads old mid holds mid_holds waiting requests → ReadsOn input next now later now_reads later_reads
+    → SoFar known later next turns reads later_reads old mid holds mid_holds waiting requests
+SoFar-reads known now later input next turns reads now_reads later_reads old mid holds mid_holds waiting requests so r =
     let front = flat_map print_part so.parts in
     let joined : (front ++ unread input) ++ r.more ≡ front ++ unread next = append_assoc front (unread input) r.more ∙ ap (λ (v : List ℕ). front ++ v) (sym r.grown) in
     let longer = ap length r.grown ∙ length-append (unread input) r.more in
     record {
       parts = so.parts;
       replies = so.replies;
+      spent = so.spent + r.spent;
       each = so.each;
       consumed = Consumes-is known later _ _ (Consumes-join known now later _ r.more so.consumed r.consumed) joined;
       answers = so.answers;
       written = so.written;
       count = so.count;
+      turned = omega (arith, so.turned, r.turned);
+      counts = r.counts ∙ ap (λ (v : ℕ). counted_on v r.spent) so.counts ∙ counted_join reads so.spent r.spent;
       fits = omega (arith, so.fits, r.most, longer);
       least = omega (arith, so.least, r.least, longer, length-append front (unread input), length-append front (unread next));
       most = omega (arith, so.most, r.most, longer, length-append front (unread input), length-append front (unread next));
     }
 
--- ---- known bytes
+-- texts were sent
+pub SoFar-sends : (known now : Option (List ℕ)) (input : Input) (turns reads now_reads : ℕ) (old mid : State) (holds mid_holds last : Option (List ℕ)) (waiting later : List ℕ) (requests : ℕ)
+    → SoFar known now input turns reads now_reads old mid holds mid_holds waiting requests → Sends mid_holds last waiting later
+    → SoFar known now input turns reads now_reads old mid holds last later requests
+SoFar-sends known now input turns reads now_reads old mid holds mid_holds last waiting later requests so sends = record {
+  parts = so.parts;
+  replies = so.replies;
+  spent = so.spent;
+  each = so.each;
+  consumed = so.consumed;
+  answers = so.answers;
+  written =
+      Sends-is holds last _ _ later
+      (Sends-more holds mid_holds last (texts so.parts so.replies) waiting [] later so.written
+      (Sends-is mid_holds last waiting (waiting ++ []) later sends (sym (append-nil waiting))))
+      (append-nil (texts so.parts so.replies));
+  count = so.count;
+  turned = so.turned;
+  counts = so.counts;
+  fits = so.fits;
+  least = so.least;
+  most = so.most;
+}
 
-with_known : (known now : Option (List ℕ)) (front : List ℕ) (P : List ℕ → Type 0) → Consumes known now front
-    → ((bytes left : List ℕ) → now ≡ Some left → bytes ≡ front ++ left → P bytes) → IfSome known P
-with_known None now front P c f = tt
-with_known (Some bytes) None front P c f = absurd c
-with_known (Some bytes) (Some left) front P c f = f bytes left refl c
+-- bytes were read, and texts sent before
+pub SoFar-next : (known now later : Option (List ℕ)) (input next : Input) (turns reads now_reads later_reads : ℕ) (old mid : State) (holds mid_holds last : Option (List ℕ)) (waiting rest : List ℕ) (requests : ℕ)
+    → SoFar known now input turns reads now_reads old mid holds mid_holds waiting requests → ReadsOn input next now later now_reads later_reads → Sends mid_holds last waiting rest
+    → SoFar known later next turns reads later_reads old mid holds last rest requests
+SoFar-next known now later input next turns reads now_reads later_reads old mid holds mid_holds last waiting rest requests so r sends =
+    SoFar-sends known later next turns reads later_reads old mid holds mid_holds last waiting rest requests
+    (SoFar-reads known now later input next turns reads now_reads later_reads old mid holds mid_holds waiting requests so r) sends
+
+-- ---- the end
+
+-- the requests were read and answered, the connection ends so, and texts wait
+pub record Finishes (known : Option (List ℕ)) (old now : State) (holds now_holds : Option (List ℕ)) (waiting : List ℕ) (requests : ℕ) (end : End) : Type 0 where
+  pub bytes : List ℕ
+  pub given : IfSome known (λ all. all ≡ bytes)
+  pub parts : List Part
+  pub replies : List Reply
+  pub reads : Reads bytes parts end
+  pub answers : AreAnswered parts replies old now
+  pub written : Sends holds now_holds (texts parts replies) waiting
+  pub count : requests ≡ length parts
+
+module _ (known : Option (List ℕ)) (old mid : State) (holds mid_holds last : Option (List ℕ)) (waiting : List ℕ) (requests : ℕ) (end : End) (f : Finishes known old mid holds mid_holds waiting requests end) where
+  served_so : Appends mid_holds last (waiting ++ ending end) → Serves known old mid holds last requests
+  served_so appends = record {
+    bytes = f.bytes;
+    given = f.given;
+    parts = f.parts;
+    replies = f.replies;
+    end = end;
+    reads = f.reads;
+    answers = f.answers;
+    written = Sends-then holds mid_holds last (texts f.parts f.replies) waiting (ending end) f.written appends;
+    count = f.count;
+  }
+
+  unwritten_so : AppendsFront mid_holds last (waiting ++ ending end) → Breaks (record { kind = Write; requests = requests }) known old mid holds last
+  unwritten_so front = record {
+    bytes = f.bytes;
+    given = f.given;
+    parts = f.parts;
+    replies = f.replies;
+    answers = f.answers;
+    written = inr (end, f.reads, Sends-front holds mid_holds last (texts f.parts f.replies) waiting (ending end) f.written front);
+    count = f.count;
+  }
+
+  pub ended_served : (r : Result Served DeskFault) → IfOk r (λ served. (served.requests ≡ requests) × Appends mid_holds last (waiting ++ ending end))
+      → IfOk r (λ served. Serves known old mid holds last served.requests)
+  ended_served (Ok served) p = let P : ℕ → Type 0 = λ n. Serves known old mid holds last n in subst P (sym p.0) (served_so p.1)
+  ended_served (Err e) p = tt
+
+  pub ended_fault : (failures new_failures : ℕ) (r : Result Served DeskFault)
+      → IfErr r (λ fault. (fault ≡ record { kind = Write; requests = requests }) × AppendsFront mid_holds last (waiting ++ ending end) × Rises failures new_failures)
+      → IfErr r (λ fault. Breaks fault known old mid holds last)
+  ended_fault failures new_failures (Ok served) p = tt
+  ended_fault failures new_failures (Err fault) p =
+      let P : DeskFault → Type 0 = λ f. Breaks f known old mid holds last in subst P (sym p.0) (unwritten_so p.1)
+
+-- a write that failed at the end is the cause
+pub ended_cause : {S R W : Type 0} (state : S → State) (remaining : R → Option (List ℕ)) (contents : W → Option (List ℕ)) (desk new_desk : S) (reader new_reader : Counted R) (writer mid_writer new_writer : Counted W) (turns requests : ℕ) (bytes : List ℕ) (r : Result Served DeskFault)
+    → failures_of mid_writer ≡ failures_of writer
+    → IfErr r (λ fault. (fault ≡ record { kind = Write; requests = requests }) × AppendsFront (contents (inner_of mid_writer)) (contents (inner_of new_writer)) bytes × Rises (failures_of mid_writer) (failures_of new_writer))
+    → IfErr r (λ fault. Breaks fault (remaining (inner_of reader)) (state desk) (state new_desk) (contents (inner_of writer)) (contents (inner_of new_writer)))
+    → IfErr r (IsGivenUp state remaining contents desk new_desk reader new_reader writer new_writer turns)
+ended_cause state remaining contents desk new_desk reader new_reader writer mid_writer new_writer turns requests bytes (Ok served) same p b = tt
+ended_cause state remaining contents desk new_desk reader new_reader writer mid_writer new_writer turns requests bytes (Err fault) same p b =
+    record { breaks = b; cause = subst P (sym p.0) (subst Q same p.2) }
+  where
+    P : DeskFault → Type 0
+    P f = CausedBy f.kind f.requests turns remaining reader new_reader writer new_writer
+
+    Q : ℕ → Type 0
+    Q n = Rises n (failures_of new_writer)
+
+-- it was no want of memory
+pub ended_write : (requests failures new_failures : ℕ) (before mid : Option (List ℕ)) (bytes : List ℕ) (r : Result Served DeskFault)
+    → IfErr r (λ fault. (fault ≡ record { kind = Write; requests = requests }) × AppendsFront before mid bytes × Rises failures new_failures)
+    → IfErr r (λ fault. fault.kind ≢ Memory)
+ended_write requests failures new_failures before mid bytes (Ok served) p = tt
+ended_write requests failures new_failures before mid bytes (Err fault) p = λ is. write_not_memory (sym (ap (λ (f : DeskFault). f.kind) p.0) ∙ is)
+  where
+    write_not_memory : ◌≡◌ {A = FaultKind} Write Memory → ⊥
+    write_not_memory e = cc
+
+-- ---- what was read
 
 cut : (bytes left : List ℕ) (parts : List Part) (held : List ℕ) → AllByRecursion IsOpenPart parts → bytes ≡ (flat_map print_part parts ++ held) ++ left → Cuts bytes parts (held ++ left)
 cut bytes left parts held each e = record { whole = e ∙ append_assoc (flat_map print_part parts) held left; each = each }
 
-ends_known : (held left : List ℕ) (now : Option (List ℕ)) (end : End) → EndsSo held now end → now ≡ Some left → Ends (held ++ left) [] end
-ends_known held left now end ends e = let P : Option (List ℕ) → Type 0 = λ v. EndsSo held v end in subst P e ends
+module _ (known now : Option (List ℕ)) (input : Input) (turns reads now_reads : ℕ) (old mid : State) (holds mid_holds : Option (List ℕ)) (waiting : List ℕ) (requests : ℕ) (so : SoFar known now input turns reads now_reads old mid holds mid_holds waiting requests) where
+  -- all bytes, as far as they are known
+  abbrev all_so : List ℕ
+  all_so = (flat_map print_part so.parts ++ unread input) ++ unwrap_or now []
 
-module _ (known now : Option (List ℕ)) (input : Input) (turns : ℕ) (old mid : State) (holds mid_holds last : Option (List ℕ)) (requests : ℕ) (so : SoFar known now input turns old mid holds mid_holds requests) where
-  reads_so : (bytes left : List ℕ) (end : End) → EndsSo (unread input) now end → now ≡ Some left → bytes ≡ (flat_map print_part so.parts ++ unread input) ++ left → Reads bytes so.parts end
-  reads_so bytes left end ends e whole =
-      (so.parts, [], unread input ++ left, sym (append-nil so.parts), cut bytes left so.parts (unread input) so.each whole, ends_known (unread input) left now end ends e)
+  cut_so : Cuts all_so so.parts (unread input ++ unwrap_or now [])
+  cut_so = cut all_so (unwrap_or now []) so.parts (unread input) so.each refl
 
-  pub served_so : (end : End) → EndsSo (unread input) now end → Appends mid_holds last (ending end) → IfSome known (λ bytes. Serves bytes old mid holds last requests)
-  served_so end ends appends =
-      with_known known now _ _ so.consumed
-      (λ bytes left e whole. record {
-        parts = so.parts;
-        replies = so.replies;
-        end = end;
-        reads = reads_so bytes left end ends e whole;
-        answers = so.answers;
-        written = Appends-join holds mid_holds last _ _ so.written appends;
-        count = so.count;
-      })
+  pub finishes : (end : End) → EndsSo (unread input) now end → Finishes known old mid holds mid_holds waiting requests end
+  finishes end ends = record {
+    bytes = all_so;
+    given = given_of known now _ so.consumed;
+    parts = so.parts;
+    replies = so.replies;
+    reads = (so.parts, [], unread input ++ unwrap_or now [], sym (append-nil so.parts), cut_so, ends);
+    answers = so.answers;
+    written = so.written;
+    count = so.count;
+  }
 
-  pub unwritten_so : (end : End) → EndsSo (unread input) now end → AppendsFront mid_holds last (ending end) → IfSome known (λ bytes. Breaks Write bytes old mid holds last requests)
-  unwritten_so end ends front =
-      with_known known now _ _ so.consumed
-      (λ bytes left e whole. record {
-        parts = so.parts;
-        replies = so.replies;
-        answers = so.answers;
-        written = inr (end, reads_so bytes left end ends e whole, AppendsFront-after holds mid_holds last _ _ so.written front);
-        count = so.count;
-      })
+  needed_so : Awaits (unread input) → NeedsMore known now requests
+  needed_so awaits = record {
+    parts = so.parts;
+    rest = unread input;
+    each = so.each;
+    consumed = so.consumed;
+    none = none_while_awaited (unread input) awaits;
+    awaits = awaits;
+    count = so.count;
+  }
 
-  stopped_written : (kind : FaultKind) (bytes : List ℕ) (failures new_failures : ℕ) → FailsBy kind input.turns failures new_failures
-      → Stopped bytes so.parts so.replies holds mid_holds → Written kind bytes so.parts so.replies holds mid_holds
-  stopped_written Read bytes f n by s = s
-  stopped_written Turns bytes f n by s = s
-  stopped_written Write bytes f n by s = absurd by
-  stopped_written Memory bytes f n by s = absurd by
+  took_so : input.turns ≡ 0 → TakesAtLeast known now turns
+  took_so e = (flat_map print_part so.parts ++ unread input, so.consumed, omega (arith, so.least, so.turned, e))
 
-  pub stopped_so : (kind : FaultKind) (failures new_failures : ℕ) → FailsBy kind input.turns failures new_failures
-      → IfSome known (λ bytes. Breaks kind bytes old mid holds mid_holds requests)
-  stopped_so kind failures new_failures by =
-      with_known known now _ _ so.consumed
-      (λ bytes left e whole. record {
-        parts = so.parts;
-        replies = so.replies;
-        answers = so.answers;
-        written = stopped_written kind bytes failures new_failures by (unread input ++ left, cut bytes left so.parts (unread input) so.each whole, so.written);
-        count = so.count;
-      })
+  counted_so : input.turns ≡ 0 → now_reads ≡ counted_on reads turns
+  counted_so e = let same : so.spent ≡ turns = omega (arith, so.turned, e) in so.counts ∙ ap (λ (n : ℕ). counted_on reads n) same
 
-  pub turns_so : input.turns ≡ 0 → TakesAtLeast known now turns
-  turns_so e = (flat_map print_part so.parts ++ unread input, so.consumed, omega (arith, so.least, e))
+  pub most_reads : now_reads ≤ reads + turns
+  most_reads = omega (arith, so.counts, counted_most reads so.spent, so.turned)
 
-  pub needed_so : HasNoPart (unread input) → NeedsMore known now requests
-  needed_so none =
-      record { parts = so.parts; rest = unread input; each = so.each; consumed = so.consumed; none = none; count = so.count }
+  pub most_bytes : TakesAtMost known now (turns * 16384)
+  most_bytes = (flat_map print_part so.parts ++ unread input, so.consumed, omega (arith, so.most, so.turned))
 
-  pub most_so : TakesAtMost known now (turns * 4096)
-  most_so = (flat_map print_part so.parts ++ unread input, so.consumed, omega (arith, so.most))
+  stopped : (last : Option (List ℕ)) → Appends mid_holds last waiting → Stopped all_so so.parts so.replies holds last
+  stopped last appends = (unread input ++ unwrap_or now [], cut_so, Sends-flushed holds mid_holds last _ waiting so.written appends)
 
--- why reading failed
-pub fails_read : (kind : FaultKind) (turns failures new_failures : ℕ) → FailsBy kind turns failures new_failures → kind ≡ Read → Rises failures new_failures
-fails_read kind turns f n by e = let P : FaultKind → Type 0 = λ k. FailsBy k turns f n in subst P e by
+  broken : (kind : FaultKind) (last : Option (List ℕ)) → Written kind all_so so.parts so.replies holds last → Breaks (record { kind = kind; requests = requests }) known old mid holds last
+  broken kind last w = record {
+    bytes = all_so;
+    given = given_of known now _ so.consumed;
+    parts = so.parts;
+    replies = so.replies;
+    answers = so.answers;
+    written = w;
+    count = so.count;
+  }
 
-pub fails_turns : (kind : FaultKind) (turns failures new_failures : ℕ) → FailsBy kind turns failures new_failures → kind ≡ Turns → turns ≡ 0
-fails_turns kind turns f n by e = let P : FaultKind → Type 0 = λ k. FailsBy k turns f n in subst P e by
+  -- what was written where no request came
+  pub stopped_so : (kind : FaultKind) (last : Option (List ℕ)) (reader writer : ℕ × ℕ) → StopsBy kind (unread input) input.turns reader writer mid_holds last waiting
+      → Breaks (record { kind = kind; requests = requests }) known old mid holds last
+  stopped_so Read last reader writer by = broken Read last (stopped last by.2)
+  stopped_so Turns last reader writer by = broken Turns last (stopped last by.2)
+  stopped_so Write last reader writer by =
+      broken Write last (inl (unread input ++ unwrap_or now [], cut_so, Sends-cut holds mid_holds last _ waiting so.written by.1))
+  stopped_so Memory last reader writer by = absurd by
+
+pub rises_from : (a b c : ℕ) → a ≡ b → Rises a c → Rises b c
+rises_from a b c same r = let P : ℕ → Type 0 = λ n. Rises n c in subst P same r
+
+-- no request came: what there was before, and why
+module _ {S R W : Type 0} (state : S → State) (remaining : R → Option (List ℕ)) (contents : W → Option (List ℕ)) (desk mid_desk : S) (reader mid_reader new_reader : Counted R) (writer mid_writer new_writer : Counted W) (input : Input) (turns requests : ℕ) (waiting : List ℕ)
+    (so : SoFar (remaining (inner_of reader)) (remaining (inner_of new_reader)) input turns (reads_of reader) (reads_of new_reader) (state desk) (state mid_desk) (contents (inner_of writer)) (contents (inner_of mid_writer)) waiting requests)
+    (same_reader : failures_of mid_reader ≡ failures_of reader) (same_writer : failures_of mid_writer ≡ failures_of writer) where
+  caused : (kind : FaultKind) → StopsBy kind (unread input) input.turns (failures_of mid_reader, failures_of new_reader) (failures_of mid_writer, failures_of new_writer) (contents (inner_of mid_writer)) (contents (inner_of new_writer)) waiting
+      → CausedBy kind requests turns remaining reader new_reader writer new_writer
+  caused Read by =
+      (rises_from _ _ _ same_reader by.1, needed_so _ _ input turns _ _ _ _ _ _ waiting requests so by.0)
+  caused Turns by = (
+    counted_so _ _ input turns _ _ _ _ _ _ waiting requests so by.1,
+    took_so _ _ input turns _ _ _ _ _ _ waiting requests so by.1,
+    needed_so _ _ input turns _ _ _ _ _ _ waiting requests so by.0,
+  )
+  caused Write by = rises_from _ _ _ same_writer by.0
+  caused Memory by = absurd by
+
+  pub given_up : (kind : FaultKind) → StopsBy kind (unread input) input.turns (failures_of mid_reader, failures_of new_reader) (failures_of mid_writer, failures_of new_writer) (contents (inner_of mid_writer)) (contents (inner_of new_writer)) waiting
+      → IsGivenUp state remaining contents desk mid_desk reader new_reader writer new_writer turns (record { kind = kind; requests = requests })
+  given_up kind by = record {
+    breaks = stopped_so _ _ input turns _ _ _ _ _ _ waiting requests so kind _ _ _ by;
+    cause = caused kind by;
+  }
+
+pub stops_not_memory : (kind : FaultKind) (bytes : List ℕ) (turns : ℕ) (reader writer : ℕ × ℕ) (holds new_holds : Option (List ℕ)) (waiting : List ℕ) → StopsBy kind bytes turns reader writer holds new_holds waiting → kind ≢ Memory
+stops_not_memory Read bytes turns reader writer holds new_holds waiting by e = cc
+stops_not_memory Turns bytes turns reader writer holds new_holds waiting by e = cc
+stops_not_memory Write bytes turns reader writer holds new_holds waiting by e = cc
+stops_not_memory Memory bytes turns reader writer holds new_holds waiting by e = absurd by
+
+-- the turns were kept
+pub keeps_turns : {R : Type 0} (remaining : R → Option (List ℕ)) (reader new_reader : Counted R) (input : Input) (turns : ℕ) (old mid : State) (holds mid_holds : Option (List ℕ)) (waiting : List ℕ) (requests : ℕ)
+    → SoFar (remaining (inner_of reader)) (remaining (inner_of new_reader)) input turns (reads_of reader) (reads_of new_reader) old mid holds mid_holds waiting requests
+    → KeepsTurns remaining reader new_reader turns
+keeps_turns remaining reader new_reader input turns old mid holds mid_holds waiting requests so = record {
+  reads = most_reads _ _ input turns _ _ old mid holds mid_holds waiting requests so;
+  most = most_bytes _ _ input turns _ _ old mid holds mid_holds waiting requests so;
+}
 
 -- ---- one more request
 
-module _ (known now : Option (List ℕ)) (input taken : Input) (turns : ℕ) (old mid new : State) (holds mid_holds last : Option (List ℕ)) (requests : ℕ) (head : Head)
-    (so : SoFar known now input turns old mid holds mid_holds requests) (has : HasPart (unread input) head)
+module _ (known now : Option (List ℕ)) (input taken : Input) (turns reads now_reads : ℕ) (old mid new : State) (holds mid_holds last : Option (List ℕ)) (waiting later : List ℕ) (requests : ℕ) (head : Head)
+    (so : SoFar known now input turns reads now_reads old mid holds mid_holds waiting requests) (has : HasPart (unread input) head)
     (front : unread taken ≡ drop (head.length + head.body) (unread input)) (same : taken.turns ≡ input.turns) (office : new.office ≡ mid.office)
     (clean : IsTrue new.is_clean → IsTrue mid.is_clean) (reply : Reply)
     (step : IsTrue new.is_clean → Step mid.office mid.book (request_of has.part) reply new.book) where
@@ -227,8 +384,8 @@ module _ (known now : Option (List ℕ)) (input taken : Input) (turns : ℕ) (ol
       ∙ ap (λ (v : List ℕ). flat_map print_part so.parts ++ (print_part has.part ++ v)) rest_is
       ∙ ap (λ (v : List ℕ). flat_map print_part so.parts ++ v) (sym has.whole)
 
-  answers : Answers (so.parts ++ has.part ∷ []) (so.replies ++ reply ∷ []) old new
-  answers = Answers-more so.parts so.replies old mid new has.part reply so.answers office clean step
+  answers : AreAnswered (so.parts ++ has.part ∷ []) (so.replies ++ reply ∷ []) old new
+  answers = AreAnswered-more so.parts so.replies old mid new has.part reply so.answers office clean step
 
   texts_are : texts so.parts so.replies ++ text reply head.closes ≡ texts (so.parts ++ has.part ∷ []) (so.replies ++ reply ∷ [])
   texts_are =
@@ -238,28 +395,40 @@ module _ (known now : Option (List ℕ)) (input taken : Input) (turns : ℕ) (ol
   counted : requests + 1 ≡ length (so.parts ++ has.part ∷ [])
   counted = omega (arith, so.count, length-append so.parts (has.part ∷ []))
 
-  pub fewer : length (unread taken) + taken.turns * 4096 < length (unread input) + input.turns * 4096
+  pub fewer : length (unread taken) + taken.turns * 16384 < length (unread input) + input.turns * 16384
   fewer = omega (arith, longer, same, print_part-some has.part)
 
-  pub countable : requests + 1 ≤ turns * 4096
-  countable = omega (arith, so.fits, longer, print_part-some has.part)
+  pub countable : requests + 1 ≤ turns * 16384
+  countable = omega (arith, so.fits, longer, so.turned, print_part-some has.part)
 
   is_open : head.closes ≡ false → IsOpenPart has.part
   is_open e = record { is_part = has.is_part; open_after = sym has.is_kept.last ∙ e }
 
-  pub goes_on : head.closes ≡ false → Appends mid_holds last (text reply head.closes) → SoFar known now taken turns old new holds last (requests + 1)
-  goes_on e appends = record {
+  written_on : Sends mid_holds last (waiting ++ text reply head.closes) later → Sends holds last (texts (so.parts ++ has.part ∷ []) (so.replies ++ reply ∷ [])) later
+  written_on sends =
+      Sends-is holds last _ _ later
+      (Sends-more holds mid_holds last (texts so.parts so.replies) waiting (text reply head.closes) later so.written sends) texts_are
+
+  pub goes_on : head.closes ≡ false → Sends mid_holds last (waiting ++ text reply head.closes) later → SoFar known now taken turns reads now_reads old new holds last later (requests + 1)
+  goes_on e sends = record {
     parts = so.parts ++ has.part ∷ [];
     replies = so.replies ++ reply ∷ [];
+    spent = so.spent;
     each = each-more so.parts has.part so.each (is_open e);
     consumed = Consumes-is known now _ _ so.consumed (sym joined);
     answers = answers;
-    written = Appends-is holds last _ _ (Appends-join holds mid_holds last _ _ so.written appends) texts_are;
+    written = written_on sends;
     count = counted;
-    fits = omega (arith, so.fits, longer, same, print_part-some has.part);
-    least = omega (arith, so.least, same, ap length joined);
-    most = omega (arith, so.most, same, ap length joined);
+    turned = omega (arith, so.turned, same);
+    counts = so.counts;
+    fits = omega (arith, so.fits, longer, print_part-some has.part);
+    least = omega (arith, so.least, ap length joined);
+    most = omega (arith, so.most, ap length joined);
   }
+
+  -- all bytes, as far as they are known
+  abbrev every : List ℕ
+  every = (flat_map print_part so.parts ++ unread input) ++ unwrap_or now []
 
   -- the rest of the bytes begins with the request
   begun : (left : List ℕ) → unread input ++ left ≡ print_part has.part ++ (unread taken ++ left)
@@ -267,99 +436,70 @@ module _ (known now : Option (List ℕ)) (input taken : Input) (turns : ℕ) (ol
       ap (λ (v : List ℕ). v ++ left) (has.whole ∙ ap (λ (v : List ℕ). print_part has.part ++ v) (sym rest_is))
       ∙ append_assoc (print_part has.part) (unread taken) left
 
-  reads_closed : (bytes left : List ℕ) → head.closes ≡ true → bytes ≡ (flat_map print_part so.parts ++ unread input) ++ left
-      → Reads bytes (so.parts ++ has.part ∷ []) Closed
-  reads_closed bytes left e whole = (
+  reads_closed : head.closes ≡ true → Reads every (so.parts ++ has.part ∷ []) Closed
+  reads_closed e = (
     so.parts,
     has.part ∷ [],
-    unread input ++ left,
+    unread input ++ unwrap_or now [],
     refl,
-    cut bytes left so.parts (unread input) so.each whole,
-    (unread taken ++ left, has.is_part, sym has.is_kept.last ∙ e, begun left),
+    cut every (unwrap_or now []) so.parts (unread input) so.each refl,
+    (unread taken ++ unwrap_or now [], has.is_part, sym has.is_kept.last ∙ e, begun (unwrap_or now [])),
   )
 
-  pub closed : head.closes ≡ true → Appends mid_holds last (text reply head.closes) → IfSome known (λ bytes. Serves bytes old new holds last (requests + 1))
-  closed e appends =
-      with_known known now _ _ so.consumed
-      (λ bytes left is whole. record {
-        parts = so.parts ++ has.part ∷ [];
-        replies = so.replies ++ reply ∷ [];
-        end = Closed;
-        reads = reads_closed bytes left e whole;
-        answers = answers;
-        written = Appends-is holds last _ _ (Appends-join holds mid_holds last _ _ so.written appends) (texts_are ∙ sym (append-nil (texts (so.parts ++ has.part ∷ []) (so.replies ++ reply ∷ []))));
-        count = counted;
-      })
+  pub closes_on : head.closes ≡ true → Sends mid_holds last (waiting ++ text reply head.closes) later → Finishes known old new holds last later (requests + 1) Closed
+  closes_on e sends = record {
+    bytes = every;
+    given = given_of known now _ so.consumed;
+    parts = so.parts ++ has.part ∷ [];
+    replies = so.replies ++ reply ∷ [];
+    reads = reads_closed e;
+    answers = answers;
+    written = written_on sends;
+    count = counted;
+  }
 
-  front_written : AppendsFront mid_holds last (text reply head.closes) → AppendsFront holds last (texts (so.parts ++ has.part ∷ []) (so.replies ++ reply ∷ []))
+  front_written : AppendsFront mid_holds last (waiting ++ text reply head.closes) → AppendsFront holds last (texts (so.parts ++ has.part ∷ []) (so.replies ++ reply ∷ []))
   front_written f =
-      let P : List ℕ → Type 0 = λ v. AppendsFront holds last v in
-      subst P texts_are (AppendsFront-after holds mid_holds last _ _ so.written f)
+      AppendsFront-is holds last _ _ (Sends-front holds mid_holds last (texts so.parts so.replies) waiting (text reply head.closes) so.written f) texts_are
 
-  unwritten_by : (bytes left : List ℕ) (close : Bool) → head.closes ≡ close → bytes ≡ (flat_map print_part so.parts ++ unread input) ++ left
-      → AppendsFront holds last (texts (so.parts ++ has.part ∷ []) (so.replies ++ reply ∷ []))
-      → Unwritten bytes (so.parts ++ has.part ∷ []) (so.replies ++ reply ∷ []) holds last
-  unwritten_by bytes left false e whole f =
+  unwritten_by : (close : Bool) → head.closes ≡ close → AppendsFront holds last (texts (so.parts ++ has.part ∷ []) (so.replies ++ reply ∷ []))
+      → Unwritten every (so.parts ++ has.part ∷ []) (so.replies ++ reply ∷ []) holds last
+  unwritten_by false e f =
       inl (
-        unread taken ++ left,
-        cut bytes left (so.parts ++ has.part ∷ []) (unread taken) (each-more so.parts has.part so.each (is_open e)) (whole ∙ ap (λ (v : List ℕ). v ++ left) (sym joined)),
+        unread taken ++ unwrap_or now [],
+        cut every (unwrap_or now []) (so.parts ++ has.part ∷ []) (unread taken) (each-more so.parts has.part so.each (is_open e)) (ap (λ (v : List ℕ). v ++ unwrap_or now []) (sym joined)),
         f,
       )
-  unwritten_by bytes left true e whole f =
-      let P : List ℕ → Type 0 = λ v. AppendsFront holds last v in
-      inr (Closed, reads_closed bytes left e whole, subst P (sym (append-nil (texts (so.parts ++ has.part ∷ []) (so.replies ++ reply ∷ [])))) f)
+  unwritten_by true e f =
+      inr (Closed, reads_closed e, AppendsFront-is holds last _ _ f (sym (append-nil (texts (so.parts ++ has.part ∷ []) (so.replies ++ reply ∷ [])))))
 
-  pub failed : AppendsFront mid_holds last (text reply head.closes) → IfSome known (λ bytes. Breaks Write bytes old new holds last (requests + 1))
-  failed f =
-      with_known known now _ _ so.consumed
-      (λ bytes left is whole. record {
-        parts = so.parts ++ has.part ∷ [];
-        replies = so.replies ++ reply ∷ [];
-        answers = answers;
-        written = unwritten_by bytes left head.closes refl whole (front_written f);
-        count = counted;
-      })
-
--- ---- what was written at the end
-
-module _ (known now : Option (List ℕ)) (input : Input) (turns : ℕ) (old mid : State) (holds mid_holds last : Option (List ℕ)) (requests : ℕ)
-    (so : SoFar known now input turns old mid holds mid_holds requests) (end : End) (ends : EndsSo (unread input) now end) where
-  pub ended_served : (r : Result Served DeskFault) → IfOk r (λ served. (served.requests ≡ requests) × Appends mid_holds last (ending end))
-      → IfOk r (λ served. IfSome known (λ bytes. Serves bytes old mid holds last served.requests))
-  ended_served (Ok served) p =
-      let P : ℕ → Type 0 = λ n. IfSome known (λ bytes. Serves bytes old mid holds last n) in
-      subst P (sym p.0) (served_so known now input turns old mid holds mid_holds last requests so end ends p.1)
-  ended_served (Err e) p = tt
-
-  pub ended_fault : (failures new_failures : ℕ) (r : Result Served DeskFault)
-      → IfErr r (λ fault. (fault ≡ record { kind = Write; requests = requests }) × AppendsFront mid_holds last (ending end) × Rises failures new_failures)
-      → IfErr r (λ fault. IfSome known (λ bytes. Breaks fault.kind bytes old mid holds last fault.requests))
-  ended_fault failures new_failures (Ok served) p = tt
-  ended_fault failures new_failures (Err fault) p =
-      let P : DeskFault → Type 0 = λ f. IfSome known (λ bytes. Breaks f.kind bytes old mid holds last f.requests) in
-      subst P (sym p.0) (unwritten_so known now input turns old mid holds mid_holds last requests so end ends p.1)
-
-pub ended_write : (requests failures new_failures : ℕ) (before mid : Option (List ℕ)) (bytes : List ℕ) (first : ℕ) (r : Result Served DeskFault) → failures ≡ first
-    → IfErr r (λ fault. (fault ≡ record { kind = Write; requests = requests }) × AppendsFront before mid bytes × Rises failures new_failures)
-    → IfErr r (λ fault. fault.kind ≡ Write → Rises first new_failures)
-ended_write requests failures new_failures before mid bytes first (Ok served) e p = tt
-ended_write requests failures new_failures before mid bytes first (Err fault) e p = λ is. let P : ℕ → Type 0 = λ n. Rises n new_failures in subst P e p.2
+  pub failed : AppendsFront mid_holds last (waiting ++ text reply head.closes) → Breaks (record { kind = Write; requests = requests + 1 }) known old new holds last
+  failed f = record {
+    bytes = every;
+    given = given_of known now _ so.consumed;
+    parts = so.parts ++ has.part ∷ [];
+    replies = so.replies ++ reply ∷ [];
+    answers = answers;
+    written = unwritten_by head.closes refl (front_written f);
+    count = counted;
+  }
 
 -- what is left to do falls
-pub smaller : (input next taken sent : Input) (known later : Option (List ℕ)) → ReadsOn input next known later
-    → length (unread taken) + taken.turns * 4096 < length (unread next) + next.turns * 4096 → sent ≡ taken
-    → length (unread sent) + sent.turns * 4096 < length (unread input) + input.turns * 4096
-smaller input next taken sent known later r less same =
-    let P : Input → Type 0 = λ i. length (unread i) + i.turns * 4096 < length (unread input) + input.turns * 4096 in
-    subst P (sym same) (omega (arith, less, r.most, ap length r.grown, length-append (unread input) r.more))
+pub smaller : (input next taken sent : Input) (known later : Option (List ℕ)) (reads later_reads : ℕ) → ReadsOn input next known later reads later_reads
+    → length (unread taken) + taken.turns * 16384 < length (unread next) + next.turns * 16384 → sent ≡ taken
+    → length (unread sent) + sent.turns * 16384 < length (unread input) + input.turns * 16384
+smaller input next taken sent known later reads later_reads r less same =
+    let P : Input → Type 0 = λ i. length (unread i) + i.turns * 16384 < length (unread input) + input.turns * 16384 in
+    subst P (sym same) (omega (arith, less, r.most, r.turned, ap length r.grown, length-append (unread input) r.more))
 
 -- nothing was read
-pub nothing_read : (known : Option (List ℕ)) (state : State) (holds : Option (List ℕ)) → IfSome known (λ bytes. Breaks Memory bytes state state holds holds 0)
-nothing_read None state holds = tt
-nothing_read (Some bytes) state holds = record {
+pub nothing_read : (known : Option (List ℕ)) (state : State) (holds : Option (List ℕ)) → Breaks (record { kind = Memory; requests = 0 }) known state state holds holds
+nothing_read known state holds = record {
+  bytes = unwrap_or known [];
+  given = given_of known known [] (Consumes-none known);
   parts = [];
   replies = [];
-  answers = Answers-none state;
-  written = (bytes, record { whole = refl; each = tt }, Appends-none holds);
+  answers = AreAnswered-none state;
+  written = (unwrap_or known [], record { whole = refl; each = tt }, Appends-none holds);
   count = refl;
 }

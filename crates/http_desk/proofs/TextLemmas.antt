@@ -1,7 +1,7 @@
 -- Lemmas on the texts of answers.
 use Rattle.std.proofs.Common.{◌≡◌, ℕ, ◌≤◌, length, lit≤, List, ◌++◌, append_assoc}
 use Rattle.http_desk.specs.declared.status.Status.{Status}
-use Rattle.http_desk.specs.declared.status.Status.TheVariants.{Done, Created, Accepted, BadRequest, NotFound, Conflict, Unprocessable, Unavailable}
+use Rattle.http_desk.specs.declared.status.Status.TheVariants.{Done, Created, Accepted, BadRequest, NotFound, Conflict, TooLarge, Unprocessable, Unavailable}
 use Rattle.http_desk.specs.Text.{phrase_of, code_of}
 
 pub phrase_short : (status : Status) → length (phrase_of (code_of status)) ≤ 32
@@ -11,6 +11,7 @@ phrase_short Accepted = lit≤ tt
 phrase_short BadRequest = lit≤ tt
 phrase_short NotFound = lit≤ tt
 phrase_short Conflict = lit≤ tt
+phrase_short TooLarge = lit≤ tt
 phrase_short Unprocessable = lit≤ tt
 phrase_short Unavailable = lit≤ tt
 

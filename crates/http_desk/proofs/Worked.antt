@@ -1,16 +1,18 @@
--- Worked values: the framing of heads, what paths ask for, and answers byte for byte.
-use Rattle.std.specs.Prelude.{◌≡◌, ℕ, true, false, List, [], ◌∷◌, Some, None, refl, codes}
+-- Worked values: the body_length of heads, what paths ask for, and answers byte for byte.
+use Rattle.std.specs.Prelude.{◌≡◌, ℕ, true, false, List, [], ◌∷◌, Option, Some, None, refl, codes}
 use Rattle.std.specs.Fmt.{digits}
 use Rattle.percent_encoding.specs.Percent.{percent_decode}
-use Rattle.society_core.specs.Requests.{Puts, AsksAck, AsksElsewhere, Arrived, Acknowledged, Refused}
-use Rattle.society_core.specs.declared.request.Refusal.TheVariants.{Reused, File, Unknown}
-use Rattle.society_core.specs.declared.request.Standing.TheVariants.{Applied, Held}
-use Rattle.http_desk.specs.declared.framing.Framing.TheVariants.{Sized, Faulty, Large}
-use Rattle.http_desk.specs.declared.end.End.TheVariants.{Quiet, Bad, Busy}
-use Rattle.http_desk.specs.Framing.{framing_of, closes_by}
-use Rattle.http_desk.specs.Next.{ended_with}
-use Rattle.http_desk.specs.Path.{asked, is_path, number_of, parameter}
-use Rattle.http_desk.specs.declared.routes.Route.TheVariants.{Transmission, Acknowledgement}
+use Rattle.society_core.specs.Keys.{return_key}
+use Rattle.society_core.specs.Requests.{Puts, PutsReturn, AsksAck, AsksElsewhere, Arrived, Stored, Acknowledged, Refused}
+use Rattle.society_core.specs.declared.answers.Receipt.TheVariants.{New, Repeated}
+use Rattle.society_core.specs.declared.refusal.Refusal.TheVariants.{Reused, File, Csv, Unknown}
+use Rattle.society_core.specs.declared.answers.Standing.TheVariants.{Applied, Held}
+use Rattle.http_desk.specs.declared.body_length.BodyLength.TheVariants.{Sized, Faulty, Large}
+use Rattle.http_desk.specs.declared.connection_end.End.TheVariants.{Quiet, Bad, TooLarge, Busy}
+use Rattle.http_desk.specs.BodyLength.{body_length_of, closes_by}
+use Rattle.http_desk.specs.Upcoming.{ended_with}
+use Rattle.http_desk.specs.Path.{asked, is_path, parameter, transmission_number_in}
+use Rattle.http_desk.specs.declared.routes.Route.TheVariants.{Transmission, Acknowledgement, Return}
 use Rattle.http_desk.specs.Text.{ending, head_text, text}
 
 -- one field
@@ -23,37 +25,37 @@ length_of value = only (codes "content-LENGTH") value
 
 -- ---- the body after a head
 
-no_length : framing_of (codes "GET") [] ≡ Sized 0
+no_length : body_length_of (codes "GET") [] ≡ Sized 0
 no_length = refl
 
-zeros_in_front : framing_of (codes "PUT") (length_of (codes "0007")) ≡ Sized 7
+zeros_in_front : body_length_of (codes "PUT") (length_of (codes "0007")) ≡ Sized 7
 zeros_in_front = refl
 
-greatest_body : framing_of (codes "PUT") (length_of (codes "1048576")) ≡ Sized 1048576
+greatest_body : body_length_of (codes "PUT") (length_of (codes "1048576")) ≡ Sized 1048576
 greatest_body = refl
 
-one_byte_more : framing_of (codes "PUT") (length_of (codes "1048577")) ≡ Large
+one_byte_more : body_length_of (codes "PUT") (length_of (codes "1048577")) ≡ Large
 one_byte_more = refl
 
-thirty_nines : framing_of (codes "GET") (length_of (codes "999999999999999999999999999999")) ≡ Large
+thirty_nines : body_length_of (codes "GET") (length_of (codes "999999999999999999999999999999")) ≡ Large
 thirty_nines = refl
 
-a_sign : framing_of (codes "PUT") (length_of (codes "+5")) ≡ Faulty
+a_sign : body_length_of (codes "PUT") (length_of (codes "+5")) ≡ Faulty
 a_sign = refl
 
-an_empty_length : framing_of (codes "PUT") (length_of []) ≡ Faulty
+an_empty_length : body_length_of (codes "PUT") (length_of []) ≡ Faulty
 an_empty_length = refl
 
-two_equal_lengths : framing_of (codes "PUT") ((codes "Content-Length", codes "5") ∷ length_of (codes "5")) ≡ Faulty
+two_equal_lengths : body_length_of (codes "PUT") ((codes "Content-Length", codes "5") ∷ length_of (codes "5")) ≡ Faulty
 two_equal_lengths = refl
 
-another_method : framing_of (codes "POST") (length_of (codes "1048577")) ≡ Faulty
+another_method : body_length_of (codes "POST") (length_of (codes "1048577")) ≡ Faulty
 another_method = refl
 
-small_letters : framing_of (codes "get") [] ≡ Faulty
+small_letters : body_length_of (codes "get") [] ≡ Faulty
 small_letters = refl
 
-an_empty_encoding : framing_of (codes "PUT") ((codes "Transfer-Encoding", []) ∷ length_of (codes "1048577")) ≡ Faulty
+an_empty_encoding : body_length_of (codes "PUT") ((codes "Transfer-Encoding", []) ∷ length_of (codes "1048577")) ≡ Faulty
 an_empty_encoding = refl
 
 -- ---- the end of the connection
@@ -78,16 +80,24 @@ a_stray_line_end = refl
 
 -- ---- numbers and paths
 
-last_number : number_of (codes "999999") ≡ Some 999999
+-- the number that this parameter has
+abbrev number : List ℕ → Option ℕ
+number text = transmission_number_in ((codes "n", text) ∷ [])
+
+last_number : number (codes "999999") ≡ Some 999999
+unfolding percent_decode
 last_number = refl
 
-past_the_last : number_of (codes "1000000") ≡ None
+past_the_last : number (codes "1000000") ≡ None
+unfolding percent_decode
 past_the_last = refl
 
-zero : number_of (codes "0") ≡ None
+zero : number (codes "0") ≡ None
+unfolding percent_decode
 zero = refl
 
-zero_in_front : number_of (codes "01") ≡ None
+zero_in_front : number (codes "01") ≡ None
+unfolding percent_decode
 zero_in_front = refl
 
 -- a parameter is decoded once
@@ -104,17 +114,37 @@ a_query : is_path (codes "/v1/senders/PB000000012/acks/1?x") ≡ false
 a_query = refl
 
 -- a transmission is put, and its acknowledgement is asked for
-put : asked true Transmission (record { sender = codes "PB000000012"; number = 1 }) (codes "HDR") ≡ Puts (codes "PB000000012") 1 (codes "HDR")
+abbrev parts : List (List ℕ × List ℕ)
+parts = (codes "sender", codes "PB000000012") ∷ (codes "n", codes "1") ∷ []
+
+put : asked true Transmission parts (codes "HDR") ≡ Puts (codes "PB000000012") 1 (codes "HDR")
+unfolding percent_decode
 put = refl
 
-get : asked false Acknowledgement (record { sender = codes "PB000000012"; number = 1 }) [] ≡ AsksAck (codes "PB000000012") 1
+get : asked false Acknowledgement parts [] ≡ AsksAck (codes "PB000000012") 1
+unfolding percent_decode
 get = refl
 
-get_of_a_transmission : asked false Transmission (record { sender = codes "PB000000012"; number = 1 }) [] ≡ AsksElsewhere
+get_of_a_transmission : asked false Transmission parts [] ≡ AsksElsewhere
 get_of_a_transmission = refl
 
-put_of_an_acknowledgement : asked true Acknowledgement (record { sender = codes "PB000000012"; number = 1 }) [] ≡ AsksElsewhere
+put_of_an_acknowledgement : asked true Acknowledgement parts [] ≡ AsksElsewhere
 put_of_an_acknowledgement = refl
+
+-- a return is put under a reporter of up to 20 bytes and a number
+abbrev return_parts : List ℕ → List (List ℕ × List ℕ)
+return_parts reporter = (codes "reporter", reporter) ∷ (codes "n", codes "7") ∷ []
+
+put_return : asked true Return (return_parts (codes "RADIO%31")) (codes "x") ≡ PutsReturn (return_key (codes "RADIO1              ") 7) (codes "x")
+unfolding percent_decode
+put_return = refl
+
+put_return_of_nobody : asked true Return (return_parts (codes "radio")) (codes "x") ≡ AsksElsewhere
+unfolding percent_decode
+put_return_of_nobody = refl
+
+get_of_a_return : asked false Return (return_parts (codes "RADIO1")) [] ≡ AsksElsewhere
+get_of_a_return = refl
 
 -- ---- answers
 
@@ -142,6 +172,18 @@ faulty : text (Refused (File (record { number = 8; line = 10 }))) false ≡ code
 unfolding head_text digits
 faulty = refl
 
+stored : text (Stored New) false ≡ codes "HTTP/1.1 201 Created\r\nContent-Type: application/json\r\nContent-Length: 18\r\n\r\n{\"state\":\"stored\"}"
+unfolding head_text digits
+stored = refl
+
+stored_before : text (Stored Repeated) false ≡ codes "HTTP/1.1 200 OK\r\nContent-Type: application/json\r\nContent-Length: 18\r\n\r\n{\"state\":\"stored\"}"
+unfolding head_text digits
+stored_before = refl
+
+faulty_return : text (Refused (Csv (record { number = 3; row = 12 }))) false ≡ codes "HTTP/1.1 422 Unprocessable Entity\r\nContent-Type: application/json\r\nContent-Length: 34\r\n\r\n{\"error\":\"csv\",\"fault\":3,\"row\":12}"
+unfolding head_text digits
+faulty_return = refl
+
 unknown : text (Refused Unknown) false ≡ codes "HTTP/1.1 404 Not Found\r\nContent-Type: application/json\r\nContent-Length: 19\r\n\r\n{\"error\":\"unknown\"}"
 unfolding head_text digits
 unknown = refl
@@ -149,6 +191,10 @@ unknown = refl
 no_request : ending Bad ≡ codes "HTTP/1.1 400 Bad Request\r\nContent-Type: application/json\r\nContent-Length: 19\r\nConnection: close\r\n\r\n{\"error\":\"request\"}"
 unfolding head_text digits
 no_request = refl
+
+too_large : ending TooLarge ≡ codes "HTTP/1.1 413 Payload Too Large\r\nContent-Type: application/json\r\nContent-Length: 16\r\nConnection: close\r\n\r\n{\"error\":\"size\"}"
+unfolding head_text digits
+too_large = refl
 
 busy : ending Busy ≡ codes "HTTP/1.1 503 Service Unavailable\r\nContent-Type: application/json\r\nContent-Length: 16\r\nConnection: close\r\n\r\n{\"error\":\"busy\"}"
 unfolding head_text digits

@@ -1,5 +1,5 @@
--- A reader or a writer whose failures are counted.
-use Rattle.std.specs.Prelude.{◌≡◌, ℕ, ◌≤◌, List, ◌++◌, length, Option, Result, MatchResult}
+-- A reader or a writer whose failures, and reads that gave bytes, are counted.
+use Rattle.std.specs.Prelude.{◌≡◌, ℕ, ◌+◌, ◌-◌, ◌^◌, ◌≤◌, zero, suc, min, List, ◌++◌, length, Option, Result, MatchResult}
 use Rattle.std.specs.Io.KnownBytes.{Appends, Consumes}
 use Rattle.http_desk.specs.declared.counted.Counted.{Counted}
 
@@ -10,6 +10,19 @@ inner_of counted = counted.inner
 -- how often it failed
 abbrev pub failures_of : {T : Type 0} → Counted T → ℕ
 failures_of counted = counted.failures
+
+-- how many of its reads gave bytes
+abbrev pub reads_of : {T : Type 0} → Counted T → ℕ
+reads_of counted = counted.reads
+
+-- a count after so many more, which stops at the greatest number of 64 bits
+abbrev pub counted_on : ℕ → ℕ → ℕ
+counted_on count more = min (count + more) (2 ^ 64 - 1)
+
+-- the count of reads after one that gave so many bytes: one that gave none isn't counted
+abbrev pub reads_after : ℕ → ℕ → ℕ
+reads_after zero reads = reads
+reads_after (suc bytes) reads = counted_on reads 1
 
 -- a front of these bytes was appended
 abbrev pub AppendsFront : Option (List ℕ) → Option (List ℕ) → List ℕ → Type 0

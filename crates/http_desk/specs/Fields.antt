@@ -1,7 +1,7 @@
--- What a search for the fields of one name found.
+-- Representation, not meaning: what a search for the fields of one name found.
 use Rattle.std.specs.Prelude.{◌≡◌, ℕ, List, [], ◌∷◌}
-use Rattle.http_desk.specs.declared.framing.Found.{Found}
-use Rattle.http_desk.specs.declared.framing.Found.TheVariants.{Nothing, One, Several}
+use Rattle.http_desk.specs.declared.body_length.Found.{Found}
+use Rattle.http_desk.specs.declared.body_length.Found.TheVariants.{Nothing, One, Several}
 
 -- these are the values: none, the one, or two and more
 abbrev pub IsFound : Found → List (List ℕ) → Type 0

@@ -1,14 +1,14 @@
--- What is kept of a head that was read, and what reading one says of the bytes.
-use Rattle.std.specs.Prelude.{◌≡◌, ◌≢◌, ℕ, ◌<◌, List, [], ◌++◌, length, slice_range}
-use Rattle.httparse.specs.Grammar.{RequestHead, print_request, HasNoRequest}
+-- Representation, not meaning: what is kept of a head that was read, and what reading one says of the bytes.
+use Rattle.std.specs.Prelude.{◌≡◌, ℕ, List, ◌++◌, length, slice_range}
+use Rattle.httparse.specs.Grammar.{RequestHead, print_request}
 use Rattle.httparse.specs.Spans.{IsWithin}
-use Rattle.http_desk.specs.declared.framing.Framing.TheVariants.{Sized}
+use Rattle.http_desk.specs.declared.body_length.BodyLength.TheVariants.{Sized}
 use Rattle.http_desk.specs.declared.head.Head.{Head}
 use Rattle.http_desk.specs.declared.head.Reading.{Reading}
 use Rattle.http_desk.specs.declared.head.Reading.TheVariants.{Whole, Partial, Bad, TooLarge}
-use Rattle.http_desk.specs.Framing.{framing, is_put, closes}
-use Rattle.http_desk.specs.Part.{Begins, max_head}
-use Rattle.http_desk.specs.Reads.{IsBad, IsTooLarge}
+use Rattle.http_desk.specs.BodyLength.{body_length, is_put, closes}
+use Rattle.http_desk.specs.Part.{Begins}
+use Rattle.http_desk.specs.Reads.{AwaitsHead, IsBad, IsTooLarge}
 
 -- what is kept of a head: its method, where its target lies, its length, that of its body, and whether it ends the connection
 pub record IsKept (head : RequestHead) (kept : Head) : Type 0 where
@@ -16,7 +16,7 @@ pub record IsKept (head : RequestHead) (kept : Head) : Type 0 where
   pub target : slice_range (print_request head) kept.target.start kept.target.end ≡ head.target
   pub within : IsWithin (length (print_request head)) kept.target
   pub size : kept.length ≡ length (print_request head)
-  pub body : framing head ≡ Sized kept.body
+  pub body : body_length head ≡ Sized kept.body
   pub last : kept.closes ≡ closes head
 
 -- the bytes begin with a head within the limits, of which this is kept
@@ -26,6 +26,6 @@ HasHead bytes kept = (head : RequestHead) × (rest : List ℕ) × Begins bytes h
 -- what reading the head at the front of the bytes says of them, whatever follows
 abbrev pub Means : Reading → List ℕ → Type 0
 Means (Whole kept) bytes = HasHead bytes kept
-Means Partial bytes = (length bytes < max_head) × (bytes ≢ [] → HasNoRequest bytes)
+Means Partial bytes = AwaitsHead bytes
 Means Bad bytes = (more : List ℕ) → IsBad (bytes ++ more)
 Means TooLarge bytes = (more : List ℕ) → IsTooLarge (bytes ++ more)

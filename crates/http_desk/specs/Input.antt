@@ -1,6 +1,7 @@
--- Bytes that were read and not taken yet, and what reading on does to them.
+-- Representation, not meaning: bytes that were read and not taken yet, and what reading on does to them.
 use Rattle.std.specs.Prelude.{◌≡◌, ℕ, ◌+◌, ◌*◌, ◌≤◌, List, ◌++◌, length, drop, Option}
 use Rattle.std.specs.Io.KnownBytes.{Consumes}
+use Rattle.http_desk.specs.Counted.{counted_on}
 use Rattle.http_desk.specs.declared.fault.FaultKind.{FaultKind}
 use Rattle.http_desk.specs.declared.fault.FaultKind.TheVariants.{Read, Write, Turns, Memory}
 use Rattle.http_desk.specs.declared.input.Input.{Input}
@@ -12,15 +13,18 @@ unread input = drop input.start input.bytes.items
 
 -- the most bytes that one read gives
 abbrev pub max_piece : ℕ
-max_piece = 4096
+max_piece = 16384
 
--- bytes that the reader gave went to the end of those not taken yet; each turn that is gone gave 1 to 4,096 of them
-pub record ReadsOn (old new : Input) (known new_known : Option (List ℕ)) : Type 0 where
+-- bytes that the reader gave went to the end of those not taken yet; each turn that was spent is a read that gave 1 to 16,384 of them
+pub record ReadsOn (old new : Input) (known new_known : Option (List ℕ)) (reads new_reads : ℕ) : Type 0 where
   pub more : List ℕ
+  pub spent : ℕ
   pub grown : unread new ≡ unread old ++ more
   pub consumed : Consumes known new_known more
-  pub most : length more + new.turns * max_piece ≤ old.turns * max_piece
-  pub least : old.turns ≤ new.turns + length more
+  pub turned : old.turns ≡ new.turns + spent
+  pub counts : new_reads ≡ counted_on reads spent
+  pub most : length more ≤ spent * max_piece
+  pub least : spent ≤ length more
 
 -- why reading failed: the reader did, or no turn was left
 abbrev pub FailsBy : FaultKind → ℕ → ℕ → ℕ → Type 0

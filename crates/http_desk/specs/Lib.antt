@@ -1,9 +1,9 @@
+pub mod BodyLength
 pub mod Counted
 pub mod Fields
-pub mod Framing
 pub mod Head
 pub mod Input
-pub mod Next
+pub mod Outbox
 pub mod Parameters
 pub mod Part
 pub mod Path
@@ -11,6 +11,7 @@ pub mod Reads
 pub mod Room
 pub mod Serves
 pub mod Text
+pub mod Upcoming
 pub use Rattle.httparse.specs.Grammar
 pub use Rattle.society_core.specs.Requests
 pub use Rattle.society_core.specs.Runs

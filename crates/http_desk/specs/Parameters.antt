@@ -1,4 +1,4 @@
--- What the parameters of a match took, and what decoding one leaves in the scratch.
+-- Representation, not meaning: what the parameters of a match took, and what decoding one leaves in the scratch.
 use Rattle.std.specs.Prelude.{◌≡◌, ℕ, Bool, true, false, List, Option, Some, None}
 use Rattle.matchit.specs.Params.{walk}
 use Rattle.matchit.specs.declared.params.Params.{Params}

@@ -1,8 +1,8 @@
 -- One request as bytes: a head of the grammar and its body.
 use Rattle.std.specs.Prelude.{◌≡◌, ℕ, ◌≤◌, false, List, ◌++◌, length}
 use Rattle.httparse.specs.Grammar.{RequestHead, IsRequestHead, print_request, ReadsRequest}
-use Rattle.http_desk.specs.declared.framing.Framing.TheVariants.{Sized}
-use Rattle.http_desk.specs.Framing.{framing, closes}
+use Rattle.http_desk.specs.declared.body_length.BodyLength.TheVariants.{Sized}
+use Rattle.http_desk.specs.BodyLength.{body_length, closes}
 
 -- the longest head, in bytes (profile)
 abbrev pub max_head : ℕ
@@ -32,7 +32,7 @@ pub record IsPart (part : Part) : Type 0 where
   pub valid : IsRequestHead part.head
   pub short : length (print_request part.head) ≤ max_head
   pub few : length part.head.fields ≤ max_fields
-  pub body : framing part.head ≡ Sized (length part.body)
+  pub body : body_length part.head ≡ Sized (length part.body)
 
 -- a request after whose answer the connection goes on
 pub record IsOpenPart (part : Part) : Type 0 where

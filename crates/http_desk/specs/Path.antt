@@ -1,9 +1,8 @@
 -- The routes of the office, and the request that a method, a target and a body make.
-use Rattle.std.specs.Prelude.{ℕ, Bool, true, false, List, [], ◌==◌, ◌&&◌, ◌||◌, not, nat_lt, codes, if◌then◌else◌, Option, Some, None, Result, Ok, Err, option_and_then, slice_index}
+use Rattle.std.specs.Prelude.{ℕ, Bool, true, false, List, [], ◌==◌, ◌&&◌, ◌||◌, not, nat_lt, codes, if◌then◌else◌, Option, Some, None, Result, Ok, Err, option_and_then}
 use Rattle.std.specs.List.{list_all}
 use Rattle.std.specs.Option.{option_map}
 use Rattle.std.specs.Result.{result_ok}
-use Rattle.std.specs.Str.Parse.{digits_value}
 use Rattle.matchit.specs.Rows.{RowsOf}
 use Rattle.matchit.specs.Route.{Scan, parse_route}
 use Rattle.matchit.specs.Router.{RouteOf, route_from}
@@ -12,13 +11,14 @@ use Rattle.matchit.specs.Params.{walk, named}
 use Rattle.matchit.specs.Seek.{first}
 use Rattle.matchit.specs.declared.error.InsertError.{InsertError}
 use Rattle.percent_encoding.specs.Percent.{percent_decode}
-use Rattle.work_ids.specs.Digits.{is_number}
+use Rattle.work_ids.specs.Numbers.{is_return_number, is_transmission_number, number_in_text}
+use Rattle.work_ids.specs.Reporter.{reporter_of}
 use Rattle.work_ids.specs.SenderKey.{sender_key_of}
-use Rattle.society_core.specs.Slot as slot
-use Rattle.society_core.specs.Requests.{Query, Puts, AsksAck, AsksElsewhere}
+use Rattle.society_core.specs.Keys.{return_key}
+use Rattle.society_core.specs.Requests.{Query, Puts, PutsReturn, AsksAck, AsksElsewhere}
 use Rattle.http_desk.specs.declared.routes.Route.{Route}
-use Rattle.http_desk.specs.declared.routes.Route.TheVariants.{Transmission, Acknowledgement}
-use Rattle.http_desk.specs.Framing.{is_put}
+use Rattle.http_desk.specs.declared.routes.Route.TheVariants.{Transmission, Acknowledgement, Return}
+use Rattle.http_desk.specs.BodyLength.{is_put}
 use Rattle.http_desk.specs.Part.{Part}
 
 -- a route's text that reads well takes its place among the routes
@@ -33,8 +33,9 @@ with_route text route rows = added (parse_route text) route rows
 -- the routes of the office (profile)
 unfoldable pub office_routes : RowsOf (RouteOf Route)
 office_routes =
-    with_route (codes "/v1/senders/{sender}/acks/{n}") Acknowledgement
-    (with_route (codes "/v1/senders/{sender}/transmissions/{n}") Transmission [])
+    with_route (codes "/v1/returns/{reporter}/{n}") Return
+    (with_route (codes "/v1/senders/{sender}/acks/{n}") Acknowledgement
+    (with_route (codes "/v1/senders/{sender}/transmissions/{n}") Transmission []))
 
 -- the byte is ASCII, and begins neither a query nor a fragment
 abbrev pub is_path_byte : ℕ → Bool
@@ -52,50 +53,43 @@ parameter name parts = option_map percent_decode (named name parts)
 abbrev pub sender_of : List ℕ → Option (List ℕ)
 sender_of bytes = result_ok (sender_key_of bytes)
 
--- the number of a transmission, within its limits, that the digits without a leading zero spell (profile)
-abbrev pub number_of : List ℕ → Option ℕ
-number_of bytes =
-    if is_number bytes && not (slice_index bytes 0 == 48) && slot.is_number (digits_value 10 bytes) then Some (digits_value 10 bytes) else None
-
--- a sender with a number
-pub record Numbered : Type 0 where
-  pub sender : List ℕ
-  pub number : ℕ
-
--- both, where both are there
-abbrev pub both : Option (List ℕ) → Option ℕ → Option Numbered
-both (Some sender) (Some number) = Some (record { sender = sender; number = number })
-both (Some sender) None = None
-both None number = None
-
--- the sender in what the parameters took
+-- the sender in what the parameters of a route took
 abbrev pub sender_in : List (List ℕ × List ℕ) → Option (List ℕ)
 sender_in parts = option_and_then sender_of (parameter (codes "sender") parts)
 
--- the number in it
-abbrev pub number_in : List (List ℕ × List ℕ) → Option ℕ
-number_in parts = option_and_then number_of (parameter (codes "n") parts)
+-- the number of a transmission in it
+abbrev pub transmission_number_in : List (List ℕ × List ℕ) → Option ℕ
+transmission_number_in parts = option_and_then (number_in_text is_transmission_number) (parameter (codes "n") parts)
 
--- the sender and the number in a path, by its route
-abbrev pub numbered : List ℕ → RouteOf Route → Option Numbered
-numbered path route =
-    let parts = walk route.pattern route.text path route.names 0 0 in both (sender_in parts) (number_in parts)
+-- the reporter in it
+abbrev pub reporter_in : List (List ℕ × List ℕ) → Option (List ℕ)
+reporter_in parts = option_and_then (λ bytes. result_ok (reporter_of bytes)) (parameter (codes "reporter") parts)
 
--- what is asked of a route, by whether the method is PUT
-abbrev pub asked : Bool → Route → Numbered → List ℕ → Query
-asked true Transmission key body = Puts key.sender key.number body
-asked false Acknowledgement key body = AsksAck key.sender key.number
-asked true Acknowledgement key body = AsksElsewhere
-asked false Transmission key body = AsksElsewhere
+-- the number of a return in it
+abbrev pub return_number_in : List (List ℕ × List ℕ) → Option ℕ
+return_number_in parts = option_and_then (number_in_text is_return_number) (parameter (codes "n") parts)
 
--- what is asked, where the parameters are right
-abbrev pub asked_with : Bool → Route → Option Numbered → List ℕ → Query
-asked_with put route (Some key) body = asked put route key body
-asked_with put route None body = AsksElsewhere
+-- what is asked of a sender or a reporter and a number, where both are there
+abbrev pub asked_of : (List ℕ → ℕ → Query) → Option (List ℕ) → Option ℕ → Query
+asked_of asks (Some party) (Some number) = asks party number
+asked_of asks (Some party) None = AsksElsewhere
+asked_of asks None number = AsksElsewhere
+
+-- what is asked of a route, by whether the method is PUT, and what its parameters took: a route reads its own and no other
+abbrev pub asked : Bool → Route → List (List ℕ × List ℕ) → List ℕ → Query
+asked true Transmission parts body =
+    asked_of (λ sender number. Puts sender number body) (sender_in parts) (transmission_number_in parts)
+asked true Return parts body =
+    asked_of (λ reporter number. PutsReturn (return_key reporter number) body) (reporter_in parts) (return_number_in parts)
+asked false Acknowledgement parts body = asked_of AsksAck (sender_in parts) (transmission_number_in parts)
+asked true Acknowledgement parts body = AsksElsewhere
+asked false Transmission parts body = AsksElsewhere
+asked false Return parts body = AsksElsewhere
 
 -- what is asked, where a route takes the path
 abbrev pub asked_by : Bool → List ℕ → Option (RouteOf Route) → List ℕ → Query
-asked_by put path (Some route) body = asked_with put route.value (numbered path route) body
+asked_by put path (Some route) body =
+    asked put route.value (walk route.pattern route.text path route.names 0 0) body
 asked_by put path None body = AsksElsewhere
 
 -- what is asked by a method, a target and a body

@@ -1,12 +1,12 @@
 -- How the bytes of a connection are cut into requests, and how it ends.
 use Rattle.std.specs.Prelude.{◌≡◌, ◌≢◌, ◌⊎◌, ℕ, ◌+◌, ◌<◌, true, List, [], ◌∷◌, ◌++◌, length}
 use Rattle.std.specs.List.{flat_map, AllByRecursion}
-use Rattle.httparse.specs.Grammar.{RequestHead, print_request}
-use Rattle.http_desk.specs.declared.framing.Framing.TheVariants.{Sized, Faulty, Large}
-use Rattle.http_desk.specs.declared.end.End.{End}
-use Rattle.http_desk.specs.declared.end.End.TheVariants.{Quiet, Closed, Bad, TooLarge, Busy}
-use Rattle.http_desk.specs.Framing.{framing, closes}
-use Rattle.http_desk.specs.Part.{Part, print_part, Begins, IsPart, IsOpenPart}
+use Rattle.httparse.specs.Grammar.{RequestHead, print_request, HasNoRequest, MayBecomeRequest}
+use Rattle.http_desk.specs.declared.body_length.BodyLength.TheVariants.{Sized, Faulty, Large}
+use Rattle.http_desk.specs.declared.connection_end.End.{End}
+use Rattle.http_desk.specs.declared.connection_end.End.TheVariants.{Quiet, Closed, Bad, TooLarge, Busy}
+use Rattle.http_desk.specs.BodyLength.{body_length, closes}
+use Rattle.http_desk.specs.Part.{Part, print_part, Begins, IsPart, IsOpenPart, max_head}
 
 -- the bytes are these requests, each of which leaves the connection open, and then rest
 pub record Cuts (bytes : List ℕ) (parts : List Part) (rest : List ℕ) : Type 0 where
@@ -21,9 +21,28 @@ HasNoHead bytes = (head : RequestHead) (rest : List ℕ) → ¬ (Begins bytes he
 abbrev pub HasNoPart : List ℕ → Type 0
 HasNoPart bytes = (part : Part) (rest : List ℕ) → IsPart part → bytes ≢ print_part part ++ rest
 
--- the framing of a head is at fault, or its body is cut short
+-- the length of a head's body is at fault, or its body is cut short
 abbrev pub IsFaulty : RequestHead → List ℕ → Type 0
-IsFaulty head rest = (framing head ≡ Faulty) ⊎ ((size : ℕ) × (framing head ≡ Sized size) × (length rest < size))
+IsFaulty head rest = (body_length head ≡ Faulty) ⊎ ((size : ℕ) × (body_length head ≡ Sized size) × (length rest < size))
+
+-- no whole head stands there, though more bytes may make one by the grammar, and there is room for them
+pub record AwaitsHead (bytes : List ℕ) : Type 0 where
+  pub none : HasNoRequest bytes
+  pub short : length bytes < max_head
+  pub possible : bytes ≢ [] → MayBecomeRequest bytes
+
+-- a head without fault stands there, and its body is not whole
+pub record AwaitsBody (bytes : List ℕ) : Type 0 where
+  pub head : RequestHead
+  pub rest : List ℕ
+  pub size : ℕ
+  pub begins : Begins bytes head rest
+  pub sized : body_length head ≡ Sized size
+  pub short : length rest < size
+
+-- nothing can be said of the bytes before more have come: they are no whole request, and neither refused nor too large yet
+abbrev pub Awaits : List ℕ → Type 0
+Awaits bytes = AwaitsHead bytes ⊎ AwaitsBody bytes
 
 -- bytes that are no request: no head, or one at fault
 abbrev pub IsBad : List ℕ → Type 0
@@ -33,17 +52,17 @@ IsBad bytes =
 
 -- a head without fault that announces more than the greatest body
 abbrev pub IsTooLarge : List ℕ → Type 0
-IsTooLarge bytes = (head : RequestHead) × (rest : List ℕ) × Begins bytes head rest × (framing head ≡ Large)
+IsTooLarge bytes = (head : RequestHead) × (rest : List ℕ) × Begins bytes head rest × (body_length head ≡ Large)
 
--- the room for requests that is taken before the first read, in bytes
-abbrev pub first_room : ℕ
-first_room = 12288
+-- the longest request, in bytes of head and body, for which no memory is asked while it is read (profile)
+abbrev pub small_request : ℕ
+small_request = 65536
 
--- a head without fault, for which with its body the first room is too small: memory can be refused there
+-- a head without fault that announces a request above that: memory can be refused there (profile)
 abbrev pub MayBeBusy : List ℕ → Type 0
 MayBeBusy bytes =
     (head : RequestHead) × (rest : List ℕ) × Begins bytes head rest
-    × ((size : ℕ) × (framing head ≡ Sized size) × (first_room < length (print_request head) + size))
+    × ((size : ℕ) × (body_length head ≡ Sized size) × (small_request < length (print_request head) + size))
 
 -- the bytes are a request that ends the connection, and what is not read
 abbrev pub IsLast : List ℕ → Part → Type 0

@@ -1,32 +1,46 @@
--- What a connection comes to: the requests that were read, their answers, and the book after them.
-use Rattle.std.specs.Prelude.{◌≡◌, ◌⊎◌, ℕ, IsTrue, List, ◌++◌, length, map, Option}
+-- What a connection comes to: the requests that were read, their answers, the book after them, and why it was given up.
+use Rattle.std.specs.Prelude.{◌≡◌, ◌⊎◌, ℕ, ◌+◌, ◌*◌, ◌≤◌, IsTrue, IfSome, List, ◌++◌, length, map, Option}
 use Rattle.std.specs.Io.KnownBytes.{Appends, Consumes}
 use Rattle.std.specs.List.{flat_map, AllByRecursion}
-use Rattle.society_core.specs.Requests.{Reply}
-use Rattle.society_core.specs.Runs.{Run}
-use Rattle.society_core.specs.State.{State}
+use Rattle.society_core.specs.Headline.{OneContent, HoldsWhatCame}
+use Rattle.society_core.specs.Requests.{Reply, reply_of}
+use Rattle.society_core.specs.Runs.{Run, Step}
+use Rattle.society_core.specs.declared.answers.Answer.{Answer}
+use Rattle.society_core.specs.State.{State, Rises}
+use Rattle.http_desk.specs.declared.connection.Served.{Served}
+use Rattle.http_desk.specs.declared.connection_end.End.{End}
+use Rattle.http_desk.specs.declared.counted.Counted.{Counted}
+use Rattle.http_desk.specs.declared.fault.DeskFault.{DeskFault}
 use Rattle.http_desk.specs.declared.fault.FaultKind.{FaultKind}
 use Rattle.http_desk.specs.declared.fault.FaultKind.TheVariants.{Read, Write, Turns, Memory}
-use Rattle.http_desk.specs.Counted.{AppendsFront}
+use Rattle.http_desk.specs.Counted.{AppendsFront, TakesAtLeast, TakesAtMost, counted_on, failures_of, inner_of, reads_of}
 use Rattle.http_desk.specs.Part.{Part, print_part, IsOpenPart}
 use Rattle.http_desk.specs.Path.{request_of}
-use Rattle.http_desk.specs.declared.end.End.{End}
-use Rattle.http_desk.specs.Reads.{Reads, Cuts, HasNoPart}
+use Rattle.http_desk.specs.Reads.{Awaits, Reads, Cuts, HasNoPart}
 use Rattle.http_desk.specs.Text.{texts, ending}
 
--- the requests were answered in turn, from one state of the store to another; the book is told where the store is clean
-pub record Answers (parts : List Part) (replies : List Reply) (old new : State) : Type 0 where
+-- a request was answered by a step from the old book to the new, where the store is clean
+abbrev pub Steps : {S : Type 0} → (S → State) → S → S → Part → Answer → Type 0
+Steps state desk new_desk part answer =
+    IsTrue (state new_desk).is_clean
+    → Step (state desk).office (state desk).book (request_of part) (reply_of answer) (state new_desk).book
+
+-- the requests were answered in turn, from one state of the store to another; the book is told where the store is clean, and holds what came
+pub record AreAnswered (parts : List Part) (replies : List Reply) (old new : State) : Type 0 where
   pub each : length replies ≡ length parts
   pub office : new.office ≡ old.office
   pub run : IsTrue new.is_clean → Run old.office old.book (map request_of parts) replies new.book
+  pub came : IsTrue new.is_clean → OneContent old.book (map request_of parts) replies → HoldsWhatCame old.book (map request_of parts) replies new.book
 
--- all bytes were read as requests, and what was written is their answers and then the text of the end, and nothing else
-pub record Serves (bytes : List ℕ) (old new : State) (holds new_holds : Option (List ℕ)) (requests : ℕ) : Type 0 where
+-- all bytes were read as requests, and what was written is their answers and then the text of the end, and nothing else; where the reader's bytes are known they are those
+pub record Serves (known : Option (List ℕ)) (old new : State) (holds new_holds : Option (List ℕ)) (requests : ℕ) : Type 0 where
+  pub bytes : List ℕ
+  pub given : IfSome known (λ all. all ≡ bytes)
   pub parts : List Part
   pub replies : List Reply
   pub end : End
   pub reads : Reads bytes parts end
-  pub answers : Answers parts replies old new
+  pub answers : AreAnswered parts replies old new
   pub written : Appends holds new_holds (texts parts replies ++ ending end)
   pub count : requests ≡ length parts
 
@@ -41,15 +55,6 @@ Unwritten bytes parts replies holds new_holds =
     ((rest : List ℕ) × Cuts bytes parts rest × AppendsFront holds new_holds (texts parts replies))
     ⊎ ((end : End) × Reads bytes parts end × AppendsFront holds new_holds (texts parts replies ++ ending end))
 
--- a further read was needed: what was read is the requests that were answered, and behind them no whole one
-pub record NeedsMore (known new_known : Option (List ℕ)) (requests : ℕ) : Type 0 where
-  pub parts : List Part
-  pub rest : List ℕ
-  pub each : AllByRecursion IsOpenPart parts
-  pub consumed : Consumes known new_known (flat_map print_part parts ++ rest)
-  pub none : HasNoPart rest
-  pub count : requests ≡ length parts
-
 -- what was read and written before a fault
 abbrev pub Written : FaultKind → List ℕ → List Part → List Reply → Option (List ℕ) → Option (List ℕ) → Type 0
 Written Read = Stopped
@@ -58,9 +63,50 @@ Written Memory = Stopped
 Written Write = Unwritten
 
 -- up to a fault these requests were read and answered, as far as the answers could be written
-pub record Breaks (kind : FaultKind) (bytes : List ℕ) (old new : State) (holds new_holds : Option (List ℕ)) (requests : ℕ) : Type 0 where
+pub record Breaks (fault : DeskFault) (known : Option (List ℕ)) (old new : State) (holds new_holds : Option (List ℕ)) : Type 0 where
+  pub bytes : List ℕ
+  pub given : IfSome known (λ all. all ≡ bytes)
   pub parts : List Part
   pub replies : List Reply
-  pub answers : Answers parts replies old new
-  pub written : Written kind bytes parts replies holds new_holds
+  pub answers : AreAnswered parts replies old new
+  pub written : Written fault.kind bytes parts replies holds new_holds
+  pub count : fault.requests ≡ length parts
+
+-- a further read was needed: what was read is the requests that were answered, and behind them nothing that is whole, refused or too large
+pub record NeedsMore (known new_known : Option (List ℕ)) (requests : ℕ) : Type 0 where
+  pub parts : List Part
+  pub rest : List ℕ
+  pub each : AllByRecursion IsOpenPart parts
+  pub consumed : Consumes known new_known (flat_map print_part parts ++ rest)
+  pub none : HasNoPart rest
+  pub awaits : Awaits rest
   pub count : requests ≡ length parts
+
+-- why a connection was given up: a needed read failed; the writer did; as many reads as turns gave bytes and one more was needed; or memory was refused before anything else
+abbrev pub CausedBy : {R W : Type 0} → FaultKind → ℕ → ℕ → (R → Option (List ℕ)) → Counted R → Counted R → Counted W → Counted W → Type 0
+CausedBy Read requests turns remaining reader new_reader writer new_writer =
+    Rises (failures_of reader) (failures_of new_reader)
+    × NeedsMore (remaining (inner_of reader)) (remaining (inner_of new_reader)) requests
+CausedBy Write requests turns remaining reader new_reader writer new_writer =
+    Rises (failures_of writer) (failures_of new_writer)
+CausedBy Turns requests turns remaining reader new_reader writer new_writer =
+    (reads_of new_reader ≡ counted_on (reads_of reader) turns)
+    × TakesAtLeast (remaining (inner_of reader)) (remaining (inner_of new_reader)) turns
+    × NeedsMore (remaining (inner_of reader)) (remaining (inner_of new_reader)) requests
+CausedBy Memory requests turns remaining reader new_reader writer new_writer =
+    (requests ≡ 0) × (new_reader ≡ reader) × (new_writer ≡ writer)
+
+-- at most as many reads as turns gave bytes, each at most 16,384 of them (profile)
+pub record KeepsTurns {R : Type 0} (remaining : R → Option (List ℕ)) (reader new_reader : Counted R) (turns : ℕ) : Type 0 where
+  pub reads : reads_of new_reader ≤ reads_of reader + turns
+  pub most : TakesAtMost (remaining (inner_of reader)) (remaining (inner_of new_reader)) (turns * 16384)
+
+-- a desk served a connection to its end
+abbrev pub IsServed : {S R W : Type 0} → (S → State) → (R → Option (List ℕ)) → (W → Option (List ℕ)) → S → S → Counted R → Counted W → Counted W → Served → Type 0
+IsServed state remaining contents desk new_desk reader writer new_writer served =
+    Serves (remaining (inner_of reader)) (state desk) (state new_desk) (contents (inner_of writer)) (contents (inner_of new_writer)) served.requests
+
+-- a desk gave a connection up: what came before, and why
+pub record IsGivenUp {S R W : Type 0} (state : S → State) (remaining : R → Option (List ℕ)) (contents : W → Option (List ℕ)) (desk new_desk : S) (reader new_reader : Counted R) (writer new_writer : Counted W) (turns : ℕ) (fault : DeskFault) : Type 0 where
+  pub breaks : Breaks fault (remaining (inner_of reader)) (state desk) (state new_desk) (contents (inner_of writer)) (contents (inner_of new_writer))
+  pub cause : CausedBy fault.kind fault.requests turns remaining reader new_reader writer new_writer

@@ -1,20 +1,22 @@
 -- The bytes of an answer (RFC 9112, section 4; the fields and bodies: profile).
 use Rattle.std.specs.Prelude.{ℕ, Bool, true, false, List, [], ◌∷◌, ◌++◌, length, codes, decimal, if◌then◌else◌, unwrap_or}
 use Rattle.http.specs.StatusCode.{reason_phrase}
-use Rattle.society_core.specs.declared.request.Arrival.{Arrival}
-use Rattle.society_core.specs.declared.request.Standing.{Standing}
-use Rattle.society_core.specs.declared.request.Standing.TheVariants.{Applied, Held}
-use Rattle.society_core.specs.declared.request.Refusal.{Refusal}
-use Rattle.society_core.specs.declared.request.Refusal.TheVariants.{Reused, File, Unknown, Unavailable}
-use Rattle.society_core.specs.Requests.{Reply, Arrived, Acknowledged, Judged, Refused, Shows, Stands}
+use Rattle.society_core.specs.declared.answers.Arrival.{Arrival}
+use Rattle.society_core.specs.declared.answers.Receipt.{Receipt}
+use Rattle.society_core.specs.declared.answers.Receipt.TheVariants.{New, Repeated}
+use Rattle.society_core.specs.declared.answers.Standing.{Standing}
+use Rattle.society_core.specs.declared.answers.Standing.TheVariants.{Applied, Held}
+use Rattle.society_core.specs.declared.refusal.Refusal.{Refusal}
+use Rattle.society_core.specs.declared.refusal.Refusal.TheVariants.{Reused, File, Csv, Order, Cut, ReturnUnknown, ReturnPaid, Unknown, Unavailable}
+use Rattle.society_core.specs.Requests.{Reply, Arrived, Stored, Closed, Acknowledged, Stands, Shows, Judged, Credited, Owed, Refused}
 use Rattle.http_desk.specs.declared.status.ContentType.{ContentType}
 use Rattle.http_desk.specs.declared.status.ContentType.TheVariants as types
 use Rattle.http_desk.specs.declared.status.Status.{Status}
 use Rattle.http_desk.specs.declared.status.Status.TheVariants as statuses
-use Rattle.http_desk.specs.Framing.{closes}
+use Rattle.http_desk.specs.BodyLength.{closes}
 use Rattle.http_desk.specs.Part.{Part}
-use Rattle.http_desk.specs.declared.end.End.{End}
-use Rattle.http_desk.specs.declared.end.End.TheVariants.{Quiet, Closed, Bad, TooLarge, Busy}
+use Rattle.http_desk.specs.declared.connection_end.End.{End}
+use Rattle.http_desk.specs.declared.connection_end.End.TheVariants.{Quiet, Closed, Bad, TooLarge, Busy}
 
 -- the code of a status
 abbrev pub code_of : Status → ℕ
@@ -24,6 +26,7 @@ code_of statuses.Accepted = 202
 code_of statuses.BadRequest = 400
 code_of statuses.NotFound = 404
 code_of statuses.Conflict = 409
+code_of statuses.TooLarge = 413
 code_of statuses.Unprocessable = 422
 code_of statuses.Unavailable = 503
 
@@ -80,18 +83,42 @@ standing_status Held = statuses.Accepted
 abbrev pub arrival_status : Arrival → Status
 arrival_status arrival = if arrival.known then statuses.Done else standing_status arrival.standing
 
--- the body of a refusal
+-- the status of a return or an order that was taken: OK for a repeat (profile)
+abbrev pub receipt_status : Receipt → Status
+receipt_status New = statuses.Created
+receipt_status Repeated = statuses.Done
+
+-- the body of a return that is stored (profile)
+abbrev pub stored_text : List ℕ
+stored_text = codes "{\"state\":\"stored\"}"
+
+-- what there is not
+abbrev pub unknown_text : List ℕ
+unknown_text = codes "{\"error\":\"unknown\"}"
+
+-- the body of a refusal. Those of orders have no text yet: no route leads to them
 abbrev pub refusal_text : Refusal → List ℕ
 refusal_text Reused = codes "{\"error\":\"reused\"}"
 refusal_text (File fault) =
     codes "{\"error\":\"file\",\"fault\":" ++ decimal fault.number ++ codes ",\"line\":" ++ decimal fault.line ++ codes "}"
-refusal_text Unknown = codes "{\"error\":\"unknown\"}"
+refusal_text (Csv fault) =
+    codes "{\"error\":\"csv\",\"fault\":" ++ decimal fault.number ++ codes ",\"row\":" ++ decimal fault.row ++ codes "}"
+refusal_text (Order fault) = unknown_text
+refusal_text (Cut sender front) = unknown_text
+refusal_text (ReturnUnknown key) = unknown_text
+refusal_text (ReturnPaid key pool) = unknown_text
+refusal_text Unknown = unknown_text
 refusal_text Unavailable = codes "{\"error\":\"busy\"}"
 
 -- the status of a refusal
 abbrev pub refusal_status : Refusal → Status
 refusal_status Reused = statuses.Conflict
 refusal_status (File fault) = statuses.Unprocessable
+refusal_status (Csv fault) = statuses.Unprocessable
+refusal_status (Order fault) = statuses.NotFound
+refusal_status (Cut sender front) = statuses.NotFound
+refusal_status (ReturnUnknown key) = statuses.NotFound
+refusal_status (ReturnPaid key pool) = statuses.NotFound
 refusal_status Unknown = statuses.NotFound
 refusal_status Unavailable = statuses.Unavailable
 
@@ -99,13 +126,17 @@ refusal_status Unavailable = statuses.Unavailable
 abbrev pub refused_text : Refusal → Bool → List ℕ
 refused_text refusal close = answer_text (refusal_status refusal) types.Json (refusal_text refusal) close
 
--- the bytes of an answer; close says that the connection ends after it. A sender, a work and verdicts have no text yet: no route asks for them
+-- the bytes of an answer; close says that the connection ends after it. Pools, senders, works, verdicts and balances have no text yet: no route leads there
 abbrev pub text : Reply → Bool → List ℕ
 text (Arrived arrival) close = answer_text (arrival_status arrival) types.Json (arrival_text arrival) close
 text (Acknowledged bytes) close = answer_text statuses.Done types.File bytes close
+text (Stored receipt) close = answer_text (receipt_status receipt) types.Json stored_text close
+text (Closed receipt pool) close = refused_text Unknown close
 text (Stands front held) close = refused_text Unknown close
 text (Shows work) close = refused_text Unknown close
 text (Judged verdicts) close = refused_text Unknown close
+text (Credited credits) close = refused_text Unknown close
+text (Owed account units) close = refused_text Unknown close
 text (Refused refusal) close = refused_text refusal close
 
 -- the bytes of the answers to requests, one after another
@@ -122,10 +153,14 @@ bad_text = answer_text statuses.BadRequest types.Json (codes "{\"error\":\"reque
 abbrev pub busy_text : List ℕ
 busy_text = answer_text statuses.Unavailable types.Json (refusal_text Unavailable) true
 
--- what is written for the end of a connection. A body that is too large is answered as no request for now
+-- the answer to a head that announces more than the greatest body
+abbrev pub large_text : List ℕ
+large_text = answer_text statuses.TooLarge types.Json (codes "{\"error\":\"size\"}") true
+
+-- what is written for the end of a connection
 abbrev pub ending : End → List ℕ
 ending Quiet = []
 ending Closed = []
 ending Bad = bad_text
-ending TooLarge = bad_text
+ending TooLarge = large_text
 ending Busy = busy_text

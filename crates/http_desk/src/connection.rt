@@ -1,26 +1,27 @@
 //! A connection is served: requests are read, answered in turn, and their answers written.
-ghost use Rattle.std.specs.Prelude.{◌≡◌, ◌≢◌, ◌⊎◌, ◌≤◌, ◌<◌, ◌+◌, ◌*◌, ◌^◌, [], drop, IfOk, IfErr, IfSome, OnOk, OnErr, IsTrue, vec_capacity};
+ghost use Rattle.std.specs.Prelude.{◌≡◌, ◌≢◌, ◌≤◌, ◌<◌, ◌+◌, ◌++◌, ◌^◌, [], drop, IfOk, IfErr, OnOk, OnErr, IsTrue, vec_capacity};
 ghost use Rattle.std.specs.Io.KnownBytes.{Appends};
 ghost use Rattle.society_core.specs.Requests.{reply_of};
-ghost use Rattle.society_core.specs.Runs.{Step};
-ghost use Rattle.http_desk.specs.Counted.{inner_of, failures_of, AppendsFront, Writes, TakesAtMost, TakesAtLeast};
 ghost use Rattle.society_core.specs.State.{Rises};
+ghost use Rattle.http_desk.specs.Counted.{inner_of, failures_of, AppendsFront};
 ghost use Rattle.http_desk.specs.Input.{unread};
-ghost use Rattle.http_desk.specs.Next.{HasPart};
-ghost use Rattle.http_desk.specs.Path.{office_routes, request_of};
-ghost use Rattle.http_desk.specs.Serves.{Serves, Breaks, NeedsMore};
-ghost use Rattle.http_desk.specs.Text.{text, ending};
+ghost use Rattle.http_desk.specs.Outbox.{waiting, Puts};
+ghost use Rattle.http_desk.specs.Path.{office_routes};
 ghost use Rattle.http_desk.specs.Room.{IsReady};
+ghost use Rattle.http_desk.specs.Serves.{IsServed, IsGivenUp, KeepsTurns, Steps};
+ghost use Rattle.http_desk.specs.Text.{text, ending};
+ghost use Rattle.http_desk.specs.Upcoming.{HasPart};
 
+use crate::connection_end::End;
 use crate::counted::{Counted, NotWritten};
-use crate::end::End;
 use crate::fault::{DeskFault, FaultKind};
 use crate::head::{Head, MAX_HEAD};
 use crate::input::Input;
-use crate::next::{Next, next_request};
-use crate::reply::{write_end, write_reply};
+use crate::outbox::Outbox;
+use crate::reply::{put_reply, write_end};
 use crate::requests::request_for;
 use crate::routes::{Route, routes};
+use crate::upcoming::{Upcoming, next_answered};
 use matchit::Router;
 use society_core::{Answer, Desk, Store, answer};
 use std::alloc::{AllocError, Global};
@@ -41,20 +42,23 @@ pub struct Served {
 pub(crate) struct Room {
     router: Router<Route>,
     input: Input,
-    head: Vec<u8>,
+    parameter: Vec<u8>,
     body: Vec<u8>,
+    outbox: Outbox,
 }
 
 fn make_room(alloc: Global, turns: u64) -> Result<Room, AllocError>
     ensures ready { IfOk result IsReady }
     ensures unread { IfOk result (λ room. unread room.input ≡ []) }
+    ensures waiting { IfOk result (λ room. waiting room.outbox ≡ []) }
     ensures turns { IfOk result (λ room. room.input.turns ≡ turns) }
 {
     Ok(Room {
         router: routes(alloc)?,
         input: Input::new(alloc, turns)?,
-        head: Vec::with_capacity(alloc, MAX_HEAD)?,
+        parameter: Vec::with_capacity(alloc, MAX_HEAD)?,
         body: Vec::with_capacity(alloc, BODY_ROOM)?,
+        outbox: Outbox::new(alloc)?,
     })
 }
 
@@ -70,9 +74,7 @@ fn answer_front<S: Store>(
     requires routes { router.now ≡ office_routes }
     requires room { 8192 ≤ vec_capacity scratch.old }
     requires part { HasPart bytes.now head.now }
-    ensures step { (has : HasPart bytes.now head.now) → IsTrue (S.state desk.new).is_clean
-        → Step (S.state desk.old).office (S.state desk.old).book (request_of has.part)
-        (reply_of result) (S.state desk.new).book }
+    ensures step { (has : HasPart bytes.now head.now) → Steps S.state desk.old desk.new has.part result }
     ensures office { (S.state desk.new).office ≡ (S.state desk.old).office }
     ensures clean { IsTrue (S.state desk.new).is_clean → IsTrue (S.state desk.old).is_clean }
     ensures room { vec_capacity scratch.old ≤ vec_capacity scratch.new }
@@ -87,23 +89,23 @@ fn answer_front<S: Store>(
 fn answer_next<S: Store>(alloc: Global, desk: &mut Desk<S>, room: &mut Room, head: &Head) -> Answer
     requires ready { IsReady room.old }
     requires part { HasPart (unread room.old.input) head.now }
-    ensures step { (has : HasPart (unread room.old.input) head.now) → IsTrue (S.state desk.new).is_clean
-        → Step (S.state desk.old).office (S.state desk.old).book (request_of has.part)
-        (reply_of result) (S.state desk.new).book }
+    ensures step { (has : HasPart (unread room.old.input) head.now)
+        → Steps S.state desk.old desk.new has.part result }
     ensures office { (S.state desk.new).office ≡ (S.state desk.old).office }
     ensures clean { IsTrue (S.state desk.new).is_clean → IsTrue (S.state desk.old).is_clean }
     ensures taken { unread room.new.input
         ≡ drop (head.now.length + head.now.body) (unread room.old.input) }
     ensures turns { room.new.input.turns ≡ room.old.input.turns }
+    ensures outbox { room.new.outbox ≡ room.old.outbox }
     ensures ready { IsReady room.new }
 {
     let bytes = room.input.unread();
-    let reply = answer_front(alloc, desk, &room.router, &mut room.head, bytes, head);
+    let reply = answer_front(alloc, desk, &room.router, &mut room.parameter, bytes, head);
     room.input.take(head.length + head.body as usize);
     reply
 }
 
-// Writes an answer.
+// Puts an answer behind the texts that wait.
 fn send<W: Write>(
     writer: &mut Counted<W>,
     room: &mut Room,
@@ -111,32 +113,33 @@ fn send<W: Write>(
     close: bool,
 ) -> Result<(), NotWritten>
     requires { IsReady room.old }
-    ensures wrote { Writes result (W.contents (inner_of writer.old)) (W.contents (inner_of writer.new))
+    ensures gathers { Puts W.contents result writer.old writer.new room.old.outbox room.new.outbox
         (text (reply_of reply) close) }
     ensures kept { OnOk result (failures_of writer.new ≡ failures_of writer.old) }
     ensures failed { OnErr result (Rises (failures_of writer.old) (failures_of writer.new)) }
     ensures input { room.new.input ≡ room.old.input }
     ensures ready { IsReady room.new }
 {
-    write_reply(writer, &mut room.head, &mut room.body, &reply, close)
+    put_reply(writer, &mut room.outbox, &mut room.body, &reply, close)
 }
 
-// Writes what is due at the end of a connection that answered so many requests.
+// Writes what waits, and what is due at the end of a connection that answered so many requests.
 fn close_with<W: Write>(
     writer: &mut Counted<W>,
-    room: &mut Room,
+    outbox: &mut Outbox,
     end: End,
     requests: u128,
 ) -> Result<Served, DeskFault>
-    requires { IsReady room.old }
     ensures served { IfOk result (λ served. (served.requests ≡ requests)
-        × Appends (W.contents (inner_of writer.old)) (W.contents (inner_of writer.new)) (ending end)) }
+        × Appends (W.contents (inner_of writer.old)) (W.contents (inner_of writer.new))
+        (waiting outbox.old ++ ending end)) }
     ensures fault { IfErr result (λ fault.
         (fault ≡ record { kind = FaultKind.Write; requests = requests })
-        × AppendsFront (W.contents (inner_of writer.old)) (W.contents (inner_of writer.new)) (ending end)
+        × AppendsFront (W.contents (inner_of writer.old)) (W.contents (inner_of writer.new))
+        (waiting outbox.old ++ ending end)
         × Rises (failures_of writer.old) (failures_of writer.new)) }
 {
-    match write_end(writer, &mut room.head, end) {
+    match write_end(writer, outbox, end) {
         Ok(()) => Ok(Served { requests }),
         Err(_) => Err(DeskFault {
             kind: FaultKind::Write,
@@ -145,11 +148,11 @@ fn close_with<W: Write>(
     }
 }
 
-/// Serves one connection: reads requests, answers each at the desk in turn and writes its answer,
-/// until the bytes end, a request ends the connection, or bytes are no request. A turn is one read
-/// that gives bytes, at most 4,096. It is given up by `Read` and `Write` where that side failed, by
-/// `Turns` where all turns gave bytes and a further read was needed, and by `Memory` before the first
-/// read alone; the book is then that of the requests counted in the fault.
+/// Serves one connection: reads requests, answers each at the desk in turn and writes its answer, until the bytes end,
+/// a request ends the connection, or bytes are no request. Answers are written together, before each further read and at
+/// the end. A turn is one read that gives bytes, at most 16,384. It is given up by `Read` and `Write` where that side
+/// failed, by `Turns` where all turns gave bytes and a further read was needed, and by `Memory` before the first read
+/// alone; the book is then that of the requests counted in the fault.
 pub fn serve<S: Store, R: Read, W: Write>(
     alloc: Global,
     desk: &mut Desk<S>,
@@ -157,31 +160,17 @@ pub fn serve<S: Store, R: Read, W: Write>(
     writer: &mut Counted<W>,
     turns: u64,
 ) -> Result<Served, DeskFault>
-    // Where the bytes are known: they are requests with this end, and what was written is their
-    // answers in order and the text of the end, and nothing else.
-    ensures served { IfOk result (λ served. IfSome (R.remaining (inner_of reader.old)) (λ bytes.
-        Serves bytes (S.state desk.old) (S.state desk.new)
-        (W.contents (inner_of writer.old)) (W.contents (inner_of writer.new)) served.requests)) }
-    // Up to a fault: they begin with the requests that were answered.
-    ensures fault { IfErr result (λ fault. IfSome (R.remaining (inner_of reader.old)) (λ bytes.
-        Breaks fault.kind bytes (S.state desk.old) (S.state desk.new)
-        (W.contents (inner_of writer.old)) (W.contents (inner_of writer.new)) fault.requests)) }
+    // What was read are requests with an end, and what was written is their answers in order and the text of the
+    // end, and nothing else; as many requests as are told are a run from the old book to the new.
+    ensures served { IfOk result
+        (IsServed S.state R.remaining W.contents desk.old desk.new reader.old writer.old writer.new) }
+    // Up to a fault: what was read begins with the requests that were answered; and the fault's cause.
+    ensures fault { IfErr result (IsGivenUp S.state R.remaining W.contents
+        desk.old desk.new reader.old reader.new writer.old writer.new turns) }
+    ensures memory { IfErr result (λ fault. fault.kind ≡ FaultKind.Memory → desk.new ≡ desk.old) }
 
-    // When each fault comes.
-    ensures read { IfErr result (λ fault. fault.kind ≡ FaultKind.Read
-        → Rises (failures_of reader.old) (failures_of reader.new)) }
-    ensures write { IfErr result (λ fault. fault.kind ≡ FaultKind.Write
-        → Rises (failures_of writer.old) (failures_of writer.new)) }
-    ensures turns { IfErr result (λ fault. fault.kind ≡ FaultKind.Turns
-        → TakesAtLeast (R.remaining (inner_of reader.old)) (R.remaining (inner_of reader.new)) turns) }
-    ensures needed { IfErr result (λ fault. (fault.kind ≡ FaultKind.Read) ⊎ (fault.kind ≡ FaultKind.Turns)
-        → NeedsMore (R.remaining (inner_of reader.old)) (R.remaining (inner_of reader.new)) fault.requests) }
-    ensures memory { IfErr result (λ fault. fault.kind ≡ FaultKind.Memory
-        → (desk.new ≡ desk.old) × (reader.new ≡ reader.old) × (writer.new ≡ writer.old)) }
-
-    // Whatever the bytes are.
-    ensures most { TakesAtMost (R.remaining (inner_of reader.old)) (R.remaining (inner_of reader.new))
-        (turns * 4096) }
+    // However it ends.
+    ensures turns { KeepsTurns R.remaining reader.old reader.new turns }
     ensures office { (S.state desk.new).office ≡ (S.state desk.old).office }
     ensures clean { IsTrue (S.state desk.new).is_clean → IsTrue (S.state desk.old).is_clean }
 {
@@ -204,39 +193,22 @@ fn serve_in<S: Store, R: Read, W: Write>(
 ) -> Result<Served, DeskFault>
     requires ready { IsReady room.old }
     requires unread { unread room.old.input ≡ [] }
+    requires waiting { waiting room.old.outbox ≡ [] }
     requires turns { room.old.input.turns < 2 ^ 64 }
-    // Where the bytes are known: they are requests with this end, and what was written is their
-    // answers in order and the text of the end, and nothing else.
-    ensures served { IfOk result (λ served. IfSome (R.remaining (inner_of reader.old)) (λ bytes.
-        Serves bytes (S.state desk.old) (S.state desk.new)
-        (W.contents (inner_of writer.old)) (W.contents (inner_of writer.new)) served.requests)) }
-    // Up to a fault: they begin with the requests that were answered.
-    ensures fault { IfErr result (λ fault. IfSome (R.remaining (inner_of reader.old)) (λ bytes.
-        Breaks fault.kind bytes (S.state desk.old) (S.state desk.new)
-        (W.contents (inner_of writer.old)) (W.contents (inner_of writer.new)) fault.requests)) }
-
-    // When each fault comes.
-    ensures read { IfErr result (λ fault. fault.kind ≡ FaultKind.Read
-        → Rises (failures_of reader.old) (failures_of reader.new)) }
-    ensures write { IfErr result (λ fault. fault.kind ≡ FaultKind.Write
-        → Rises (failures_of writer.old) (failures_of writer.new)) }
-    ensures turns { IfErr result (λ fault. fault.kind ≡ FaultKind.Turns
-        → TakesAtLeast (R.remaining (inner_of reader.old)) (R.remaining (inner_of reader.new)) room.old.input.turns) }
-    ensures needed { IfErr result (λ fault. (fault.kind ≡ FaultKind.Read) ⊎ (fault.kind ≡ FaultKind.Turns)
-        → NeedsMore (R.remaining (inner_of reader.old)) (R.remaining (inner_of reader.new)) fault.requests) }
+    ensures served { IfOk result
+        (IsServed S.state R.remaining W.contents desk.old desk.new reader.old writer.old writer.new) }
+    ensures fault { IfErr result (IsGivenUp S.state R.remaining W.contents
+        desk.old desk.new reader.old reader.new writer.old writer.new room.old.input.turns) }
     ensures memory { IfErr result (λ fault. fault.kind ≢ FaultKind.Memory) }
-
-    // Whatever the bytes are.
-    ensures most { TakesAtMost (R.remaining (inner_of reader.old)) (R.remaining (inner_of reader.new))
-        (room.old.input.turns * 4096) }
+    ensures turns { KeepsTurns R.remaining reader.old reader.new room.old.input.turns }
     ensures office { (S.state desk.new).office ≡ (S.state desk.old).office }
     ensures clean { IsTrue (S.state desk.new).is_clean → IsTrue (S.state desk.old).is_clean }
 {
     let mut requests = 0u128;
     loop {
-        let head = match next_request(reader, &mut room.input) {
-            Ok(Next::Request(head)) => head,
-            Ok(Next::Ended(end)) => return close_with(writer, room, end, requests),
+        let head = match next_answered(reader, writer, &mut room.input, &mut room.outbox) {
+            Ok(Upcoming::Request(head)) => head,
+            Ok(Upcoming::Ended(end)) => return close_with(writer, &mut room.outbox, end, requests),
             Err(kind) => return Err(DeskFault { kind, requests }),
         };
         let reply = answer_next(alloc, desk, room, &head);
@@ -248,7 +220,7 @@ fn serve_in<S: Store, R: Read, W: Write>(
             });
         };
         if head.closes {
-            return Ok(Served { requests });
+            return close_with(writer, &mut room.outbox, End::Closed, requests);
         }
     }
 }

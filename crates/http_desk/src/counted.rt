@@ -1,16 +1,15 @@
-ghost use Rattle.std.specs.Prelude.{◌≡◌, ◌-◌, ◌<◌, OnOk, OnErr};
-ghost use Rattle.std.specs.Io.{ReadsAtMost};
-ghost use Rattle.std.specs.Io.KnownBytes.{ReadConsumes};
-ghost use Rattle.http_desk.specs.Counted.{inner_of, failures_of, Writes};
-ghost use Rattle.society_core.specs.State.{Rises};
+//! A reader or a writer that counts how often it failed, and how often a read gave bytes.
+ghost use Rattle.std.specs.Prelude.{◌<◌, ◌^◌};
 
 use std::io::{self, Read, Write};
 
-/// A reader or a writer whose failures are counted, up to the greatest `u64`.
+/// A reader or a writer whose failures are counted, and its reads that gave bytes, each up to the greatest `u64`.
 #[derive(Drop)]
 pub struct Counted<T> {
     inner: T,
     failures: u64,
+    reads: u64,
+    ghost reads_fit: { reads < 2 ^ 64 },
 }
 
 /// The writer failed, or took no byte.
@@ -18,12 +17,20 @@ pub struct Counted<T> {
 pub(crate) struct NotWritten;
 
 impl<T> Counted<T> {
-    /// Nothing has failed yet.
+    ghost use Rattle.std.specs.Prelude.{◌≡◌};
+    ghost use Rattle.http_desk.specs.Counted.{inner_of, failures_of, reads_of};
+
+    /// Nothing has failed or was read yet.
     pub fn new(inner: T) -> Self
         ensures inner { inner_of result ≡ inner }
         ensures failures { failures_of result ≡ 0 }
+        ensures reads { reads_of result ≡ 0 }
     {
-        Counted { inner, failures: 0 }
+        Counted {
+            inner,
+            failures: 0,
+            reads: 0,
+        }
     }
 
     /// What was wrapped, as it is now.
@@ -35,22 +42,36 @@ impl<T> Counted<T> {
 }
 
 impl<R: Read> Counted<R> {
-    /// One read, as the reader does it; an error is counted.
+    ghost use Rattle.std.specs.Prelude.{◌≡◌, IfOk, OnOk, OnErr};
+    ghost use Rattle.std.specs.Io.{ReadsAtMost};
+    ghost use Rattle.std.specs.Io.KnownBytes.{ReadConsumes};
+    ghost use Rattle.http_desk.specs.Counted.{inner_of, failures_of, reads_of, reads_after};
+    ghost use Rattle.society_core.specs.State.{Rises};
+
+    /// One read, as the reader does it; an error is counted, and so is a read that gives bytes.
     pub(crate) fn read(&mut self, buffer: &mut [u8]) -> io::Result<usize>
         ensures bound { ReadsAtMost result buffer.new }
         ensures bytes { ReadConsumes (R.remaining (inner_of self.old)) (R.remaining (inner_of self.new)) result buffer.new }
         ensures kept { OnOk result (failures_of self.new ≡ failures_of self.old) }
         ensures failed { OnErr result (Rises (failures_of self.old) (failures_of self.new)) }
+        ensures counted { IfOk result (λ count. reads_of self.new ≡ reads_after count (reads_of self.old)) }
+        ensures uncounted { OnErr result (reads_of self.new ≡ reads_of self.old) }
     {
         let result = self.inner.read(buffer);
-        if result.is_err() {
-            self.failures = self.failures.saturating_add(1);
+        match &result {
+            Ok(0) => {}
+            Ok(_) => self.reads = self.reads.saturating_add(1),
+            Err(_) => self.failures = self.failures.saturating_add(1),
         }
         result
     }
 }
 
 impl<W: Write> Counted<W> {
+    ghost use Rattle.std.specs.Prelude.{◌≡◌, ◌<◌, OnOk, OnErr};
+    ghost use Rattle.http_desk.specs.Counted.{inner_of, failures_of, Writes};
+    ghost use Rattle.society_core.specs.State.{Rises};
+
     /// All bytes, in order; an error, or a write that takes no byte, is counted and ends it.
     pub(crate) fn write_all(&mut self, bytes: &[u8]) -> Result<(), NotWritten>
         ensures wrote { Writes result (W.contents (inner_of self.old)) (W.contents (inner_of self.new)) bytes.now }

@@ -16,6 +16,6 @@ pub enum FaultKind {
 pub struct DeskFault {
     /// Why.
     pub kind: FaultKind,
-    /// Requests that were answered before it, the one whose answer could not be written with them.
+    /// Requests that were answered before it, those whose answers could not be written with them.
     pub requests: u128,
 }

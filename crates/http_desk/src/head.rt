@@ -5,7 +5,7 @@ ghost use Rattle.httparse.specs.Spans.{IsRequestAt, IsRequestWithin};
 ghost use Rattle.http_desk.specs.Head.{Means};
 ghost use Rattle.http_desk.specs.Part.{max_head, max_fields};
 
-use crate::framing::{Framing, closes, framing_by_fields, is_put};
+use crate::body_length::{BodyLength, body_length_by_fields, closes, is_put};
 use httparse::Status;
 use httparse::spans::{EMPTY_HEADER_SPAN, HeaderSpan, RequestSpans, Span, parse_request};
 
@@ -77,10 +77,10 @@ fn weigh(bytes: &[u8], headers: &[HeaderSpan], spans: &RequestSpans) -> Reading
 {
     let fields = &headers[..spans.headers];
     let method = spans.method.of(bytes);
-    match framing_by_fields(bytes, fields, method) {
-        Framing::Faulty => Reading::Bad,
-        Framing::Large => Reading::TooLarge,
-        Framing::Sized(body) => Reading::Whole(Head {
+    match body_length_by_fields(bytes, fields, method) {
+        BodyLength::Faulty => Reading::Bad,
+        BodyLength::Large => Reading::TooLarge,
+        BodyLength::Sized(body) => Reading::Whole(Head {
             put: is_put(method),
             target: spans.path,
             length: spans.len,

@@ -7,10 +7,10 @@ use std::alloc::{AllocError, Global};
 use std::io::Read;
 
 /// The most bytes that one read gives.
-const PIECE: usize = 4096;
+const PIECE: usize = 16_384;
 
-/// Room for requests that is taken before the first read, in bytes.
-const FIRST_ROOM: usize = 12_288;
+/// Room for requests that is taken before the first read, in bytes; only a longer one asks for memory.
+const FIRST_ROOM: usize = 65_536;
 
 /// Bytes that were read and not taken yet, and the turns that are left.
 #[derive(Drop)]
@@ -19,15 +19,15 @@ pub(crate) struct Input {
     start: usize,
     turns: u64,
     ghost ordered: { start ≤ vec_len bytes },
-    ghost roomy: { 16384 ≤ vec_capacity bytes },
+    ghost roomy: { 81920 ≤ vec_capacity bytes },
 }
 
 impl Input {
     ghost use Rattle.std.specs.Prelude.{◌≡◌, ◌<◌, ◌≤◌, ◌+◌, ◌^◌, [], true, false, length, drop, vec_capacity, IfOk, IfErr, OnOk, OnErr};
     ghost use Rattle.std.specs.Io.KnownBytes.{IsAtEnd};
-    ghost use Rattle.http_desk.specs.Counted.{inner_of, failures_of};
+    ghost use Rattle.http_desk.specs.Counted.{inner_of, failures_of, reads_of};
     ghost use Rattle.http_desk.specs.Input.{unread, ReadsOn, FailsBy, max_piece};
-    ghost use Rattle.http_desk.specs.Reads.{first_room};
+    ghost use Rattle.http_desk.specs.Reads.{small_request};
 
     /// No byte yet, with room for heads.
     pub(crate) fn new(alloc: Global, turns: u64) -> Result<Input, AllocError>
@@ -66,6 +66,9 @@ impl Input {
         ensures turns { self.new.turns ≡ self.old.turns }
     {
         let start = self.start;
+        if start == 0 {
+            return;
+        }
         let rest = self.bytes.len() - start;
         self.start = 0;
         self.bytes.as_mut_slice().rotate_left(start);
@@ -78,7 +81,7 @@ impl Input {
         ensures bytes { unread self.new ≡ unread self.old }
         ensures turns { self.new.turns ≡ self.old.turns }
         ensures ok { OnOk result (size + max_piece ≤ vec_capacity self.new.bytes) }
-        ensures full { OnErr result (first_room < size) }
+        ensures full { OnErr result (small_request < size) }
     {
         self.compact();
         let room = size + PIECE;
@@ -92,7 +95,7 @@ impl Input {
     pub(crate) fn read_more<R: Read>(&mut self, reader: &mut Counted<R>) -> Result<bool, FaultKind>
         requires { length (unread self.old) + max_piece ≤ vec_capacity self.old.bytes }
         ensures reads { ReadsOn self.old self.new (R.remaining (inner_of reader.old))
-            (R.remaining (inner_of reader.new)) }
+            (R.remaining (inner_of reader.new)) (reads_of reader.old) (reads_of reader.new) }
         ensures room { vec_capacity self.old.bytes ≤ vec_capacity self.new.bytes }
         ensures turn { IfOk result (λ gave. gave ≡ true → self.new.turns < self.old.turns) }
         ensures end { IfOk result (λ gave. gave ≡ false

@@ -1,7 +1,7 @@
 //! A law on the cutting of bytes into requests.
 ghost use Rattle.std.specs.Prelude.{◌≡◌, ◌≢◌, ℕ, List};
-ghost use Rattle.http_desk.specs.declared.end.End.{End};
-ghost use Rattle.http_desk.specs.declared.end.End.TheVariants.{Busy};
+ghost use Rattle.http_desk.specs.declared.connection_end.End.{End};
+ghost use Rattle.http_desk.specs.declared.connection_end.End.TheVariants.{Busy};
 ghost use Rattle.http_desk.specs.Part.{Part};
 ghost use Rattle.http_desk.specs.Reads.{Reads};
 

@@ -12,6 +12,8 @@ pub(crate) enum Route {
     Transmission,
     /// The acknowledgement of a transmission.
     Acknowledgement,
+    /// A performance return of a reporter.
+    Return,
 }
 
 /// The routes of the office.
@@ -30,6 +32,7 @@ pub(crate) fn routes(alloc: Global) -> Result<Router<Route>, AllocError>
         "/v1/senders/{sender}/acks/{n}",
         Route::Acknowledgement,
     )?;
+    add(&mut router, "/v1/returns/{reporter}/{n}", Route::Return)?;
     Ok(router)
 }
 

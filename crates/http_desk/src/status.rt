@@ -13,6 +13,7 @@ pub(crate) enum Status {
     BadRequest,
     NotFound,
     Conflict,
+    TooLarge,
     Unprocessable,
     Unavailable,
 }
@@ -35,6 +36,7 @@ pub(crate) fn code(status: Status) -> u16
         Status::BadRequest => 400,
         Status::NotFound => 404,
         Status::Conflict => 409,
+        Status::TooLarge => 413,
         Status::Unprocessable => 422,
         Status::Unavailable => 503,
     }

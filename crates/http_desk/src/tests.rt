@@ -1,11 +1,13 @@
+use crate::connection_end::End;
 use crate::counted::Counted;
-use crate::end::End;
 use crate::head::{Reading, read_head};
-use crate::reply::{write_end, write_reply};
+use crate::outbox::Outbox;
+use crate::reply::{put_reply, write_end};
 use crate::requests::request_for;
 use crate::routes::routes;
 use cwr_files::FileFault;
-use society_core::{Answer, Arrival, Refusal, Request, Standing};
+use perf_returns::ReturnFault;
+use society_core::{Answer, Arrival, Receipt, Refusal, Request, Standing};
 use std::alloc::{AllocError, Global};
 use std::str;
 use std::test::Fail;
@@ -68,10 +70,10 @@ fn asked(alloc: Global, put: bool, target: &[u8]) -> Result<Option<u32>, AllocEr
         return Ok(None);
     }
     match request_for(&router, &mut scratch, put, target, b"") {
-        Request::PutTransmission { number, .. } => Ok(Some(number)),
-        Request::Acknowledgement { number, .. } => Ok(Some(number)),
-        Request::Verdicts { number, .. } => Ok(Some(number)),
-        Request::Sender { .. } | Request::Work { .. } | Request::Elsewhere => Ok(None),
+        Request::PutTransmission { number, .. } => Ok(Some(number.value())),
+        Request::Acknowledgement { number, .. } => Ok(Some(number.value())),
+        Request::PutReturn { key, .. } => Ok(Some(key.number.value())),
+        _ => Ok(None),
     }
 }
 
@@ -134,12 +136,36 @@ fn targets(rt: HostRuntime) -> Result<(), Fail> {
     Ok(())
 }
 
+#[test]
+fn targets_of_returns(rt: HostRuntime) -> Result<(), Fail> {
+    let alloc = rt.alloc();
+    assert_eq!(rt; asked(alloc, true, b"/v1/returns/RADIO1/7")?, Some(7));
+    assert_eq!(rt;
+        asked(alloc, true, b"/v1/returns/ABCDEFGHIJ0123456789/99999%39")?,
+        Some(999_999)
+    );
+    assert_eq!(rt;
+        asked(alloc, true, b"/v1/returns/ABCDEFGHIJ0123456789X/1")?,
+        None
+    );
+    assert_eq!(rt; asked(alloc, true, b"/v1/returns/radio1/7")?, None);
+    assert_eq!(rt; asked(alloc, true, b"/v1/returns/RADIO1/0")?, None);
+    assert_eq!(rt; asked(alloc, true, b"/v1/returns/RADIO1/07")?, None);
+    assert_eq!(rt; asked(alloc, true, b"/v1/returns/RADIO1/1000000")?, None);
+    assert_eq!(rt; asked(alloc, false, b"/v1/returns/RADIO1/7")?, None);
+    assert_eq!(rt; asked(alloc, true, b"/v1/returns/RADIO1")?, None);
+    Ok(())
+}
+
 // What is written for an answer.
 fn written(alloc: Global, answer: &Answer, close: bool) -> Result<Vec<u8>, AllocError> {
     let mut writer = Counted::new(Vec::new(alloc));
-    let mut head = Vec::with_capacity(alloc, 8192)?;
+    let mut outbox = Outbox::new(alloc)?;
     let mut body = Vec::with_capacity(alloc, 512)?;
-    let Ok(()) = write_reply(&mut writer, &mut head, &mut body, answer, close) else {
+    let Ok(()) = put_reply(&mut writer, &mut outbox, &mut body, answer, close) else {
+        return Err(AllocError);
+    };
+    let Ok(()) = outbox.flush(&mut writer) else {
         return Err(AllocError);
     };
     Ok(writer.into_inner())
@@ -184,11 +210,55 @@ fn answers(rt: HostRuntime) -> Result<(), Fail> {
 }
 
 #[test]
+fn answers_to_returns(rt: HostRuntime) -> Result<(), Fail> {
+    let alloc = rt.alloc();
+    let text = written(alloc, &Answer::Stored(Receipt::New), false)?;
+    assert_eq!(rt;
+        str::from_utf8(&text),
+        Ok(
+            "HTTP/1.1 201 Created\r\nContent-Type: application/json\r\nContent-Length: 18\r\n\r\n{\"state\":\"stored\"}"
+        )
+    );
+    let text = written(alloc, &Answer::Stored(Receipt::Repeated), false)?;
+    assert_eq!(rt;
+        str::from_utf8(&text),
+        Ok(
+            "HTTP/1.1 200 OK\r\nContent-Type: application/json\r\nContent-Length: 18\r\n\r\n{\"state\":\"stored\"}"
+        )
+    );
+    let fault = Answer::Refused(Refusal::Csv(ReturnFault { number: 3, row: 12 }));
+    let text = written(alloc, &fault, false)?;
+    assert_eq!(rt;
+        str::from_utf8(&text),
+        Ok(
+            "HTTP/1.1 422 Unprocessable Entity\r\nContent-Type: application/json\r\nContent-Length: 34\r\n\r\n{\"error\":\"csv\",\"fault\":3,\"row\":12}"
+        )
+    );
+    Ok(())
+}
+
+#[test]
+fn ending_of_a_large_body(rt: HostRuntime) -> Result<(), Fail> {
+    let alloc = rt.alloc();
+    let mut writer = Counted::new(Vec::new(alloc));
+    let mut outbox = Outbox::new(alloc)?;
+    assert!(rt; write_end(&mut writer, &mut outbox, End::TooLarge).is_ok());
+    let text = writer.into_inner();
+    assert_eq!(rt;
+        str::from_utf8(&text),
+        Ok(
+            "HTTP/1.1 413 Payload Too Large\r\nContent-Type: application/json\r\nContent-Length: 16\r\nConnection: close\r\n\r\n{\"error\":\"size\"}"
+        )
+    );
+    Ok(())
+}
+
+#[test]
 fn endings(rt: HostRuntime) -> Result<(), Fail> {
     let alloc = rt.alloc();
     let mut writer = Counted::new(Vec::new(alloc));
-    let mut head = Vec::with_capacity(alloc, 8192)?;
-    assert!(rt; write_end(&mut writer, &mut head, End::Bad).is_ok());
+    let mut outbox = Outbox::new(alloc)?;
+    assert!(rt; write_end(&mut writer, &mut outbox, End::Bad).is_ok());
     let text = writer.into_inner();
     assert_eq!(rt;
         str::from_utf8(&text),

@@ -1,10 +1,11 @@
-//! The bytes of answers. Their room is taken before the first read, and they never grow past it.
+//! The bytes of answers, put into room that was taken before the first read.
 ghost use Rattle.std.specs.Prelude.{◌≡◌, ◌≤◌, ◌+◌, ◌++◌, length, decimal, vec_len, vec_capacity};
-ghost use Rattle.http_desk.specs.Text.{head_text, code_of, type_text, connection_field, arrival_text, refusal_text, standing_text, status_text, fields_text};
+ghost use Rattle.http_desk.specs.Text.{head_text, code_of, type_text, connection_field, arrival_text, stored_text, refusal_text, standing_text, status_text, fields_text};
 
 use crate::status::{ContentType, Status, code, phrase, type_name};
 use cwr_files::FileFault;
 use itoa::Buffer;
+use perf_returns::ReturnFault;
 use society_core::{Arrival, Refusal, Standing};
 
 /// Appends bytes for which there is room.
@@ -64,21 +65,20 @@ fn put_fields(out: &mut Vec<u8>, content_type: ContentType, size: u64, close: bo
     put(out, b"\r\n\r\n");
 }
 
-/// Puts the head of an answer into a text.
+/// Appends the head of an answer, at most 512 bytes.
 #[tactic(auto, unfolding(crate::specs::Text::head_text))]
-pub(crate) fn set_head(
+pub(crate) fn put_head(
     out: &mut Vec<u8>,
     status: Status,
     content_type: ContentType,
     size: u64,
     close: bool,
 )
-    requires { 512 ≤ vec_capacity out.old }
-    ensures items { out.new.items ≡ head_text (code_of status) (type_text content_type) size close }
-    ensures short { vec_len out.new ≤ 512 }
+    requires { vec_len out.old + 512 ≤ vec_capacity out.old }
+    ensures items { out.new.items ≡ out.old.items ++ head_text (code_of status) (type_text content_type) size close }
+    ensures len { vec_len out.new ≤ vec_len out.old + 512 }
     ensures room { vec_capacity out.old ≤ vec_capacity out.new }
 {
-    out.clear();
     put_status(out, status);
     put_fields(out, content_type, size, close);
 }
@@ -121,6 +121,29 @@ fn set_file_fault(out: &mut Vec<u8>, fault: FileFault)
     put(out, b"}");
 }
 
+// Puts the body that tells a return fault into a text.
+fn set_return_fault(out: &mut Vec<u8>, fault: ReturnFault)
+    requires { 512 ≤ vec_capacity out.old }
+    ensures items { out.new.items ≡ refusal_text (Refusal.Csv fault) }
+    ensures room { vec_capacity out.old ≤ vec_capacity out.new }
+{
+    out.clear();
+    put(out, b"{\"error\":\"csv\",\"fault\":");
+    put_number(out, u64::from(fault.number));
+    put(out, b",\"row\":");
+    put_number(out, fault.row as u64);
+    put(out, b"}");
+}
+
+/// Puts the body of a stored return into a text.
+pub(crate) fn set_stored(out: &mut Vec<u8>)
+    requires { 512 ≤ vec_capacity out.old }
+    ensures items { out.new.items ≡ stored_text }
+    ensures room { vec_capacity out.old ≤ vec_capacity out.new }
+{
+    set(out, b"{\"state\":\"stored\"}");
+}
+
 // Puts a fixed body into a text.
 fn set(out: &mut Vec<u8>, bytes: &[u8])
     requires { length bytes.now ≤ vec_capacity out.old }
@@ -140,7 +163,13 @@ pub(crate) fn set_refusal(out: &mut Vec<u8>, refusal: &Refusal)
     match refusal {
         Refusal::Reused => set(out, b"{\"error\":\"reused\"}"),
         Refusal::File(fault) => set_file_fault(out, *fault),
-        Refusal::Unknown => set(out, b"{\"error\":\"unknown\"}"),
+        Refusal::Csv(fault) => set_return_fault(out, *fault),
+        // No route leads to the first four yet.
+        Refusal::Order(_)
+        | Refusal::Cut { .. }
+        | Refusal::ReturnUnknown(_)
+        | Refusal::ReturnPaid { .. }
+        | Refusal::Unknown => set(out, b"{\"error\":\"unknown\"}"),
         Refusal::Unavailable => set(out, b"{\"error\":\"busy\"}"),
     }
 }

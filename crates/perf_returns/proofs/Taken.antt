@@ -1,9 +1,9 @@
 -- The rows and the fault of the records that were taken so far.
-use Rattle.std.proofs.Common.{◌≡◌, ◌≢◌, ℕ, ◌+◌, ◌<◌, ◌==◌, Bool, true, false, cond, List, [], ◌∷◌, ◌++◌, length, drop, Option, Some, None, Result, Ok, Err, refl, ap, sym, subst, ◌∙◌, arith}
+use Rattle.std.proofs.Common.{◌≡◌, ℕ, ◌+◌, ◌-◌, ◌<◌, ◌≤◌, ◌==◌, Bool, true, false, cond, List, [], ◌∷◌, ◌++◌, length, drop, Option, Some, None, Result, Ok, Err, refl, ap, sym, ◌∙◌, arith, if◌then◌else◌, nat_lt}
 use Rattle.std.proofs.lemmas.Bool.Decides.{nat_tests}
 use Rattle.std.proofs.lemmas.List.{append_assoc}
-use Rattle.perf_returns.specs.Returns.{Answers, fault_of_records, first_fault, rows_of, told_at}
-use Rattle.perf_returns.specs.Rows.{Takes, fault_at, row_added, row_of, with_row}
+use Rattle.perf_returns.specs.Returns.{Answers, fault_of_records, first_fault, performances_of, told_at}
+use Rattle.perf_returns.specs.Rows.{Takes, fault_at, fault_in, header_fault, row_added, row_of, with_row}
 use Rattle.perf_returns.specs.declared.fault.ReturnError.{ReturnError}
 use Rattle.perf_returns.specs.declared.fault.ReturnError.TheVariants.{Csv, Memory}
 use Rattle.perf_returns.specs.declared.fault.ReturnFault.{ReturnFault}
@@ -47,24 +47,41 @@ with_row_append : (r : Result Performance ℕ) (a b : List Performance) → with
 with_row_append (Ok row) a b = refl
 with_row_append (Err n) a b = refl
 
-rows_append : (xs : List (List (List ℕ))) (fields : List (List ℕ)) → rows_of (xs ++ fields ∷ []) ≡ rows_of xs ++ with_row (row_of fields) []
+rows_append : (xs : List (List (List ℕ))) (fields : List (List ℕ)) → performances_of (xs ++ fields ∷ []) ≡ performances_of xs ++ with_row (row_of fields) []
 rows_append [] fields = refl
-rows_append (x ∷ xs) fields = ap (with_row (row_of x)) (rows_append xs fields) ∙ with_row_append (row_of x) (rows_of xs) (with_row (row_of fields) [])
+rows_append (x ∷ xs) fields = ap (with_row (row_of x)) (rows_append xs fields) ∙ with_row_append (row_of x) (performances_of xs) (with_row (row_of fields) [])
 
 -- the rows of data with what one more record adds
-pub rows_more : (seen : List (List (List ℕ))) (fields : List (List ℕ)) (row : ℕ) → row ≡ 1 + length seen → rows_of (drop 1 (seen ++ fields ∷ [])) ≡ rows_of (drop 1 seen) ++ row_added row fields
+pub rows_more : (seen : List (List (List ℕ))) (fields : List (List ℕ)) (row : ℕ) → row ≡ 1 + length seen → performances_of (drop 1 (seen ++ fields ∷ [])) ≡ performances_of (drop 1 seen) ++ row_added row fields
 rows_more [] fields row place =
     let first : (row == 1) ≡ true = grind (arith, nat_tests) in
     rw first refl
 rows_more (r ∷ seen) fields row place =
     let later : (row == 1) ≡ false = grind (arith, nat_tests) in
-    rows_append seen fields ∙ ap (λ (b : Bool). rows_of seen ++ cond b [] (with_row (row_of fields) [])) (sym later)
+    rows_append seen fields ∙ ap (λ (b : Bool). performances_of seen ++ cond b [] (with_row (row_of fields) [])) (sym later)
 
 -- a row without a fault is not one too many
-pub not_too_many : (row : ℕ) (fields : List (List ℕ)) → fault_at row fields ≡ None → row ≢ 10002
-not_too_many row fields none same =
-    let fault : fault_at 10002 fields ≡ None = subst (λ (n : ℕ). fault_at n fields ≡ None) same none in
-    absurd cc
+pub not_too_many : (row : ℕ) (fields : List (List ℕ)) → fault_at row fields ≡ None → row ≤ 10001
+not_too_many row fields none =
+    by_case (row == 1) (nat_lt 10000 (row - 1)) refl refl none
+  where
+    by_case : (first late : Bool) → (row == 1) ≡ first → nat_lt 10000 (row - 1) ≡ late → (if first then header_fault fields else (if late then Some 6 else fault_in (row_of fields))) ≡ None → row ≤ 10001
+    by_case true late is more e = grind (arith, nat_tests)
+    by_case false true is more e = absurd cc
+    by_case false false is more e = grind (arith, nat_tests)
+
+with_row_length : (r : Result Performance ℕ) (rows : List Performance) → length (with_row r rows) ≤ length rows + 1
+with_row_length (Ok row) rows = omega arith
+with_row_length (Err n) rows = omega arith
+
+length-performances_of : (records : List (List (List ℕ))) → length (performances_of records) ≤ length records
+length-performances_of [] = omega arith
+length-performances_of (fields ∷ more) = omega (arith, with_row_length (row_of fields) (performances_of more), length-performances_of more)
+
+-- there are fewer rows of data than records
+pub rows_few : (seen : List (List (List ℕ))) → length (performances_of (drop 1 seen)) ≤ length seen - 1
+rows_few [] = omega arith
+rows_few (r ∷ seen) = omega (arith, length-performances_of seen)
 
 -- what a row tells when it is refused is the fault of the body, where that is the row's
 pub told_by : (fault : Option ReturnFault) (rows : List Performance) (row : ℕ) (fields : List (List ℕ)) (old new : List Performance) (e : ReturnError) → Takes row fields old new (Err e) → ((n : ℕ) → fault_at row fields ≡ Some n → fault ≡ Some (record { number = n; row = row })) → Answers fault rows (Err e)

@@ -2,7 +2,8 @@
 use Rattle.std.proofs.Common.{◌≡◌, ℕ, List, [], ◌∷◌, length, refl, arith, unwrap_or}
 use Rattle.csv.specs.Records.{field_at}
 use Rattle.work_ids.specs.Isrc.{isrc_of_text}
-use Rattle.perf_returns.specs.Rows.{are_header_words, is_header, plays_of, row_by, row_of, seconds_of}
+use Rattle.perf_returns.specs.Rows.{are_header_words, is_header, row_by, row_of}
+use Rattle.perf_returns.specs.Numbers.{plays_of, seconds_of}
 
 -- the field at a place, nothing where there is none
 abbrev pub at : List (List ℕ) → ℕ → List ℕ

@@ -4,7 +4,7 @@ use Rattle.csv.specs.Machine.{next_record}
 use Rattle.csv.specs.Reading.{records_from, strip_bom}
 use Rattle.work_ids.specs.Digits.{number_of}
 use Rattle.work_ids.specs.Isrc.{has_isrc_form, has_isrc_marks, isrc_of, isrc_of_text, without_isrc_marks}
-use Rattle.perf_returns.specs.Returns.{return_fault, rows_in}
+use Rattle.perf_returns.specs.Returns.{return_fault, performances_in}
 
 -- no record is fault 1 at row 1, and so is another header
 empty_body : return_fault [] ≡ Some (record { number = 1; row = 1 })
@@ -20,8 +20,8 @@ header_alone : return_fault (codes "isrc,plays,seconds\n") ≡ None
 unfolding return_fault next_record records_from strip_bom
 header_alone = refl
 
-no_rows : rows_in (codes "isrc,plays,seconds\n") ≡ []
-unfolding rows_in next_record records_from strip_bom
+no_rows : performances_in (codes "isrc,plays,seconds\n") ≡ []
+unfolding performances_in next_record records_from strip_bom
 no_rows = refl
 
 -- a row, the ISRC in its printed form and small letters
@@ -29,8 +29,8 @@ right_row : return_fault (codes "isrc,plays,seconds\r\nat-abc-26-00001,1,60") �
 unfolding return_fault next_record records_from strip_bom isrc_of_text isrc_of has_isrc_form has_isrc_marks without_isrc_marks number_of
 right_row = refl
 
-its_row : rows_in (codes "isrc,plays,seconds\r\nat-abc-26-00001,1,60") ≡ record { isrc = codes "ATABC2600001"; plays = 1; seconds = 60 } ∷ []
-unfolding rows_in next_record records_from strip_bom isrc_of_text isrc_of has_isrc_form has_isrc_marks without_isrc_marks number_of
+its_row : performances_in (codes "isrc,plays,seconds\r\nat-abc-26-00001,1,60") ≡ record { isrc = codes "ATABC2600001"; plays = 1; seconds = 60 } ∷ []
+unfolding performances_in next_record records_from strip_bom isrc_of_text isrc_of has_isrc_form has_isrc_marks without_isrc_marks number_of
 its_row = refl
 
 -- two fields; no ISRC; plays of eight digits; seconds above the limit; plays before seconds

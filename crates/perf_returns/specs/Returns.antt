@@ -6,7 +6,7 @@ use Rattle.perf_returns.specs.declared.fault.ReturnError.{ReturnError}
 use Rattle.perf_returns.specs.declared.fault.ReturnError.TheVariants.{Csv, Memory}
 use Rattle.perf_returns.specs.declared.fault.ReturnFault.{ReturnFault}
 use Rattle.perf_returns.specs.declared.performance.Performance.{Performance}
-use Rattle.perf_returns.specs.declared.returned.Return.{Return}
+use Rattle.perf_returns.specs.declared.performances.Return.{Return}
 
 -- the records of a body, each as its fields: a byte order mark at the start is dropped, and lines without a byte are no records (RFC 4180; profile)
 abbrev pub records_in : List ℕ → List (List (List ℕ))
@@ -32,13 +32,13 @@ unfoldable pub return_fault : List ℕ → Option ReturnFault
 return_fault body = fault_of_records (records_in body)
 
 -- the rows of data that records are
-abbrev pub rows_of : List (List (List ℕ)) → List Performance
-rows_of [] = []
-rows_of (fields ∷ more) = with_row (row_of fields) (rows_of more)
+abbrev pub performances_of : List (List (List ℕ)) → List Performance
+performances_of [] = []
+performances_of (fields ∷ more) = with_row (row_of fields) (performances_of more)
 
 -- the rows of data of a return, in order: those of the records behind the header (profile)
-unfoldable pub rows_in : List ℕ → List Performance
-rows_in body = rows_of (drop 1 (records_in body))
+unfoldable pub performances_in : List ℕ → List Performance
+performances_in body = performances_of (drop 1 (records_in body))
 
 -- a reader of returns answers these rows where there is no fault, and else this fault; memory may run out
 abbrev pub Answers : Option ReturnFault → List Performance → Result Return ReturnError → Type 0

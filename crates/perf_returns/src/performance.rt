@@ -2,41 +2,35 @@ ghost use Rattle.std.specs.Prelude.{◌≡◌, unwrap_or, []};
 ghost use Rattle.csv.specs.Records.{field_at, fields_of};
 ghost use Rattle.perf_returns.specs.Rows.{are_header_words, header_fault, row_of};
 
-use crate::number::number_within;
+use crate::plays::Plays;
+use crate::seconds::Seconds;
 use csv::ByteRecord;
 use work_ids::Isrc;
 
 /// Fields of a row.
 const FIELDS: usize = 3;
 
-/// Most digits of a number of plays, and the most plays.
-const PLAYS_DIGITS: usize = 7;
-
-const MAX_PLAYS: u32 = 1_000_000;
-
-/// Most digits of a number of seconds, and the most seconds.
-const SECONDS_DIGITS: usize = 5;
-
-const MAX_SECONDS: u32 = 10_000;
-
-/// Faults of a row.
+/// Fault: the first row is not the header (profile).
 const NO_HEADER: u8 = 1;
 
+/// Fault: a row of data has not three fields (profile).
 const OTHER_FIELDS: u8 = 2;
 
+/// Fault: the first field is no ISRC (profile).
 const NO_ISRC: u8 = 3;
 
+/// Fault: the plays are no number from 1 to 1,000,000 of at most 7 digits (profile).
 const WRONG_PLAYS: u8 = 4;
 
+/// Fault: the seconds are no number from 1 to 10,000 of at most 5 digits (profile).
 const WRONG_SECONDS: u8 = 5;
 
-/// A row of a return: a recording, how often it was played, 1 to 1,000,000 times, and the seconds of each play, 1 to
-/// 10,000 (profile).
+/// A row of a return: a recording, how often it was played, and the seconds of each play (profile).
 #[derive(Clone, Copy, Debug, PartialEq, Eq)]
 pub struct Performance {
     pub isrc: Isrc,
-    pub plays: u32,
-    pub seconds: u32,
+    pub plays: Plays,
+    pub seconds: Seconds,
 }
 
 /// The field at a place, nothing where the record has none.
@@ -79,10 +73,10 @@ pub fn read_row(fields: &ByteRecord) -> Result<Performance, u8>
     let Ok(isrc) = Isrc::from_text(field(fields, 0)) else {
         return Err(NO_ISRC);
     };
-    let Some(plays) = number_within(field(fields, 1), PLAYS_DIGITS, MAX_PLAYS) else {
+    let Some(plays) = Plays::from_field(field(fields, 1)) else {
         return Err(WRONG_PLAYS);
     };
-    let Some(seconds) = number_within(field(fields, 2), SECONDS_DIGITS, MAX_SECONDS) else {
+    let Some(seconds) = Seconds::from_field(field(fields, 2)) else {
         return Err(WRONG_SECONDS);
     };
     Ok(Performance {

@@ -5,22 +5,24 @@ ghost use Rattle.csv.specs.Reading.{error_kind};
 ghost use Rattle.perf_returns.specs.Rows.{Takes};
 ghost use Rattle.perf_returns.specs.Unread.{IsRefused};
 ghost use Rattle.perf_returns.specs.declared.fault.ReturnError.TheVariants.{Memory};
-ghost use Rattle.perf_returns.specs.Returns.{Answers, return_fault, rows_in};
+ghost use Rattle.perf_returns.specs.Returns.{Answers, return_fault, performances_in};
 
 use crate::fault::{ReturnError, ReturnFault};
 use crate::performance::{Performance, header_fault, read_row};
-use crate::returned::{Performances, Return};
+use crate::performances::{Performances, Return};
 use csv::{ByteRecord, Error, ErrorKind, ReaderBuilder};
 use std::alloc::Global;
 
 /// Row of the header.
 const HEADER_ROW: usize = 1;
 
-/// The row behind the last one that a return may have, which is a header and 10,000 rows of data.
-const ROW_TOO_MANY: usize = 10_002;
+/// Most rows of data of a return (profile).
+const MAX_ROWS: usize = 10_000;
 
+/// Fault: there are more rows of data than a return may have (profile).
 const TOO_MANY_ROWS: u8 = 6;
 
+/// Fault: there is no header, nor any other row (profile).
 const NO_RECORD: u8 = 1;
 
 /// Takes the record of a row: one of data joins the rows. `Err` is the first fault of the row, or want of memory.
@@ -33,7 +35,7 @@ fn take(row: usize, fields: &ByteRecord, rows: &mut Vec<Performance>) -> Result<
             None => Ok(()),
         };
     }
-    if row == ROW_TOO_MANY {
+    if row > HEADER_ROW + MAX_ROWS {
         let number = TOO_MANY_ROWS;
         return Err(ReturnError::Csv(ReturnFault { number, row }));
     }
@@ -64,7 +66,7 @@ fn unread(error: &Error) -> ReturnError
 /// The rows of a return, read from CSV with fields of any number and untrimmed; else the fault of the first row that
 /// has one, or `Memory` (RFC 4180; the header, the limits and the faults: profile).
 pub fn read_return(alloc: Global, body: &[u8]) -> Result<Return, ReturnError>
-    ensures { Answers (return_fault body.now) (rows_in body.now) result }
+    ensures { Answers (return_fault body.now) (performances_in body.now) result }
 {
     let reader = ReaderBuilder::new()
         .has_headers(false)

@@ -92,7 +92,7 @@ fn rows_of_bodies(rt: HostRuntime) -> Result<(), Fail> {
         for (performance, (isrc, plays, seconds)) in read.iter().zip(rows.iter()) {
             assert!(rt; performance.isrc.to_text().as_slice() == *isrc);
             assert_eq!(rt;
-                (performance.plays, performance.seconds),
+                (performance.plays.value(), performance.seconds.value()),
                 (*plays, *seconds)
             );
         }

@@ -4,9 +4,9 @@ use Rattle.std.proofs.lemmas.Bool.{cases_lt}
 use Rattle.std.proofs.lemmas.Bool.Decides.{nat_tests}
 use Rattle.std.proofs.lemmas.List.Sums.{sum_by-cons, sum_by-le-sum_by, sum_by_more, sum_by_more_le}
 use Rattle.std.proofs.lemmas.List.{take_all}
-use Rattle.pool_split.specs.Cut.{IsCut, cut_unit, takes_unit, ties_at}
+use Rattle.pool_split.specs.Threshold.{IsThreshold, threshold_unit, takes_unit, ties_at}
 use Rattle.pool_split.specs.Split.{places_before, unit}
-use Rattle.pool_split.specs.declared.cut.Cut.{Cut}
+use Rattle.pool_split.specs.declared.threshold.Threshold.{Threshold}
 
 -- how many remainders are above one, and how many are at it
 abbrev pub above : ℕ → List ℕ → ℕ
@@ -43,7 +43,7 @@ pub at_place : (rems : List ℕ) (i : ℕ) → i < length rems → at (get_or re
 at_place rems i within =
     omega (arith, sum_by_more_le (λ other. one_if (get_or rems i 0 == other)) rems i 0 within, own_unit (get_or rems i 0))
 
--- the unit of a cut is that of the places before, by where the remainder is
+-- the unit of a threshold is that of the places before, by where the remainder is
 unit_above : (t x ties before units : ℕ) → t < x → before < units → one_if (takes_unit t ties x) ≡ one_if (nat_lt before units)
 unit_above t x ties before units more first = grind (arith, nat_tests)
 
@@ -58,21 +58,21 @@ at_same x t rems units ties i same split =
     unit_at t x ties (at t (take i rems)) (above t rems) units same split
     ∙ ap (λ (y : ℕ). one_if (nat_lt (above y rems + at y (take i rems)) units)) same
 
--- a cut gives a unit to the places before which fewer go than there are units
-pub cut_unit_is : (rems : List ℕ) (units : ℕ) (cut : Cut) (i : ℕ) → IsCut rems units cut → i < length rems → cut_unit rems cut i ≡ unit rems units i
-cut_unit_is rems units cut i is within =
-    let t = cut.remainder in
+-- a threshold gives a unit to the places before which fewer go than there are units
+pub threshold_unit_is : (rems : List ℕ) (units : ℕ) (threshold : Threshold) (i : ℕ) → IsThreshold rems units threshold → i < length rems → threshold_unit rems threshold i ≡ unit rems units i
+threshold_unit_is rems units threshold i is within =
+    let t = threshold.remainder in
     let x = get_or rems i 0 in
     ⊎_elim
     (λ (below : x < t).
-    unit_below t x (ties_at rems cut i) (places_before rems i) units below (omega (arith, above_lower x t rems below, is.units_are, is.enough)))
+    unit_below t x (ties_at rems threshold i) (places_before rems i) units below (omega (arith, above_lower x t rems below, is.units_are, is.enough)))
     (λ (reached : t ≤ x).
     ⊎_elim
     (λ (more : t < x).
-    unit_above t x (ties_at rems cut i) (places_before rems i) units more (omega (arith, above_lower t x rems more, at_place rems i within, is.units_are, is.some)))
+    unit_above t x (ties_at rems threshold i) (places_before rems i) units more (omega (arith, above_lower t x rems more, at_place rems i within, is.units_are, is.some)))
     (λ (least : x ≤ t).
     let same : t ≡ x = omega arith in
-    at_same x t rems units cut.ties i same is.units_are)
+    at_same x t rems units threshold.ties i same is.units_are)
     (cases_lt t x))
     (cases_lt x t)
 
@@ -88,7 +88,7 @@ ones_at_least f xs d each =
     let all = take_all (length xs) xs (omega arith) in
     omega (arith, ones_to f xs d (length xs) (omega arith) each, ap (sum_by f) all)
 
--- the unit of a place is what it adds to those above the cut and to its ties
+-- the unit of a place is what it adds to those above the threshold and to its ties
 pub unit_adds : (t x ties seen : ℕ) → min ties seen + one_if (takes_unit t (ties - seen) x) ≡ one_if (nat_lt t x) + min ties (seen + one_if (t == x))
 unit_adds t x ties seen = grind (arith, nat_tests)
 

@@ -1,5 +1,6 @@
+pub mod Ascending
 pub mod Counts
-pub mod Cuts
+pub mod Thresholds
 pub mod Parts
 pub mod Units
 mod Worked

@@ -6,10 +6,10 @@ use Rattle.std.proofs.lemmas.Bool.Decides.{nat_tests}
 use Rattle.std.proofs.lemmas.List.{get_or-map, get_or_past, length-map}
 use Rattle.std.proofs.lemmas.List.FromFn.{fill_by_all, get_or-map-range_with_len, length-map-range_with_len}
 use Rattle.std.proofs.lemmas.List.Sums.{sum_by-cons}
-use Rattle.pool_split.specs.Cut.{IsCut, cut_part, cut_parts, units_of_cut}
+use Rattle.pool_split.specs.Threshold.{IsThreshold, threshold_part, threshold_parts, units_of_threshold}
 use Rattle.pool_split.specs.Split.{IsFair, IsNear, left, part, places_before, quotient, quotients, remainder, remainders, split_of, unit}
-use Rattle.pool_split.specs.declared.cut.Cut.{Cut}
-use Rattle.pool_split.proofs.Counts.{above, above_once, cut_unit_is, one_if}
+use Rattle.pool_split.specs.declared.threshold.Threshold.{Threshold}
+use Rattle.pool_split.proofs.Counts.{above, above_once, threshold_unit_is, one_if}
 
 both_times : (d a b : ℕ) → d * (a + b) ≡ d * a + d * b
 both_times d a b = omega arith
@@ -63,18 +63,18 @@ whole_parts a ws none =
     fill_by_all (part a ws) (quotients a ws) (length ws) 0 (length-map ws (quotient a (sum ws)))
     (λ k low. none_more (get_or (quotients a ws) k 0) _ (left a ws) none)
 
--- the parts of a cut are those of the amount
-pub cut_parts_are : (a : ℕ) (ws : List ℕ) (cut : Cut) → IsCut (remainders a ws) (left a ws) cut → cut_parts (quotients a ws) (remainders a ws) cut ≡ split_of a ws
+-- the parts of a threshold are those of the amount
+pub threshold_parts_are : (a : ℕ) (ws : List ℕ) (threshold : Threshold) → IsThreshold (remainders a ws) (left a ws) threshold → threshold_parts (quotients a ws) (remainders a ws) threshold ≡ split_of a ws
 unfolding split_of
-cut_parts_are a ws cut is =
+threshold_parts_are a ws threshold is =
     let q = quotients a ws in
     let r = remainders a ws in
     let as_many : length q ≡ length ws = length-map ws (quotient a (sum ws)) in
     let as_many_r : length r ≡ length ws = length-map ws (remainder a (sum ws)) in
-    fill_by_all (part a ws) (cut_parts q r cut) (length ws) 0 (length-map-range_with_len (cut_part q r cut) 0 (length q) ∙ as_many)
+    fill_by_all (part a ws) (threshold_parts q r threshold) (length ws) 0 (length-map-range_with_len (threshold_part q r threshold) 0 (length q) ∙ as_many)
     (λ k low.
-    get_or-map-range_with_len (cut_part q r cut) 0 (length q) k k 0 (omega (arith, low, as_many)) (omega arith)
-    ∙ ap (λ (n : ℕ). get_or q k 0 + n) (cut_unit_is r (left a ws) cut k is (omega (arith, low, as_many_r))))
+    get_or-map-range_with_len (threshold_part q r threshold) 0 (length q) k k 0 (omega (arith, low, as_many)) (omega arith)
+    ∙ ap (λ (n : ℕ). get_or q k 0 + n) (threshold_unit_is r (left a ws) threshold k is (omega (arith, low, as_many_r))))
 
 -- what follows from two things that hold of a result holds of it
 pub if_ok_both : {T E : Type 0} {P Q S : T → Type 0} (r : Result T E) → IfOk r P → IfOk r Q → ((x : T) → P x → Q x → S x) → IfOk r S
@@ -178,6 +178,6 @@ fair a ws parts some are adds = record {
   near = λ i within. subst (λ (ps : List ℕ). IsNear (sum ws) a (get_or ws i 0) (get_or ps i 0)) (sym are) (near_is a ws i some within);
 }
 
--- the units of a cut are those that are left
-pub cut_adds : (a : ℕ) (ws : List ℕ) (cut : Cut) → 1 ≤ sum ws → IsCut (remainders a ws) (left a ws) cut → sum (quotients a ws) + units_of_cut (remainders a ws) cut ≡ a
-cut_adds a ws cut some is = omega (arith, is.units_are, is.enough, whole_within a ws some)
+-- the units of a threshold are those that are left
+pub threshold_adds : (a : ℕ) (ws : List ℕ) (threshold : Threshold) → 1 ≤ sum ws → IsThreshold (remainders a ws) (left a ws) threshold → sum (quotients a ws) + units_of_threshold (remainders a ws) threshold ≡ a
+threshold_adds a ws threshold some is = omega (arith, is.units_are, is.enough, whole_within a ws some)

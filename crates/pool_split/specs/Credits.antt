@@ -1,7 +1,9 @@
 -- The credits of a pool: who is credited how much of its amount, and for which recording.
-use Rattle.std.specs.Prelude.{ℕ, ◌≤◌, List, [], ◌∷◌, Option, Some, None, ⊤, Vec, map, sum}
-use Rattle.std.specs.Global.{Global}
+use Rattle.std.specs.Prelude.{ℕ, ◌≤◌, List, [], ◌∷◌, Option, Some, None, ⊤, map, sum}
+use Rattle.std.specs.Cmp.Lexicographic.{slice_cmp}
 use Rattle.std.specs.List.{flat_map, zip}
+use Rattle.std.specs.List.Sorted.{IsStrictlySortedBy}
+use Rattle.std.specs.Ordering.{nat_cmp}
 use Rattle.share_rules.specs.declared.holder.Holder.{Holder}
 use Rattle.work_ids.specs.declared.account.Account.TheVariants.{Unclaimed}
 use Rattle.pool_split.specs.Split.{split_of}
@@ -29,9 +31,9 @@ abbrev pub lone_credit : Option (List ℕ) → ℕ → List Credit
 lone_credit isrc units = record { isrc = isrc; account = Unclaimed; units = units } ∷ []
 
 -- the credits by the holders
-abbrev pub claim_credits_by : List ℕ → Option (Vec Holder Global) → ℕ → List Credit
+abbrev pub claim_credits_by : List ℕ → Option (List Holder) → ℕ → List Credit
 claim_credits_by isrc None units = lone_credit (Some isrc) units
-claim_credits_by isrc (Some holders) units = map (holder_credit isrc) (zip holders.items (split_of units (weights_in holders.items)))
+claim_credits_by isrc (Some holders) units = map (holder_credit isrc) (zip holders (split_of units (weights_in holders)))
 
 -- the credits of a recording that is paid so many units: split over its holders' weights, zeros included, or nobody's (profile)
 abbrev pub claim_credits : Claim → ℕ → List Credit
@@ -47,9 +49,13 @@ credits amount [] = lone_credit None amount
 credits amount (claim ∷ claims) = paid_credits (claim ∷ claims) (split_of amount (points_of (claim ∷ claims)))
 
 -- holders, where there are some, have weights of at least one and at most 10 to the 18 in all
-abbrev pub HasWeights : Option (Vec Holder Global) → Type 0
+abbrev pub HasWeights : Option (List Holder) → Type 0
 HasWeights None = ⊤
-HasWeights (Some holders) = (1 ≤ sum (weights_in holders.items)) × (sum (weights_in holders.items) ≤ 1000000000000000000)
+HasWeights (Some holders) = (1 ≤ sum (weights_in holders)) × (sum (weights_in holders) ≤ 1000000000000000000)
+
+-- claims ascend by the bytes of their ISRCs, so that none has an ISRC twice (profile)
+abbrev pub Ascend : List Claim → Type 0
+Ascend claims = IsStrictlySortedBy (slice_cmp nat_cmp) (map (λ claim. claim.isrc) claims)
 
 -- a claim can be paid: it has points, and its holders have weights
 pub record IsPayable (claim : Claim) : Type 0 where

@@ -1,3 +1,3 @@
 pub mod Split
-pub mod Cut
+pub mod Threshold
 pub mod Credits

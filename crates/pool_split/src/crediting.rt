@@ -1,7 +1,7 @@
 //! The credits of a pool.
 ghost use Rattle.std.specs.Prelude.{◌≡◌, ◌≤◌, ◌<◌, ◌^◌, All, IfOk, length, map, sum};
 ghost use Rattle.std.specs.List.{zip};
-ghost use Rattle.pool_split.specs.Credits.{IsPayable, claim_credits, credits, holder_credit, lone_credit, paid_credits, points_of, units_of, weights_in};
+ghost use Rattle.pool_split.specs.Credits.{Ascend, IsPayable, claim_credits, credits, holder_credit, lone_credit, paid_credits, points_of, units_of, weights_in};
 
 use crate::claim::{Claim, Credit};
 use crate::splitting::split;
@@ -66,6 +66,7 @@ fn claim_credits(alloc: Global, claim: &Claim, units: u64) -> Result<Vec<Credit>
     match &claim.holders {
         None => lone_credit(alloc, Some(claim.isrc), units),
         Some(holders) => {
+            let holders = holders.as_slice();
             let weights = weights_in(alloc, holders)?;
             let parts = split(alloc, units, &weights)?;
             holder_credits(alloc, claim.isrc, holders, &parts)
@@ -89,11 +90,12 @@ fn paid_credits(alloc: Global, claims: &[Claim], parts: &[u64]) -> Result<Vec<Cr
     Ok(list)
 }
 
-/// The credits of a pool with this amount: it is split over the recordings by their points, and each part over the weights
-/// of the owner's work, one credit for each holder in order, or credited to nobody; with no recording all is nobody's
-/// (profile). The units add up to the amount.
+/// The credits of a pool with this amount: it is split over the recordings, which ascend by ISRC, by their points, and each
+/// part over the weights of the owner's work, one credit for each holder in order, or credited to nobody; with no recording
+/// all is nobody's (profile). The units add up to the amount.
 pub fn credits(alloc: Global, amount: u64, claims: &[Claim]) -> Result<Vec<Credit>, AllocError>
     requires amount { amount ≤ 1000000000000 }
+    requires ascending { Ascend claims.now }
     requires payable { All IsPayable claims.now }
     requires points { sum (points_of claims.now) ≤ 1000000000000000000 }
     ensures credits { IfOk result (λ list. list.items ≡ credits amount claims.now) }

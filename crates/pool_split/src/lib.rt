@@ -3,10 +3,10 @@
 
 mod claim;
 mod crediting;
-mod cut;
 mod splitting;
+mod threshold;
 
-pub use claim::{Claim, Credit};
+pub use claim::{Claim, Credit, Holders};
 pub use crediting::credits;
 pub use splitting::split;
 

@@ -1,9 +1,9 @@
 //! A whole amount split over weights.
 ghost use Rattle.std.specs.Prelude.{◌≡◌, ◌≤◌, ◌<◌, ◌+◌, ◌^◌, ◌*◌, IfOk, length, map, sum};
-ghost use Rattle.pool_split.specs.Cut.{IsCut, cut_parts, units_of_cut};
+ghost use Rattle.pool_split.specs.Threshold.{IsThreshold, threshold_parts, units_of_threshold};
 ghost use Rattle.pool_split.specs.Split.{IsFair, quotient, remainder, quotients, remainders, split_of};
 
-use crate::cut::{Cut, cut_at};
+use crate::threshold::{Threshold, threshold_at};
 use std::alloc::{AllocError, Global};
 
 /// The whole units of a part.
@@ -71,23 +71,23 @@ fn remainders(
     Ok(list)
 }
 
-/// Adds the units of a cut to the whole units.
+/// Adds the units of a threshold to the whole units.
 fn with_units(
     alloc: Global,
     quotients: &[u64],
     remainders: &[u64],
-    cut: &Cut,
+    threshold: &Threshold,
 ) -> Result<Vec<u64>, AllocError>
     requires same { length quotients.now ≡ length remainders.now }
     requires room { sum quotients.now < 2 ^ 63 }
-    ensures parts { IfOk result (λ parts. parts.items ≡ cut_parts quotients.now remainders.now cut.now) }
-    ensures sum { IfOk result (λ parts. sum parts.items ≡ sum quotients.now + units_of_cut remainders.now cut.now) }
+    ensures parts { IfOk result (λ parts. parts.items ≡ threshold_parts quotients.now remainders.now threshold.now) }
+    ensures sum { IfOk result (λ parts. sum parts.items ≡ sum quotients.now + units_of_threshold remainders.now threshold.now) }
 {
     let mut parts = Vec::new(alloc);
-    let mut ties = cut.ties;
+    let mut ties = threshold.ties;
     for place in 0..quotients.len() {
-        parts.push(quotients[place] + cut.unit(ties, remainders[place]))?;
-        ties = cut.ties_behind(ties, remainders[place]);
+        parts.push(quotients[place] + threshold.unit(ties, remainders[place]))?;
+        ties = threshold.ties_behind(ties, remainders[place]);
     }
     Ok(parts)
 }
@@ -108,6 +108,6 @@ pub fn split(alloc: Global, amount: u64, weights: &[u64]) -> Result<Vec<u64>, Al
         return Ok(quotients);
     }
     let remainders = remainders(alloc, amount, total, weights)?;
-    let cut = cut_at(alloc, &remainders, left)?;
-    with_units(alloc, &quotients, &remainders, &cut)
+    let threshold = threshold_at(alloc, &remainders, left)?;
+    with_units(alloc, &quotients, &remainders, &threshold)
 }

@@ -1,8 +1,10 @@
 //! Table tests: parts and credits of small pools, and of one at the limits.
-ghost use Rattle.std.specs.Prelude.{◌≡◌, IfOk};
+ghost use Rattle.std.specs.Prelude.{◌≡◌, ◌≤◌, IfOk};
 
 use super::*;
 use share_rules::Holder;
+use std::alloc::{AllocError, Global};
+use std::cmp::Ordering;
 use std::test::Fail;
 use work_ids::{Account, IpiName, Isrc};
 
@@ -42,6 +44,9 @@ fn recordings_without_owners(rt: HostRuntime) -> Result<(), Fail> {
             holders: None,
         },
     ];
+    let Ordering::Less = first.cmp(&second) else {
+        return Err(Fail::from("ISRCs that ascend"));
+    };
     let list = credits(alloc, 10, &claims)?;
     let [three, seven] = list.as_slice() else {
         return Err(Fail::from("two credits"));
@@ -55,10 +60,17 @@ fn recordings_without_owners(rt: HostRuntime) -> Result<(), Fail> {
     Ok(())
 }
 
+/// The credits of a pool over no recording.
+fn of_no_recording(alloc: Global, amount: u64) -> Result<Vec<Credit>, AllocError>
+    requires { amount ≤ 1000000000000 }
+{
+    credits(alloc, amount, &[])
+}
+
 #[test]
 fn no_recording(rt: HostRuntime) -> Result<(), Fail> {
     for amount in [0, 5] {
-        let list = credits(rt.alloc(), amount, &[])?;
+        let list = of_no_recording(rt.alloc(), amount)?;
         let [credit] = list.as_slice() else {
             return Err(Fail::from("one credit"));
         };
@@ -95,7 +107,7 @@ fn shares_of_one_work(rt: HostRuntime) -> Result<(), Fail> {
     let claims = [Claim {
         isrc: isrc(b"ATABC2600001")?,
         points: 2000,
-        holders: Some(holders),
+        holders: Some(Holders::from_vec(holders)),
     }];
     let list = credits(alloc, 1001, &claims)?;
     let [publisher, writer, nobody] = list.as_slice() else {

@@ -1,2 +1,6 @@
 pub mod Exceeding
+pub mod First
+pub mod Names
+pub mod Nearest
+pub mod Whole
 mod Worked

@@ -20,12 +20,13 @@ use Rattle.work_ids.specs.Blanks.{trimmed}
 use Rattle.share_rules.specs.declared.holder.Holder.{Holder}
 use Rattle.share_rules.specs.declared.office.Office.{Office}
 use Rattle.share_rules.specs.declared.party.Side.TheVariants.{Publisher}
-use Rattle.share_rules.specs.declared.party.TerritoryRow.{TerritoryRow}
+use Rattle.share_rules.specs.declared.territory_row.TerritoryRow.{TerritoryRow}
 use Rattle.work_ids.specs.declared.account.Account.{Account}
 use Rattle.work_ids.specs.declared.account.Account.TheVariants.{Ipi, Party, Unclaimed}
+use Rattle.work_ids.specs.Blanks.{fill as filled}
 
 abbrev office : Office
-office = record { society = 900; territory = 40; name = fill 45 (codes "EXAMPLE SOCIETY"); name_length = 15; society_in_range = lit≤ tt; territory_in_range = lit≤ tt; name_in_range = lit≤ tt }
+office = record { society = 900; territory = 40; name = filled 45 (codes "EXAMPLE SOCIETY"); name_length = 15; within_limits = refl; name_filled = refl; name_in_range = lit≤ tt }
 
 -- the faults of a body's transactions
 abbrev faults : List ℕ → List (Option ℕ)

@@ -1,62 +1,22 @@
 -- The faults of a transaction: eleven sentences over its list of records.
-use Rattle.std.specs.Prelude.{ℕ, Bool, false, not, ◌&&◌, ◌||◌, List, [], ◌∷◌, ◌++◌, Option, Some, None, Result, is_ok, is_none, map, nat_lt, if◌then◌else◌}
+use Rattle.std.specs.Prelude.{ℕ, Bool, false, not, ◌&&◌, ◌||◌, List, [], ◌∷◌, ◌++◌, Option, Some, None, is_ok, is_none, map, nat_lt, if◌then◌else◌}
 use Rattle.std.specs.List.{list_any, sum}
 use Rattle.cwr_records.specs.Lines.{is_blank}
 use Rattle.cwr_records.specs.Typed.{share_of}
 use Rattle.cwr_records.specs.declared.record.Record.{Record}
 use Rattle.cwr_records.specs.declared.record.Record.TheVariants as kind
-use Rattle.cwr_records.specs.declared.work.WorkRecord.{WorkRecord}
+use Rattle.cwr_files.specs.Transaction.{iswc_of_work, number_of_work, title_of}
 use Rattle.cwr_files.specs.declared.transmission.Transaction.{Transaction}
 use Rattle.share_rules.specs.Parties.{collected, interests, is_party, owned, party_in, row_in}
 use Rattle.share_rules.specs.declared.office.Office.{Office}
 use Rattle.share_rules.specs.declared.party.InterestedParty.{InterestedParty}
-use Rattle.share_rules.specs.declared.party.ShareFields.{ShareFields}
+use Rattle.share_rules.specs.declared.share_fields.ShareFields.{ShareFields}
 use Rattle.share_rules.specs.declared.party.Side.TheVariants as side
-use Rattle.share_rules.specs.declared.party.TerritoryRow.{TerritoryRow}
+use Rattle.share_rules.specs.declared.territory_row.TerritoryRow.{TerritoryRow}
 use Rattle.share_rules.specs.declared.shares.Shares.{Shares}
 use Rattle.work_ids.specs.IpiName.{ipi_field_of}
 use Rattle.work_ids.specs.Isrc.{isrc_field_of}
-use Rattle.work_ids.specs.Iswc.{iswc_field_of}
 use Rattle.work_ids.specs.PartyNumber.{party_number_of}
-use Rattle.work_ids.specs.WorkNumber.{work_number_of}
-use Rattle.work_ids.specs.declared.fault.IdFault.{IdFault}
-
--- the record that begins a transaction, if it is a work
-abbrev pub work_in : Record → Option WorkRecord
-work_in (kind.Work work) = Some work
-work_in _ = None
-
--- the first of some records, if it is a work
-abbrev pub first_work : List Record → Option WorkRecord
-first_work [] = None
-first_work (first ∷ more) = work_in first
-
--- the title of a work, nothing where there is none
-abbrev pub work_title : Option WorkRecord → List ℕ
-work_title None = []
-work_title (Some work) = work.title
-
--- the submitter work number of a work, nothing where there is none
-abbrev pub submitter_number : Option WorkRecord → List ℕ
-submitter_number None = []
-submitter_number (Some work) = work.work_number
-
--- the ISWC field of a work, nothing where there is none
-abbrev pub iswc_field : Option WorkRecord → List ℕ
-iswc_field None = []
-iswc_field (Some work) = work.iswc
-
--- a transaction's title, as it came (CISAC CWR 2.2)
-abbrev pub title_of : Transaction → List ℕ
-title_of transaction = work_title (first_work transaction.records)
-
--- a transaction's work number (CISAC CWR 2.2), or why it is none
-abbrev pub number_of_work : Transaction → Result (List ℕ) IdFault
-number_of_work transaction = work_number_of (submitter_number (first_work transaction.records))
-
--- a transaction's ISWC (ISO 15707), none where its field is blank, or why it is none
-abbrev pub iswc_of_work : Transaction → Result (Option (List ℕ)) IdFault
-iswc_of_work transaction = iswc_field_of (iswc_field (first_work transaction.records))
 
 -- 1: the title is blank (profile)
 abbrev pub has_blank_title : Transaction → Bool

@@ -1,3 +1,4 @@
+pub mod OfficeLimits
 pub mod Office
 pub mod Parties
 pub mod Fault

@@ -1,5 +1,6 @@
 -- The interested parties of a transaction, their territory rows, and what each of them collects at the office.
-use Rattle.std.specs.Prelude.{ℕ, Bool, true, false, ◌&&◌, ◌||◌, ◌==◌, List, [], ◌∷◌, Option, Some, None, is_some, unwrap_or, bytes_eq, if◌then◌else◌}
+use Rattle.std.specs.Prelude.{ℕ, Bool, true, false, not, ◌&&◌, ◌||◌, ◌==◌, List, [], ◌∷◌, ◌++◌, Option, Some, None, is_some, unwrap_or, bytes_eq, if◌then◌else◌}
+use Rattle.std.specs.List.{list_any}
 use Rattle.cwr_records.specs.Blanks.{trimmed}
 use Rattle.cwr_records.specs.Typed.{indicator_of, share_of, territory_of}
 use Rattle.cwr_records.specs.declared.indicator.Indicator.{Indicator}
@@ -8,10 +9,10 @@ use Rattle.cwr_records.specs.declared.record.Record.{Record}
 use Rattle.cwr_records.specs.declared.record.Record.TheVariants as kind
 use Rattle.share_rules.specs.declared.office.Office.{Office}
 use Rattle.share_rules.specs.declared.party.InterestedParty.{InterestedParty}
-use Rattle.share_rules.specs.declared.party.ShareFields.{ShareFields}
+use Rattle.share_rules.specs.declared.share_fields.ShareFields.{ShareFields}
 use Rattle.share_rules.specs.declared.party.Side.{Side}
 use Rattle.share_rules.specs.declared.party.Side.TheVariants as side
-use Rattle.share_rules.specs.declared.party.TerritoryRow.{TerritoryRow}
+use Rattle.share_rules.specs.declared.territory_row.TerritoryRow.{TerritoryRow}
 use Rattle.share_rules.specs.declared.shares.Shares.{Shares}
 
 -- three share fields: of the performing, the mechanical and the synchronization right (CISAC CWR 2.2)
@@ -45,33 +46,27 @@ abbrev pub party_is : Side → List ℕ → Option InterestedParty → Bool
 party_is s number None = false
 party_is s number (Some party) = same_side party.side s && same_number party.number number
 
--- whether there is a territory row of a side with a number
-abbrev pub row_is : Side → List ℕ → Option TerritoryRow → Bool
-row_is s number None = false
-row_is s number (Some row) = same_side row.side s && same_number row.number number
-
 -- whether a record is an interested party of a side with a number
 abbrev pub is_party : Side → List ℕ → Record → Bool
 is_party s number r = party_is s number (party_in r)
 
--- the records up to the next interested party of a side with a number
-abbrev pub up_to_next : Side → List ℕ → List Record → List Record
-up_to_next s number [] = []
-up_to_next s number (r ∷ more) = if is_party s number r then [] else r ∷ up_to_next s number more
+-- a territory row belongs to an interested party before it that is of its side with its number, where none of the records between them is: to the nearest one (profile)
+abbrev pub belongs : InterestedParty → List Record → TerritoryRow → Bool
+belongs party between row = party_is row.side row.number (Some party) && not (list_any (is_party row.side row.number) between)
 
--- rows behind one, where it is there and of the side with the number
-abbrev pub with_row : Side → List ℕ → Option TerritoryRow → List TerritoryRow → List TerritoryRow
-with_row s number None rows = rows
-with_row s number (Some row) rows = if row_is s number (Some row) then row ∷ rows else rows
+-- rows behind one, where it is there and belongs to an interested party
+abbrev pub with_own_row : InterestedParty → List Record → Option TerritoryRow → List TerritoryRow → List TerritoryRow
+with_own_row party between None rows = rows
+with_own_row party between (Some row) rows = if belongs party between row then row ∷ rows else rows
 
--- the territory rows of a side with a number
-abbrev pub rows_among : Side → List ℕ → List Record → List TerritoryRow
-rows_among s number [] = []
-rows_among s number (r ∷ more) = with_row s number (row_in r) (rows_among s number more)
+-- the territory rows that belong to an interested party, of the records behind those between
+abbrev pub rows_behind : InterestedParty → List Record → List Record → List TerritoryRow
+rows_behind party between [] = []
+rows_behind party between (r ∷ more) = with_own_row party between (row_in r) (rows_behind party (between ++ r ∷ []) more)
 
--- the territory rows of an interested party, of the records after it: a row belongs to the nearest one before it of its side with its number (profile)
+-- the territory rows of an interested party, of the records after it
 abbrev pub rows_of : InterestedParty → List Record → List TerritoryRow
-rows_of party after = rows_among party.side party.number (up_to_next party.side party.number after)
+rows_of party after = rows_behind party [] after
 
 -- the TIS code of the world (CISAC TIS)
 abbrev pub world : ℕ

@@ -1,14 +1,24 @@
 -- What one more record or share changes, as the records of a transaction are gone through.
-use Rattle.std.specs.Prelude.{ℕ, ◌+◌, Bool, ◌||◌, List, [], Option, Some, None, nat_lt}
+use Rattle.std.specs.Prelude.{ℕ, ◌+◌, Bool, false, ◌&&◌, ◌||◌, List, [], ◌∷◌, Option, Some, None, if◌then◌else◌, nat_lt}
 use Rattle.cwr_records.specs.Typed.{indicator_of}
 use Rattle.cwr_records.specs.declared.record.Record.{Record}
 use Rattle.share_rules.specs.Fault.{sum_limit}
-use Rattle.share_rules.specs.Parties.{last_counting, row_in, shares_by, with_row}
+use Rattle.share_rules.specs.Parties.{last_counting, row_in, same_number, same_side, shares_by}
 use Rattle.share_rules.specs.declared.office.Office.{Office}
 use Rattle.share_rules.specs.declared.party.Side.{Side}
-use Rattle.share_rules.specs.declared.party.TerritoryRow.{TerritoryRow}
+use Rattle.share_rules.specs.declared.territory_row.TerritoryRow.{TerritoryRow}
 use Rattle.share_rules.specs.declared.shares.Shares.{Shares}
 use Rattle.share_rules.specs.declared.totals.Totals.{Totals}
+
+-- whether there is a territory row of a side with a number
+abbrev pub row_is : Side → List ℕ → Option TerritoryRow → Bool
+row_is s number None = false
+row_is s number (Some row) = same_side row.side s && same_number row.number number
+
+-- rows behind one, where it is there and of the side with the number
+abbrev pub with_row : Side → List ℕ → Option TerritoryRow → List TerritoryRow → List TerritoryRow
+with_row s number None rows = rows
+with_row s number (Some row) rows = if row_is s number (Some row) then row ∷ rows else rows
 
 -- the shares of a row that counts, or else those of the rows before it
 abbrev pub shares_or : Shares → Option TerritoryRow → Shares

@@ -1,5 +1,5 @@
 -- Who holds a work, and with which weight it is paid.
-use Rattle.std.specs.Prelude.{ℕ, ◌-◌, List, [], ◌∷◌, ◌++◌, Option, Some, None, Result, Ok, Err, map, max, if◌then◌else◌}
+use Rattle.std.specs.Prelude.{ℕ, ◌-◌, ◌≤◌, List, [], ◌∷◌, ◌++◌, Option, Some, None, Result, Ok, Err, map, max, if◌then◌else◌}
 use Rattle.std.specs.List.{list_all, sum}
 use Rattle.cwr_files.specs.declared.transmission.Transaction.{Transaction}
 use Rattle.share_rules.specs.Parties.{Interest, collected, interests}
@@ -30,13 +30,21 @@ holder_of sender office interest = record {
   weight = (collected office interest).performing;
 }
 
+-- the weights of some holders, added up
+abbrev pub total : List Holder → ℕ
+total holders = sum (map (λ h. h.weight) holders)
+
 -- the whole of a right, in hundredths of a percent
 abbrev pub whole : ℕ
 whole = 10000
 
 -- what nobody claims: what the weights leave of the whole (profile)
 abbrev pub unclaimed_beside : List Holder → Holder
-unclaimed_beside holders = let claimed = sum (map (λ h. h.weight) holders) in record { account = Unclaimed; weight = max whole claimed - claimed }
+unclaimed_beside holders = let claimed = total holders in record { account = Unclaimed; weight = max whole claimed - claimed }
+
+-- weights are the whole or, for what is let pass, up to 10,006 (profile)
+abbrev pub IsWhole : List Holder → Type 0
+IsWhole holders = (10000 ≤ total holders) × (total holders ≤ 10006)
 
 -- the weights of a transaction: its holders in record order, and behind them what nobody claims (profile)
 unfoldable pub weights_of : List ℕ → Office → Transaction → List Holder

@@ -5,9 +5,10 @@ ghost use Rattle.share_rules.specs.Parties.{collected, counts, names_territory, 
 ghost use Rattle.share_rules.specs.Steps.{shares_after};
 
 use crate::office::Office;
-use crate::party::{InterestedParty, TerritoryRow};
+use crate::party::InterestedParty;
+use crate::party_search::Sought;
 use crate::shares::Shares;
-use crate::sought::Sought;
+use crate::territory_row::TerritoryRow;
 use cwr_records::{Fixed, Indicator, Record, TisCode};
 
 /// The TIS code of the world (CISAC TIS).

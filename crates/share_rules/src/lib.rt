@@ -2,20 +2,22 @@
 #![tactic(auto)]
 
 mod collecting;
+mod excess;
+mod faults;
 mod holder;
 mod judging;
 mod office;
 mod party;
-mod sentences;
+mod party_search;
+mod share_fields;
 mod shares;
-mod sought;
-mod sums;
+mod territory_row;
 #[cfg(test)]
 mod tests;
 mod totals;
+mod weighing;
 
-pub use holder::{Holder, weights};
-pub use judging::{NO_WORK_NUMBER, iswc, judge, work_number, work_of};
+pub use holder::Holder;
+pub use judging::judge;
 pub use office::Office;
-pub use party::{InterestedParty, ShareFields, Side, TerritoryRow};
-pub use shares::Shares;
+pub use weighing::weights;

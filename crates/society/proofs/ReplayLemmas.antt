@@ -1,53 +1,56 @@
 -- What a connection comes to, at an office to which nothing has come.
-use Rattle.std.proofs.Common.{◌≡◌, ◌⊎◌, inl, inr, refl, ℕ, IsTrue, List, Option, Some, None, IfSome, map, subst}
-use Rattle.http_desk.specs.Path.{request_of}
-use Rattle.http_desk.specs.Serves.{Answers, Serves, Breaks}
+use Rattle.std.proofs.Common.{◌≡◌, ℕ, IsTrue, List, Option, map, subst}
+use Rattle.http_desk.specs.Counted.{inner_of}
 use Rattle.http_desk.specs.Part.{Part}
-use Rattle.http_desk.specs.declared.fault.FaultKind.{FaultKind}
-use Rattle.http_desk.specs.declared.fault.FaultKind.TheVariants.{Memory, Read, Turns, Write}
+use Rattle.http_desk.specs.Path.{request_of}
+use Rattle.http_desk.specs.Serves.{AreAnswered, Breaks, CausedBy, Serves}
+use Rattle.http_desk.specs.declared.counted.Counted.{Counted}
+use Rattle.http_desk.specs.declared.fault.DeskFault.{DeskFault}
 use Rattle.share_rules.specs.declared.office.Office.{Office}
 use Rattle.society_core.specs.Book.{Book, empty_book}
+use Rattle.society_core.specs.Headline.{OneContent, HoldsWhatCame}
 use Rattle.society_core.specs.Requests.{Reply}
 use Rattle.society_core.specs.Runs.{Run}
 use Rattle.society_core.specs.State.{State}
-use Rattle.society.specs.Replays.{Replays, BreaksOff}
-
-pub if_some_weaker : (o : Option (List ℕ)) (P Q : List ℕ → Type 0) → ((x : List ℕ) → P x → Q x) → IfSome o P → IfSome o Q
-if_some_weaker None P Q f h = h
-if_some_weaker (Some x) P Q f h = f x h
+use Rattle.society.specs.Replays.{AnswersFromNothing, Replays, BreaksOff, most_turns}
 
 -- the answers are a run from the empty book on
-run_from_empty : (office : Office) (old new : State) (parts : List Part) (replies : List Reply) → old.office ≡ office → old.book ≡ empty_book → IsTrue new.is_clean → Answers parts replies old new → Run office empty_book (map request_of parts) replies new.book
-run_from_empty office old new parts replies same empty clean answers =
-    subst (λ (o : Office). Run o empty_book (map request_of parts) replies new.book) same
-    (subst (λ (b : Book). Run old.office b (map request_of parts) replies new.book) empty (answers.run clean))
-
-pub replays_from : (office : Office) (old new : State) (bytes : List ℕ) (holds new_holds : Option (List ℕ)) (requests : ℕ) → old.office ≡ office → old.book ≡ empty_book → IsTrue new.is_clean → Serves bytes old new holds new_holds requests → Replays office bytes holds new_holds
-replays_from office old new bytes holds new_holds requests same empty clean s = record {
-  parts = s.parts;
-  replies = s.replies;
-  end = s.end;
+from_nothing : (office : Office) (old new : State) (parts : List Part) (replies : List Reply) → old.office ≡ office → old.book ≡ empty_book → IsTrue new.is_clean → AreAnswered parts replies old new → AnswersFromNothing office parts replies
+from_nothing office old new parts replies same empty clean answers = record {
   after = new.book;
-  reads = s.reads;
-  each = s.answers.each;
-  run = run_from_empty office old new s.parts s.replies same empty clean s.answers;
-  written = s.written;
+  each = answers.each;
+  run =
+      subst (λ (o : Office). Run o empty_book (map request_of parts) replies new.book) same
+      (subst (λ (b : Book). Run old.office b (map request_of parts) replies new.book) empty (answers.run clean));
+  came =
+      subst (λ (b : Book). OneContent b (map request_of parts) replies → HoldsWhatCame b (map request_of parts) replies new.book) empty (answers.came clean);
 }
 
-pub breaks_off_from : (office : Office) (kind : FaultKind) (old new : State) (bytes : List ℕ) (holds new_holds : Option (List ℕ)) (requests : ℕ) → old.office ≡ office → old.book ≡ empty_book → IsTrue new.is_clean → Breaks kind bytes old new holds new_holds requests → BreaksOff office bytes holds new_holds
-breaks_off_from office kind old new bytes holds new_holds requests same empty clean b = record {
-  kind = kind;
-  parts = b.parts;
-  replies = b.replies;
-  after = new.book;
-  each = b.answers.each;
-  run = run_from_empty office old new b.parts b.replies same empty clean b.answers;
-  written = b.written;
-}
+module _ {R W : Type 0} (office : Office) (remaining : R → Option (List ℕ)) (contents : W → Option (List ℕ)) (reader new_reader : Counted R) (out new_out : Counted W) (old new : State) (same : old.office ≡ office) (empty : old.book ≡ empty_book) (clean : IsTrue new.is_clean) where
+  pub replays_from : (requests : ℕ) → Serves (remaining (inner_of reader)) old new (contents (inner_of out)) (contents (inner_of new_out)) requests
+      → Replays office remaining contents reader out new_out
+  replays_from requests s = record {
+    bytes = s.bytes;
+    given = s.given;
+    parts = s.parts;
+    replies = s.replies;
+    end = s.end;
+    reads = s.reads;
+    answers = from_nothing office old new s.parts s.replies same empty clean s.answers;
+    written = s.written;
+  }
 
--- each kind of fault has its cause
-pub cause_of : {A B C D : Type 0} (kind : FaultKind) → (kind ≡ Read → A) → (kind ≡ Write → B) → (kind ≡ Turns → C) → (kind ≡ Memory → D) → A ⊎ (B ⊎ (C ⊎ D))
-cause_of Read read write turns memory = inl (read refl)
-cause_of Write read write turns memory = inr (inl (write refl))
-cause_of Turns read write turns memory = inr (inr (inl (turns refl)))
-cause_of Memory read write turns memory = inr (inr (inr (memory refl)))
+  pub breaks_off_from : (fault : DeskFault) → Breaks fault (remaining (inner_of reader)) old new (contents (inner_of out)) (contents (inner_of new_out))
+      → CausedBy fault.kind fault.requests most_turns remaining reader new_reader out new_out
+      → BreaksOff office remaining contents reader new_reader out new_out
+  breaks_off_from fault b cause = record {
+    fault = fault;
+    bytes = b.bytes;
+    given = b.given;
+    parts = b.parts;
+    replies = b.replies;
+    answers = from_nothing office old new b.parts b.replies same empty clean b.answers;
+    written = b.written;
+    count = b.count;
+    cause = cause;
+  }

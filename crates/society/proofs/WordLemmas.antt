@@ -4,11 +4,11 @@ use Rattle.std.proofs.lemmas.Bool.Decides.{nat_tests}
 use Rattle.work_ids.specs.Digits.{number_of}
 use Rattle.cwr_records.specs.Typed.{up_to}
 use Rattle.share_rules.specs.declared.office.Office.{Office}
-use Rattle.society.specs.Words.{Asked, AsksFor, AsksReplay, HasBadName, HasBadWords, Reads, are_options, asked, asked_at, number_in}
+use Rattle.society.specs.Words.{Asked, AsksFor, AsksReplay, HasBadName, HasBadWords, IsReadAs, are_options, asked, asked_at, short_number_of}
 use Rattle.society.specs.declared.words.Words.TheVariants as words
 
 -- a number of at most four digits
-pub short : (digits : List ℕ) → length digits ≤ 4 → number_in digits ≡ up_to 9999 (number_of digits)
+pub short : (digits : List ℕ) → length digits ≤ 4 → short_number_of digits ≡ up_to 9999 (number_of digits)
 short digits le = let test : nat_le (length digits) 4 ≡ true = grind (arith, nat_tests) in rw test
 
 pub too_great : (n : ℕ) → 9999 < n → up_to 9999 (Some n) ≡ None
@@ -31,11 +31,11 @@ eight (p ∷ w1 ∷ w2 ∷ w3 ∷ w4 ∷ w5 ∷ w6 ∷ w7 ∷ []) a b c d e f g 
 eight (p ∷ w1 ∷ w2 ∷ w3 ∷ w4 ∷ w5 ∷ w6 ∷ w7 ∷ w8 ∷ ws) a b c d e f g low high ia ib ic id ie ih ig = absurd (omega arith)
 
 -- what eight words ask for, where those between the values are the program's and two values are numbers
-pub asked_is : (p r so s te t na name : List ℕ) (n m : ℕ) → are_options r so te na ≡ true → number_in s ≡ Some n → number_in t ≡ Some m → asked (p ∷ r ∷ so ∷ s ∷ te ∷ t ∷ na ∷ name ∷ []) ≡ asked_at n m name
+pub asked_is : (p r so s te t na name : List ℕ) (n m : ℕ) → are_options r so te na ≡ true → short_number_of s ≡ Some n → short_number_of t ≡ Some m → asked (p ∷ r ∷ so ∷ s ∷ te ∷ t ∷ na ∷ name ∷ []) ≡ asked_at n m name
 asked_is p r so s te t na name n m options society territory = rw (options, society, territory)
 
 -- words that are read as a replay ask for one
-pub asks_for : (a : Asked) (office : Office) → Reads a (words.Replay office) → AsksFor a office
+pub asks_for : (a : Asked) (office : Office) → IsReadAs a (words.Replay office) → AsksFor a office
 asks_for (AsksReplay society territory name) office reads = reads
 asks_for HasBadName office reads = absurd reads
 asks_for HasBadWords office reads = absurd reads

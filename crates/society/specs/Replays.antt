@@ -1,15 +1,20 @@
--- What is written where a stream of bytes is served at an office to which nothing has come.
-use Rattle.std.specs.Prelude.{◌≡◌, ℕ, List, ◌++◌, map, length, Option}
+-- What is written where a stream of bytes is served at an office to which nothing has come, and why a stream breaks off.
+use Rattle.std.specs.Prelude.{◌≡◌, ℕ, IfSome, List, ◌++◌, codes, map, length, Option}
 use Rattle.std.specs.Io.KnownBytes.{Appends}
+use Rattle.http_desk.specs.Counted.{inner_of}
 use Rattle.http_desk.specs.Part.{Part}
 use Rattle.http_desk.specs.Path.{request_of}
 use Rattle.http_desk.specs.Reads.{Reads}
-use Rattle.http_desk.specs.Serves.{Written}
+use Rattle.http_desk.specs.Serves.{CausedBy, Written}
 use Rattle.http_desk.specs.Text.{texts, ending}
-use Rattle.http_desk.specs.declared.end.End.{End}
+use Rattle.http_desk.specs.declared.connection_end.End.{End}
+use Rattle.http_desk.specs.declared.counted.Counted.{Counted}
+use Rattle.http_desk.specs.declared.fault.DeskFault.{DeskFault}
 use Rattle.http_desk.specs.declared.fault.FaultKind.{FaultKind}
+use Rattle.http_desk.specs.declared.fault.FaultKind.TheVariants.{Memory, Read, Turns, Write}
 use Rattle.share_rules.specs.declared.office.Office.{Office}
 use Rattle.society_core.specs.Book.{Book, empty_book}
+use Rattle.society_core.specs.Headline.{OneContent, HoldsWhatCame}
 use Rattle.society_core.specs.Requests.{Reply}
 use Rattle.society_core.specs.Runs.{Run}
 
@@ -17,23 +22,39 @@ use Rattle.society_core.specs.Runs.{Run}
 abbrev pub most_turns : ℕ
 most_turns = 100000000
 
--- the bytes are requests and an end; what is written are the texts of their answers from the empty book on, in order, then that of the end, and nothing else
-pub record Replays (office : Office) (bytes : List ℕ) (holds new_holds : Option (List ℕ)) : Type 0 where
+-- the requests were answered in turn from the empty book on; the book after them holds what came
+pub record AnswersFromNothing (office : Office) (parts : List Part) (replies : List Reply) : Type 0 where
+  pub after : Book
+  pub each : length replies ≡ length parts
+  pub run : Run office empty_book (map request_of parts) replies after
+  pub came : OneContent empty_book (map request_of parts) replies → HoldsWhatCame empty_book (map request_of parts) replies after
+
+-- the bytes are requests and an end; what is written are the texts of their answers from the empty book on, in order, then that of the end, and nothing else; where the reader's bytes are known they are those
+pub record Replays {R W : Type 0} (office : Office) (remaining : R → Option (List ℕ)) (contents : W → Option (List ℕ)) (reader : Counted R) (out new_out : Counted W) : Type 0 where
+  pub bytes : List ℕ
+  pub given : IfSome (remaining (inner_of reader)) (λ all. all ≡ bytes)
   pub parts : List Part
   pub replies : List Reply
   pub end : End
-  pub after : Book
   pub reads : Reads bytes parts end
-  pub each : length replies ≡ length parts
-  pub run : Run office empty_book (map request_of parts) replies after
-  pub written : Appends holds new_holds (texts parts replies ++ ending end)
+  pub answers : AnswersFromNothing office parts replies
+  pub written : Appends (contents (inner_of out)) (contents (inner_of new_out)) (texts parts replies ++ ending end)
 
--- up to a fault the bytes began with requests; what is written are their answers from the empty book on, as far as they could be written
-pub record BreaksOff (office : Office) (bytes : List ℕ) (holds new_holds : Option (List ℕ)) : Type 0 where
-  pub kind : FaultKind
+-- up to a fault, which has its cause, the bytes began with requests; what is written are their answers from the empty book on, as far as they could be written
+pub record BreaksOff {R W : Type 0} (office : Office) (remaining : R → Option (List ℕ)) (contents : W → Option (List ℕ)) (reader new_reader : Counted R) (out new_out : Counted W) : Type 0 where
+  pub fault : DeskFault
+  pub bytes : List ℕ
+  pub given : IfSome (remaining (inner_of reader)) (λ all. all ≡ bytes)
   pub parts : List Part
   pub replies : List Reply
-  pub after : Book
-  pub each : length replies ≡ length parts
-  pub run : Run office empty_book (map request_of parts) replies after
-  pub written : Written kind bytes parts replies holds new_holds
+  pub answers : AnswersFromNothing office parts replies
+  pub written : Written fault.kind bytes parts replies (contents (inner_of out)) (contents (inner_of new_out))
+  pub count : fault.requests ≡ length parts
+  pub cause : CausedBy fault.kind fault.requests most_turns remaining reader new_reader out new_out
+
+-- what a fault is called on standard error (profile)
+abbrev pub fault_name : FaultKind → List ℕ
+fault_name Read = codes "read"
+fault_name Write = codes "write"
+fault_name Turns = codes "turns"
+fault_name Memory = codes "memory"

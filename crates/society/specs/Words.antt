@@ -6,10 +6,12 @@ use Rattle.share_rules.specs.Office.{IsOfficeOf, is_office}
 use Rattle.share_rules.specs.declared.office.Office.{Office}
 use Rattle.society.specs.declared.words.Words.{Words}
 use Rattle.society.specs.declared.words.Words.TheVariants as words
+use Rattle.society.specs.declared.starting.NoWords.{NoWords}
+use Rattle.society.specs.declared.starting.NoWords.TheVariants as without
 
 -- a number of one to four decimal digits
-abbrev pub number_in : List ℕ → Option ℕ
-number_in digits = if nat_le (length digits) 4 then up_to 9999 (number_of digits) else None
+abbrev pub short_number_of : List ℕ → Option ℕ
+short_number_of digits = if nat_le (length digits) 4 then up_to 9999 (number_of digits) else None
 
 -- what words ask for: to replay at the office with this society, territory and name; else the name is none, or the words are none that the program knows
 pub data Asked : Type 0 where
@@ -17,10 +19,16 @@ pub data Asked : Type 0 where
   HasBadName : Asked
   HasBadWords : Asked
 
--- by the society and the territory: within the office's limits, and then the name is looked at
+-- the numbers are those of a society, 1 to 999, and of a territory, 1 to 9,999 (profile)
+abbrev pub are_office_numbers : ℕ → ℕ → Bool
+are_office_numbers society territory =
+    nat_le 1 society && nat_le society 999 && (nat_le 1 territory && nat_le territory 9999)
+
+-- by the society, the territory and the name: those of an office, else the name is at fault where the numbers are not
 abbrev pub asked_at : ℕ → ℕ → List ℕ → Asked
 asked_at society territory name =
-    if is_office society territory (codes "-") then (if is_office society territory name then AsksReplay society territory name else HasBadName) else HasBadWords
+    if is_office society territory name then AsksReplay society territory name
+    else (if are_office_numbers society territory then HasBadName else HasBadWords)
 
 -- by what the values of the society and the territory are, where they are numbers
 abbrev pub asked_by : Option ℕ → Option ℕ → List ℕ → Asked
@@ -36,20 +44,20 @@ are_options replay society territory name =
 -- what the words after the program's name ask for: exactly replay --society N --territory N --name TEXT, in this order
 abbrev pub asked : List (List ℕ) → Asked
 asked (program ∷ replay ∷ society_word ∷ society ∷ territory_word ∷ territory ∷ name_word ∷ name ∷ []) =
-    if are_options replay society_word territory_word name_word then asked_by (number_in society) (number_in territory) name else HasBadWords
+    if are_options replay society_word territory_word name_word then asked_by (short_number_of society) (short_number_of territory) name else HasBadWords
 asked _ = HasBadWords
 
 -- the program's reading of the words is what they ask for
-abbrev pub Reads : Asked → Words → Type 0
-Reads (AsksReplay society territory name) (words.Replay office) = IsOfficeOf society territory name office
-Reads (AsksReplay society territory name) words.BadName = ⊥
-Reads (AsksReplay society territory name) words.BadWords = ⊥
-Reads HasBadName words.BadName = Unit {0}
-Reads HasBadName (words.Replay office) = ⊥
-Reads HasBadName words.BadWords = ⊥
-Reads HasBadWords words.BadWords = Unit {0}
-Reads HasBadWords (words.Replay office) = ⊥
-Reads HasBadWords words.BadName = ⊥
+abbrev pub IsReadAs : Asked → Words → Type 0
+IsReadAs (AsksReplay society territory name) (words.Replay office) = IsOfficeOf society territory name office
+IsReadAs (AsksReplay society territory name) words.BadName = ⊥
+IsReadAs (AsksReplay society territory name) words.BadWords = ⊥
+IsReadAs HasBadName words.BadName = Unit {0}
+IsReadAs HasBadName (words.Replay office) = ⊥
+IsReadAs HasBadName words.BadWords = ⊥
+IsReadAs HasBadWords words.BadWords = Unit {0}
+IsReadAs HasBadWords (words.Replay office) = ⊥
+IsReadAs HasBadWords words.BadName = ⊥
 
 -- the words ask for a replay at this office
 abbrev pub AsksFor : Asked → Office → Type 0
@@ -62,3 +70,8 @@ abbrev pub IsWrong : Asked → Type 0
 IsWrong (AsksReplay society territory name) = ⊥
 IsWrong HasBadName = Unit {0}
 IsWrong HasBadWords = Unit {0}
+
+-- the status where the words could not be had: 2 where one is no text, 1 where memory was refused (profile)
+abbrev pub status_without : NoWords → ℕ
+status_without without.NoText = 2
+status_without without.Memory = 1

@@ -1,17 +1,12 @@
 //! The rows on the desk: what is answered about works, verdicts and acknowledgements, whatever the order of arrival.
-ghost use Rattle.std.specs.Prelude.{◌≡◌, IfOk, true};
-ghost use Rattle.society_core.specs.Slot.{is_number};
-
 use crate::samples::{F1, F1_ACK, F3, F3_ACK, F4, changed, f2, f8, with_writer_share};
 use share_rules::{Holder, Office};
-use society_core::{
-    Answer, Arrival, Desk, MAX_NUMBER, PlainStore, Refusal, Request, Standing, run,
-};
+use society_core::{Answer, Arrival, Desk, PlainStore, Refusal, Request, Standing, Work, run};
 use std::alloc::Global;
 use std::process::Abort;
 use std::test::Fail;
-use work_ids::{Account, SenderKey, WorkNumber};
-use works_core::Verdict;
+use work_ids::{Account, SenderKey, TransmissionNumber, WorkNumber};
+use works_core::{Verdict, WorkVersion};
 
 /// One request of a row with the answer that is wanted.
 #[derive(Drop)]
@@ -76,13 +71,8 @@ fn arrived(known: bool, front: u32, standing: Standing) -> Result<Arrival, Refus
 }
 
 /// A number within the limits.
-fn numbered(number: u32) -> Result<u32, &'static str>
-    ensures { IfOk result (λ n. is_number n ≡ true) }
-{
-    if number == 0 || number > MAX_NUMBER {
-        return Err("a number within the limits");
-    }
-    Ok(number)
+fn numbered(number: u32) -> Result<TransmissionNumber, &'static str> {
+    TransmissionNumber::from_u32(number).ok_or("a number within the limits")
 }
 
 /// The holders of F1 with these weights.
@@ -122,18 +112,30 @@ fn check_work(
         .work(alloc, &sender()?, &first_work()?)
         .ok()
         .ok_or("a work")?;
-    assert!(rt; work.number == first_work()?);
-    assert_eq!(rt; work.version.transmission, transmission);
-    assert_eq!(rt; work.version.ordinal, 1);
-    assert_eq!(rt; work.version.revision, revision);
-    assert_eq!(rt; work.title.as_slice(), b"FIRST SONG".as_slice());
-    let iswc = work.iswc.ok_or("an ISWC")?;
+    let Work {
+        number,
+        version,
+        title,
+        iswc,
+        isrcs,
+        holders: shown,
+    } = work;
+    assert!(rt; number == first_work()?);
+    let wanted = WorkVersion {
+        transmission: numbered(transmission)?,
+        place: 0,
+        ordinal: 1,
+        revision,
+    };
+    assert!(rt; version == wanted);
+    assert_eq!(rt; title.as_slice(), b"FIRST SONG".as_slice());
+    let iswc = iswc.ok_or("an ISWC")?;
     assert_eq!(rt; iswc.to_text().as_slice(), b"T-034.524.680-1".as_slice());
-    assert_eq!(rt; work.isrcs.len(), 1);
-    for isrc in work.isrcs.as_slice() {
+    assert_eq!(rt; isrcs.len(), 1);
+    for isrc in isrcs.as_slice() {
         assert_eq!(rt; isrc.as_bytes(), b"ATABC2600001".as_slice());
     }
-    assert!(rt; work.holders.as_slice() == holders(weights)?.as_slice());
+    assert!(rt; shown.as_slice() == holders(weights)?.as_slice());
     Ok(())
 }
 
@@ -154,7 +156,10 @@ fn check(
         Row::Sender(front, waiting) => {
             let status = desk.sender(alloc, &sender).ok().ok_or("a sender")?;
             assert_eq!(rt; status.front, *front);
-            assert_eq!(rt; status.held.as_slice(), *waiting);
+            assert_eq!(rt; status.held.len(), waiting.len());
+            for (held, wanted) in status.held.iter().zip(waiting.iter()) {
+                assert_eq!(rt; held.value(), *wanted);
+            }
             Ok(())
         }
         Row::Verdicts(number, wanted) => {
@@ -250,6 +255,7 @@ fn reverse_arrival(rt: HostRuntime) -> Result<(), Fail> {
         ],
     )?;
     for number in 1..4 {
+        let number = numbered(number)?;
         let one = there.ack(alloc, &sender()?, number).ok().ok_or("a text")?;
         let other = here.ack(alloc, &sender()?, number).ok().ok_or("a text")?;
         assert_eq!(rt; one.as_slice(), other.as_slice());
@@ -350,15 +356,8 @@ fn unread_group(rt: HostRuntime) -> Result<(), Fail> {
     let alloc = rt.alloc();
     let f8 = f8(alloc)?;
     let second_group = changed(alloc, F1_ACK, 166, b"00002")?;
-    check_rows(
-        &rt,
-        alloc,
-        &[
-            Row::Put(1, f8.as_slice(), applied(1)),
-            Row::Ack(1, second_group.as_slice()),
-        ],
-    )?;
-    Ok(())
+    let mut desk = check_rows(&rt, alloc, &[Row::Put(1, f8.as_slice(), applied(1))])?;
+    check(&rt, alloc, &mut desk, &Row::Ack(1, second_group.as_slice()))
 }
 
 #[test]
@@ -383,12 +382,12 @@ fn held_number_reused_in_a_run(rt: HostRuntime) -> Result<(), Fail> {
     let requests = [
         Request::PutTransmission {
             sender,
-            number: 3,
+            number: numbered(3)?,
             body: F1,
         },
         Request::PutTransmission {
             sender,
-            number: 3,
+            number: numbered(3)?,
             body: other.as_slice(),
         },
     ];
@@ -419,7 +418,7 @@ fn three_hundred_versions(rt: HostRuntime) -> Result<(), Fail> {
         let body = if number == 1 { F1 } else { f2.as_slice() };
         let requests = [Request::PutTransmission {
             sender,
-            number,
+            number: numbered(number)?,
             body,
         }];
         run(alloc, &mut desk, &requests, &mut answers)?;

@@ -3,34 +3,37 @@
 #![tactic(auto)]
 
 #[cfg(test)]
+mod ample_tests;
+#[cfg(test)]
 mod desk_tests;
+#[cfg(test)]
+mod pool_tests;
 mod replay;
 #[cfg(test)]
 mod samples;
 mod starting;
 #[cfg(test)]
+mod streams;
+#[cfg(test)]
 mod tests;
 mod words;
 
 use http_desk::Counted;
-use replay::BROKEN_OFF;
-use starting::start;
+use starting::{NoWords, start, why_no_words, without_words};
 use std::env;
 use std::process::ExitCode;
 
-/// Ends before any request, where memory was refused for the words.
-fn no_memory(rt: &impl Eprint) -> ExitCode {
-    let _ = eprintln!(rt; "society: memory fault after 0 requests");
-    ExitCode::from(BROKEN_OFF)
-}
-
 fn main(rt: HostRuntime) -> ExitCode {
     let alloc = rt.alloc();
-    let Ok(args) = env::args(&rt) else {
-        return no_memory(&rt);
+    let args = match env::args(&rt) {
+        Ok(args) => args,
+        Err(error) => {
+            let why = why_no_words(&error);
+            return ExitCode::from(without_words(why, &mut rt.stderr()));
+        }
     };
     let Ok(words) = args.collect::<Vec<String>>(alloc) else {
-        return no_memory(&rt);
+        return ExitCode::from(without_words(NoWords::Memory, &mut rt.stderr()));
     };
     let mut reader = Counted::new(rt.stdin());
     let mut out = Counted::new(rt.stdout());

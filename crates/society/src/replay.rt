@@ -1,7 +1,5 @@
-ghost use Rattle.std.specs.Prelude.{◌≡◌, ◌⊎◌, IfSome};
-ghost use Rattle.http_desk.specs.Counted.{inner_of, failures_of, TakesAtLeast};
-ghost use Rattle.society_core.specs.State.{Rises};
-ghost use Rattle.society.specs.Replays.{Replays, BreaksOff, most_turns};
+ghost use Rattle.std.specs.Prelude.{◌≡◌, ◌⊎◌};
+ghost use Rattle.society.specs.Replays.{Replays, BreaksOff, fault_name};
 
 use http_desk::{Counted, DeskFault, FaultKind, serve};
 use share_rules::Office;
@@ -30,16 +28,10 @@ pub fn replay<R: Read, W: Write, E: Write>(
 ) -> u8
     ensures status { (result ≡ 0) ⊎ (result ≡ 1) }
     // What was written are the texts of the answers to the requests that were read, in order, and of the end.
-    ensures served { result ≡ 0 → IfSome (R.remaining (inner_of reader.old)) (λ bytes.
-        Replays office.now bytes (W.contents (inner_of out.old)) (W.contents (inner_of out.new))) }
-    ensures broken_off { result ≡ 1 → IfSome (R.remaining (inner_of reader.old)) (λ bytes.
-        BreaksOff office.now bytes (W.contents (inner_of out.old)) (W.contents (inner_of out.new))) }
-    // A stream breaks off only where the reader or the writer failed, all turns gave bytes, or memory was refused
-    // before anything was read or written.
-    ensures cause { result ≡ 1 → Rises (failures_of reader.old) (failures_of reader.new)
-        ⊎ (Rises (failures_of out.old) (failures_of out.new)
-        ⊎ (TakesAtLeast (R.remaining (inner_of reader.old)) (R.remaining (inner_of reader.new)) most_turns
-        ⊎ ((reader.new ≡ reader.old) × (out.new ≡ out.old)))) }
+    ensures served { result ≡ 0 → Replays office.now R.remaining W.contents reader.old out.old out.new }
+    // A stream breaks off only by a fault that has its cause; the answers up to it are written as far as they could be.
+    ensures broken_off { result ≡ 1
+        → BreaksOff office.now R.remaining W.contents reader.old reader.new out.old out.new }
 {
     let mut desk = Desk::new(PlainStore::new(alloc, office));
     match serve(alloc, &mut desk, reader, out, TURNS) {
@@ -51,14 +43,21 @@ pub fn replay<R: Read, W: Write, E: Write>(
     }
 }
 
-/// Writes why a stream broke off; a line that is not taken is passed over.
-fn report<E: Write>(err: &mut E, fault: &DeskFault) {
-    let kind = match fault.kind {
+// What a fault is called.
+fn fault_name(kind: FaultKind) -> &'static str
+    ensures { result.now ≡ fault_name kind }
+{
+    match kind {
         FaultKind::Read => "read",
         FaultKind::Write => "write",
         FaultKind::Turns => "turns",
         FaultKind::Memory => "memory",
-    };
+    }
+}
+
+/// Writes why a stream broke off; a line that is not taken is passed over.
+pub fn report<E: Write>(err: &mut E, fault: &DeskFault) {
+    let kind = fault_name(fault.kind);
     let requests = fault.requests;
     let _ = writeln!(err, "society: {kind} fault after {requests} requests");
 }

@@ -1,18 +1,25 @@
-ghost use Rattle.std.specs.Prelude.{◌≡◌, ◌⊎◌, IfSome, map, string_bytes};
-ghost use Rattle.http_desk.specs.Counted.{inner_of, failures_of, TakesAtLeast};
+ghost use Rattle.std.specs.Prelude.{◌≡◌, ◌⊎◌, map, string_bytes};
 ghost use Rattle.share_rules.specs.declared.office.Office.{Office};
-ghost use Rattle.society_core.specs.State.{Rises};
-ghost use Rattle.society.specs.Replays.{Replays, BreaksOff, most_turns};
-ghost use Rattle.society.specs.Words.{AsksFor, IsWrong, asked};
+ghost use Rattle.society.specs.Replays.{Replays, BreaksOff};
+ghost use Rattle.society.specs.Words.{AsksFor, IsWrong, asked, status_without};
 
-use crate::replay::replay;
+use crate::replay::{BROKEN_OFF, replay, report};
 use crate::words::{Words, office_in};
-use http_desk::Counted;
+use http_desk::{Counted, DeskFault, FaultKind};
 use std::alloc::Global;
-use std::io::{Read, Write};
+use std::io::{self, ErrorKind, Read, Write};
 
 /// Status where the words are none that the program knows.
 const WRONG_WORDS: u8 = 2;
+
+/// Why the program's words could not be had.
+#[derive(Clone, Copy, Debug, PartialEq, Eq)]
+pub enum NoWords {
+    /// A word is no text.
+    NoText,
+    /// Memory was refused for them.
+    Memory,
+}
 
 /// Does what the program's words ask for: replays the reader at the office that they name, or, where they are wrong,
 /// writes one line on `err` and reads and writes nothing else. Answers the exit status: that of `replay`, or 2.
@@ -27,15 +34,9 @@ pub fn start<R: Read, W: Write, E: Write>(
         → (result ≡ 2) × (reader.new ≡ reader.old) × (out.new ≡ out.old) }
     ensures status { (result ≡ 0) ⊎ ((result ≡ 1) ⊎ ((result ≡ 2) × IsWrong (asked (map string_bytes words.now)))) }
     ensures served { result ≡ 0 → (office : Office) × AsksFor (asked (map string_bytes words.now)) office
-        × IfSome (R.remaining (inner_of reader.old)) (λ bytes.
-        Replays office bytes (W.contents (inner_of out.old)) (W.contents (inner_of out.new))) }
+        × Replays office R.remaining W.contents reader.old out.old out.new }
     ensures broken_off { result ≡ 1 → (office : Office) × AsksFor (asked (map string_bytes words.now)) office
-        × IfSome (R.remaining (inner_of reader.old)) (λ bytes.
-        BreaksOff office bytes (W.contents (inner_of out.old)) (W.contents (inner_of out.new))) }
-    ensures cause { result ≡ 1 → Rises (failures_of reader.old) (failures_of reader.new)
-        ⊎ (Rises (failures_of out.old) (failures_of out.new)
-        ⊎ (TakesAtLeast (R.remaining (inner_of reader.old)) (R.remaining (inner_of reader.new)) most_turns
-        ⊎ ((reader.new ≡ reader.old) × (out.new ≡ out.old)))) }
+        × BreaksOff office R.remaining W.contents reader.old reader.new out.old out.new }
 {
     match office_in(words) {
         Words::Replay(office) => replay(alloc, &office, reader, out, err),
@@ -44,10 +45,35 @@ pub fn start<R: Read, W: Write, E: Write>(
     }
 }
 
-/// Writes why the words are wrong; a line that is not taken is passed over. Answers the status.
+// Writes why the words are wrong; a line that is not taken is passed over. Answers the status.
 fn refuse<E: Write>(err: &mut E, why: &str) -> u8
     ensures { result ≡ 2 }
 {
     let _ = writeln!(err, "society: {why}");
     WRONG_WORDS
+}
+
+/// What an error of the program's words says: that a word is no text, or else that memory was refused.
+pub fn why_no_words(error: &io::Error) -> NoWords {
+    match error.kind() {
+        ErrorKind::InvalidData => NoWords::NoText,
+        _ => NoWords::Memory,
+    }
+}
+
+/// Ends before any request where the words could not be had: writes one line on `err`. Answers the status.
+pub fn without_words<E: Write>(why: NoWords, err: &mut E) -> u8
+    ensures { result ≡ status_without why }
+{
+    match why {
+        NoWords::NoText => refuse(err, "bad words"),
+        NoWords::Memory => {
+            let fault = DeskFault {
+                kind: FaultKind::Memory,
+                requests: 0,
+            };
+            report(err, &fault);
+            BROKEN_OFF
+        }
+    }
 }

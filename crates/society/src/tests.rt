@@ -1,29 +1,14 @@
 //! The program's rows: what is written for streams of requests, byte for byte.
-use crate::replay::replay;
+use crate::replay::{replay, report};
 use crate::samples::{F1, F3, F3_ACK, changed};
-use crate::starting::start;
+use crate::starting::{NoWords, start, why_no_words, without_words};
+use crate::streams::{answer, get, office, put, put_return, replayed};
 use http_desk::{Counted, DeskFault, FaultKind, Served, serve};
-use share_rules::Office;
 use society_core::{Desk, PlainStore};
 use std::alloc::{AllocError, Global};
 use std::io::{ErrorKind, Read, Write};
 use std::process::Abort;
 use std::test::Fail;
-
-/// The office of the rows.
-fn office() -> Result<Office, &'static str> {
-    Office::new(900, 40, b"EXAMPLE SOCIETY").ok_or("an office")
-}
-
-/// What is written for these requests, and the exit status.
-fn replayed(alloc: Global, input: &[u8]) -> Result<(Vec<u8>, u8), Fail> {
-    let office = office()?;
-    let mut reader = Counted::new(input);
-    let mut out = Counted::new(Vec::new(alloc));
-    let mut err = Vec::<u8>::new(alloc);
-    let status = replay(alloc, &office, &mut reader, &mut out, &mut err);
-    Ok((out.into_inner(), status))
-}
 
 /// A reader and a writer that fail at once.
 #[derive(Drop)]
@@ -45,46 +30,37 @@ impl Write for Broken {
     }
 }
 
+/// A reader that gives its bytes in one read and then fails.
+#[derive(Drop)]
+struct CutOff<'a> {
+    bytes: &'a [u8],
+}
+
+impl Read for CutOff<'_> {
+    fn read(&mut self, buf: &mut [u8]) -> std::io::Result<usize> {
+        if self.bytes.is_empty() {
+            return Err(ErrorKind::ConnectionReset.into());
+        }
+        self.bytes.read(buf)
+    }
+}
+
+/// What is written for the bytes of a reader that then fails, the exit status, and the line on standard error.
+fn cut_off(alloc: Global, bytes: &[u8]) -> Result<(Vec<u8>, u8, Vec<u8>), Fail> {
+    let office = office()?;
+    let mut reader = Counted::new(CutOff { bytes });
+    let mut out = Counted::new(Vec::new(alloc));
+    let mut err = Vec::<u8>::new(alloc);
+    let status = replay(alloc, &office, &mut reader, &mut out, &mut err);
+    Ok((out.into_inner(), status, err))
+}
+
 /// What a connection with these bytes comes to that may take so many turns.
 fn served(alloc: Global, input: &[u8], turns: u64) -> Result<Result<Served, DeskFault>, Fail> {
     let mut desk = Desk::new(PlainStore::new(alloc, &office()?));
     let mut reader = Counted::new(input);
     let mut out = Counted::new(Vec::new(alloc));
     Ok(serve(alloc, &mut desk, &mut reader, &mut out, turns))
-}
-
-/// Appends the put of a transmission.
-fn put(alloc: Global, input: &mut Vec<u8>, number: &str, body: &[u8]) -> Result<(), AllocError> {
-    let length = body.len();
-    let head = format!(in alloc;
-        "PUT /v1/senders/PB000000012/transmissions/{number} HTTP/1.1\r\nHost: office\r\nContent-Length: {length}\r\n\r\n"
-    )?;
-    input.extend_from_slice(head.as_bytes())?;
-    input.extend_from_slice(body)
-}
-
-/// Appends the request of an acknowledgement.
-fn get(alloc: Global, input: &mut Vec<u8>, number: &str) -> Result<(), AllocError> {
-    let head = format!(in alloc;
-        "GET /v1/senders/PB000000012/acks/{number} HTTP/1.1\r\nHost: office\r\n\r\n"
-    )?;
-    input.extend_from_slice(head.as_bytes())
-}
-
-/// Appends an answer.
-fn answer(
-    alloc: Global,
-    out: &mut Vec<u8>,
-    status: &str,
-    kind: &str,
-    body: &[u8],
-) -> Result<(), AllocError> {
-    let length = body.len();
-    let head = format!(in alloc;
-        "HTTP/1.1 {status}\r\nContent-Type: application/{kind}\r\nContent-Length: {length}\r\n\r\n"
-    )?;
-    out.extend_from_slice(head.as_bytes())?;
-    out.extend_from_slice(body)
 }
 
 /// Puts one after another, each with its number, body, status and JSON answer.
@@ -283,7 +259,134 @@ fn broken_streams(rt: HostRuntime) -> Result<(), Fail> {
         &mut err,
     );
     assert_eq!(rt; status, 1);
-    let lines = b"society: read fault after 0 requests\nsociety: write fault after 1 requests\n";
+    let lines = b"society: read fault after 0 requests\nsociety: write fault after 2 requests\n";
+    assert_eq!(rt; err.as_slice(), lines.as_slice());
+    Ok(())
+}
+
+#[test]
+fn bad_bytes_before_a_failing_read(rt: HostRuntime) -> Result<(), Fail> {
+    let alloc = rt.alloc();
+    let mut wanted = Vec::new(alloc);
+    wanted.extend_from_slice(
+        b"HTTP/1.1 400 Bad Request\r\nContent-Type: application/json\r\nContent-Length: 19\r\nConnection: close\r\n\r\n{\"error\":\"request\"}",
+    )?;
+    for bytes in [
+        b"GARBAGE\r\n\r\n".as_slice(),
+        b"PUT /v1 HTTP/1.1\r\nContent-Length: x\r\n\r\n".as_slice(),
+    ] {
+        let (out, status, err) = cut_off(alloc, bytes)?;
+        assert_eq!(rt; out.as_slice(), wanted.as_slice());
+        assert_eq!(rt; status, 0);
+        assert_eq!(rt; err.len(), 0);
+    }
+    Ok(())
+}
+
+#[test]
+fn returns_stored_repeated_and_refused(rt: HostRuntime) -> Result<(), Fail> {
+    let alloc = rt.alloc();
+    let one = b"isrc,plays,seconds\nATABC2600001,10,200\n".as_slice();
+    let rows = [
+        ("1", one, "201 Created", "{\"state\":\"stored\"}"),
+        ("1", one, "200 OK", "{\"state\":\"stored\"}"),
+        (
+            "1",
+            b"isrc,plays,seconds\n".as_slice(),
+            "409 Conflict",
+            "{\"error\":\"reused\"}",
+        ),
+        (
+            "1",
+            b"x".as_slice(),
+            "409 Conflict",
+            "{\"error\":\"reused\"}",
+        ),
+        (
+            "2",
+            b"isrc,plays,seconds\nATABC2600001,10,200\nAT,1,1\n".as_slice(),
+            "422 Unprocessable Entity",
+            "{\"error\":\"csv\",\"fault\":3,\"row\":3}",
+        ),
+        ("2", one, "201 Created", "{\"state\":\"stored\"}"),
+        ("0", one, "404 Not Found", "{\"error\":\"unknown\"}"),
+    ];
+    let mut input = Vec::new(alloc);
+    let mut wanted = Vec::new(alloc);
+    for (number, body, status, json) in rows.iter() {
+        put_return(alloc, &mut input, number, body)?;
+        answer(alloc, &mut wanted, status, "json", json.as_bytes())?;
+    }
+    let (out, status) = replayed(alloc, input.as_slice())?;
+    assert_eq!(rt; out.as_slice(), wanted.as_slice());
+    assert_eq!(rt; status, 0);
+    Ok(())
+}
+
+#[test]
+fn large_body_before_a_failing_read(rt: HostRuntime) -> Result<(), Fail> {
+    let alloc = rt.alloc();
+    let wanted =
+        b"HTTP/1.1 413 Payload Too Large\r\nContent-Type: application/json\r\nContent-Length: 16\r\nConnection: close\r\n\r\n{\"error\":\"size\"}";
+    let bytes = b"PUT /v1 HTTP/1.1\r\nContent-Length: 1048577\r\n\r\n";
+    let (out, status, err) = cut_off(alloc, bytes)?;
+    assert_eq!(rt; out.as_slice(), wanted.as_slice());
+    assert_eq!(rt; status, 0);
+    assert_eq!(rt; err.len(), 0);
+    Ok(())
+}
+
+#[test]
+fn answers_before_a_failing_read(rt: HostRuntime) -> Result<(), Fail> {
+    let alloc = rt.alloc();
+    let mut input = Vec::new(alloc);
+    put(alloc, &mut input, "1", F3)?;
+    let mut wanted = Vec::new(alloc);
+    let applied = b"{\"front\":1,\"state\":\"applied\"}";
+    answer(alloc, &mut wanted, "201 Created", "json", applied)?;
+    input.extend_from_slice(b"GET /v1")?;
+    let (out, status, err) = cut_off(alloc, input.as_slice())?;
+    assert_eq!(rt; out.as_slice(), wanted.as_slice());
+    assert_eq!(rt; status, 1);
+    let line = b"society: read fault after 1 requests\n";
+    assert_eq!(rt; err.as_slice(), line.as_slice());
+    Ok(())
+}
+
+#[test]
+fn lines_of_faults(rt: HostRuntime) -> Result<(), Fail> {
+    let alloc = rt.alloc();
+    let kinds = [
+        FaultKind::Read,
+        FaultKind::Write,
+        FaultKind::Turns,
+        FaultKind::Memory,
+    ];
+    let mut err = Vec::<u8>::new(alloc);
+    for kind in kinds {
+        report(&mut err, &DeskFault { kind, requests: 7 });
+    }
+    let lines =
+        b"society: read fault after 7 requests\nsociety: write fault after 7 requests\nsociety: turns fault after 7 requests\nsociety: memory fault after 7 requests\n";
+    assert_eq!(rt; err.as_slice(), lines.as_slice());
+    Ok(())
+}
+
+#[test]
+fn words_that_cannot_be_had(rt: HostRuntime) -> Result<(), Fail> {
+    let alloc = rt.alloc();
+    assert_eq!(rt;
+        why_no_words(&ErrorKind::InvalidData.into()),
+        NoWords::NoText
+    );
+    assert_eq!(rt;
+        why_no_words(&ErrorKind::OutOfMemory.into()),
+        NoWords::Memory
+    );
+    let mut err = Vec::<u8>::new(alloc);
+    assert_eq!(rt; without_words(NoWords::NoText, &mut err), 2);
+    assert_eq!(rt; without_words(NoWords::Memory, &mut err), 1);
+    let lines = b"society: bad words\nsociety: memory fault after 0 requests\n";
     assert_eq!(rt; err.as_slice(), lines.as_slice());
     Ok(())
 }

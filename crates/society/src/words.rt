@@ -1,5 +1,5 @@
 ghost use Rattle.std.specs.Prelude.{◌≡◌, map, string_bytes};
-ghost use Rattle.society.specs.Words.{Reads, are_options, asked, asked_at, number_in};
+ghost use Rattle.society.specs.Words.{IsReadAs, are_office_numbers, are_options, asked, asked_at, short_number_of};
 
 use share_rules::Office;
 use work_ids::number;
@@ -20,9 +20,15 @@ const MAX_DIGITS: usize = 4;
 
 const MAX_NUMBER: u64 = 9_999;
 
+/// Greatest number of a society.
+const MAX_SOCIETY: u16 = 999;
+
+/// Greatest number of a territory.
+const MAX_TERRITORY: u16 = 9_999;
+
 /// A number of one to four decimal digits.
 fn short_number(text: &str) -> Option<u16>
-    ensures { result ≡ number_in text.now }
+    ensures { result ≡ short_number_of text.now }
 {
     if text.len() > MAX_DIGITS {
         return None;
@@ -41,23 +47,33 @@ fn are_options(replay: &str, society: &str, territory: &str, name: &str) -> bool
     replay == "replay" && society == "--society" && territory == "--territory" && name == "--name"
 }
 
+/// Whether the numbers are those of a society and of a territory.
+fn are_office_numbers(society: u16, territory: u16) -> bool
+    ensures { result ≡ are_office_numbers society territory }
+{
+    1 <= society && society <= MAX_SOCIETY && (1 <= territory && territory <= MAX_TERRITORY)
+}
+
 /// To replay at the office with these numbers and this name, where there is such an office.
 fn replay_at(society: u16, territory: u16, name: &[u8]) -> Words
-    ensures { Reads (asked_at society territory name.now) result }
+    ensures { IsReadAs (asked_at society territory name.now) result }
 {
-    if Office::new(society, territory, b"-").is_none() {
-        return Words::BadWords;
-    }
     match Office::new(society, territory, name) {
         Some(office) => Words::Replay(office),
-        None => Words::BadName,
+        None => {
+            if are_office_numbers(society, territory) {
+                Words::BadName
+            } else {
+                Words::BadWords
+            }
+        }
     }
 }
 
 /// What the words after the program's name ask for: exactly `replay --society N --territory N --name TEXT`,
 /// in this order, N within the office's limits.
 pub fn office_in(words: &[String]) -> Words
-    ensures { Reads (asked (map string_bytes words.now)) result }
+    ensures { IsReadAs (asked (map string_bytes words.now)) result }
 {
     let [
         _,

@@ -12,11 +12,10 @@ use Rattle.works_core.specs.Line.{line_of, verdicts_at}
 use Rattle.works_core.specs.Versions.{Placed, is_version, last_version, placed_at, placed_behind, placed_behind_all, placed_line, version_of, work_at}
 use Rattle.works_core.specs.declared.judged.Judged as judgement
 use Rattle.works_core.specs.declared.version.WorkVersion.{WorkVersion}
-use Rattle.society_core.specs.Answers.{answer, shown_ack, shown_transaction, shown_version}
-use Rattle.society_core.specs.Book.{Book, ack, body_at, front, transmissions_to, verdicts_in, version_in}
+use Rattle.society_core.specs.Answers.{answer, judged_answer, shown_ack, shown_transaction, shown_version}
+use Rattle.society_core.specs.Book.{Book, ack, body_at, front, shown_verdicts, transmissions_to, verdicts_in, version_in}
 use Rattle.society_core.specs.Headline.{AlikeToTheGap}
-use Rattle.society_core.specs.Requests.{AsksAck, AsksVerdicts, AsksWork, Judged, Refused}
-use Rattle.society_core.specs.declared.request.Refusal.TheVariants.{Unknown}
+use Rattle.society_core.specs.Requests.{AsksAck, AsksVerdicts, AsksWork}
 use Rattle.society_core.proofs.Fronts.{first_holds, second_holds}
 
 -- transactions of transmissions up to a limit
@@ -54,7 +53,7 @@ version_within line work cut v e =
     last_within cut work (placed_line (take cut line)) v (all_within cut [] 1 (take cut line) (omega arith) (let short : length (take cut line) ≡ min cut (length line) = length-take cut line in omega arith) tt) e
 
 -- a sender's transmissions up to a number are alike where the bodies are
-transmissions_alike : (a b : Book) (s : List ℕ) (n : ℕ) → ((k : ℕ) → 1 ≤ k → k ≤ n → body_at a s k ≡ body_at b s k) → transmissions_to a s n ≡ transmissions_to b s n
+pub transmissions_alike : (a b : Book) (s : List ℕ) (n : ℕ) → ((k : ℕ) → 1 ≤ k → k ≤ n → body_at a s k ≡ body_at b s k) → transmissions_to a s n ≡ transmissions_to b s n
 transmissions_alike a b s zero same = refl
 transmissions_alike a b s (suc n) same =
     ap (λ (ts : List Transmission). ts ++ transmission_in (unwrap_or (body_at a s (suc n)) []) ∷ []) (transmissions_alike a b s n (λ k some le. same k some (omega arith)))
@@ -95,12 +94,15 @@ chosen_alike f n x y z same =
     (λ (no : (nat_le 1 n && nat_le n f) ≡ false). ap (λ (b : Bool). cond b x z) no ∙ sym (ap (λ (b : Bool). cond b y z) no))
     (cases_Bool (nat_le 1 n && nat_le n f))
 
+shown_verdicts_alike : (o : Office) (a b : Book) (s : List ℕ) (n : ℕ) → AlikeToTheGap a b s → shown_verdicts o a s n ≡ shown_verdicts o b s n
+shown_verdicts_alike o a b s n alike =
+    chosen_alike (front a s) n (Some (verdicts_in o a s n)) (Some (verdicts_in o b s n)) None
+    (λ some le. ap (λ (ts : List Transmission). Some (verdicts_at (line_of o ts) n)) (alike_to a b s n alike le))
+    ∙ ap (λ (f : ℕ). cond (nat_le 1 n && nat_le n f) (Some (verdicts_in o b s n)) None) alike.same_front
+
 -- and so are the verdicts of a transmission
 pub verdicts_alike : (o : Office) (a b : Book) (s : List ℕ) (n : ℕ) → AlikeToTheGap a b s → answer o a (AsksVerdicts s n) ≡ answer o b (AsksVerdicts s n)
-verdicts_alike o a b s n alike =
-    chosen_alike (front a s) n (Judged (verdicts_in o a s n)) (Judged (verdicts_in o b s n)) (Refused Unknown)
-    (λ some le. ap (λ (ts : List Transmission). Judged (verdicts_at (line_of o ts) n)) (alike_to a b s n alike le))
-    ∙ ap (λ (f : ℕ). cond (nat_le 1 n && nat_le n f) (Judged (verdicts_in o b s n)) (Refused Unknown)) alike.same_front
+verdicts_alike o a b s n alike = ap judged_answer (shown_verdicts_alike o a b s n alike)
 
 ack_alike : (o : Office) (a b : Book) (s : List ℕ) (n : ℕ) → AlikeToTheGap a b s → ack o a s n ≡ ack o b s n
 ack_alike o a b s n alike =

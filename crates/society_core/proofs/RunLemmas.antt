@@ -6,7 +6,7 @@ use Rattle.society_core.specs.Book.{Book}
 use Rattle.society_core.specs.Requests.{Query, Reply, query_of, reply_of}
 use Rattle.society_core.specs.Runs.{Step, Run, AppendsRun}
 use Rattle.society_core.specs.declared.request.Request.{Request}
-use Rattle.society_core.specs.declared.request.Answer.{Answer}
+use Rattle.society_core.specs.declared.answers.Answer.{Answer}
 
 -- a run goes on by one step
 pub run_on : (o : Office) (b : Book) (qs : List Query) (rs : List Reply) (c : Book) (q : Query) (r : Reply) (d : Book) → Run o b qs rs c → Step o c q r d → Run o b (qs ++ q ∷ []) (rs ++ r ∷ []) d

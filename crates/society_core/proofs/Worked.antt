@@ -1,23 +1,15 @@
 -- Worked values of the book's numbers and of what a put is answered.
-use Rattle.std.specs.Prelude.{◌≡◌, true, false, [], ◌∷◌, Some, None, nat_le, refl, codes}
+use Rattle.std.specs.Prelude.{ℕ, ◌≡◌, false, [], ◌∷◌, Some, None, nat_le, refl, codes}
 use Rattle.std.proofs.Common.{Less, Greater}
 use Rattle.society_core.specs.Answers.{arrival_at, known_by, put_answer, shown_ack}
 use Rattle.society_core.specs.Book.{empty_book, greatest_of, greatest_to}
-use Rattle.society_core.specs.Requests.{AsksAck, Refused, is_numbered}
-use Rattle.society_core.specs.declared.request.Refusal.TheVariants.{Reused, Unknown}
-use Rattle.society_core.specs.Slot.{is_number, slot_cmp, slot_of}
-use Rattle.society_core.specs.declared.request.Standing.TheVariants.{Applied, Held}
+use Rattle.society_core.specs.Orders.{order_fault}
+use Rattle.society_core.specs.Owners.{sole}
+use Rattle.society_core.specs.Requests.{Refused}
+use Rattle.society_core.specs.declared.refusal.Refusal.TheVariants.{Reused, Unknown}
+use Rattle.society_core.specs.Keys.{transmission_cmp, transmission_key}
+use Rattle.society_core.specs.declared.answers.Standing.TheVariants.{Applied, Held}
 use Rattle.society_core.specs.declared.store.Known.TheVariants.{Absent, Other, Same}
-
--- numbers at the limits
-no_zero : is_number 0 ≡ false
-no_zero = refl
-
-last_number : is_number 999999 ≡ true
-last_number = refl
-
-past_the_last : is_number 1000000 ≡ false
-past_the_last = refl
 
 -- the greatest number that passes
 up_to_three : greatest_to 5 (λ n. nat_le n 3) ≡ 3
@@ -51,17 +43,36 @@ reused = refl
 not_there : shown_ack None ≡ Refused Unknown
 not_there = refl
 
--- the greatest number of some slots, whoever sent them
-greatest : greatest_of (slot_of (codes "PB000000012") 3 ∷ slot_of (codes "PB000000034") 7 ∷ slot_of (codes "PB000000012") 1 ∷ []) ≡ 7
+-- the greatest number of some keys, whoever sent them
+greatest : greatest_of (transmission_key (codes "PB000000012") 3 ∷ transmission_key (codes "PB000000034") 7 ∷ transmission_key (codes "PB000000012") 1 ∷ []) ≡ 7
 greatest = refl
 
--- slots are in the order of senders, and then of numbers
-by_number : slot_cmp (slot_of (codes "PB000000012") 9) (slot_of (codes "PB000000012") 10) ≡ Less
+-- keys are in the order of senders, and then of numbers
+by_number : transmission_cmp (transmission_key (codes "PB000000012") 9) (transmission_key (codes "PB000000012") 10) ≡ Less
 by_number = refl
 
-by_sender : slot_cmp (slot_of (codes "PB000000034") 1) (slot_of (codes "PB000000012") 2) ≡ Greater
+by_sender : transmission_cmp (transmission_key (codes "PB000000034") 1) (transmission_key (codes "PB000000012") 2) ≡ Greater
 by_sender = refl
 
--- numbers past the limits are not asked with
-past_the_limit : is_numbered (AsksAck (codes "PB000000012") 1000000) ≡ false
-past_the_limit = refl
+-- numbers of an order: an amount past the limit goes before a sender named twice
+out_of_range : order_fault 1000000000001 ((codes "PB000000012", 1) ∷ (codes "PB000000012", 2) ∷ []) [] ≡ Some 2
+out_of_range = refl
+
+twice : order_fault 5 ((codes "PB000000012", 1) ∷ (codes "PB000000012", 2) ∷ []) [] ≡ Some 4
+twice = refl
+
+named_twice : order_fault 5 [] ((codes "RADIO1", 1) ∷ (codes "RADIO2", 1) ∷ (codes "RADIO1", 1) ∷ []) ≡ Some 4
+named_twice = refl
+
+cut_of_nothing : order_fault 5 ((codes "PB000000012", 0) ∷ []) [] ≡ Some 2
+cut_of_nothing = refl
+
+an_order : order_fault 1000000000000 ((codes "PB000000012", 999999) ∷ []) ((codes "RADIO1", 1) ∷ (codes "RADIO1", 2) ∷ []) ≡ None
+an_order = refl
+
+-- an owner is there only where it is the only one
+lone : sole {X = ℕ} (3 ∷ []) ≡ Some 3
+lone = refl
+
+contested : sole {X = ℕ} (3 ∷ 4 ∷ []) ≡ None
+contested = refl

@@ -1,22 +1,38 @@
 -- The answer to each request over a book, and the book after it.
-use Rattle.std.specs.Prelude.{ℕ, Bool, true, false, List, Option, Some, None, if◌then◌else◌, nat_le, ◌&&◌}
+use Rattle.std.specs.Prelude.{ℕ, Bool, true, false, List, [], ◌∷◌, Option, Some, None, if◌then◌else◌, nat_le}
+use Rattle.std.specs.FinMap as finite
+use Rattle.std.specs.List.{find}
 use Rattle.std.specs.Str.{bytes_eq}
 use Rattle.cwr_records.specs.Blanks.{without_trailing_blanks}
 use Rattle.cwr_files.specs.FileFault.{file_fault}
+use Rattle.cwr_files.specs.Transaction.{iswc_of_work, title_of}
 use Rattle.cwr_files.specs.declared.fault.FileFault.{FileFault}
 use Rattle.cwr_files.specs.declared.transmission.Transaction.{Transaction}
-use Rattle.share_rules.specs.Fault.{iswc_of_work, title_of}
+use Rattle.perf_returns.specs.Returns.{return_fault}
+use Rattle.perf_returns.specs.declared.fault.ReturnFault.{ReturnFault}
 use Rattle.share_rules.specs.Weights.{weights_of}
 use Rattle.share_rules.specs.declared.office.Office.{Office}
-use Rattle.society_core.specs.Book.{Book, ack, body_at, front, held, transaction_at, verdicts_in, version_in, with_transmission}
-use Rattle.society_core.specs.Requests.{Query, Puts, AsksAck, AsksSender, AsksWork, AsksVerdicts, AsksElsewhere, Reply, Arrived, Acknowledged, Stands, Shown, Shows, Judged, Refused}
-use Rattle.society_core.specs.declared.request.Arrival.{Arrival}
-use Rattle.society_core.specs.declared.request.Standing.{Standing}
-use Rattle.society_core.specs.declared.request.Standing.TheVariants.{Applied, Held}
-use Rattle.society_core.specs.declared.request.Refusal.TheVariants.{Reused, File, Unknown}
+use Rattle.society_core.specs.Book.{Book, ack, body_at, front, held, order_at, return_at, shown_verdicts, transaction_at, version_in, with_pool, with_return, with_transmission}
+use Rattle.society_core.specs.Orders.{Order, names_return, same_order}
+use Rattle.society_core.specs.Pools.{balance, credits_of}
+use Rattle.society_core.specs.Requests.{Query, Puts, PutsReturn, Closes, ClosesFaulty, AsksAck, AsksSender, AsksWork, AsksVerdicts, AsksCredits, AsksBalance, AsksElsewhere, Reply, Arrived, Stored, Closed, Acknowledged, Stands, Shown, Shows, Judged, Credited, Owed, Refused}
+use Rattle.society_core.specs.declared.answers.Arrival.{Arrival}
+use Rattle.society_core.specs.declared.answers.Receipt.TheVariants.{New, Repeated}
+use Rattle.society_core.specs.declared.answers.Standing.{Standing}
+use Rattle.society_core.specs.declared.answers.Standing.TheVariants.{Applied, Held}
+use Rattle.society_core.specs.declared.refusal.Refusal.{Refusal}
+use Rattle.society_core.specs.declared.refusal.Refusal.TheVariants.{Reused, File, Csv, Unknown}
+use Rattle.society_core.specs.declared.refusal.Refusal.TheVariants as refusals
+use Rattle.society_core.specs.declared.return_key.ReturnKey.{ReturnKey}
 use Rattle.society_core.specs.declared.store.Known.{Known}
 use Rattle.society_core.specs.declared.store.Known.TheVariants.{Absent, Same, Other}
+use Rattle.society_core.specs.declared.store.KnownTransmission.{KnownTransmission}
+use Rattle.society_core.specs.declared.store.KnownTransmission.TheVariants as transmissions
+use Rattle.society_core.specs.declared.store.Payment.{Payment}
+use Rattle.society_core.specs.declared.store.Payment.TheVariants as payments
+use Rattle.society_core.specs.declared.transmission_key.TransmissionKey.{TransmissionKey}
 use Rattle.works_core.specs.Recordings.{isrcs_of, right_one}
+use Rattle.works_core.specs.declared.verdict.Verdict.{Verdict}
 use Rattle.works_core.specs.declared.version.WorkVersion.{WorkVersion}
 
 -- a transmission is applied where its number is at most the front, else it is held (profile)
@@ -39,6 +55,12 @@ known_by body (Some kept) = if bytes_eq kept body then Same else Other
 -- whether the book has this transmission, another one under its number, or none
 abbrev pub known_as : Book → List ℕ → ℕ → List ℕ → Known
 known_as book sender number body = known_by body (body_at book sender number)
+
+-- what the book has under a transmission's number, with the front where it is these bytes
+abbrev pub known_with_front : ℕ → Known → KnownTransmission
+known_with_front front Absent = transmissions.Absent
+known_with_front front Same = transmissions.Same front
+known_with_front front Other = transmissions.Other
 
 -- the answer to a put of what is not known: the file fault, or how it stands once it is added
 abbrev pub added_answer : Book → List ℕ → ℕ → List ℕ → Option FileFault → Reply
@@ -67,10 +89,10 @@ abbrev pub shown_ack : Option (List ℕ) → Reply
 shown_ack (Some text) = Acknowledged text
 shown_ack None = Refused Unknown
 
--- the verdicts of a sender's transmission are there once its number is at most the front
-abbrev pub verdicts_answer : Office → Book → List ℕ → ℕ → Reply
-verdicts_answer office book sender number =
-    if nat_le 1 number && nat_le number (front book sender) then Judged (verdicts_in office book sender number) else Refused Unknown
+-- verdicts that are there are shown, else they are unknown
+abbrev pub judged_answer : Option (List Verdict) → Reply
+judged_answer (Some verdicts) = Judged verdicts
+judged_answer None = Refused Unknown
 
 -- what is shown of a version: the title without the blanks at its end, the ISWC where there is one, the ISRCs in order, and the holders with their weights (profile)
 abbrev pub shown_by : Office → List ℕ → List ℕ → WorkVersion → Transaction → Shown
@@ -97,20 +119,144 @@ shown_version office book sender work None = Refused Unknown
 abbrev pub work_answer : Office → Book → List ℕ → List ℕ → Reply
 work_answer office book sender work = shown_version office book sender work (version_in office book sender work (front book sender))
 
+-- whether the book has this return, another one under its key, or none
+abbrev pub return_known_as : Book → ReturnKey → List ℕ → Known
+return_known_as book key body = known_by body (return_at book key)
+
+-- the answer to a return that is not known: its fault, or that it is stored
+abbrev pub stored_answer : Option ReturnFault → Reply
+stored_answer (Some fault) = Refused (Csv fault)
+stored_answer None = Stored New
+
+-- the book after a return that was not known
+abbrev pub stored_book : Book → ReturnKey → List ℕ → Option ReturnFault → Book
+stored_book book key body (Some fault) = book
+stored_book book key body None = with_return book key body
+
+-- the answer to a put of a return: a repeat, a reused number, or what is not known
+abbrev pub return_answer : List ℕ → Known → Reply
+return_answer body Same = Stored Repeated
+return_answer body Other = Refused Reused
+return_answer body Absent = stored_answer (return_fault body)
+
+-- the book after a put of a return
+abbrev pub return_book : Book → ReturnKey → List ℕ → Known → Book
+return_book book key body Same = book
+return_book book key body Other = book
+return_book book key body Absent = stored_book book key body (return_fault body)
+
+-- a refusal, or else a later one
+abbrev pub first_of : Option Refusal → Option Refusal → Option Refusal
+first_of (Some refused) later = Some refused
+first_of None later = later
+
+-- the first refusal that a list gives rise to
+abbrev pub first_refusal : {X : Type 0} → (X → Option Refusal) → List X → Option Refusal
+first_refusal refusal [] = None
+first_refusal refusal (x ∷ xs) = first_of (refusal x) (first_refusal refusal xs)
+
+-- a cut above its sender's front is refused, with that front (profile)
+abbrev pub cut_refusal : Book → TransmissionKey → Option Refusal
+cut_refusal book key =
+    if nat_le key.number (front book key.sender) then None else Some (refusals.Cut key.sender (front book key.sender))
+
+-- the pool of an entry
+abbrev pub pool_of : Option (ℕ × Order) → Option ℕ
+pool_of (Some entry) = Some entry.0
+pool_of None = None
+
+-- the pool that pays a return: the one that names it
+abbrev pub payer : Book → ReturnKey → Option ℕ
+payer book key = pool_of (find (λ entry. names_return key entry.1) (finite.entries book.pools))
+
+-- whether a return that is there is paid, and by which pool
+abbrev pub paid_by : Option ℕ → Payment
+paid_by (Some pool) = payments.Paid pool
+paid_by None = payments.Unpaid
+
+-- a return that is there or not
+abbrev pub payment_by : Option (List ℕ) → Option ℕ → Payment
+payment_by None pool = payments.Unknown
+payment_by (Some body) pool = paid_by pool
+
+-- whether a return is unknown, unpaid or paid
+abbrev pub payment_in : Book → ReturnKey → Payment
+payment_in book key = payment_by (return_at book key) (payer book key)
+
+-- a return that is unknown, or paid by another pool, is refused (profile)
+abbrev pub payment_refusal : ReturnKey → Payment → Option Refusal
+payment_refusal key payments.Unknown = Some (refusals.ReturnUnknown key)
+payment_refusal key (payments.Paid pool) = Some (refusals.ReturnPaid key pool)
+payment_refusal key payments.Unpaid = None
+
+-- why a return can't be paid, if it can't
+abbrev pub return_refusal : Book → ReturnKey → Option Refusal
+return_refusal book key = payment_refusal key (payment_in book key)
+
+-- why a pool is not closed by an order: its first cut above the front, else its first return that is unknown or paid (profile)
+abbrev pub close_refusal : Book → Order → Option Refusal
+close_refusal book order = first_of (first_refusal (cut_refusal book) order.cut) (first_refusal (return_refusal book) order.returns)
+
+-- whether what the book has under a pool is this order
+abbrev pub pool_known_by : Order → Option Order → Known
+pool_known_by order None = Absent
+pool_known_by order (Some kept) = if same_order kept order then Same else Other
+
+-- whether the book has this order, another one under its pool, or none
+abbrev pub pool_known_as : Book → ℕ → Order → Known
+pool_known_as book pool order = pool_known_by order (order_at book pool)
+
+-- the answer to a close of a pool that is not known
+abbrev pub closed_answer : ℕ → Option Refusal → Reply
+closed_answer pool (Some refusal) = Refused refusal
+closed_answer pool None = Closed New pool
+
+-- the book after a close of a pool that was not known
+abbrev pub closed_book : Book → ℕ → Order → Option Refusal → Book
+closed_book book pool order (Some refusal) = book
+closed_book book pool order None = with_pool book pool order
+
+-- the answer to a close: a repeat, a reused number, or what is not known
+abbrev pub close_answer : Book → ℕ → Order → Known → Reply
+close_answer book pool order Same = Closed Repeated pool
+close_answer book pool order Other = Refused Reused
+close_answer book pool order Absent = closed_answer pool (close_refusal book order)
+
+-- the book after a close
+abbrev pub close_book : Book → ℕ → Order → Known → Book
+close_book book pool order Same = book
+close_book book pool order Other = book
+close_book book pool order Absent = closed_book book pool order (close_refusal book order)
+
+-- the credits of a pool that is closed, else it is unknown
+abbrev pub credits_answer : Office → Book → Option Order → Reply
+credits_answer office book (Some order) = Credited (credits_of office book order)
+credits_answer office book None = Refused Unknown
+
 -- the answer to a request over a book (profile)
 abbrev pub answer : Office → Book → Query → Reply
 answer office book (Puts sender number body) = put_answer book sender number body (known_as book sender number body)
+answer office book (PutsReturn key body) = return_answer body (return_known_as book key body)
+answer office book (Closes pool order) = close_answer book pool order (pool_known_as book pool order)
+answer office book (ClosesFaulty fault) = Refused (refusals.Order fault)
 answer office book (AsksAck sender number) = shown_ack (ack office book sender number)
 answer office book (AsksSender sender) = Stands (front book sender) (held book sender)
 answer office book (AsksWork sender work) = work_answer office book sender work
-answer office book (AsksVerdicts sender number) = verdicts_answer office book sender number
+answer office book (AsksVerdicts sender number) = judged_answer (shown_verdicts office book sender number)
+answer office book (AsksCredits pool) = credits_answer office book (order_at book pool)
+answer office book (AsksBalance account) = Owed account (balance office book account)
 answer office book AsksElsewhere = Refused Unknown
 
--- the book after a request: another one only for a put that is added, and then by that one entry (profile)
+-- the book after a request: another one only for what is accepted, and then by that one entry (profile)
 abbrev pub next : Book → Query → Book
 next book (Puts sender number body) = put_book book sender number body (known_as book sender number body)
+next book (PutsReturn key body) = return_book book key body (return_known_as book key body)
+next book (Closes pool order) = close_book book pool order (pool_known_as book pool order)
+next book (ClosesFaulty fault) = book
 next book (AsksAck sender number) = book
 next book (AsksSender sender) = book
 next book (AsksWork sender work) = book
 next book (AsksVerdicts sender number) = book
+next book (AsksCredits pool) = book
+next book (AsksBalance account) = book
 next book AsksElsewhere = book

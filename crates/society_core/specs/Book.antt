@@ -1,93 +1,138 @@
 -- The book: what has been accepted, as finite maps that know no order of arrival.
 use Rattle.std.specs.Prelude.{ℕ, zero, suc, Bool, true, List, [], ◌∷◌, ◌++◌, ◌≡◌, ◌&&◌, Option, Some, None, is_some, is_none, map, max, unwrap_or, if◌then◌else◌, nat_le, nat_lt, bytes_eq}
 use Rattle.std.specs.FinMap as finite
-use Rattle.std.specs.List.{filter, slice_get}
+use Rattle.std.specs.List.{filter, list_all, slice_get}
+use Rattle.std.specs.Ordering.{nat_cmp}
 use Rattle.cwr_files.specs.Contents.{transmission_in, transactions_of}
 use Rattle.cwr_files.specs.FileFault.{file_fault}
 use Rattle.cwr_files.specs.declared.transmission.Transaction.{Transaction}
 use Rattle.cwr_files.specs.declared.transmission.Transmission.{Transmission}
+use Rattle.perf_returns.specs.Returns.{return_fault}
 use Rattle.share_rules.specs.declared.office.Office.{Office}
+use Rattle.work_ids.specs.Numbers.{is_pool_number, is_return_number, is_transmission_number}
+use Rattle.work_ids.specs.SenderKey.{is_sender_key}
 use Rattle.works_core.specs.declared.verdict.Verdict.{Verdict}
 use Rattle.works_core.specs.Line.{line_of, verdicts_at}
 use Rattle.works_core.specs.Versions.{work_at}
 use Rattle.works_core.specs.declared.version.WorkVersion.{WorkVersion}
 use Rattle.ack_files.specs.Acknowledgement.{acknowledgement}
-use Rattle.society_core.specs.Slot.{slot_of, slot_cmp, is_number}
-use Rattle.society_core.specs.declared.slot.Slot.{Slot}
+use Rattle.society_core.specs.Keys.{return_cmp, transmission_cmp, transmission_key}
+use Rattle.society_core.specs.Orders.{IsOrder, Order, names_return}
+use Rattle.society_core.specs.declared.return_key.ReturnKey.{ReturnKey}
+use Rattle.society_core.specs.declared.transmission_key.TransmissionKey.{TransmissionKey}
 
--- the accepted transmissions: of a sender and a number the body
+-- bodies of transmissions by sender and number
+abbrev pub Transmissions : Type 0
+Transmissions = finite.FinMap transmission_cmp (List ℕ)
+
+-- what was accepted: of a sender and a number the body of a transmission, of a reporter and a number that of a return, of a pool its order
 pub record Book : Type 0 where
-  pub transmissions : finite.FinMap slot_cmp (List ℕ)
+  pub transmissions : Transmissions
+  pub returns : finite.FinMap return_cmp (List ℕ)
+  pub pools : finite.FinMap nat_cmp Order
 
 -- the book of an office to which nothing has come
 abbrev pub empty_book : Book
-empty_book = record { transmissions = finite.empty }
+empty_book = record { transmissions = finite.empty; returns = finite.empty; pools = finite.empty }
 
 -- the body of a sender's transmission, if it is there
 abbrev pub body_at : Book → List ℕ → ℕ → Option (List ℕ)
-body_at book sender number = finite.get book.transmissions (slot_of sender number)
+body_at book sender number = finite.get book.transmissions (transmission_key sender number)
 
 -- whether a sender's transmission is there
 abbrev pub is_there : Book → List ℕ → ℕ → Bool
 is_there book sender number = is_some (body_at book sender number)
 
+-- the body of a return, if it is there
+abbrev pub return_at : Book → ReturnKey → Option (List ℕ)
+return_at book key = finite.get book.returns key
+
+-- the order of a pool, if it is closed
+abbrev pub order_at : Book → ℕ → Option Order
+order_at book pool = finite.get book.pools pool
+
 -- the book with one transmission more
 abbrev pub with_transmission : Book → List ℕ → ℕ → List ℕ → Book
 with_transmission book sender number body =
-    record book { transmissions = finite.insert book.transmissions (slot_of sender number) body }
+    record book { transmissions = finite.insert book.transmissions (transmission_key sender number) body }
 
--- whether a body may stand in the book: its number is within the limits and it has no file fault
+-- the book with one return more
+abbrev pub with_return : Book → ReturnKey → List ℕ → Book
+with_return book key body = record book { returns = finite.insert book.returns key body }
+
+-- the book with one pool more
+abbrev pub with_pool : Book → ℕ → Order → Book
+with_pool book pool order = record book { pools = finite.insert book.pools pool order }
+
+-- whether a body may stand in the book: it has a sender and a number within the limits, and no file fault (profile)
 abbrev pub is_entry : List ℕ → ℕ → List ℕ → Bool
-is_entry sender number body = is_number number && is_none (file_fault sender body)
+is_entry sender number body = is_sender_key sender && is_transmission_number number && is_none (file_fault sender body)
 
--- each transmission of the book has a number within the limits and no file fault
-pub record IsSound (book : Book) : Type 0 where
-  pub transmissions : (sender : List ℕ) (number : ℕ) (body : List ℕ) → body_at book sender number ≡ Some body → is_entry sender number body ≡ true
+-- whether a body may stand in the book as a return: its number is within the limits, and it has no return fault (profile)
+abbrev pub is_return_entry : ReturnKey → List ℕ → Bool
+is_return_entry key body = is_return_number key.number && is_none (return_fault body)
+
+-- whether a sender's transmissions 1 to n are all among some
+abbrev pub has_all_in : Transmissions → List ℕ → ℕ → Bool
+has_all_in bodies sender zero = true
+has_all_in bodies sender (suc n) = is_some (finite.get bodies (transmission_key sender (suc n))) && has_all_in bodies sender n
 
 -- whether a sender's transmissions 1 to n are all there
 abbrev pub has_all : Book → List ℕ → ℕ → Bool
-has_all book sender zero = true
-has_all book sender (suc n) = is_there book sender (suc n) && has_all book sender n
+has_all book sender n = has_all_in book.transmissions sender n
 
 -- the greatest number up to a limit that passes, or 0
 abbrev pub greatest_to : ℕ → (ℕ → Bool) → ℕ
 greatest_to zero passes = 0
 greatest_to (suc n) passes = if passes (suc n) then suc n else greatest_to n passes
 
--- the greatest number of some slots, 0 where there are none
-abbrev pub greatest_of : List Slot → ℕ
+-- the greatest number of some keys, 0 where there are none
+abbrev pub greatest_of : List TransmissionKey → ℕ
 greatest_of [] = 0
-greatest_of (slot ∷ slots) = max slot.number (greatest_of slots)
+greatest_of (key ∷ keys) = max key.number (greatest_of keys)
 
--- the greatest number in the book
-abbrev pub greatest_number : Book → ℕ
-greatest_number book = greatest_of (finite.keys book.transmissions)
+-- a sender's front among some transmissions: the greatest n such that 1 to n are all there, 0 where 1 is not
+unfoldable pub front_in : Transmissions → List ℕ → ℕ
+front_in bodies sender = greatest_to (greatest_of (finite.keys bodies)) (has_all_in bodies sender)
 
--- a sender's front: the greatest n such that 1 to n are all there, 0 where 1 is not
-unfoldable pub front : Book → List ℕ → ℕ
-front book sender = greatest_to (greatest_number book) (has_all book sender)
+-- a sender's front: the greatest n such that 1 to n are all there, 0 where 1 is not (profile)
+abbrev pub front : Book → List ℕ → ℕ
+front book sender = front_in book.transmissions sender
+
+-- a sender's transmissions 1 to n, in number order, read out of some bodies
+abbrev pub transmissions_in : Transmissions → List ℕ → ℕ → List Transmission
+transmissions_in bodies sender zero = []
+transmissions_in bodies sender (suc n) =
+    transmissions_in bodies sender n ++ transmission_in (unwrap_or (finite.get bodies (transmission_key sender (suc n))) []) ∷ []
 
 -- a sender's transmissions 1 to n, in number order
 abbrev pub transmissions_to : Book → List ℕ → ℕ → List Transmission
-transmissions_to book sender zero = []
-transmissions_to book sender (suc n) = transmissions_to book sender n ++ transmission_in (unwrap_or (body_at book sender (suc n)) []) ∷ []
+transmissions_to book sender n = transmissions_in book.transmissions sender n
 
 -- the verdicts of a sender's transmission n, by its transmissions up to n alone
 abbrev pub verdicts_in : Office → Book → List ℕ → ℕ → List Verdict
 verdicts_in office book sender n = verdicts_at (line_of office (transmissions_to book sender n)) n
 
--- the acknowledgement of a sender's transmission n: there once n is at most the front
+-- whether a number is 1 to a sender's front
+abbrev pub is_applied : Book → List ℕ → ℕ → Bool
+is_applied book sender n = nat_le 1 n && nat_le n (front book sender)
+
+-- the verdicts of a sender's transmission n: there once n is at most the front (profile)
+abbrev pub shown_verdicts : Office → Book → List ℕ → ℕ → Option (List Verdict)
+shown_verdicts office book sender n = if is_applied book sender n then Some (verdicts_in office book sender n) else None
+
+-- the acknowledgement of a sender's transmission n: there once n is at most the front (profile)
 abbrev pub ack : Office → Book → List ℕ → ℕ → Option (List ℕ)
 ack office book sender n =
-    if nat_le 1 n && nat_le n (front book sender) then Some (acknowledgement office sender (transmission_in (unwrap_or (body_at book sender n) [])) (verdicts_in office book sender n)) else None
+    if is_applied book sender n then Some (acknowledgement office sender (transmission_in (unwrap_or (body_at book sender n) [])) (verdicts_in office book sender n)) else None
 
--- whether a slot is one of a sender's held transmissions, those with a number above its front
-abbrev pub is_held : Book → List ℕ → Slot → Bool
-is_held book sender slot = bytes_eq slot.sender sender && nat_lt (front book sender) slot.number
+-- whether a key is one of a sender's held transmissions, those with a number above its front
+abbrev pub is_held : Book → List ℕ → TransmissionKey → Bool
+is_held book sender key = bytes_eq key.sender sender && nat_lt (front book sender) key.number
 
 -- the numbers of a sender's held transmissions, ascending
 abbrev pub held : Book → List ℕ → List ℕ
-held book sender = map (λ slot. slot.number) (filter (is_held book sender) (finite.keys book.transmissions))
+held book sender = map (λ key. key.number) (filter (is_held book sender) (finite.keys book.transmissions))
 
 -- the version of a sender's work at a cut, by its transmissions up to the cut alone
 abbrev pub version_in : Office → Book → List ℕ → List ℕ → ℕ → Option WorkVersion
@@ -96,3 +141,16 @@ version_in office book sender work cut = work_at (line_of office (transmissions_
 -- the transaction at a place of a sender's transmission, among those of types NWR and REV
 abbrev pub transaction_at : Book → List ℕ → ℕ → ℕ → Option Transaction
 transaction_at book sender n place = slice_get (transactions_of (transmission_in (unwrap_or (body_at book sender n) []))) place
+
+-- whether an order may stand in a book: each cut is at most its sender's front, and each return that it names is there (profile)
+abbrev pub is_pool_entry : Book → ℕ → Order → Bool
+is_pool_entry book pool order =
+    is_pool_number pool && list_all (λ key. nat_le key.number (front book key.sender)) order.cut && list_all (λ key. is_some (return_at book key)) order.returns
+
+-- each entry of the book may stand in it, and no return is named by two pools (profile)
+pub record IsSound (book : Book) : Type 0 where
+  pub transmissions : (sender : List ℕ) (number : ℕ) (body : List ℕ) → body_at book sender number ≡ Some body → is_entry sender number body ≡ true
+  pub returns : (key : ReturnKey) (body : List ℕ) → return_at book key ≡ Some body → is_return_entry key body ≡ true
+  pub pools : (pool : ℕ) (order : Order) → order_at book pool ≡ Some order → is_pool_entry book pool order ≡ true
+  pub orders : (pool : ℕ) (order : Order) → order_at book pool ≡ Some order → IsOrder order
+  pub paid_once : (pool other : ℕ) (order another : Order) (key : ReturnKey) → order_at book pool ≡ Some order → order_at book other ≡ Some another → names_return key order ≡ true → names_return key another ≡ true → pool ≡ other

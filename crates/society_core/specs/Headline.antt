@@ -1,46 +1,50 @@
 -- What the book holds after any list of requests, whatever was lost, repeated or reordered.
 use Rattle.std.specs.Prelude.{ℕ, List, [], ◌∷◌, ◌++◌, ◌≡◌, ◌≢◌, ◌≤◌, ◌⊎◌, ◌↔◌, Some, None, map}
 use Rattle.cwr_files.specs.FileFault.{file_fault}
+use Rattle.perf_returns.specs.Returns.{return_fault}
 use Rattle.society_core.specs.Book.{Book, body_at, front}
-use Rattle.society_core.specs.Requests.{Query, Puts, AsksAck, AsksSender, AsksWork, AsksVerdicts, AsksElsewhere, Reply, Refused, query_of, reply_of}
-use Rattle.society_core.specs.declared.request.Refusal.TheVariants.{Unavailable}
+use Rattle.society_core.specs.Entries.{Accepts, BookOf, Entry, Transmission, Return, Pool, Holds, IsIn, entry_of}
+use Rattle.society_core.specs.Requests.{Query, Reply, Refused, query_of, reply_of}
+use Rattle.society_core.specs.declared.answers.Answer.{Answer}
+use Rattle.society_core.specs.declared.refusal.Refusal.TheVariants.{Unavailable}
 use Rattle.society_core.specs.declared.request.Request.{Request}
-use Rattle.society_core.specs.declared.request.Answer.{Answer}
+use Rattle.society_core.specs.declared.return_key.ReturnKey.{ReturnKey}
 
--- a request brought a body: it puts it, the body has no file fault, and it was not answered as unavailable
-abbrev pub Brings : Query → Reply → List ℕ → ℕ → List ℕ → Type 0
-Brings (Puts sender number body) reply s n x =
-    (sender ≡ s) × (number ≡ n) × (body ≡ x) × (file_fault sender body ≡ None) × (reply ≢ Refused Unavailable)
-Brings (AsksAck sender number) reply s n x = ⊥
-Brings (AsksSender sender) reply s n x = ⊥
-Brings (AsksWork sender work) reply s n x = ⊥
-Brings (AsksVerdicts sender number) reply s n x = ⊥
-Brings AsksElsewhere reply s n x = ⊥
+-- a request brought an entry: a put without a file or return fault that was not answered as unavailable, or a close that was accepted
+abbrev pub Brings : Query → Reply → Entry → Type 0
+Brings query reply (Transmission sender number body) =
+    (entry_of query ≡ Some (Transmission sender number body)) × (file_fault sender body ≡ None) × (reply ≢ Refused Unavailable)
+Brings query reply (Return key body) = (entry_of query ≡ Some (Return key body)) × (return_fault body ≡ None) × (reply ≢ Refused Unavailable)
+Brings query reply (Pool pool order) = Accepts query reply (Pool pool order)
 
--- some request of a list brought a body
-abbrev pub IsBrought : List Query → List Reply → List ℕ → ℕ → List ℕ → Type 0
-IsBrought [] replies s n x = ⊥
-IsBrought (query ∷ queries) [] s n x = ⊥
-IsBrought (query ∷ queries) (reply ∷ replies) s n x = Brings query reply s n x ⊎ IsBrought queries replies s n x
+-- some request of a list brought an entry
+abbrev pub IsBrought : List Query → List Reply → Entry → Type 0
+IsBrought [] replies entry = ⊥
+IsBrought (query ∷ queries) [] entry = ⊥
+IsBrought (query ∷ queries) (reply ∷ replies) entry = Brings query reply entry ⊎ IsBrought queries replies entry
 
--- a body came: it stands in the opening book, or some request of the list brought it
-abbrev pub Came : Book → List Query → List Reply → List ℕ → ℕ → List ℕ → Type 0
-Came book queries replies s n x = (body_at book s n ≡ Some x) ⊎ IsBrought queries replies s n x
+-- an entry came: it stands in the opening book, or some request of the list brought it
+abbrev pub Came : Book → List Query → List Reply → Entry → Type 0
+Came book queries replies entry = IsIn book entry ⊎ IsBrought queries replies entry
 
--- no number came with two contents
-abbrev pub OneContent : Book → List Query → List Reply → Type 0
-OneContent book queries replies =
-    (s : List ℕ) (n : ℕ) (x y : List ℕ) → Came book queries replies s n x → Came book queries replies s n y → x ≡ y
+-- no number came with two contents: neither a sender's transmission number, nor a reporter's return number
+pub record OneContent (book : Book) (queries : List Query) (replies : List Reply) : Type 0 where
+  pub transmissions : (s : List ℕ) (n : ℕ) (x y : List ℕ) → Came book queries replies (Transmission s n x) → Came book queries replies (Transmission s n y) → x ≡ y
+  pub returns : (key : ReturnKey) (x y : List ℕ) → Came book queries replies (Return key x) → Came book queries replies (Return key y) → x ≡ y
 
 -- the book holds exactly what came
 abbrev pub HoldsWhatCame : Book → List Query → List Reply → Book → Type 0
-HoldsWhatCame book queries replies after =
-    (s : List ℕ) (n : ℕ) (x : List ℕ) → (body_at after s n ≡ Some x) ↔ Came book queries replies s n x
+HoldsWhatCame book queries replies after = Holds after (Came book queries replies)
 
--- two lists brought the same bodies, in whatever order and however often
+-- two lists were accepted with the same entries over one book, in whatever order and however often
+abbrev pub AcceptedAlike : Book → List Query → List Reply → List Query → List Reply → Type 0
+AcceptedAlike book queries replies others answers =
+    (entry : Entry) → BookOf book queries replies entry ↔ BookOf book others answers entry
+
+-- two lists brought the same entries, in whatever order and however often
 abbrev pub BroughtAlike : Book → List Query → List Reply → List Query → List Reply → Type 0
 BroughtAlike book queries replies others answers =
-    (s : List ℕ) (n : ℕ) (x : List ℕ) → Came book queries replies s n x ↔ Came book others answers s n x
+    (entry : Entry) → Came book queries replies entry ↔ Came book others answers entry
 
 -- what was appended to the answers of requests tells what the book holds
 abbrev pub TellsWhatCame : Book → Book → List Request → List Answer → List Answer → Type 0

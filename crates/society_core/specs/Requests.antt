@@ -1,25 +1,34 @@
 -- What is asked and what is answered, without where its bytes lie in memory.
-use Rattle.std.specs.Prelude.{ℕ, List, Option, Bool, true, Result, Ok, Err}
+use Rattle.std.specs.Prelude.{ℕ, List, Option, Result, Ok, Err}
+use Rattle.pool_split.specs.declared.claim.Credit.{Credit}
 use Rattle.share_rules.specs.declared.holder.Holder.{Holder}
-use Rattle.society_core.specs.Slot.{is_number}
-use Rattle.society_core.specs.declared.request.Arrival.{Arrival}
-use Rattle.society_core.specs.declared.request.Refusal.{Refusal}
+use Rattle.work_ids.specs.declared.account.Account.{Account}
+use Rattle.society_core.specs.Orders.{Order}
+use Rattle.society_core.specs.declared.answers.Answer.{Answer}
+use Rattle.society_core.specs.declared.answers.Answer.TheVariants as answers
+use Rattle.society_core.specs.declared.answers.Arrival.{Arrival}
+use Rattle.society_core.specs.declared.answers.Receipt.{Receipt}
+use Rattle.society_core.specs.declared.answers.SenderStatus.{SenderStatus}
+use Rattle.society_core.specs.declared.answers.Work.{Work}
+use Rattle.society_core.specs.declared.refusal.Refusal.{Refusal}
 use Rattle.society_core.specs.declared.request.Request.{Request}
 use Rattle.society_core.specs.declared.request.Request.TheVariants as requests
-use Rattle.society_core.specs.declared.request.Answer.{Answer}
-use Rattle.society_core.specs.declared.request.Answer.TheVariants as answers
-use Rattle.society_core.specs.declared.request.SenderStatus.{SenderStatus}
-use Rattle.society_core.specs.declared.request.Work.{Work}
+use Rattle.society_core.specs.declared.return_key.ReturnKey.{ReturnKey}
 use Rattle.works_core.specs.declared.verdict.Verdict.{Verdict}
 use Rattle.works_core.specs.declared.version.WorkVersion.{WorkVersion}
 
 -- what is asked
 pub data Query : Type 0 where
   Puts : List ℕ → ℕ → List ℕ → Query
+  PutsReturn : ReturnKey → List ℕ → Query
+  Closes : ℕ → Order → Query
+  ClosesFaulty : ℕ → Query
   AsksAck : List ℕ → ℕ → Query
   AsksSender : List ℕ → Query
   AsksWork : List ℕ → List ℕ → Query
   AsksVerdicts : List ℕ → ℕ → Query
+  AsksCredits : ℕ → Query
+  AsksBalance : Account → Query
   AsksElsewhere : Query
 
 -- what is shown of a work: its number, which version it is, and what the version's transaction says
@@ -34,19 +43,28 @@ pub record Shown : Type 0 where
 -- what is answered
 pub data Reply : Type 0 where
   Arrived : Arrival → Reply
+  Stored : Receipt → Reply
+  Closed : Receipt → ℕ → Reply
   Acknowledged : List ℕ → Reply
   Stands : ℕ → List ℕ → Reply
   Shows : Shown → Reply
   Judged : List Verdict → Reply
+  Credited : List Credit → Reply
+  Owed : Account → ℕ → Reply
   Refused : Refusal → Reply
 
 -- what a request asks
 abbrev pub query_of : Request → Query
 query_of (requests.PutTransmission sender number body) = Puts sender number body.now
+query_of (requests.PutReturn key body) = PutsReturn key body.now
+query_of (requests.ClosePool pool order) = Closes pool order
+query_of (requests.FaultyOrder fault) = ClosesFaulty fault
 query_of (requests.Acknowledgement sender number) = AsksAck sender number
 query_of (requests.Sender sender) = AsksSender sender
 query_of (requests.Work sender work) = AsksWork sender work
 query_of (requests.Verdicts sender number) = AsksVerdicts sender number
+query_of (requests.Credits pool) = AsksCredits pool
+query_of (requests.Balance account) = AsksBalance account
 query_of requests.Elsewhere = AsksElsewhere
 
 -- how a sender stands: its front, and the numbers that are held
@@ -67,22 +85,17 @@ shown_of work = record {
 -- what an answer says
 abbrev pub reply_of : Answer → Reply
 reply_of (answers.Arrived arrival) = Arrived arrival
+reply_of (answers.Stored receipt) = Stored receipt
+reply_of (answers.Closed receipt pool) = Closed receipt pool
 reply_of (answers.Acknowledgement text) = Acknowledged text.items
 reply_of (answers.Sender status) = standing_of status
 reply_of (answers.Work work) = Shows (shown_of work)
 reply_of (answers.Verdicts verdicts) = Judged verdicts.items
+reply_of (answers.Credits credits) = Credited credits.items
+reply_of (answers.Balance account units) = Owed account units
 reply_of (answers.Refused refusal) = Refused refusal
 
 -- the reply that a call's result stands for
 abbrev pub told : {X : Type 0} → (X → Reply) → Result X Refusal → Reply
 told shown (Ok x) = shown x
 told shown (Err refusal) = Refused refusal
-
--- the number that is asked with is within the limits (profile)
-abbrev pub is_numbered : Query → Bool
-is_numbered (Puts sender number body) = is_number number
-is_numbered (AsksAck sender number) = is_number number
-is_numbered (AsksSender sender) = true
-is_numbered (AsksWork sender work) = true
-is_numbered (AsksVerdicts sender number) = is_number number
-is_numbered AsksElsewhere = true

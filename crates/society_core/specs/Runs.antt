@@ -1,17 +1,34 @@
 -- Steps and runs: what is answered to a list of requests, one after another.
-use Rattle.std.specs.Prelude.{List, [], ◌∷◌, ◌++◌, ◌≡◌, ◌⊎◌, map, length, IsTrue, Bool}
+use Rattle.std.specs.Prelude.{List, [], ◌∷◌, ◌++◌, ◌≡◌, ◌⊎◌, map, length, IsTrue, Bool, Option, Some, None, Result, Ok, Err, ⊤}
 use Rattle.share_rules.specs.declared.office.Office.{Office}
 use Rattle.society_core.specs.Book.{Book}
 use Rattle.society_core.specs.Requests.{Query, Reply, Refused, query_of, reply_of}
 use Rattle.society_core.specs.Answers.{answer, next}
-use Rattle.society_core.specs.declared.request.Refusal.TheVariants.{Unavailable}
+use Rattle.society_core.specs.State.{Asks, Goes, State}
+use Rattle.society_core.specs.declared.refusal.Refusal.{Refusal}
+use Rattle.society_core.specs.declared.refusal.Refusal.TheVariants.{Unavailable}
 use Rattle.society_core.specs.declared.request.Request.{Request}
-use Rattle.society_core.specs.declared.request.Answer.{Answer}
+use Rattle.society_core.specs.declared.answers.Answer.{Answer}
 
 -- one request is answered as the book says and the book goes on, or the office is unavailable and the book stays
 abbrev pub Step : Office → Book → Query → Reply → Book → Type 0
 Step office book query reply after =
     ((reply ≡ answer office book query) × (after ≡ next book query)) ⊎ ((reply ≡ Refused Unavailable) × (after ≡ book))
+
+-- a call proceeds by a step where the store is clean when it ends, and a crash in it may leave the next book
+pub record Proceeds (old new : State) (query : Query) (reply : Reply) : Type 0 where
+  pub step : IsTrue new.is_clean → Step old.office old.book query reply new.book
+  pub goes : Goes old new (λ book. book ≡ next old.book query)
+
+-- a call that asks: a step where the store is clean when it ends, and nothing changed
+pub record Inquires (old new : State) (query : Query) (reply : Reply) : Type 0 where
+  pub step : IsTrue new.is_clean → Step old.office old.book query reply new.book
+  pub asks : Asks old new
+
+-- a check refuses as is due, or where the office is unavailable
+abbrev pub RefusesBy : Option Refusal → Result ⊤ Refusal → Type 0
+RefusesBy due (Ok done) = due ≡ None
+RefusesBy due (Err refusal) = (due ≡ Some refusal) ⊎ (refusal ≡ Unavailable)
 
 -- each request of a list is answered by a step, one after another
 abbrev pub Run : Office → Book → List Query → List Reply → Book → Type 0

@@ -1,11 +1,12 @@
 -- What a store shows of itself: whose it is, its book, and what a crash may leave.
-use Rattle.std.specs.Prelude.{ℕ, ◌≡◌, ◌≤◌, ◌<◌, ◌-◌, ◌^◌, ◌⊎◌, Bool, IsTrue}
+use Rattle.std.specs.Prelude.{ℕ, ◌≡◌, ◌≤◌, ◌<◌, ◌-◌, ◌^◌, ◌⊎◌, Bool, IsTrue, Result, Err, IfErr, IfOk, OnErr, OnOk}
 use Rattle.share_rules.specs.declared.office.Office.{Office}
 use Rattle.society_core.specs.Book.{Book, IsSound}
 use Rattle.society_core.specs.declared.store.StoreFault.{StoreFault}
 use Rattle.society_core.specs.declared.store.StoreFault.TheVariants.{Memory, Refused}
 
--- a store: its office and book, how often its medium failed, whether the medium still works and has told the truth, and the books that a crash may leave
+-- a store: its office and book, how often its medium failed, whether the medium still works and has told the truth, and the
+-- books that a crash may leave; contents that stand for no book leave every book, so none of them goes unseen
 pub record State : Type 1 where
   pub office : Office
   pub book : Book
@@ -41,3 +42,19 @@ Rises old new = (old < new) ⊎ ((old ≡ 2 ^ 64 - 1) × (new ≡ old))
 abbrev pub HasCause : State → State → StoreFault → Type 0
 HasCause old new Memory = Unit {0}
 HasCause old new Refused = Rises old.failures new.failures
+
+-- what every question promises: an answer by the office and the book, nothing changed, a cause for a refusal, and refusal once the count of failures is at its greatest
+pub record Question {T : Type 0} (old new : State) (result : Result T StoreFault) (IsAnswer : T → Type 0) : Type 0 where
+  pub answer : IsTrue new.is_clean → IfOk result IsAnswer
+  pub asks : Asks old new
+  pub cause : IfErr result (HasCause old new)
+  pub refuses : old.failures ≡ 2 ^ 64 - 1 → result ≡ Err Refused
+
+-- what every addition promises: the next book where it was added and the old one where it was not, at most the next one left by a crash, and the rest as a question
+pub record Addition {T : Type 0} (old new : State) (next : Book) (result : Result T StoreFault) (IsAnswer : T → Type 0) : Type 0 where
+  pub added : IsTrue new.is_clean → OnOk result (new.book ≡ next)
+  pub answer : IsTrue new.is_clean → IfOk result IsAnswer
+  pub unchanged : IsTrue new.is_clean → OnErr result (new.book ≡ old.book)
+  pub goes : Goes old new (λ book. book ≡ next)
+  pub cause : IfErr result (HasCause old new)
+  pub refuses : old.failures ≡ 2 ^ 64 - 1 → result ≡ Err Refused

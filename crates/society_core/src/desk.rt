@@ -1,18 +1,24 @@
-ghost use Rattle.std.specs.Prelude.{◌≡◌, IsTrue, true};
-ghost use Rattle.society_core.specs.Answers.{arrival_at, next};
-ghost use Rattle.society_core.specs.Requests.{told, Puts, AsksAck, AsksSender, AsksVerdicts, AsksWork, Arrived, Acknowledged, Judged, Shows, shown_of, standing_of};
-ghost use Rattle.society_core.specs.Runs.{Step};
-ghost use Rattle.society_core.specs.Slot.{is_number};
-ghost use Rattle.society_core.specs.State.{Asks, Goes};
+//! The desk of the office.
+ghost use Rattle.std.specs.Prelude.{◌≡◌, IsTrue};
+ghost use Rattle.society_core.specs.Answers.{arrival_at, cut_refusal, first_refusal, return_refusal};
+ghost use Rattle.society_core.specs.Requests.{told, Puts, PutsReturn, Closes, AsksAck, AsksSender, AsksVerdicts, AsksWork, AsksCredits, AsksBalance, Arrived, Stored, Closed, Acknowledged, Judged, Credited, Owed, Shows, shown_of, standing_of};
+ghost use Rattle.society_core.specs.Runs.{Inquires, Proceeds, RefusesBy};
+ghost use Rattle.society_core.specs.State.{Asks};
 
-use crate::request::{Arrival, Refusal, SenderStatus, Standing, Work};
-use crate::store::{Known, Store};
+use crate::answers::{Arrival, Receipt, SenderStatus, Standing, Work};
+use crate::order::PoolOrder;
+use crate::refusal::Refusal;
+use crate::return_key::ReturnKey;
+use crate::store::{Known, KnownTransmission, Payment, Store};
+use crate::transmission_key::TransmissionKey;
 use crate::work::show;
 use ack_files::write_ack;
 use cwr_files::read_transmission;
+use perf_returns::read_return;
+use pool_split::Credit;
 use std::alloc::Global;
 use std::marker::Model;
-use work_ids::{SenderKey, WorkNumber};
+use work_ids::{Account, PoolNumber, SenderKey, TransmissionNumber, WorkNumber};
 use works_core::Verdict;
 
 /// The desk of the office: it answers requests over the book that a store keeps. Clauses see the store.
@@ -30,13 +36,13 @@ impl<S: Store> Model for Desk<S> {
 }
 
 /// How a transmission stands under its sender's front, and whether it came again.
-fn arrival(known: bool, number: u32, front: u32) -> Arrival
+fn arrival(known: bool, number: TransmissionNumber, front: u32) -> Arrival
     ensures { result ≡ arrival_at known number front }
 {
     Arrival {
         known,
         front,
-        standing: if number <= front {
+        standing: if number.value() <= front {
             Standing::Applied
         } else {
             Standing::Held
@@ -66,25 +72,96 @@ impl<S: Store> Desk<S> {
         &mut self,
         alloc: Global,
         sender: &SenderKey,
-        number: u32,
+        number: TransmissionNumber,
         body: &[u8],
     ) -> Result<Arrival, Refusal>
-        requires { is_number number ≡ true }
-        ensures step { IsTrue (S.state self.new).is_clean → Step (S.state self.old).office (S.state self.old).book (Puts sender.now number body.now) (told Arrived result) (S.state self.new).book }
-        ensures goes { Goes (S.state self.old) (S.state self.new) (λ book. book ≡ next (S.state self.old).book (Puts sender.now number body.now)) }
+        ensures { Proceeds (S.state self.old) (S.state self.new) (Puts sender.now number body.now) (told Arrived result) }
     {
         match self.store.known(sender, number, body)? {
-            Known::Same => {
-                let front = self.store.front(sender)?;
-                Ok(arrival(true, number, front))
-            }
-            Known::Other => Err(Refusal::Reused),
-            Known::Absent => {
+            KnownTransmission::Same(front) => Ok(arrival(true, number, front)),
+            KnownTransmission::Other => Err(Refusal::Reused),
+            KnownTransmission::Absent => {
                 let transmission = read_transmission(alloc, body, sender)?;
                 let front = self
                     .store
                     .add_transmission(alloc, sender, number, body, &transmission)?;
                 Ok(arrival(false, number, front))
+            }
+        }
+    }
+
+    /// Puts a performance return: stored or a repeat; `Reused` where its number has other bytes, `Csv` where the body
+    /// is no return, `Unavailable` for want of memory or where the store refuses. A refusal leaves the book as it was.
+    pub fn put_return(
+        &mut self,
+        alloc: Global,
+        key: &ReturnKey,
+        body: &[u8],
+    ) -> Result<Receipt, Refusal>
+        ensures { Proceeds (S.state self.old) (S.state self.new) (PutsReturn key.now body.now) (told Stored result) }
+    {
+        match self.store.known_return(key, body)? {
+            Known::Same => Ok(Receipt::Repeated),
+            Known::Other => Err(Refusal::Reused),
+            Known::Absent => {
+                read_return(alloc, body)?;
+                self.store.add_return(alloc, key, body)?;
+                Ok(Receipt::New)
+            }
+        }
+    }
+
+    /// Refuses the first sender of a cut whose front is below it.
+    fn check_cut(&mut self, cut: &[TransmissionKey]) -> Result<(), Refusal>
+        ensures asks { Asks (S.state self.old) (S.state self.new) }
+        ensures refusal { IsTrue (S.state self.new).is_clean → RefusesBy (first_refusal (cut_refusal (S.state self.old).book) cut.now) result }
+    {
+        for key in cut {
+            let front = self.store.front(&key.sender)?;
+            if key.number.value() > front {
+                return Err(Refusal::Cut {
+                    sender: key.sender,
+                    front,
+                });
+            }
+        }
+        Ok(())
+    }
+
+    /// Refuses the first return that is unknown, or that a pool has paid.
+    fn check_returns(&mut self, returns: &[ReturnKey]) -> Result<(), Refusal>
+        ensures asks { Asks (S.state self.old) (S.state self.new) }
+        ensures refusal { IsTrue (S.state self.new).is_clean → RefusesBy (first_refusal (return_refusal (S.state self.old).book) returns.now) result }
+    {
+        for key in returns {
+            match self.store.payment(key)? {
+                Payment::Unknown => return Err(Refusal::ReturnUnknown(*key)),
+                Payment::Paid(pool) => return Err(Refusal::ReturnPaid { key: *key, pool }),
+                Payment::Unpaid => {}
+            }
+        }
+        Ok(())
+    }
+
+    /// Closes a pool by an order: closed or a repeat; `Reused` where the pool has another order, `Cut` for the first sender
+    /// of the cut whose front is below it, `ReturnUnknown` or `ReturnPaid` for the first return that is unknown or paid,
+    /// `Unavailable` for want of memory or where the store refuses. A refusal leaves the book as it was.
+    pub fn close_pool(
+        &mut self,
+        alloc: Global,
+        pool: PoolNumber,
+        order: &PoolOrder,
+    ) -> Result<Receipt, Refusal>
+        ensures { Proceeds (S.state self.old) (S.state self.new) (Closes pool order.now) (told (λ receipt. Closed receipt pool) result) }
+    {
+        match self.store.known_pool(pool, order)? {
+            Known::Same => Ok(Receipt::Repeated),
+            Known::Other => Err(Refusal::Reused),
+            Known::Absent => {
+                self.check_cut(order.cut())?;
+                self.check_returns(order.returns())?;
+                self.store.add_pool(alloc, pool, order)?;
+                Ok(Receipt::New)
             }
         }
     }
@@ -95,16 +172,13 @@ impl<S: Store> Desk<S> {
         &mut self,
         alloc: Global,
         sender: &SenderKey,
-        number: u32,
+        number: TransmissionNumber,
     ) -> Result<Vec<u8>, Refusal>
-        requires { is_number number ≡ true }
-        ensures step { IsTrue (S.state self.new).is_clean → Step (S.state self.old).office (S.state self.old).book (AsksAck sender.now number) (told (λ text. Acknowledged text.items) result) (S.state self.new).book }
-        ensures asks { Asks (S.state self.old) (S.state self.new) }
+        ensures { Inquires (S.state self.old) (S.state self.new) (AsksAck sender.now number) (told (λ text. Acknowledged text.items) result) }
     {
-        if number > self.store.front(sender)? {
+        let Some(verdicts) = self.store.verdicts(alloc, sender, number)? else {
             return Err(Refusal::Unknown);
-        }
-        let verdicts = self.store.verdicts(alloc, sender, number)?;
+        };
         let Some(body) = self.store.transmission(alloc, sender, number)? else {
             return Err(Refusal::Unavailable);
         };
@@ -117,12 +191,9 @@ impl<S: Store> Desk<S> {
     /// How a sender stands: its front and its held numbers; `Unavailable` for want of memory or where the store
     /// refuses. A sender of whom nothing came has front 0.
     pub fn sender(&mut self, alloc: Global, sender: &SenderKey) -> Result<SenderStatus, Refusal>
-        ensures step { IsTrue (S.state self.new).is_clean → Step (S.state self.old).office (S.state self.old).book (AsksSender sender.now) (told standing_of result) (S.state self.new).book }
-        ensures asks { Asks (S.state self.old) (S.state self.new) }
+        ensures { Inquires (S.state self.old) (S.state self.new) (AsksSender sender.now) (told standing_of result) }
     {
-        let front = self.store.front(sender)?;
-        let held = self.store.held(alloc, sender)?;
-        Ok(SenderStatus { front, held })
+        Ok(self.store.standing(alloc, sender)?)
     }
 
     /// The verdicts of a sender's transmission, one for each NWR and REV transaction in the order of the file:
@@ -131,17 +202,14 @@ impl<S: Store> Desk<S> {
         &mut self,
         alloc: Global,
         sender: &SenderKey,
-        number: u32,
+        number: TransmissionNumber,
     ) -> Result<Vec<Verdict>, Refusal>
-        requires { is_number number ≡ true }
-        ensures step { IsTrue (S.state self.new).is_clean → Step (S.state self.old).office (S.state self.old).book (AsksVerdicts sender.now number) (told (λ verdicts. Judged verdicts.items) result) (S.state self.new).book }
-        ensures asks { Asks (S.state self.old) (S.state self.new) }
+        ensures { Inquires (S.state self.old) (S.state self.new) (AsksVerdicts sender.now number) (told (λ verdicts. Judged verdicts.items) result) }
     {
-        let front = self.store.front(sender)?;
-        if number > front {
-            return Err(Refusal::Unknown);
+        match self.store.verdicts(alloc, sender, number)? {
+            Some(verdicts) => Ok(verdicts),
+            None => Err(Refusal::Unknown),
         }
-        Ok(self.store.verdicts(alloc, sender, number)?)
     }
 
     /// A sender's work as its version at the front shows it: `Unknown` where the work has none, `Unavailable` for
@@ -152,8 +220,7 @@ impl<S: Store> Desk<S> {
         sender: &SenderKey,
         work: &WorkNumber,
     ) -> Result<Work, Refusal>
-        ensures step { IsTrue (S.state self.new).is_clean → Step (S.state self.old).office (S.state self.old).book (AsksWork sender.now work.now) (told (λ work. Shows (shown_of work)) result) (S.state self.new).book }
-        ensures asks { Asks (S.state self.old) (S.state self.new) }
+        ensures { Inquires (S.state self.old) (S.state self.new) (AsksWork sender.now work.now) (told (λ work. Shows (shown_of work)) result) }
     {
         let Some(version) = self.store.work(alloc, sender, work)? else {
             return Err(Refusal::Unknown);
@@ -178,5 +245,24 @@ impl<S: Store> Desk<S> {
                 transaction,
             )?),
         }
+    }
+
+    /// The credits of a pool: `Unknown` where it is not closed, `Unavailable` for want of memory or where the store
+    /// refuses.
+    pub fn credits(&mut self, alloc: Global, pool: PoolNumber) -> Result<Vec<Credit>, Refusal>
+        ensures { Inquires (S.state self.old) (S.state self.new) (AsksCredits pool) (told (λ credits. Credited credits.items) result) }
+    {
+        match self.store.credits(alloc, pool)? {
+            Some(credits) => Ok(credits),
+            None => Err(Refusal::Unknown),
+        }
+    }
+
+    /// The units of money that an account has come to over all pools, 0 where it has no credit; `Unavailable` for want of
+    /// memory or where the store refuses.
+    pub fn balance(&mut self, alloc: Global, account: &Account) -> Result<u64, Refusal>
+        ensures { Inquires (S.state self.old) (S.state self.new) (AsksBalance account.now) (told (Owed account.now) result) }
+    {
+        Ok(self.store.balance(alloc, account)?)
     }
 }

@@ -1,25 +1,32 @@
 ghost use Rattle.std.specs.Prelude.{◌≡◌, ◌≢◌, ◌≤◌, ◌+◌, ℕ, List, Some, true, false};
 ghost use Rattle.share_rules.specs.declared.office.Office.{Office};
 ghost use Rattle.society_core.specs.Answers.{answer};
-ghost use Rattle.society_core.specs.Book.{Book, body_at, front, is_there};
-ghost use Rattle.society_core.specs.Headline.{AlikeToTheGap, Came, OneContent, HoldsWhatCame, BroughtAlike};
-ghost use Rattle.society_core.specs.Requests.{AsksAck, AsksVerdicts, AsksWork, Puts, Query, Refused, Reply};
+ghost use Rattle.society_core.specs.Book.{Book, IsSound, body_at, front, is_there, order_at};
+ghost use Rattle.society_core.specs.Entries.{BookOf, Entry, Holds, IsIn};
+ghost use Rattle.society_core.specs.Headline.{AcceptedAlike, AlikeToTheGap, Came, OneContent, HoldsWhatCame, BroughtAlike};
+ghost use Rattle.society_core.specs.Orders.{Order};
+ghost use Rattle.society_core.specs.Requests.{AsksAck, AsksCredits, AsksVerdicts, AsksWork, Puts, Query, Refused, Reply};
 ghost use Rattle.society_core.specs.Runs.{Run};
-ghost use Rattle.society_core.specs.declared.request.Refusal.TheVariants.{Reused};
+ghost use Rattle.society_core.specs.declared.refusal.Refusal.TheVariants.{Reused};
 
 /// Laws of every run of requests, whichever store is under the desk: each is the contract of a function that
 /// does nothing, over the same definitions that `run` and `answer` are proved to meet.
 ///
+/// The book after any list of requests has the entries of the opening book and those that were accepted, whatever came.
+pub fn book_is_what_was_accepted()
+    ensures { (office : Office) (before : Book) (queries : List Query) (replies : List Reply) (after : Book) → Run office before queries replies after → Holds after (BookOf before queries replies) }
+{}
+
 /// Where no number came with two contents, the book after any list of requests holds exactly what came.
 pub fn book_holds_what_came()
     ensures { (office : Office) (before : Book) (queries : List Query) (replies : List Reply) (after : Book) → Run office before queries replies after → OneContent before queries replies → HoldsWhatCame before queries replies after }
 {}
 
-/// What was accepted stays, whatever contents came: a run keeps each body of its opening book under its number, so the
-/// first one of a number stands, it adds only what some request brought, and other contents of a number are answered as reused.
+/// What was accepted stays, whatever contents came: a run keeps each entry of its opening book, so the first content of a
+/// number stands, and other contents of a number are answered as reused.
 pub fn what_is_accepted_stays()
-    ensures stays { (office : Office) (before : Book) (queries : List Query) (replies : List Reply) (after : Book) → Run office before queries replies after → (sender : List ℕ) (n : ℕ) (body : List ℕ) → body_at before sender n ≡ Some body → body_at after sender n ≡ Some body }
-    ensures came { (office : Office) (before : Book) (queries : List Query) (replies : List Reply) (after : Book) → Run office before queries replies after → (sender : List ℕ) (n : ℕ) (body : List ℕ) → body_at after sender n ≡ Some body → Came before queries replies sender n body }
+    ensures stays { (office : Office) (before : Book) (queries : List Query) (replies : List Reply) (after : Book) → Run office before queries replies after → (entry : Entry) → IsIn before entry → IsIn after entry }
+    ensures came { (office : Office) (before : Book) (queries : List Query) (replies : List Reply) (after : Book) → Run office before queries replies after → (entry : Entry) → IsIn after entry → Came before queries replies entry }
     ensures reused { (office : Office) (book : Book) (sender : List ℕ) (n : ℕ) (body other : List ℕ) → body_at book sender n ≡ Some body → other ≢ body → answer office book (Puts sender n other) ≡ Refused Reused }
 {}
 
@@ -29,11 +36,13 @@ pub fn front_is_the_first_gap()
     ensures gap { (book : Book) (sender : List ℕ) → is_there book sender (front book sender + 1) ≡ false }
 {}
 
-/// Two lists that brought the same bodies, whatever was repeated, reordered or asked between, leave the same
-/// book, and so every later request is answered alike.
+/// Two lists that were accepted with the same entries, whatever was refused, repeated, reordered or asked between, leave one
+/// book, and so every later request is answered alike; likewise two lists that brought the same where no number came with
+/// two contents.
 pub fn order_of_arrival_is_free()
+    ensures accepted { (office : Office) (before : Book) (queries : List Query) (replies : List Reply) (after : Book) (others : List Query) (answers : List Reply) (end : Book) → Run office before queries replies after → Run office before others answers end → AcceptedAlike before queries replies others answers → after ≡ end }
     ensures same_book { (office : Office) (before : Book) (queries : List Query) (replies : List Reply) (after : Book) (others : List Query) (answers : List Reply) (end : Book) → Run office before queries replies after → Run office before others answers end → OneContent before queries replies → BroughtAlike before queries replies others answers → after ≡ end }
-    ensures same_answers { (office : Office) (before : Book) (queries : List Query) (replies : List Reply) (after : Book) (others : List Query) (answers : List Reply) (end : Book) → Run office before queries replies after → Run office before others answers end → OneContent before queries replies → BroughtAlike before queries replies others answers → (query : Query) → answer office after query ≡ answer office end query }
+    ensures same_answers { (office : Office) (before : Book) (queries : List Query) (replies : List Reply) (after : Book) (others : List Query) (answers : List Reply) (end : Book) → Run office before queries replies after → Run office before others answers end → AcceptedAlike before queries replies others answers → (query : Query) → answer office after query ≡ answer office end query }
 {}
 
 /// What waits behind a sender's first gap is unapplied: two books with the same transmissions of a sender up to the
@@ -42,4 +51,10 @@ pub fn what_waits_is_unapplied()
     ensures works { (office : Office) (a b : Book) (sender work : List ℕ) → AlikeToTheGap a b sender → answer office a (AsksWork sender work) ≡ answer office b (AsksWork sender work) }
     ensures verdicts { (office : Office) (a b : Book) (sender : List ℕ) (n : ℕ) → AlikeToTheGap a b sender → answer office a (AsksVerdicts sender n) ≡ answer office b (AsksVerdicts sender n) }
     ensures acks { (office : Office) (a b : Book) (sender : List ℕ) (n : ℕ) → AlikeToTheGap a b sender → answer office a (AsksAck sender n) ≡ answer office b (AsksAck sender n) }
+{}
+
+/// A closed pool is closed for good: whatever comes after, a revision too, its credits are answered as before; what
+/// counts in them are the transmissions up to the cut and the returns that it names.
+pub fn closed_pools_stay()
+    ensures { (office : Office) (before : Book) (queries : List Query) (replies : List Reply) (after : Book) → Run office before queries replies after → IsSound before → (pool : ℕ) (order : Order) → order_at before pool ≡ Some order → answer office after (AsksCredits pool) ≡ answer office before (AsksCredits pool) }
 {}

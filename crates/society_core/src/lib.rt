@@ -1,23 +1,37 @@
 //! The office: its book, the stores that keep it, the desk that answers requests over one, and runs.
 #![tactic(auto)]
 
-pub mod bodies;
-pub mod desk;
-pub mod laws;
-pub mod plain_store;
-pub mod request;
-pub mod runs;
-pub mod slot;
-pub mod store;
+mod answers;
+mod candidates;
+mod claim_list;
+mod desk;
+mod laws;
+mod order;
+mod plain_book;
+mod plain_lines;
+mod plain_pools;
+mod plain_store;
+mod points;
+mod refusal;
+mod request;
+mod return_key;
+mod runs;
+mod store;
+mod transmission_key;
 mod work;
 
+pub use answers::{Answer, Arrival, Receipt, SenderStatus, Standing, Work};
+pub use claim_list::{Candidate, claims};
 pub use desk::Desk;
 pub use laws::{
-    book_holds_what_came, front_is_the_first_gap, order_of_arrival_is_free, what_is_accepted_stays,
-    what_waits_is_unapplied,
+    book_holds_what_came, book_is_what_was_accepted, closed_pools_stay, front_is_the_first_gap,
+    order_of_arrival_is_free, what_is_accepted_stays, what_waits_is_unapplied,
 };
+pub use order::{OrderError, PoolOrder, orders_are_sets};
 pub use plain_store::PlainStore;
-pub use request::{Answer, Arrival, Refusal, Request, SenderStatus, Standing, Work};
+pub use refusal::Refusal;
+pub use request::Request;
+pub use return_key::ReturnKey;
 pub use runs::{answer, run};
-pub use slot::{MAX_NUMBER, Slot};
-pub use store::{Known, Store, StoreFault};
+pub use store::{Known, KnownTransmission, Payment, Store, StoreFault};
+pub use transmission_key::TransmissionKey;

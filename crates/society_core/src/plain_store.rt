@@ -1,25 +1,28 @@
-ghost use Rattle.std.specs.Prelude.{◌≡◌, ◌≤◌, [], IfOk, option_map, true, unwrap_or};
-ghost use Rattle.cwr_files.specs.Contents.{transmission_in};
-ghost use Rattle.society_core.specs.Answers.{known_as};
-ghost use Rattle.society_core.specs.Book.{IsSound, body_at, front, is_there, transmissions_to, verdicts_in, version_in};
-ghost use Rattle.society_core.specs.Plain.{book_with};
-ghost use Rattle.works_core.specs.Line.{line_of};
+//! A store in memory.
+ghost use Rattle.std.specs.Prelude.{◌≡◌, true};
+ghost use Rattle.society_core.specs.Book.{IsSound};
 
-use crate::bodies::Bodies;
-use crate::slot::MAX_NUMBER;
-use crate::store::{Known, Store, StoreFault};
-use cwr_files::{ReadFault, Transmission, read_transmission};
+use crate::answers::SenderStatus;
+use crate::order::PoolOrder;
+use crate::plain_book::PlainBook;
+use crate::plain_lines::{copy_of, known_in, verdicts_of, work_of};
+use crate::plain_pools::{balance_of, credits_of_pool, known_pool_in, known_return_in, payment_of};
+use crate::return_key::ReturnKey;
+use crate::store::{Known, KnownTransmission, Payment, Store, StoreFault};
+use cwr_files::Transmission;
+use pool_split::Credit;
 use share_rules::Office;
-use std::alloc::{AllocError, Global};
-use work_ids::{SenderKey, WorkNumber};
-use works_core::{SenderLine, Verdict, WorkVersion};
+use std::alloc::Global;
+use work_ids::{Account, PoolNumber, SenderKey, TransmissionNumber, WorkNumber};
+use works_core::{Verdict, WorkVersion};
 
-/// A store in memory that keeps the accepted bodies alone, and computes every answer from them anew.
+/// A store in memory that keeps the three maps of the book and the senders' fronts, and computes every other answer from
+/// them anew.
 #[derive(Drop)]
 pub struct PlainStore {
     office: Office,
-    bodies: Bodies,
-    ghost sound: { IsSound (book_with bodies) },
+    book: PlainBook,
+    ghost sound: { IsSound book },
 }
 
 impl PlainStore {
@@ -33,163 +36,48 @@ impl PlainStore {
     {
         PlainStore {
             office: *office,
-            bodies: Bodies::new(alloc),
+            book: PlainBook::new(alloc),
         }
     }
-}
-
-/// The greatest n such that the bodies have a sender's transmissions 1 to n.
-fn front_of(bodies: &Bodies, sender: &SenderKey) -> u32
-    requires { IsSound (book_with bodies.now) }
-    ensures { result ≡ front (book_with bodies.now) sender.now }
-{
-    for reached in 0..MAX_NUMBER {
-        if bodies.get(sender, reached + 1).is_none() {
-            return reached;
-        }
-    }
-    MAX_NUMBER
-}
-
-/// The transmission that stands under a sender's number.
-fn transmission_of<'a>(
-    alloc: Global,
-    bodies: &'a Bodies,
-    sender: &SenderKey,
-    number: u32,
-) -> Result<Transmission<'a>, AllocError>
-    requires sound { IsSound (book_with bodies.now) }
-    requires there { is_there (book_with bodies.now) sender.now number ≡ true }
-    ensures { IfOk result (λ t. t ≡ transmission_in (unwrap_or (body_at (book_with bodies.now) sender.now number) [])) }
-{
-    let Some(body) = bodies.get(sender, number) else {
-        unreachable!();
-    };
-    match read_transmission(alloc, body, sender) {
-        Ok(transmission) => Ok(transmission),
-        Err(ReadFault::Memory) => Err(AllocError),
-        Err(ReadFault::File(_)) => unreachable!(),
-    }
-}
-
-/// A sender's line up to a number that is at most its front.
-fn line_to(
-    alloc: Global,
-    office: &Office,
-    bodies: &Bodies,
-    sender: &SenderKey,
-    number: u32,
-) -> Result<SenderLine, AllocError>
-    requires sound { IsSound (book_with bodies.now) }
-    requires reached { number ≤ front (book_with bodies.now) sender.now }
-    ensures office { IfOk result (λ line. line.office ≡ office.now) }
-    ensures judged { IfOk result (λ line. line.judged ≡ line_of office.now (transmissions_to (book_with bodies.now) sender.now number)) }
-{
-    let mut line = SenderLine::new(alloc, office);
-    for applied in 0..number {
-        let transmission = transmission_of(alloc, bodies, sender, applied + 1)?;
-        line.apply(&transmission)?;
-    }
-    Ok(line)
-}
-
-/// What the book has under a transmission's number.
-fn known_in(bodies: &Bodies, sender: &SenderKey, number: u32, body: &[u8]) -> Known
-    ensures { result ≡ known_as (book_with bodies.now) sender.now number body.now }
-{
-    match bodies.get(sender, number) {
-        None => Known::Absent,
-        Some(kept) => {
-            if kept.as_slice() == body {
-                Known::Same
-            } else {
-                Known::Other
-            }
-        }
-    }
-}
-
-/// The verdicts of a sender's transmission, whose number is 1 to its front.
-fn verdicts_of(
-    alloc: Global,
-    office: &Office,
-    bodies: &Bodies,
-    sender: &SenderKey,
-    number: u32,
-) -> Result<Vec<Verdict>, AllocError>
-    requires sound { IsSound (book_with bodies.now) }
-    requires first { 1 ≤ number }
-    requires reached { number ≤ front (book_with bodies.now) sender.now }
-    ensures { IfOk result (λ verdicts. verdicts.items ≡ verdicts_in office.now (book_with bodies.now) sender.now number) }
-{
-    let line = line_to(alloc, office, bodies, sender, number)?;
-    match line.verdicts(number as usize) {
-        Some(verdicts) => Vec::from_slice(alloc, verdicts),
-        None => unreachable!(),
-    }
-}
-
-/// A copy of the body of a sender's transmission.
-fn copy_of(
-    alloc: Global,
-    bodies: &Bodies,
-    sender: &SenderKey,
-    number: u32,
-) -> Result<Option<Vec<u8>>, AllocError>
-    ensures { IfOk result (λ body. option_map (λ bytes. bytes.items) body ≡ body_at (book_with bodies.now) sender.now number) }
-{
-    match bodies.get(sender, number) {
-        None => Ok(None),
-        Some(body) => Ok(Some(Vec::from_slice(alloc, body)?)),
-    }
-}
-
-/// The version of a sender's work at a number that is at most the sender's front.
-fn version_of(
-    alloc: Global,
-    office: &Office,
-    bodies: &Bodies,
-    sender: &SenderKey,
-    work: &WorkNumber,
-    cut: u32,
-) -> Result<Option<WorkVersion>, AllocError>
-    requires sound { IsSound (book_with bodies.now) }
-    requires reached { cut ≤ front (book_with bodies.now) sender.now }
-    ensures { IfOk result (λ version. version ≡ version_in office.now (book_with bodies.now) sender.now work.now cut) }
-{
-    let line = line_to(alloc, office, bodies, sender, cut)?;
-    Ok(line.work_at(work, cut))
 }
 
 impl Store for PlainStore {
     ghost use Rattle.society_core.specs.Plain.{plain_state};
 
-    ghost state = { λ s. plain_state s.office s.bodies };
+    ghost state = { λ s. plain_state s.office s.book };
 
     fn office(&self) -> &Office {
         &self.office
     }
 
-    fn known(&mut self, sender: &SenderKey, number: u32, body: &[u8]) -> Result<Known, StoreFault> {
-        Ok(known_in(&self.bodies, sender, number, body))
+    fn known(
+        &mut self,
+        sender: &SenderKey,
+        number: TransmissionNumber,
+        body: &[u8],
+    ) -> Result<KnownTransmission, StoreFault> {
+        Ok(known_in(&self.book, sender, number, body))
     }
 
     fn transmission(
         &mut self,
         alloc: Global,
         sender: &SenderKey,
-        number: u32,
+        number: TransmissionNumber,
     ) -> Result<Option<Vec<u8>>, StoreFault> {
-        Ok(copy_of(alloc, &self.bodies, sender, number)?)
+        Ok(copy_of(alloc, &self.book, sender, number)?)
     }
 
     fn front(&mut self, sender: &SenderKey) -> Result<u32, StoreFault> {
-        Ok(front_of(&self.bodies, sender))
+        Ok(self.book.front(sender))
     }
 
-    fn held(&mut self, alloc: Global, sender: &SenderKey) -> Result<Vec<u32>, StoreFault> {
-        let front = front_of(&self.bodies, sender);
-        Ok(self.bodies.numbers_above(alloc, sender, front)?)
+    fn standing(&mut self, alloc: Global, sender: &SenderKey) -> Result<SenderStatus, StoreFault> {
+        let held = self.book.held(alloc, sender)?;
+        Ok(SenderStatus {
+            front: self.book.front(sender),
+            held,
+        })
     }
 
     fn work(
@@ -198,29 +86,75 @@ impl Store for PlainStore {
         sender: &SenderKey,
         work: &WorkNumber,
     ) -> Result<Option<WorkVersion>, StoreFault> {
-        let front = front_of(&self.bodies, sender);
-        Ok(version_of(alloc, &self.office, &self.bodies, sender, work, front)?)
+        Ok(work_of(alloc, &self.office, &self.book, sender, work)?)
     }
 
     fn verdicts(
         &mut self,
         alloc: Global,
         sender: &SenderKey,
-        number: u32,
-    ) -> Result<Vec<Verdict>, StoreFault> {
-        Ok(verdicts_of(alloc, &self.office, &self.bodies, sender, number)?)
+        number: TransmissionNumber,
+    ) -> Result<Option<Vec<Verdict>>, StoreFault> {
+        Ok(verdicts_of(alloc, &self.office, &self.book, sender, number)?)
+    }
+
+    fn known_return(&mut self, key: &ReturnKey, body: &[u8]) -> Result<Known, StoreFault> {
+        Ok(known_return_in(&self.book, key, body))
+    }
+
+    fn payment(&mut self, key: &ReturnKey) -> Result<Payment, StoreFault> {
+        Ok(payment_of(&self.book, key))
+    }
+
+    fn known_pool(&mut self, pool: PoolNumber, order: &PoolOrder) -> Result<Known, StoreFault> {
+        Ok(known_pool_in(&self.book, pool, order))
+    }
+
+    fn credits(
+        &mut self,
+        alloc: Global,
+        pool: PoolNumber,
+    ) -> Result<Option<Vec<Credit>>, StoreFault> {
+        Ok(credits_of_pool(alloc, &self.office, &self.book, pool)?)
+    }
+
+    fn balance(&mut self, alloc: Global, account: &Account) -> Result<u64, StoreFault> {
+        Ok(balance_of(alloc, &self.office, &self.book, account)?)
     }
 
     fn add_transmission(
         &mut self,
         alloc: Global,
         sender: &SenderKey,
-        number: u32,
+        number: TransmissionNumber,
         body: &[u8],
         _transmission: &Transmission<'_>,
     ) -> Result<u32, StoreFault> {
-        self.bodies.insert(alloc, sender, number, body)?;
-        Ok(front_of(&self.bodies, sender))
+        // What these two say of themselves is part of what a sound book says.
+        let (_key, _number) = (sender.as_bytes(), number.value());
+        Ok(self.book.insert_transmission(alloc, sender, number, body)?)
+    }
+
+    fn add_return(
+        &mut self,
+        alloc: Global,
+        key: &ReturnKey,
+        body: &[u8],
+    ) -> Result<(), StoreFault> {
+        // The number's limits are part of what a sound book says.
+        let _number = key.number.value();
+        Ok(self.book.insert_return(alloc, key, body)?)
+    }
+
+    fn add_pool(
+        &mut self,
+        alloc: Global,
+        pool: PoolNumber,
+        order: &PoolOrder,
+    ) -> Result<(), StoreFault> {
+        // The number's limits are part of what a sound book says.
+        let _number = pool.value();
+        Ok(self.book.insert_pool(alloc, pool, order)?)
     }
 
     ghost laws = { λ s. record { honest = λ clean. clean; at_rest = λ _ _ left. absurd left; sound = λ _. s.sound } };

@@ -1,21 +1,18 @@
-ghost use Rattle.std.specs.Prelude.{◌≡◌, IsTrue, OnOk, OnErr, true};
-ghost use Rattle.std.specs.List.{AllByRecursion};
-ghost use Rattle.society_core.specs.Answers.{next};
+ghost use Rattle.std.specs.Prelude.{◌≡◌, IsTrue, OnOk, OnErr};
 ghost use Rattle.society_core.specs.Headline.{TellsWhatCame};
-ghost use Rattle.society_core.specs.Requests.{query_of, reply_of, is_numbered};
-ghost use Rattle.society_core.specs.Runs.{Step, AppendsRun};
-ghost use Rattle.society_core.specs.State.{Goes};
+ghost use Rattle.society_core.specs.Requests.{query_of, reply_of};
+ghost use Rattle.society_core.specs.Runs.{AppendsRun, Proceeds};
 
+use crate::answers::Answer;
 use crate::desk::Desk;
-use crate::request::{Answer, Refusal, Request};
+use crate::refusal::Refusal;
+use crate::request::Request;
 use crate::store::Store;
 use std::alloc::{AllocError, Global};
 
 /// Answers one request.
 pub fn answer<S: Store>(alloc: Global, desk: &mut Desk<S>, request: &Request<'_>) -> Answer
-    requires { is_numbered (query_of request.now) ≡ true }
-    ensures step { IsTrue (S.state desk.new).is_clean → Step (S.state desk.old).office (S.state desk.old).book (query_of request.now) (reply_of result) (S.state desk.new).book }
-    ensures goes { Goes (S.state desk.old) (S.state desk.new) (λ book. book ≡ next (S.state desk.old).book (query_of request.now)) }
+    ensures { Proceeds (S.state desk.old) (S.state desk.new) (query_of request.now) (reply_of result) }
 {
     match request {
         Request::PutTransmission {
@@ -26,6 +23,15 @@ pub fn answer<S: Store>(alloc: Global, desk: &mut Desk<S>, request: &Request<'_>
             Ok(arrival) => Answer::Arrived(arrival),
             Err(refusal) => Answer::Refused(refusal),
         },
+        Request::PutReturn { key, body } => match desk.put_return(alloc, key, body) {
+            Ok(receipt) => Answer::Stored(receipt),
+            Err(refusal) => Answer::Refused(refusal),
+        },
+        Request::ClosePool { pool, order } => match desk.close_pool(alloc, *pool, order) {
+            Ok(receipt) => Answer::Closed(receipt, *pool),
+            Err(refusal) => Answer::Refused(refusal),
+        },
+        Request::FaultyOrder { fault } => Answer::Refused(Refusal::Order(*fault)),
         Request::Acknowledgement { sender, number } => match desk.ack(alloc, sender, *number) {
             Ok(text) => Answer::Acknowledgement(text),
             Err(refusal) => Answer::Refused(refusal),
@@ -42,6 +48,14 @@ pub fn answer<S: Store>(alloc: Global, desk: &mut Desk<S>, request: &Request<'_>
             Ok(verdicts) => Answer::Verdicts(verdicts),
             Err(refusal) => Answer::Refused(refusal),
         },
+        Request::Credits { pool } => match desk.credits(alloc, *pool) {
+            Ok(credits) => Answer::Credits(credits),
+            Err(refusal) => Answer::Refused(refusal),
+        },
+        Request::Balance { account } => match desk.balance(alloc, account) {
+            Ok(units) => Answer::Balance(*account, units),
+            Err(refusal) => Answer::Refused(refusal),
+        },
         Request::Elsewhere => Answer::Refused(Refusal::Unknown),
     }
 }
@@ -54,7 +68,6 @@ pub fn run<S: Store>(
     requests: &[Request<'_>],
     answers: &mut Vec<Answer>,
 ) -> Result<(), AllocError>
-    requires { AllByRecursion (λ request. is_numbered (query_of request) ≡ true) requests.now }
     ensures ran { OnOk result (AppendsRun (S.state desk.old).office (S.state desk.old).book (S.state desk.new).book (S.state desk.new).is_clean requests.now answers.old.items answers.new.items) }
     // Whatever was lost, repeated or reordered, the book holds exactly what came, each content once.
     ensures headline { OnOk result (IsTrue (S.state desk.new).is_clean → TellsWhatCame (S.state desk.old).book (S.state desk.new).book requests.now answers.old.items answers.new.items) }

@@ -1,27 +1,56 @@
-ghost use Rattle.std.specs.Prelude.{◌≡◌, ◌≤◌, IfOk, IfErr, OnOk, OnErr, IsTrue, None, Some, true, option_map};
+//! What keeps the office's book.
+ghost use Rattle.std.specs.Prelude.{◌≡◌, IsTrue, None, option_map, ⊤};
 ghost use Rattle.cwr_files.specs.Contents.{transmission_in};
 ghost use Rattle.cwr_files.specs.FileFault.{file_fault};
-ghost use Rattle.society_core.specs.Answers.{known_as};
-ghost use Rattle.society_core.specs.Book.{body_at, front, held, verdicts_in, version_in, with_transmission};
-ghost use Rattle.society_core.specs.Slot.{is_number};
-ghost use Rattle.society_core.specs.State.{State, IsState, Goes, Asks, HasCause};
+ghost use Rattle.perf_returns.specs.Returns.{return_fault};
+ghost use Rattle.society_core.specs.Answers.{close_refusal, known_as, known_with_front, payment_in, pool_known_as, return_known_as};
+ghost use Rattle.society_core.specs.Book.{body_at, front, held, order_at, return_at, shown_verdicts, version_in, with_pool, with_return, with_transmission};
+ghost use Rattle.society_core.specs.Pools.{balance, credits_of};
+ghost use Rattle.society_core.specs.Requests.{standing_of, Stands};
+ghost use Rattle.society_core.specs.State.{Addition, IsState, Question, State};
 
+use crate::answers::SenderStatus;
+use crate::order::PoolOrder;
+use crate::return_key::ReturnKey;
 use cwr_files::Transmission;
+use pool_split::Credit;
 use share_rules::Office;
 use std::alloc::{AllocError, AllocFailed, Global};
 use thiserror::Error;
-use work_ids::{SenderKey, WorkNumber};
+use work_ids::{Account, PoolNumber, SenderKey, TransmissionNumber, WorkNumber};
 use works_core::{Verdict, WorkVersion};
 
-/// What the book has under a transmission's number.
+/// What the book has under a number, beside a content that is asked for.
 #[derive(Clone, Copy, Debug, PartialEq, Eq)]
 pub enum Known {
     /// Nothing.
     Absent,
-    /// The same bytes.
+    /// The same content.
     Same,
+    /// Another content.
+    Other,
+}
+
+/// What the book has under a transmission's number.
+#[derive(Clone, Copy, Debug, PartialEq, Eq)]
+pub enum KnownTransmission {
+    /// Nothing.
+    Absent,
+    /// The same bytes; the sender's front.
+    Same(u32),
     /// Other bytes.
     Other,
+}
+
+/// Whether a return is there, and whether a pool has paid it.
+#[derive(Clone, Copy, Debug, PartialEq, Eq)]
+pub enum Payment {
+    /// There is no such return.
+    Unknown,
+    /// No pool names it.
+    Unpaid,
+    /// This pool names it.
+    Paid(PoolNumber),
 }
 
 /// Why a store gives no answer.
@@ -65,34 +94,31 @@ pub trait Store {
     fn office(&self) -> &Office
         ensures { result.now ≡ (state self.now).office };
 
-    /// What the book has under a transmission's number.
-    fn known(&mut self, sender: &SenderKey, number: u32, body: &[u8]) -> Result<Known, StoreFault>
-        ensures ok { IsTrue (state self.new).is_clean → IfOk result (λ known. known ≡ known_as (state self.old).book sender.now number body.now) }
-        ensures asks { Asks (state self.old) (state self.new) }
-        ensures cause { IfErr result (HasCause (state self.old) (state self.new)) };
+    /// What the book has under a transmission's number, with the sender's front where it is these bytes.
+    fn known(
+        &mut self,
+        sender: &SenderKey,
+        number: TransmissionNumber,
+        body: &[u8],
+    ) -> Result<KnownTransmission, StoreFault>
+        ensures { Question (state self.old) (state self.new) result (λ known. known ≡ known_with_front (front (state self.old).book sender.now) (known_as (state self.old).book sender.now number body.now)) };
 
     /// The body of a sender's transmission.
     fn transmission(
         &mut self,
         alloc: Global,
         sender: &SenderKey,
-        number: u32,
+        number: TransmissionNumber,
     ) -> Result<Option<Vec<u8>>, StoreFault>
-        ensures ok { IsTrue (state self.new).is_clean → IfOk result (λ body. option_map (λ bytes. bytes.items) body ≡ body_at (state self.old).book sender.now number) }
-        ensures asks { Asks (state self.old) (state self.new) }
-        ensures cause { IfErr result (HasCause (state self.old) (state self.new)) };
+        ensures { Question (state self.old) (state self.new) result (λ body. option_map (λ bytes. bytes.items) body ≡ body_at (state self.old).book sender.now number) };
 
     /// A sender's front.
     fn front(&mut self, sender: &SenderKey) -> Result<u32, StoreFault>
-        ensures ok { IsTrue (state self.new).is_clean → IfOk result (λ number. number ≡ front (state self.old).book sender.now) }
-        ensures asks { Asks (state self.old) (state self.new) }
-        ensures cause { IfErr result (HasCause (state self.old) (state self.new)) };
+        ensures { Question (state self.old) (state self.new) result (λ number. number ≡ front (state self.old).book sender.now) };
 
-    /// The numbers of a sender's held transmissions, ascending.
-    fn held(&mut self, alloc: Global, sender: &SenderKey) -> Result<Vec<u32>, StoreFault>
-        ensures ok { IsTrue (state self.new).is_clean → IfOk result (λ numbers. numbers.items ≡ held (state self.old).book sender.now) }
-        ensures asks { Asks (state self.old) (state self.new) }
-        ensures cause { IfErr result (HasCause (state self.old) (state self.new)) };
+    /// How a sender stands: its front, and the numbers of its held transmissions, ascending.
+    fn standing(&mut self, alloc: Global, sender: &SenderKey) -> Result<SenderStatus, StoreFault>
+        ensures { Question (state self.old) (state self.new) result (λ status. standing_of status ≡ Stands (front (state self.old).book sender.now) (held (state self.old).book sender.now)) };
 
     /// The version of a sender's work at the sender's front.
     fn work(
@@ -101,21 +127,40 @@ pub trait Store {
         sender: &SenderKey,
         work: &WorkNumber,
     ) -> Result<Option<WorkVersion>, StoreFault>
-        ensures ok { IsTrue (state self.new).is_clean → IfOk result (λ version. version ≡ version_in (state self.old).office (state self.old).book sender.now work.now (front (state self.old).book sender.now)) }
-        ensures asks { Asks (state self.old) (state self.new) }
-        ensures cause { IfErr result (HasCause (state self.old) (state self.new)) };
+        ensures { Question (state self.old) (state self.new) result (λ version. version ≡ version_in (state self.old).office (state self.old).book sender.now work.now (front (state self.old).book sender.now)) };
 
-    /// The verdicts of a sender's transmission, whose number is 1 to the front.
+    /// The verdicts of a sender's transmission, none where its number is above the front.
     fn verdicts(
         &mut self,
         alloc: Global,
         sender: &SenderKey,
-        number: u32,
-    ) -> Result<Vec<Verdict>, StoreFault>
-        requires { IsTrue (state self.old).is_clean → (1 ≤ number) × (number ≤ front (state self.old).book sender.now) }
-        ensures ok { IsTrue (state self.new).is_clean → IfOk result (λ verdicts. verdicts.items ≡ verdicts_in (state self.old).office (state self.old).book sender.now number) }
-        ensures asks { Asks (state self.old) (state self.new) }
-        ensures cause { IfErr result (HasCause (state self.old) (state self.new)) };
+        number: TransmissionNumber,
+    ) -> Result<Option<Vec<Verdict>>, StoreFault>
+        ensures { Question (state self.old) (state self.new) result (λ verdicts. option_map (λ list. list.items) verdicts ≡ shown_verdicts (state self.old).office (state self.old).book sender.now number) };
+
+    /// Whether the book has a return, another one under its key, or none.
+    fn known_return(&mut self, key: &ReturnKey, body: &[u8]) -> Result<Known, StoreFault>
+        ensures { Question (state self.old) (state self.new) result (λ known. known ≡ return_known_as (state self.old).book key.now body.now) };
+
+    /// Whether a return is there and paid.
+    fn payment(&mut self, key: &ReturnKey) -> Result<Payment, StoreFault>
+        ensures { Question (state self.old) (state self.new) result (λ payment. payment ≡ payment_in (state self.old).book key.now) };
+
+    /// Whether the book has an order, another one under its pool, or none.
+    fn known_pool(&mut self, pool: PoolNumber, order: &PoolOrder) -> Result<Known, StoreFault>
+        ensures { Question (state self.old) (state self.new) result (λ known. known ≡ pool_known_as (state self.old).book pool order.now) };
+
+    /// The credits of a pool, none where it is not closed.
+    fn credits(
+        &mut self,
+        alloc: Global,
+        pool: PoolNumber,
+    ) -> Result<Option<Vec<Credit>>, StoreFault>
+        ensures { Question (state self.old) (state self.new) result (λ credits. option_map (λ list. list.items) credits ≡ option_map (credits_of (state self.old).office (state self.old).book) (order_at (state self.old).book pool)) };
+
+    /// The balance of an account, in units of money.
+    fn balance(&mut self, alloc: Global, account: &Account) -> Result<u64, StoreFault>
+        ensures { Question (state self.old) (state self.new) result (λ units. units ≡ balance (state self.old).office (state self.old).book account.now) };
 
     /// Adds a sender's transmission under a number that is free, and tells the sender's front then. After an
     /// error the book is as before.
@@ -123,19 +168,31 @@ pub trait Store {
         &mut self,
         alloc: Global,
         sender: &SenderKey,
-        number: u32,
+        number: TransmissionNumber,
         body: &[u8],
         transmission: &Transmission<'_>,
     ) -> Result<u32, StoreFault>
-        requires number { is_number number ≡ true }
         requires free { IsTrue (state self.old).is_clean → body_at (state self.old).book sender.now number ≡ None }
         requires right { file_fault sender.now body.now ≡ None }
         requires read { transmission.now ≡ transmission_in body.now }
-        ensures ok { IsTrue (state self.new).is_clean → OnOk result ((state self.new).book ≡ with_transmission (state self.old).book sender.now number body.now) }
-        ensures front { IsTrue (state self.new).is_clean → IfOk result (λ n. n ≡ front (state self.new).book sender.now) }
-        ensures err { IsTrue (state self.new).is_clean → OnErr result ((state self.new).book ≡ (state self.old).book) }
-        ensures goes { Goes (state self.old) (state self.new) (λ book. book ≡ with_transmission (state self.old).book sender.now number body.now) }
-        ensures cause { IfErr result (HasCause (state self.old) (state self.new)) };
+        ensures { Addition (state self.old) (state self.new) (with_transmission (state self.old).book sender.now number body.now) result (λ n. n ≡ front (with_transmission (state self.old).book sender.now number body.now) sender.now) };
+
+    /// Adds a return under a key that is free. After an error the book is as before.
+    fn add_return(&mut self, alloc: Global, key: &ReturnKey, body: &[u8]) -> Result<(), StoreFault>
+        requires free { IsTrue (state self.old).is_clean → return_at (state self.old).book key.now ≡ None }
+        requires right { return_fault body.now ≡ None }
+        ensures { Addition (state self.old) (state self.new) (with_return (state self.old).book key.now body.now) result (λ _. ⊤) };
+
+    /// Closes a pool that is not closed by an order that nothing refuses. After an error the book is as before.
+    fn add_pool(
+        &mut self,
+        alloc: Global,
+        pool: PoolNumber,
+        order: &PoolOrder,
+    ) -> Result<(), StoreFault>
+        requires free { IsTrue (state self.old).is_clean → order_at (state self.old).book pool ≡ None }
+        requires right { IsTrue (state self.old).is_clean → close_refusal (state self.old).book order.now ≡ None }
+        ensures { Addition (state self.old) (state self.new) (with_pool (state self.old).book pool order.now) result (λ _. ⊤) };
 
     /// What holds of every store.
     ghost laws: { (s : Self) → IsState (state s) };

@@ -1,14 +1,14 @@
 //! What is shown of a work.
 ghost use Rattle.std.specs.Prelude.{◌≡◌, IfOk};
 ghost use Rattle.cwr_records.specs.Blanks.{without_trailing_blanks};
-ghost use Rattle.share_rules.specs.Fault.{iswc_of_work, title_of};
+ghost use Rattle.cwr_files.specs.Transaction.{iswc_of_work, title_of};
 ghost use Rattle.society_core.specs.Answers.{shown_by};
 ghost use Rattle.society_core.specs.Requests.{shown_of};
 ghost use Rattle.works_core.specs.Recordings.{right_one};
 
-use crate::request::Work;
+use crate::answers::Work;
 use cwr_files::Transaction;
-use share_rules::{Office, iswc, weights, work_of};
+use share_rules::{Office, weights};
 use std::alloc::{AllocError, Global};
 use work_ids::{Iswc, SenderKey, WorkNumber};
 use works_core::{WorkVersion, isrcs};
@@ -17,17 +17,14 @@ use works_core::{WorkVersion, isrcs};
 fn title(alloc: Global, transaction: &Transaction<'_>) -> Result<Vec<u8>, AllocError>
     ensures { IfOk result (λ title. title.items ≡ without_trailing_blanks (title_of transaction.now)) }
 {
-    match work_of(transaction.records.as_slice()) {
-        None => Ok(Vec::new(alloc)),
-        Some(work) => Vec::from_slice(alloc, work.title.field().trimmed_end()),
-    }
+    Vec::from_slice(alloc, transaction.title().trimmed_end())
 }
 
 /// The ISWC of a transaction, where it has one that is right.
 fn right_iswc(transaction: &Transaction<'_>) -> Option<Iswc>
     ensures { result ≡ right_one (iswc_of_work transaction.now) }
 {
-    match iswc(transaction) {
+    match transaction.iswc() {
         Ok(iswc) => iswc,
         Err(_) => None,
     }

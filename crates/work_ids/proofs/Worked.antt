@@ -7,6 +7,7 @@ use Rattle.work_ids.specs.CheckDigit.{is_check_digit, weighted_sum}
 use Rattle.work_ids.specs.IpiName.{ipi_field_of}
 use Rattle.work_ids.specs.Isrc.{has_isrc_form, has_isrc_marks, isrc_field_of, isrc_of, isrc_of_text, printed as printed_isrc, without_isrc_marks}
 use Rattle.work_ids.specs.Iswc.{has_iswc_form, has_iswc_marks, has_right_check_digit, iswc_field_of, iswc_of, iswc_of_text, printed, without_iswc_marks}
+use Rattle.work_ids.specs.Numbers.{is_pool_number, is_return_number, is_transmission_number, number_in_text, number_where}
 use Rattle.work_ids.specs.PartyNumber.{party_number_of}
 use Rattle.work_ids.specs.Reporter.{reporter_of}
 use Rattle.work_ids.specs.SenderKey.{sender_key_of}
@@ -266,3 +267,27 @@ text_by_ipi = refl
 
 text_by_number : account_text (Party (codes "PB000000012") (codes "P1       ")) ≡ codes "PPB000000012P1"
 text_by_number = refl
+
+-- the limits of the numbers of transmissions, returns and pools, and their neighbours
+transmission_limits : map (number_where is_transmission_number) (0 ∷ 1 ∷ 999999 ∷ 1000000 ∷ []) ≡ None ∷ Some 1 ∷ Some 999999 ∷ None ∷ []
+transmission_limits = refl
+
+return_limits : map (number_where is_return_number) (0 ∷ 1 ∷ 999999 ∷ 1000000 ∷ []) ≡ None ∷ Some 1 ∷ Some 999999 ∷ None ∷ []
+return_limits = refl
+
+pool_limits : map (number_where is_pool_number) (0 ∷ 1 ∷ 99999 ∷ 100000 ∷ []) ≡ None ∷ Some 1 ∷ Some 99999 ∷ None ∷ []
+pool_limits = refl
+
+-- texts at the limits
+transmission_texts : map (number_in_text is_transmission_number) (codes "1" ∷ codes "999999" ∷ codes "1000000" ∷ []) ≡ Some 1 ∷ Some 999999 ∷ None ∷ []
+transmission_texts = refl
+
+return_texts : map (number_in_text is_return_number) (codes "1" ∷ codes "999999" ∷ codes "1000000" ∷ []) ≡ Some 1 ∷ Some 999999 ∷ None ∷ []
+return_texts = refl
+
+pool_texts : map (number_in_text is_pool_number) (codes "1" ∷ codes "99999" ∷ codes "100000" ∷ []) ≡ Some 1 ∷ Some 99999 ∷ None ∷ []
+pool_texts = refl
+
+-- a leading zero, zero, nothing, a letter, a blank, a sign
+no_numbers : map (number_in_text is_pool_number) (codes "01" ∷ codes "0" ∷ [] ∷ codes "1a" ∷ codes " 1" ∷ codes "+1" ∷ []) ≡ None ∷ None ∷ None ∷ None ∷ None ∷ None ∷ []
+no_numbers = refl

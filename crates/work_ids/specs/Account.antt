@@ -37,8 +37,7 @@ abbrev pub account_behind : ℕ → List ℕ → Result Account IdFault
 account_behind first rest =
     if first == 73 then ipi_account_of rest else (if first == 80 then party_account_of rest else Err Character)
 
--- the account of a text: UNCLAIMED; or I and eleven digits, not all zeros; or P, a sender key and a party number of 1
--- to 9 bytes; where a text is none, the least refusal that holds (profile)
+-- the account of a text: UNCLAIMED; or I and eleven digits, not all zeros; or P, a sender key and a party number of 1 to 9 bytes; where a text is none, the least refusal that holds (profile)
 abbrev pub account_of : List ℕ → Result Account IdFault
 account_of text =
     if bytes_eq text unclaimed then Ok Unclaimed else (if length text == 0 then Err Length else account_behind (slice_index text 0) (drop 1 text))

@@ -4,10 +4,10 @@ use Rattle.std.specs.List.{list_all}
 use Rattle.std.specs.Str.Parse.{digits_value}
 use Rattle.work_ids.specs.Characters.{is_digit}
 
--- one or more of 0-9 (profile)
+-- one or more of 0-9
 abbrev pub is_number : List ℕ → Bool
 is_number bytes = nat_lt 0 (length bytes) && list_all is_digit bytes
 
--- the decimal value of bytes that are digits alone, at least one (profile)
+-- the decimal value of bytes that are digits alone, at least one
 unfoldable pub number_of : List ℕ → Option ℕ
 number_of bytes = if is_number bytes then Some (digits_value 10 bytes) else None

@@ -22,8 +22,7 @@ is_ipi_number digits = length digits == 11 && is_ipi_name digits
 abbrev pub eleven_digits : List ℕ → List ℕ
 eleven_digits digits = replicate (11 - length digits) 48 ++ digits
 
--- the number that a field has: up to eleven digits, blanks at both ends aside, seen filled with zeros to eleven; none
--- where they are none or zeros alone; where bytes are none, the least refusal that holds (profile)
+-- the number that a field has: up to eleven digits, blanks at both ends aside, seen filled with zeros to eleven; none where they are none or zeros alone; where bytes are none, the least refusal that holds (profile)
 abbrev pub ipi_field_of : List ℕ → Result (Option (List ℕ)) IdFault
 ipi_field_of field =
     let digits = trimmed field in

@@ -37,8 +37,7 @@ has_isrc_marks text = slice_index text 2 == 45 && slice_index text 6 == 45 && sl
 unfoldable pub without_isrc_marks : List ℕ → List ℕ
 without_isrc_marks text = take 2 text ++ take 3 (drop 3 text) ++ take 2 (drop 7 text) ++ drop 10 text
 
--- the ISRC that a text of twelve characters, or of fifteen in the printed form, is, small letters read as capitals;
--- where it is none, the least refusal that holds (profile)
+-- the ISRC that a text of twelve characters, or of fifteen in the printed form, is, small letters read as capitals; where it is none, the least refusal that holds (profile)
 unfoldable pub isrc_of_text : List ℕ → Result (List ℕ) IdFault
 isrc_of_text text =
     if length text == 15 then (if has_isrc_marks text then isrc_of (map capital (without_isrc_marks text)) else Err Character) else isrc_of (map capital text)

@@ -45,8 +45,7 @@ unfoldable pub without_iswc_marks : List ℕ → List ℕ
 without_iswc_marks text =
     take 1 text ++ take 3 (drop 2 text) ++ take 3 (drop 6 text) ++ take 3 (drop 10 text) ++ drop 14 text
 
--- the ISWC that a text of eleven characters, or of fifteen in the printed form, is; where it is none, the least
--- refusal that holds (ISO 15707)
+-- the ISWC that a text of eleven characters, or of fifteen in the printed form, is; where it is none, the least refusal that holds (ISO 15707)
 unfoldable pub iswc_of_text : List ℕ → Result (List ℕ) IdFault
 iswc_of_text text =
     if length text == 15 then (if has_iswc_marks text then iswc_of (without_iswc_marks text) else Err Character) else iswc_of text

@@ -3,6 +3,7 @@ pub mod Blanks
 pub mod Characters
 pub mod CheckDigit
 pub mod Digits
+pub mod Numbers
 pub mod Fields
 pub mod IpiName
 pub mod Isrc

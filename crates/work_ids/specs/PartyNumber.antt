@@ -16,8 +16,7 @@ unfoldable pub is_party_number : List ℕ → Bool
 is_party_number bytes =
     length bytes == 9 && list_all is_printable bytes && (list_all is_blank_byte bytes || not (is_blank_byte (slice_index bytes 0)))
 
--- a party number is up to nine bytes of printable ASCII, blanks at both ends aside, seen filled with blanks to nine
--- bytes; it may be blank; where bytes are none, the least refusal that holds (profile)
+-- a party number is up to nine bytes of printable ASCII, blanks at both ends aside, seen filled with blanks to nine bytes; it may be blank; where bytes are none, the least refusal that holds (profile)
 abbrev pub party_number_of : List ℕ → Result (List ℕ) IdFault
 party_number_of field =
     let number = trimmed field in

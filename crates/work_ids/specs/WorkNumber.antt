@@ -6,8 +6,7 @@ use Rattle.work_ids.specs.Characters.{is_printable}
 use Rattle.work_ids.specs.declared.fault.IdFault.{IdFault}
 use Rattle.work_ids.specs.declared.fault.IdFault.TheVariants.{Length, Character}
 
--- a work number is 1 to 14 bytes of printable ASCII, blanks at its end aside, seen filled with blanks to 14 bytes;
--- where bytes are none, the least refusal that holds (profile)
+-- a work number is 1 to 14 bytes of printable ASCII, blanks at its end aside, seen filled with blanks to 14 bytes; where bytes are none, the least refusal that holds (profile)
 abbrev pub work_number_of : List ℕ → Result (List ℕ) IdFault
 work_number_of bytes =
     let number = without_trailing_blanks bytes in

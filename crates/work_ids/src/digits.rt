@@ -1,8 +1,9 @@
-ghost use Rattle.std.specs.Prelude.{◌≡◌, ◌≤◌, ◌<◌, ◌+◌, ◌^◌, IfSome, IsTrue, length, min};
+ghost use Rattle.std.specs.Prelude.{◌≡◌, ◌≤◌, ◌<◌, ◌+◌, ◌^◌, IfSome, IsTrue, length, min, option_map, true};
 ghost use Rattle.std.specs.List.{list_all};
 ghost use Rattle.std.specs.Str.Parse.{digits_value};
 ghost use Rattle.work_ids.specs.Characters.{is_digit};
 ghost use Rattle.work_ids.specs.Digits.{is_number, number_of};
+ghost use Rattle.work_ids.specs.Numbers.{number_in_text};
 
 use crate::characters::are_digits;
 
@@ -40,4 +41,16 @@ pub fn number_up_to(digits: &[u8], most: u32) -> u32
         number = (number * 10 + u32::from(*digit - b'0')).min(most + 1);
     }
     number
+}
+
+/// The number that decimal digits without a leading zero spell, or one more than `most` where it is above that; none where
+/// the text is not of that form.
+pub(crate) fn number_from_one(text: &[u8], most: u32) -> Option<u32>
+    requires most { most ≤ 99999999 }
+    ensures { result ≡ option_map (λ number. min number (most + 1)) (number_in_text (λ _. true) text.now) }
+{
+    if !is_number(text) || text[0] == b'0' {
+        return None;
+    }
+    Some(number_up_to(text, most))
 }

@@ -12,8 +12,11 @@ mod ipi_name;
 mod isrc;
 mod iswc;
 mod party_number;
+mod pool_number;
 mod reporter;
+mod return_number;
 mod sender_key;
+mod transmission_number;
 mod work_number;
 
 pub use account::Account;
@@ -26,8 +29,11 @@ pub use ipi_name::IpiName;
 pub use isrc::Isrc;
 pub use iswc::Iswc;
 pub use party_number::PartyNumber;
+pub use pool_number::PoolNumber;
 pub use reporter::Reporter;
+pub use return_number::ReturnNumber;
 pub use sender_key::SenderKey;
+pub use transmission_number::TransmissionNumber;
 pub use work_number::WorkNumber;
 
 #[cfg(test)]

@@ -105,3 +105,59 @@ fn accounts(rt: HostRuntime) {
     assert_eq!(rt; Account::from_bytes(b"UNCLAIMEE"), Err(IdFault::Character));
     assert_eq!(rt; Account::from_bytes(b""), Err(IdFault::Length));
 }
+
+/// Texts that spell no number: with a leading zero, zero, nothing, with a letter, a blank or a sign, far too great.
+const NO_NUMBERS: [&[u8]; 7] = [
+    b"01",
+    b"0",
+    b"",
+    b"1a",
+    b" 1",
+    b"+1",
+    b"99999999999999999999",
+];
+
+#[test]
+fn transmission_numbers(rt: HostRuntime) {
+    let value = |text: &[u8]| TransmissionNumber::from_text(text).map(|number| number.value());
+    assert_eq!(rt; TransmissionNumber::from_u32(0), None);
+    assert_eq!(rt; TransmissionNumber::from_u32(1_000_000), None);
+    assert!(rt; TransmissionNumber::from_u32(1).is_some());
+    assert!(rt; TransmissionNumber::from_u32(999_999).is_some());
+    assert_eq!(rt; value(b"1"), Some(1));
+    assert_eq!(rt; value(b"999999"), Some(999_999));
+    assert_eq!(rt; value(b"1000000"), None);
+    for text in NO_NUMBERS {
+        assert_eq!(rt; TransmissionNumber::from_text(text), None);
+    }
+}
+
+#[test]
+fn return_numbers(rt: HostRuntime) {
+    let value = |text: &[u8]| ReturnNumber::from_text(text).map(|number| number.value());
+    assert_eq!(rt; ReturnNumber::from_u32(0), None);
+    assert_eq!(rt; ReturnNumber::from_u32(1_000_000), None);
+    assert!(rt; ReturnNumber::from_u32(1).is_some());
+    assert!(rt; ReturnNumber::from_u32(999_999).is_some());
+    assert_eq!(rt; value(b"1"), Some(1));
+    assert_eq!(rt; value(b"999999"), Some(999_999));
+    assert_eq!(rt; value(b"1000000"), None);
+    for text in NO_NUMBERS {
+        assert_eq!(rt; ReturnNumber::from_text(text), None);
+    }
+}
+
+#[test]
+fn pool_numbers(rt: HostRuntime) {
+    let value = |text: &[u8]| PoolNumber::from_text(text).map(|number| number.value());
+    assert_eq!(rt; PoolNumber::from_u32(0), None);
+    assert_eq!(rt; PoolNumber::from_u32(100_000), None);
+    assert!(rt; PoolNumber::from_u32(1).is_some());
+    assert!(rt; PoolNumber::from_u32(99_999).is_some());
+    assert_eq!(rt; value(b"1"), Some(1));
+    assert_eq!(rt; value(b"99999"), Some(99_999));
+    assert_eq!(rt; value(b"100000"), None);
+    for text in NO_NUMBERS {
+        assert_eq!(rt; PoolNumber::from_text(text), None);
+    }
+}

@@ -1,4 +1,5 @@
 pub mod TrackLemmas
 pub mod KeptLemmas
 pub mod CutLemmas
+pub mod CleanLemmas
 mod Worked

@@ -18,10 +18,10 @@ use Rattle.works_core.specs.Line.{judged_in, line_of, verdicts_at}
 use Rattle.works_core.specs.Recordings.{isrcs_in}
 use Rattle.works_core.specs.Verdicts.{ordinal_of, verdicts_from, versions_of, works_in}
 use Rattle.works_core.specs.Versions.{work_at}
-use Rattle.works_core.specs.declared.sender_line.TheConstants.{LAST_TRANSMISSION}
 use Rattle.works_core.specs.declared.judged.Judged.{Judged}
 use Rattle.works_core.specs.declared.judged.Judged.TheVariants.{Clean, Faulty}
 use Rattle.works_core.specs.declared.verdict.Verdict.TheVariants.{Accepted, Rejected}
+use Rattle.work_ids.specs.Blanks.{fill as filled}
 
 -- a revision before its work, a faulty registration, the work, it again, its revision, another work
 line : List Judged
@@ -82,13 +82,9 @@ unfolding field fill is_blank record_of has_isrc_form isrc_of trimmed
 repeats_kept = refl
 
 abbrev office : Office
-office = record { society = 900; territory = 40; name = fill 45 (codes "EXAMPLE SOCIETY"); name_length = 15; society_in_range = lit≤ tt; territory_in_range = lit≤ tt; name_in_range = lit≤ tt }
+office = record { society = 900; territory = 40; name = filled 45 (codes "EXAMPLE SOCIETY"); name_length = 15; within_limits = refl; name_filled = refl; name_in_range = lit≤ tt }
 
 -- a registration whose ownership shares add up to 10007, the registration, and its revision
 its_line : line_of office (transmission_in (codes "HDRPB000000012EXAMPLE MUSIC                                01.102026010510150020260106\r\nGRHNWR0000102.200000000000\r\nNWR0000000000000000FIRST SONG                                                    W1            T0345246801\r\nSPU000000000000000101P1       EXAMPLE MUSIC                                 E          00000000199                 05000   10000   10000\r\nSPT0000000000000002P1             050001000010000I2136 001\r\nSWR0000000000000003A1       WRITER                                       ANNA                           CA         00000000295   05007   00000   00000\r\nSWT0000000000000004A1       050000000000000I2136 001\r\nPWR0000000000000005P1       EXAMPLE MUSIC                                                            A1\r\nREC0000000000000006                                                                                                                                                                                                                                      ATABC2600001\r\nGRT000010000000100000009\r\nTRL000010000000100000011\r\n") ∷ transmission_in (codes "HDRPB000000012EXAMPLE MUSIC                                01.102026010510150020260106\r\nGRHNWR0000102.200000000000\r\nNWR0000000000000000FIRST SONG                                                    W1            T0345246801\r\nSPU000000000000000101P1       EXAMPLE MUSIC                                 E          00000000199                 05000   10000   10000\r\nSPT0000000000000002P1             050001000010000I2136 001\r\nSWR0000000000000003A1       WRITER                                       ANNA                           CA         00000000295   05000   00000   00000\r\nSWT0000000000000004A1       050000000000000I2136 001\r\nPWR0000000000000005P1       EXAMPLE MUSIC                                                            A1\r\nREC0000000000000006                                                                                                                                                                                                                                      ATABC2600001\r\nGRT000010000000100000009\r\nTRL000010000000100000011\r\n") ∷ transmission_in (codes "HDRPB000000012EXAMPLE MUSIC                                01.102026010510150020260106\r\nGRHREV0000102.200000000000\r\nREV0000000000000000FIRST SONG                                                    W1            T0345246801\r\nSPU000000000000000101P1       EXAMPLE MUSIC                                 E          00000000199                 00000   10000   10000\r\nSPT0000000000000002P1             000001000010000I2136 001\r\nSWR0000000000000003A1       WRITER                                       ANNA                           CA         00000000295   10000   00000   00000\r\nSWT0000000000000004A1       100000000000000I2136 001\r\nPWR0000000000000005P1       EXAMPLE MUSIC                                                            A1\r\nREC0000000000000006                                                                                                                                                                                                                                      ATABC2600001\r\nGRT000010000000100000009\r\nTRL000010000000100000011\r\n") ∷ []) ≡ (Faulty 5 ∷ []) ∷ (Clean Nwr (codes "W1            ") ∷ []) ∷ (Clean Rev (codes "W1            ") ∷ []) ∷ []
 unfolding field fill is_blank line_of_piece number_of record_of indicator_of share_of territory_of transmission_in has_type is_read type_of_group fault_of is_check_digit weighted_sum has_isrc_form isrc_of has_iswc_form has_right_check_digit iswc_of trimmed judged_in
 its_line = refl
-
--- the last number of a transmission
-last_number : LAST_TRANSMISSION ≡ 999999
-last_number = refl

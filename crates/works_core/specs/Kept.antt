@@ -1,5 +1,5 @@
--- What a sender's line keeps beside what it judged: the verdicts and the works.
-use Rattle.std.specs.Prelude.{◌≡◌, List, [], ◌∷◌, map, Vec}
+-- What a sender's line keeps beside what it judged, the verdicts and the works: a representation invariant.
+use Rattle.std.specs.Prelude.{◌≡◌, ◌≤◌, List, [], ◌∷◌, length, map, Vec}
 use Rattle.std.specs.Global.{Global}
 use Rattle.works_core.specs.Tracks.{Tracks}
 use Rattle.works_core.specs.Verdicts.{behind, verdicts_from}
@@ -21,7 +21,8 @@ all_verdicts past (transmission ∷ more) = verdicts_from past transmission ∷ 
 abbrev pub AreVerdicts : List (Vec Judged Global) → List (Vec Verdict Global) → Type 0
 AreVerdicts judged verdicts = lists_of verdicts ≡ all_verdicts [] (lists_of judged)
 
--- the verdicts and the works that are kept are those of what was judged
+-- what is kept: a transmission has a number up to 999,999, and the verdicts and the works are those of what was judged
 pub record IsKept (judged : List (Vec Judged Global)) (verdicts : List (Vec Verdict Global)) (works : Works) : Type 0 where
+  pub numbered : length judged ≤ 999999
   pub told : AreVerdicts judged verdicts
   pub tracked : Tracks works (placed_line (lists_of judged))

@@ -1,4 +1,4 @@
--- What is kept of the transactions that came so far.
+-- What is kept of the transactions that came so far: a representation invariant.
 use Rattle.std.specs.Prelude.{ℕ, ◌+◌, ◌≡◌, ◌≤◌, Bool, List, [], ◌∷◌, ◌++◌, Option, Some, None, if◌then◌else◌, vec_len}
 use Rattle.std.specs.HashMap.{get, hash_map_len, spare}
 use Rattle.std.specs.Str.{bytes_eq}

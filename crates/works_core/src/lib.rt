@@ -11,7 +11,7 @@ mod works;
 
 pub use judged::Judged;
 pub use recordings::isrcs;
-pub use sender_line::{LAST_TRANSMISSION, SenderLine};
+pub use sender_line::SenderLine;
 pub use verdict::Verdict;
 pub use version::WorkVersion;
 

@@ -1,5 +1,5 @@
 //! One sender's line.
-ghost use Rattle.std.specs.Prelude.{◌≡◌, ◌+◌, ◌≤◌, ◌<◌, ◌++◌, ◌∷◌, [], map, IfOk, OnOk, OnErr, length, flat_map, List, vec_len, vec_capacity};
+ghost use Rattle.std.specs.Prelude.{◌≡◌, ◌+◌, ◌≤◌, ◌++◌, ◌∷◌, [], map, IfOk, OnOk, OnErr, length, flat_map, List, vec_len, vec_capacity};
 ghost use Rattle.works_core.specs.Line.{judged, judged_in};
 ghost use Rattle.works_core.specs.Tracks.{HasRoom, IsTracked, Tracks};
 ghost use Rattle.works_core.specs.Verdicts.{verdicts_from};
@@ -11,13 +11,10 @@ use crate::verdict::Verdict;
 use crate::version::WorkVersion;
 use crate::works::{Place, Works};
 use cwr_files::{Group, Transaction, Transmission};
-use share_rules::{NO_WORK_NUMBER, Office, judge, work_number};
+use share_rules::{Office, judge};
 use std::alloc::{AllocError, Global};
 use std::marker::Model;
-use work_ids::WorkNumber;
-
-/// The last number that a sender's transmission has (profile).
-pub const LAST_TRANSMISSION: usize = 999_999;
+use work_ids::{TransmissionNumber, WorkNumber};
 
 /// One sender's transactions in order of transmission number, as an office judges them, with their verdicts and the versions
 /// of its works.
@@ -46,9 +43,9 @@ fn judged(transaction: &Transaction<'_>, office: &Office) -> Judged
 {
     match judge(transaction, office) {
         Some(fault) => Judged::Faulty(fault),
-        None => match work_number(transaction) {
+        None => match transaction.work_number() {
             Some(work) => Judged::Clean(transaction.kind, work),
-            None => Judged::Faulty(NO_WORK_NUMBER),
+            None => unreachable!(),
         },
     }
 }
@@ -85,7 +82,7 @@ fn judged_groups(
 /// Appends the verdicts of a transmission's transactions, which are taken into the works.
 fn settle_all(
     works: &mut Works,
-    transmission: u32,
+    transmission: TransmissionNumber,
     transactions: &[Judged],
     verdicts: &mut Vec<Verdict>,
 )
@@ -120,56 +117,62 @@ impl SenderLine {
         }
     }
 
-    /// Applies the sender's next transmission, at a cost that its own transactions make; for want of memory (`AllocError`)
-    /// the line is as it was.
-    pub fn apply(&mut self, transmission: &Transmission<'_>) -> Result<(), AllocError>
-        requires { length self.old.judged < LAST_TRANSMISSION }
+    /// Applies the sender's next transmission, which has this number, at a cost that its own transactions make; for want of
+    /// memory (`AllocError`) the line is as it was.
+    pub fn apply(
+        &mut self,
+        number: TransmissionNumber,
+        transmission: &Transmission<'_>,
+    ) -> Result<(), AllocError>
+        requires next { number ≡ length self.old.judged + 1 }
         ensures office { self.new.office ≡ self.old.office }
         ensures applied { OnOk result (self.new.judged ≡ self.old.judged ++ judged_in self.old.office transmission.now ∷ []) }
         ensures err { OnErr result (self.new ≡ self.old) }
     {
+        prove!(number.value() as usize == self.judged.len() + 1);
         let alloc = *self.judged.allocator();
         let judged = judged_groups(alloc, transmission.groups.as_slice(), &self.office)?;
         let mut verdicts = Vec::with_capacity(alloc, judged.len())?;
         self.works.reserve(judged.len())?;
         self.judged.reserve(1)?;
         self.verdicts.reserve(1)?;
-        let number = self.judged.len() as u32 + 1;
         settle_all(&mut self.works, number, judged.as_slice(), &mut verdicts);
         self.judged.push(judged).unwrap();
         self.verdicts.push(verdicts).unwrap();
         Ok(())
     }
 
-    /// How many transmissions are applied.
-    pub fn front(&self) -> usize
-        ensures { result ≡ length self.now.judged }
+    /// How many transmissions are applied, at most 999,999.
+    pub fn front(&self) -> u32
+        ensures front { result ≡ length self.now.judged }
+        ensures limit { result ≤ 999999 }
     {
-        self.judged.len()
+        self.judged.len() as u32
     }
 
-    /// The verdicts of the transactions of transmission n, in the order of the file; none where n is 0 or above
-    /// the front.
-    pub fn verdicts(&self, n: usize) -> Option<&[Verdict]>
+    /// The verdicts of the transactions of transmission n, in the order of the file; none where n is above the front.
+    pub fn verdicts(&self, n: TransmissionNumber) -> Option<&[Verdict]>
         ensures { Shows self.now.judged n result }
     {
-        if n == 0 || n > self.verdicts.len() {
+        let index = n.value() as usize - 1;
+        if index >= self.verdicts.len() {
             return None;
         }
-        Some(self.verdicts[n - 1].as_slice())
+        Some(self.verdicts[index].as_slice())
     }
 
     /// The version of a work at a cut: its last accepted transaction in the transmissions up to that number; a cut above the
-    /// front is read as the front, and at 0 there is none (profile).
-    pub fn work_at(&self, work: &WorkNumber, cut: u32) -> Option<WorkVersion>
+    /// front is read as the front (profile).
+    pub fn work_at(&self, work: &WorkNumber, cut: TransmissionNumber) -> Option<WorkVersion>
         ensures { result ≡ work_at self.now.judged work.now cut }
     {
         let works = &self.works;
         let mut index = works.last.get(&WorkKey { number: *work }).copied();
         while let Some(at) = index {
-            let linked = works.versions[at];
-            if linked.version.transmission <= cut {
-                return Some(linked.version);
+            let linked = &works.versions[at];
+            let version = linked.version;
+            if version.transmission.value() <= cut.value() {
+                return Some(version);
             }
             index = linked.before;
         }

@@ -4,7 +4,7 @@ use cwr_files::read_transmission;
 use share_rules::Office;
 use std::alloc::{AllocError, Global};
 use std::test::Fail;
-use work_ids::{SenderKey, WorkNumber};
+use work_ids::{SenderKey, TransmissionNumber, WorkNumber};
 
 /// A file that registers the work W1, without its line ends.
 const REGISTRATION: [&[u8]; 11] = [
@@ -54,12 +54,17 @@ fn work(bytes: &[u8]) -> Result<WorkNumber, Fail> {
     Ok(WorkNumber::from_bytes(bytes).ok().ok_or("a work number")?)
 }
 
-/// Applies a file to a line that is not at its end.
+fn number(value: u32) -> Result<TransmissionNumber, Fail> {
+    Ok(TransmissionNumber::from_u32(value).ok_or("a number")?)
+}
+
+/// Applies a file to a line that is not at its end, as the line's next transmission.
 fn send(alloc: Global, line: &mut SenderLine, lines: &[&[u8]]) -> Result<(), Fail> {
     let body = joined(alloc, lines)?;
     let transmission = read_transmission(alloc, body.as_slice(), &sender()?)?;
-    if line.front() < LAST_TRANSMISSION {
-        line.apply(&transmission)?;
+    let next = number(line.front() + 1)?;
+    if next.value() == line.front() + 1 {
+        line.apply(next, &transmission)?;
     }
     Ok(())
 }
@@ -79,7 +84,7 @@ fn verdicts_of_each_transmission(rt: HostRuntime) -> Result<(), Fail> {
     let line = revised_twice(rt.alloc())?;
     assert_eq!(rt; line.front(), 3);
     for (n, revision) in [(1, 0), (2, 1), (3, 2)] {
-        let Some([verdict]) = line.verdicts(n) else {
+        let Some([verdict]) = line.verdicts(number(n)?) else {
             return Err(Fail::from("one verdict"));
         };
         assert_eq!(rt;
@@ -90,8 +95,7 @@ fn verdicts_of_each_transmission(rt: HostRuntime) -> Result<(), Fail> {
             }
         );
     }
-    assert!(rt; line.verdicts(0).is_none());
-    assert!(rt; line.verdicts(4).is_none());
+    assert!(rt; line.verdicts(number(4)?).is_none());
     Ok(())
 }
 
@@ -100,13 +104,12 @@ fn versions_at_each_cut(rt: HostRuntime) -> Result<(), Fail> {
     let line = revised_twice(rt.alloc())?;
     let first = work(b"W1")?;
     for (cut, transmission) in [(1, 1), (2, 2), (3, 3), (4, 3)] {
-        let version = line.work_at(&first, cut).ok_or("a version")?;
-        assert_eq!(rt; version.transmission, transmission);
+        let version = line.work_at(&first, number(cut)?).ok_or("a version")?;
+        assert_eq!(rt; version.transmission.value(), transmission);
         assert_eq!(rt; version.revision, u64::from(transmission) - 1);
         assert_eq!(rt; (version.place, version.ordinal), (0, 1));
     }
-    assert!(rt; line.work_at(&first, 0).is_none());
-    assert!(rt; line.work_at(&work(b"W2")?, 3).is_none());
+    assert!(rt; line.work_at(&work(b"W2")?, number(3)?).is_none());
     Ok(())
 }
 

@@ -1,9 +1,11 @@
 //! Versions of works.
+use work_ids::TransmissionNumber;
+
 /// An accepted version of a work: the number of its transmission, its place there from 0 among the transactions of types
 /// NWR and REV, its work's number among the sender's accepted works from 1, and which revision it is from 0 (profile).
 #[derive(Clone, Copy, Debug, PartialEq, Eq)]
 pub struct WorkVersion {
-    pub transmission: u32,
+    pub transmission: TransmissionNumber,
     pub place: usize,
     pub ordinal: u64,
     pub revision: u64,

@@ -15,12 +15,12 @@ use crate::version::{LinkedVersion, WorkVersion};
 use cwr_records::TransactionKind;
 use std::alloc::{AllocError, Global};
 use std::collections::HashMap;
-use work_ids::WorkNumber;
+use work_ids::{TransmissionNumber, WorkNumber};
 
 /// Where a transaction stands: its transmission's number, and its place there from 0.
 #[derive(Clone, Copy)]
 pub struct Place {
-    pub transmission: u32,
+    pub transmission: TransmissionNumber,
     pub place: usize,
 }
 
@@ -90,10 +90,11 @@ impl Works {
         if self.last.contains_key(&WorkKey { number: work }) {
             return Verdict::Rejected(REGISTERED_BEFORE);
         }
+        let ordinal = self.last.len() as u64 + 1;
         let version = WorkVersion {
             transmission: place.transmission,
             place: place.place,
-            ordinal: self.last.len() as u64 + 1,
+            ordinal,
             revision: 0,
         };
         let linked = LinkedVersion {
@@ -102,8 +103,8 @@ impl Works {
         };
         self.append(work, linked);
         Verdict::Accepted {
-            ordinal: version.ordinal,
-            revision: version.revision,
+            ordinal,
+            revision: 0,
         }
     }
 
@@ -118,21 +119,20 @@ impl Works {
         let Some(last) = self.last.get(&WorkKey { number: work }).copied() else {
             return Verdict::Rejected(NOT_REGISTERED);
         };
-        let before = self.versions[last].version;
+        let before = &self.versions[last].version;
+        let ordinal = before.ordinal;
+        let revision = before.revision + 1;
         let version = WorkVersion {
             transmission: place.transmission,
             place: place.place,
-            ordinal: before.ordinal,
-            revision: before.revision + 1,
+            ordinal,
+            revision,
         };
         let linked = LinkedVersion {
             version,
             before: Some(last),
         };
         self.append(work, linked);
-        Verdict::Accepted {
-            ordinal: version.ordinal,
-            revision: version.revision,
-        }
+        Verdict::Accepted { ordinal, revision }
     }
 }

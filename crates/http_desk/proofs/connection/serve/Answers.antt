@@ -1,10 +1,10 @@
-use Rattle.std.proofs.Common.{[], arith}
+use Rattle.std.proofs.Common.{[], refl, arith}
 use Rattle.http_desk.proofs.Known.{Consumes-none}
 use Rattle.http_desk.proofs.ServeLemmas.{nothing_read}
 use Rattle.http_desk.proofs.connection.serve.Goals as goal
 
 pub returns-in-Err-clause-fault : goal.returns-in-Err-clause-fault
-returns-in-Err-clause-fault g c = nothing_read _ _ _
+returns-in-Err-clause-fault g c = record { breaks = nothing_read _ _ _; cause = (refl, refl, refl) }
 
-pub returns-in-Err-clause-most : goal.returns-in-Err-clause-most
-returns-in-Err-clause-most g c = ([], Consumes-none _, omega arith)
+pub returns-in-Err-clause-turns : goal.returns-in-Err-clause-turns
+returns-in-Err-clause-turns g c = record { reads = omega arith; most = ([], Consumes-none _, omega arith) }

@@ -6,11 +6,11 @@ use Rattle.csv.specs.Reading.{Reached, default_config, records, strip_bom}
 use Rattle.csv.specs.Records.{fields_of}
 use Rattle.csv.specs.declared.parser.State.TheVariants as st
 use Rattle.csv.proofs.ReadFacts.{rows-end, rows-more}
-use Rattle.perf_returns.specs.Returns.{fault_of_records, return_fault, rows_in, rows_of}
+use Rattle.perf_returns.specs.Returns.{fault_of_records, return_fault, performances_in, performances_of}
 use Rattle.perf_returns.specs.Rows.{row_added}
 use Rattle.perf_returns.specs.declared.performance.Performance.{Performance}
 use Rattle.perf_returns.proofs.Records.{records_are, records_begin}
-use Rattle.perf_returns.proofs.Taken.{fault_of_all, fault_of_begun, none_behind, none_seen, not_too_many, rows_more, told_by}
+use Rattle.perf_returns.proofs.Taken.{fault_of_all, fault_of_begun, none_behind, none_seen, not_too_many, rows_few, rows_more, told_by}
 use Rattle.perf_returns.proofs.reading.read_return.Goals as goal
 
 pub loop-fields-init : goal.loop-fields-init
@@ -49,7 +49,7 @@ returns-in_err-take c =
     let took = rw c.in_err-take.was at c.take.ensures in
     let place : c.loop-fields.row + 1 ≡ 1 + length inv.6 = omega (arith, inv.8) in
     let p = err_from_is_err_and c.from_residual.result c.from_residual.ensures.1 in
-    rw (p.1, p.2) (told_by (return_fault c.args.body.now) (rows_in c.args.body.now) (c.loop-fields.row + 1) fields c.loop-fields.rows.items c.take.new.rows.items c.in_err-take.field-0.0 took
+    rw (p.1, p.2) (told_by (return_fault c.args.body.now) (performances_in c.args.body.now) (c.loop-fields.row + 1) fields c.loop-fields.rows.items c.take.new.rows.items c.in_err-take.field-0.0 took
     (λ (n : ℕ) fault. fault_of_begun (records default_config (strip_bom c.args.body.now)) inv.6 fields all.0 (c.loop-fields.row + 1) n all.1 inv.10 place fault))
 
 pub loop-fields-preserved : goal.loop-fields-preserved
@@ -85,8 +85,13 @@ returns-then-row-eq0 c =
     let all = records_are (strip_bom c.args.body.now) inv.6 c.loop-fields.fields-iterator.rdr.state inv.4 inv.7 end in
     ap fault_of_records (all ∙ none_seen inv.6 (omega (arith, inv.8, c.if-row-eq0.true)))
 
+pub from_vec-requires : goal.from_vec-requires
+from_vec-requires c =
+    let inv = c.loop-fields.invariant in
+    omega (arith, ap (λ (rows : List Performance). length rows) inv.11, rows_few inv.6, inv.8, inv.9)
+
 pub returns : goal.returns
-unfolding return_fault rows_in
+unfolding return_fault performances_in
 returns c =
     let inv = c.loop-fields.invariant in
     let s = rw c.in-None.is at ((c.next.ensures.steps inv.2 inv.0).0 inv.1) in
@@ -94,5 +99,5 @@ returns c =
     let all = records_are (strip_bom c.args.body.now) inv.6 c.loop-fields.fields-iterator.rdr.state inv.4 inv.7 end in
     let some : 0 < length inv.6 = grind (arith, nat_tests) in (
       ap fault_of_records all ∙ fault_of_all inv.6 some ∙ inv.10,
-      c.from_vec.ensures ∙ inv.11 ∙ sym (ap (λ (rs : List (List (List ℕ))). rows_of (drop 1 rs)) all),
+      c.from_vec.ensures ∙ inv.11 ∙ sym (ap (λ (rs : List (List (List ℕ))). performances_of (drop 1 rs)) all),
     )

@@ -1,9 +1,9 @@
 use Rattle.std.proofs.Common.{◌≡◌, ◌-◌, ◌∙◌, ℕ, Vec, ap, sym, arith, length, sum}
 use Rattle.std.specs.Global.{Global}
 use Rattle.std.proofs.lemmas.List.{length-map}
-use Rattle.pool_split.specs.Cut.{IsCut}
+use Rattle.pool_split.specs.Threshold.{IsThreshold}
 use Rattle.pool_split.specs.Split.{left, remainder, remainders}
-use Rattle.pool_split.proofs.Parts.{cut_adds, cut_parts_are, fair, if_ok_both, left_within, whole_parts, whole_within}
+use Rattle.pool_split.proofs.Parts.{threshold_adds, threshold_parts_are, fair, if_ok_both, left_within, whole_parts, whole_within}
 use Rattle.pool_split.proofs.splitting.split.Goals as goal
 
 pub sum-requires : goal.sum-requires
@@ -31,8 +31,8 @@ returns-then-left-eq0-clause-fair c =
     (c.in_ok-quotients.ensures ∙ whole_parts c.args.amount c.args.weights.now none)
     (omega (arith, whole, same, c.if-left-eq0.true, whole_within c.args.amount c.args.weights.now c.requires.some))
 
-pub cut_at-requires-clause-few : goal.cut_at-requires-clause-few
-cut_at-requires-clause-few c =
+pub threshold_at-requires-clause-few : goal.threshold_at-requires-clause-few
+threshold_at-requires-clause-few c =
     let whole = c.sum.ensures ∙ ap sum (c.deref.ensures.value ∙ c.in_ok-quotients.ensures) in
     let size = ap length (c.deref-2.ensures.value ∙ c.in_ok-remainders.ensures) ∙ length-map c.args.weights.now (remainder c.args.amount (sum c.args.weights.now)) in
     omega (arith, whole, size, left_within c.args.amount c.args.weights.now c.requires.some)
@@ -43,11 +43,11 @@ returns-clause-parts c =
     let ws = c.args.weights.now in
     let whole = c.sum.ensures ∙ ap sum (c.deref.ensures.value ∙ c.in_ok-quotients.ensures) in
     let rest = c.deref-2.ensures.value ∙ c.in_ok-remainders.ensures in
-    let cut : IsCut (remainders a ws) (left a ws) c.in_ok-cut.cut = rw (rest, whole) at c.in_ok-cut.ensures in
+    let threshold : IsThreshold (remainders a ws) (left a ws) c.in_ok-threshold.threshold = rw (rest, whole) at c.in_ok-threshold.ensures in
     let q = c.deref-3.ensures.value ∙ c.in_ok-quotients.ensures in
     let r = c.deref-4.ensures.value ∙ c.in_ok-remainders.ensures in
     let made = rw (q, r) at c.with_units.ensures.parts in
-    if_ok_both c.with_units.result made made (λ (parts : Vec ℕ Global) is _. is ∙ cut_parts_are a ws c.in_ok-cut.cut cut)
+    if_ok_both c.with_units.result made made (λ (parts : Vec ℕ Global) is _. is ∙ threshold_parts_are a ws c.in_ok-threshold.threshold threshold)
 
 pub returns-clause-fair : goal.returns-clause-fair
 returns-clause-fair c =
@@ -55,10 +55,10 @@ returns-clause-fair c =
     let ws = c.args.weights.now in
     let whole = c.sum.ensures ∙ ap sum (c.deref.ensures.value ∙ c.in_ok-quotients.ensures) in
     let rest = c.deref-2.ensures.value ∙ c.in_ok-remainders.ensures in
-    let cut : IsCut (remainders a ws) (left a ws) c.in_ok-cut.cut = rw (rest, whole) at c.in_ok-cut.ensures in
+    let threshold : IsThreshold (remainders a ws) (left a ws) c.in_ok-threshold.threshold = rw (rest, whole) at c.in_ok-threshold.ensures in
     let q = c.deref-3.ensures.value ∙ c.in_ok-quotients.ensures in
     let r = c.deref-4.ensures.value ∙ c.in_ok-remainders.ensures in
     let made = rw (q, r) at c.with_units.ensures.parts in
     let adds = rw (q, r) at c.with_units.ensures.sum in
     if_ok_both c.with_units.result made adds (λ (parts : Vec ℕ Global) is sums.
-    fair a ws parts.items c.requires.some (is ∙ cut_parts_are a ws c.in_ok-cut.cut cut) (sums ∙ cut_adds a ws c.in_ok-cut.cut c.requires.some cut))
+    fair a ws parts.items c.requires.some (is ∙ threshold_parts_are a ws c.in_ok-threshold.threshold threshold) (sums ∙ threshold_adds a ws c.in_ok-threshold.threshold c.requires.some threshold))

@@ -1,8 +1,8 @@
-use Rattle.society_core.proofs.HeadlineLemmas.{run_from, run_keeps}
+use Rattle.society_core.proofs.HeadlineLemmas.{run_came, run_keeps}
 use Rattle.society_core.proofs.laws.what_is_accepted_stays.Goals as goal
 
 pub returns-clause-stays : goal.returns-clause-stays
 returns-clause-stays c = run_keeps
 
 pub returns-clause-came : goal.returns-clause-came
-returns-clause-came c = run_from
+returns-clause-came c = run_came

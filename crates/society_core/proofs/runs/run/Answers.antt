@@ -4,7 +4,7 @@ use Rattle.share_rules.specs.declared.office.Office.{Office}
 use Rattle.society_core.specs.Requests.{query_of, reply_of}
 use Rattle.society_core.specs.Runs.{Step, AppendsRun}
 use Rattle.society_core.specs.declared.request.Request.{Request}
-use Rattle.society_core.specs.declared.request.Answer.{Answer}
+use Rattle.society_core.specs.declared.answers.Answer.{Answer}
 use Rattle.society_core.proofs.HeadlineLemmas.{tells_what_came}
 use Rattle.society_core.proofs.RunLemmas.{appends_more}
 use Rattle.society_core.proofs.runs.run.Goals as goal

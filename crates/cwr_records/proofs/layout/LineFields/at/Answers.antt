@@ -1,5 +1,4 @@
-use Rattle.std.proofs.Common.{◌≡◌, ◌∙◌, ◌+◌, ◌-◌, rules, ap, length}
-use Rattle.cwr_records.proofs.Fields.{length-field}
+use Rattle.std.proofs.Common.{◌≡◌, ◌∙◌, ◌+◌, ◌-◌, rules, ap}
 use Rattle.cwr_records.specs.declared.layout.Position.{Position}
 use Rattle.cwr_records.specs.Layouts.{field_in}
 use Rattle.cwr_records.proofs.Layouts.{is_wide-tells}
@@ -8,12 +7,12 @@ use Rattle.cwr_records.proofs.layout.LineFields.at.Goals as goal
 pub position_at-position-requires : goal.position_at-position-requires
 position_at-position-requires g c = (is_wide-tells c.args.self.now.positions.now c.args.index g.row.WIDTH c.requires).within
 
-pub field-requires-clause-from_one : goal.field-requires-clause-from_one
-field-requires-clause-from_one g c =
+pub at-requires-clause-from_one : goal.at-requires-clause-from_one
+at-requires-clause-from_one g c =
     rw c.position_at-position.ensures (is_wide-tells c.args.self.now.positions.now c.args.index g.row.WIDTH c.requires).from_one
 
-pub field-requires-clause-in_order : goal.field-requires-clause-in_order
-field-requires-clause-in_order g c =
+pub at-requires-clause-in_order : goal.at-requires-clause-in_order
+at-requires-clause-in_order g c =
     rw c.position_at-position.ensures (is_wide-tells c.args.self.now.positions.now c.args.index g.row.WIDTH c.requires).in_order
 
 pub fixed-requires : goal.fixed-requires
@@ -21,8 +20,8 @@ fixed-requires g c =
     let tells = is_wide-tells c.args.self.now.positions.now c.args.index g.row.WIDTH c.requires in
     let p = c.position_at-position.result in
     let wide : p.to + 1 - p.from ≡ g.row.WIDTH = rw c.position_at-position.ensures tells.wide in
-    (search rules, ap length c.field.ensures ∙ length-field c.args.self.now.line p.from p.to ∙ wide)
+    search (rules, c.at.ensures.width ∙ wide)
 
 pub returns : goal.returns
 returns g c =
-    c.fixed.ensures ∙ c.field.ensures ∙ ap (λ (p : Position). field_in c.args.self.now.line p) c.position_at-position.ensures
+    c.fixed.ensures ∙ c.at.ensures.value ∙ ap (λ (p : Position). field_in c.args.self.now.line p) c.position_at-position.ensures

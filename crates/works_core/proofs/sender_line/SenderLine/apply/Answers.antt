@@ -1,5 +1,5 @@
-use Rattle.std.proofs.Common.{ℕ, ◌+◌, ◌++◌, ◌∷◌, [], List, Vec, Global, map, flat_map, sym, ap, subst, ◌∙◌}
-use Rattle.std.proofs.lemmas.List.{length-map, map_push}
+use Rattle.std.proofs.Common.{ℕ, ◌+◌, ◌++◌, ◌∷◌, [], List, Vec, Global, arith, length, map, flat_map, sym, ap, subst, ◌∙◌}
+use Rattle.std.proofs.lemmas.List.{length-map, length_push, map_push}
 use Rattle.cwr_files.specs.declared.transmission.Group.{Group}
 use Rattle.share_rules.specs.declared.office.Office.{Office}
 use Rattle.works_core.specs.Kept.{lists_of, AreVerdicts}
@@ -29,13 +29,16 @@ invariant_of-self-2 c =
     ∙ ap (λ (vs : List Verdict). vs ++ verdicts_from (judged_of (placed_line line)) c.as_slice-2.result.now) c.in_ok-verdicts.ensures.items
     ∙ ap (λ (js : List Judged). verdicts_from js c.as_slice-2.result.now) (judged_of-behind_all [] 1 line)
     ∙ ap (verdicts_from (behind_all [] line)) c.as_slice-2.ensures.value in
-    let number = c.len-3.ensures ∙ c.reserve-2.ensures.len ∙ inside.judged.ok.0 ∙ sym (length-map inside.judged.items (λ v. v.items)) in
+    let number = c.requires.next ∙ ap (λ (v : SenderLineValue). length v.judged + 1) (sym c.self.view_is) in
     let stand =
-    ap (placed_behind (placed_line line) (c.len-3.result + 1) 0) c.as_slice-2.ensures.value
-    ∙ ap (λ (n : ℕ). placed_behind (placed_line line) (n + 1) 0 fresh.items) number
+    ap (placed_behind (placed_line line) c.args.number 0) c.as_slice-2.ensures.value
+    ∙ ap (λ (n : ℕ). placed_behind (placed_line line) n 0 fresh.items) number
     ∙ sym (placed_line-push line fresh.items)
     ∙ ap placed_line (sym (ap (λ (xs : List (Vec Judged Global)). lists_of xs) all_judged ∙ map_push (λ (v : Vec Judged Global). v.items) inside.judged.items fresh)) in
+    let count = ap (λ (xs : List (Vec Judged Global)). length xs) all_judged ∙ length_push inside.judged.items fresh in
+    let before_it = length-map inside.judged.items (λ v. v.items) in
     record {
+      numbered = omega (arith, count, number, before_it, c.value.ensures.limits);
       told =
           subst (λ (xs : List (Vec Judged Global)). AreVerdicts xs c.push-2.new.self.items) (sym all_judged)
           (subst (λ (xs : List (Vec Verdict Global)). AreVerdicts (inside.judged.items ++ fresh ∷ []) xs) (sym all_verdicts) (kept_push inside.judged.items inside.verdicts.items fresh verdicts c.self.invariant.told told));

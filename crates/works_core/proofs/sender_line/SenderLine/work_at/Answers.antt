@@ -20,12 +20,12 @@ index-linked-requires c =
     let within = walks_within c.args.cut c.args.work.now (work_at c.args.self.now.judged c.args.work.now c.args.cut) versions.items c.in-Some.at walk in
     omega (arith, versions.ok.0)
 
-pub returns-then-linked-cut : goal.returns-then-linked-cut
-returns-then-linked-cut c =
+pub returns-then-value : goal.returns-then-value
+returns-then-value c =
     let versions = c.self.inside.works.versions in
     let answer = work_at c.args.self.now.judged c.args.work.now c.args.cut in
     let walk = subst (λ (o : Option ℕ). Walks c.args.cut c.args.work.now answer versions.items o) c.in-Some.is c.loop-index.invariant in
-    sym (walks_found c.args.cut c.args.work.now answer versions.items c.in-Some.at c.index-linked.result.now walk c.index-linked.ensures c.if-linked-cut.true)
+    sym (walks_found c.args.cut c.args.work.now answer versions.items c.in-Some.at c.index-linked.result.now walk c.index-linked.ensures (omega (arith, c.if-value.true, c.value.ensures, c.value-in-Some.ensures)))
 
 pub loop-index-smaller : goal.loop-index-smaller
 loop-index-smaller c =
@@ -40,7 +40,7 @@ loop-index-preserved c =
     let versions = c.self.inside.works.versions in
     let answer = work_at c.args.self.now.judged c.args.work.now c.args.cut in
     let walk = subst (λ (o : Option ℕ). Walks c.args.cut c.args.work.now answer versions.items o) c.in-Some.is c.loop-index.invariant in
-    walks_next c.args.cut c.args.work.now answer versions.items c.in-Some.at c.index-linked.result.now walk c.index-linked.ensures c.if-linked-cut.false
+    walks_next c.args.cut c.args.work.now answer versions.items c.in-Some.at c.index-linked.result.now walk c.index-linked.ensures (omega (arith, c.if-value.false, c.value.ensures, c.value-in-Some.ensures))
 
 pub returns : goal.returns
 returns c =

@@ -37,8 +37,8 @@ index-requires c =
     let count = c.args.self.now.versions.ok.0 ∙ ap (λ (xs : List LinkedVersion). length xs) tracks.versions ∙ length-linked_versions past in
     omega arith
 
-pub overflow_add-version : goal.overflow_add-version
-overflow_add-version c =
+pub overflow_add-revision : goal.overflow_add-revision
+overflow_add-revision c =
     let past = c.requires.tracked.past in
     let tracks = c.requires.tracked.tracks in
     let found = sym (tracks.last c.args.work) ∙ sym c.get.ensures.value ∙ sym c.in-Some.ensures in

@@ -1,9 +1,0 @@
-use Rattle.std.proofs.Common.{length}
-use Rattle.cwr_files.proofs.Listing.{AreTransactions}
-use Rattle.cwr_files.proofs.contents.transactions.Given as goal
-
-abbrev pub invariant-loop-rest : goal.invariant-loop-rest
-invariant-loop-rest l = AreTransactions l.kind l.group l.after l.rest l.list.items
-
-abbrev pub decreases-loop-rest : goal.decreases-loop-rest
-decreases-loop-rest l = length l.rest

@@ -1,0 +1,5 @@
+use Rattle.cwr_files.proofs.Judged.{is_judged}
+use Rattle.cwr_files.proofs.reader.one_or_the_other.Goals as goal
+
+pub returns : goal.returns
+returns c = is_judged

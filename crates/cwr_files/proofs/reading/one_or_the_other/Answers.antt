@@ -1,5 +1,0 @@
-use Rattle.cwr_files.proofs.Judged.{is_judged}
-use Rattle.cwr_files.proofs.reading.one_or_the_other.Goals as goal
-
-pub returns : goal.returns
-returns c = is_judged

@@ -1,0 +1,38 @@
+//! The reader of whole transmissions.
+ghost use Rattle.std.specs.Prelude.{◌≡◌, ℕ, List, IfOk};
+ghost use Rattle.cwr_files.specs.declared.transmission.Transmission.{Transmission};
+ghost use Rattle.cwr_files.specs.FileFault.{file_fault};
+ghost use Rattle.cwr_files.specs.Contents.{transmission_in};
+ghost use Rattle.cwr_files.specs.Reading.{Holds, Answers, TellsFault, IsJudged};
+
+use crate::builder::contents;
+use crate::fault::ReadFault;
+use crate::fault_finder::find_fault;
+use crate::transmission::Transmission;
+use std::alloc::Global;
+use work_ids::SenderKey;
+
+/// The transmission of a sender that a body is, lent out of the body; else the file fault, which takes no memory to
+/// find; `Memory` where it ran out while the contents of a right body were listed (CISAC CWR 2.2, in this office's
+/// profile).
+pub fn read_transmission<'a>(
+    alloc: Global,
+    body: &'a [u8],
+    sender: &SenderKey,
+) -> Result<Transmission<'a>, ReadFault>
+    ensures found { IfOk result (Holds body.now sender.now) }
+    ensures only { (t : Transmission) → Holds body.now sender.now t → Answers t result }
+    ensures reads { IfOk result (λ t. t ≡ transmission_in body.now) }
+    ensures fault { TellsFault (file_fault sender.now body.now) result }
+{
+    if let Some(fault) = find_fault(body, sender) {
+        return Err(ReadFault::File(fault));
+    }
+    let transmission = contents(alloc, body)?;
+    Ok(transmission)
+}
+
+/// A body without a file fault is exactly one transmission of the sender; a body with one is none.
+pub fn one_or_the_other()
+    ensures { (sender body : List ℕ) → IsJudged sender body (file_fault sender body) }
+{}

@@ -1,0 +1,136 @@
+-- Lemmas on reading on: what was read so far, and what stands at the front of it.
+use Rattle.std.proofs.Common.{◌≡◌, ◌≢◌, inl, inr, ℕ, ◌+◌, ◌<◌, ◌≤◌, List, [], ◌∷◌, ◌++◌, length, take, drop, Option, Some, None, refl, sym, ◌∙◌, ap, subst, arith, append_assoc, length-append}
+use Rattle.std.specs.Prelude.{unwrap_or, ◌^◌}
+use Rattle.std.proofs.lemmas.List.{append-nil, take-append-drop, length-take-le}
+use Rattle.std.specs.Io.KnownBytes.{IsAtEnd}
+use Rattle.httparse.specs.Grammar.{RequestHead, print_request}
+use Rattle.http_desk.specs.declared.connection_end.End.{End}
+use Rattle.http_desk.specs.declared.connection_end.End.TheVariants.{Quiet, Bad, TooLarge, Busy}
+use Rattle.http_desk.specs.declared.body_length.BodyLength.TheVariants.{Sized}
+use Rattle.http_desk.specs.declared.head.Head.{Head}
+use Rattle.http_desk.specs.declared.input.Input.{Input}
+use Rattle.http_desk.specs.Head.{HasHead, IsKept}
+use Rattle.http_desk.specs.Input.{unread, ReadsOn}
+use Rattle.http_desk.specs.Upcoming.{EndsSo, HasPart, ended_with}
+use Rattle.http_desk.specs.Part.{Begins}
+use Rattle.http_desk.specs.Reads.{Awaits, AwaitsHead, Ends, IsBad, IsTooLarge, small_request}
+use Rattle.http_desk.specs.Counted.{counted_on}
+use Rattle.http_desk.proofs.Known.{Consumes-none, Consumes-join, counted_none, counted_join}
+use Rattle.http_desk.proofs.HeadLemmas.{Begins-append, none_partial}
+
+-- ---- reading on
+
+pub ReadsOn-same : (old new : Input) (known : Option (List ℕ)) (reads : ℕ) → unread new ≡ unread old → new.turns ≡ old.turns → reads < 2 ^ 64
+    → ReadsOn old new known known reads reads
+ReadsOn-same old new known reads same turns fits = record {
+  more = [];
+  spent = 0;
+  grown = same ∙ sym (append-nil (unread old));
+  consumed = Consumes-none known;
+  turned = omega (arith, turns);
+  counts = counted_none reads fits;
+  most = omega arith;
+  least = omega arith;
+}
+
+pub ReadsOn-join : (a b c : Input) (k m n : Option (List ℕ)) (r s t : ℕ) → ReadsOn a b k m r s → ReadsOn b c m n s t → ReadsOn a c k n r t
+ReadsOn-join a b c k m n r s t p q = record {
+  more = p.more ++ q.more;
+  spent = p.spent + q.spent;
+  grown = q.grown ∙ ap (λ (v : List ℕ). v ++ q.more) p.grown ∙ append_assoc (unread a) p.more q.more;
+  consumed = Consumes-join k m n p.more q.more p.consumed q.consumed;
+  turned = omega (arith, p.turned, q.turned);
+  counts = q.counts ∙ ap (λ (v : ℕ). counted_on v q.spent) p.counts ∙ counted_join r p.spent q.spent;
+  most = omega (arith, p.most, q.most, length-append p.more q.more);
+  least = omega (arith, p.least, q.least, length-append p.more q.more);
+}
+
+-- ---- heads stay
+
+pub HasHead-append : (bytes more : List ℕ) (kept : Head) → HasHead bytes kept → HasHead (bytes ++ more) kept
+HasHead-append bytes more kept h = (h.0, h.1 ++ more, Begins-append bytes more h.1 h.0 h.2, h.3)
+
+pub HasHead-is : (bytes other : List ℕ) (kept : Head) → HasHead bytes kept → other ≡ bytes → HasHead other kept
+HasHead-is bytes other kept h e = let P : List ℕ → Type 0 = λ v. HasHead v kept in subst P (sym e) h
+
+-- ---- ends
+
+so : (bytes : List ℕ) (known : Option (List ℕ)) (end : End) → ((left : List ℕ) → Ends (bytes ++ left) [] end) → EndsSo bytes known end
+so bytes known end ends = ends (unwrap_or known [])
+
+pub so_bad : (bytes : List ℕ) (known : Option (List ℕ)) → ((more : List ℕ) → IsBad (bytes ++ more)) → EndsSo bytes known Bad
+so_bad bytes known bad = so bytes known Bad bad
+
+pub so_large : (bytes : List ℕ) (known : Option (List ℕ)) → ((more : List ℕ) → IsTooLarge (bytes ++ more)) → EndsSo bytes known TooLarge
+so_large bytes known large = so bytes known TooLarge large
+
+none_left : (known : Option (List ℕ)) → IsAtEnd known → unwrap_or known [] ≡ []
+none_left None is_end = refl
+none_left (Some left) is_end = is_end
+
+-- at the end of the bytes nothing is left
+at_end : (bytes : List ℕ) (known : Option (List ℕ)) (end : End) → IsAtEnd known → Ends bytes [] end → EndsSo bytes known end
+at_end bytes known end is_end ends =
+    let P : List ℕ → Type 0 = λ v. Ends v [] end in
+    subst P (sym (append-nil bytes) ∙ ap (λ (v : List ℕ). bytes ++ v) (sym (none_left known is_end))) ends
+
+pub ended_partial : (bytes : List ℕ) (known : Option (List ℕ)) → IsAtEnd known → AwaitsHead bytes → EndsSo bytes known (ended_with bytes)
+ended_partial [] known is_end awaits = at_end [] known Quiet is_end refl
+ended_partial (b ∷ bytes) known is_end awaits =
+    let some : b ∷ bytes ≢ [] = λ e. cc in
+    at_end (b ∷ bytes) known Bad is_end (inl (some, none_partial (b ∷ bytes) awaits.none))
+
+-- a head and less than its body
+short_body : (bytes rest : List ℕ) (head : RequestHead) (kept : Head) → Begins bytes head rest → IsKept head kept
+    → length bytes < kept.length + kept.body → length rest < kept.body
+short_body bytes rest head kept begins is short =
+    omega (arith, ap length begins.reads.1, length-append (print_request head) rest, is.size, short)
+
+pub ended_short : (bytes : List ℕ) (known : Option (List ℕ)) (kept : Head) → IsAtEnd known → HasHead bytes kept
+    → length bytes < kept.length + kept.body → EndsSo bytes known Bad
+ended_short bytes known kept is_end h short =
+    at_end bytes known Bad is_end
+    (inr (h.0, h.1, h.2, inr (kept.body, h.3.body, short_body bytes h.1 h.0 kept h.2 h.3 short)))
+
+pub ended_busy : (bytes : List ℕ) (known : Option (List ℕ)) (kept : Head) → HasHead bytes kept
+    → small_request < kept.length + kept.body → EndsSo bytes known Busy
+ended_busy bytes known kept h large =
+    so bytes known Busy
+    (λ left. (h.0, h.1 ++ left, Begins-append bytes left h.1 h.0 h.2, (kept.body, h.3.body, omega (arith, h.3.size, large))))
+
+pub awaits_body : (bytes : List ℕ) (kept : Head) → HasHead bytes kept → length bytes < kept.length + kept.body → Awaits bytes
+awaits_body bytes kept h short =
+    inr (record {
+      head = h.0;
+      rest = h.1;
+      size = kept.body;
+      begins = h.2;
+      sized = h.3.body;
+      short = short_body bytes h.1 h.0 kept h.2 h.3 short;
+    })
+
+-- a head and its body
+pub whole_part : (bytes : List ℕ) (kept : Head) → HasHead bytes kept → kept.length + kept.body ≤ length bytes → HasPart bytes kept
+whole_part bytes kept h enough =
+    let text = print_request h.0 in
+    let rest = h.1 in
+    let fits : kept.body ≤ length rest = omega (arith, ap length h.2.reads.1, length-append text rest, h.3.size, enough) in
+    let size : length (take kept.body rest) ≡ kept.body = length-take-le kept.body rest fits in
+    record {
+      part = record { head = h.0; body = take kept.body rest };
+      rest = drop kept.body rest;
+      whole =
+          h.2.reads.1 ∙ ap (λ (v : List ℕ). text ++ v) (sym (take-append-drop kept.body rest))
+          ∙ sym (append_assoc text (take kept.body rest) (drop kept.body rest));
+      is_part = record {
+        valid = h.2.reads.0;
+        short = h.2.short;
+        few = h.2.few;
+        body = h.3.body ∙ ap Sized (sym size);
+      };
+      is_kept = h.3;
+      size = sym size;
+    }
+
+pub head_small : (bytes : List ℕ) (kept : Head) → HasHead bytes kept → kept.length ≤ 8192
+head_small bytes kept h = omega (arith, h.2.short, h.3.size)

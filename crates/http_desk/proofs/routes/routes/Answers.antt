@@ -1,0 +1,7 @@
+use Rattle.std.proofs.Common.{refl}
+use Rattle.http_desk.specs.Path.{office_routes}
+use Rattle.http_desk.proofs.routes.routes.Goals as goal
+
+pub returns : goal.returns
+unfolding office_routes
+returns c = rw (c.in_ok-add-3.ensures, c.in_ok-add-2.ensures, c.in_ok-add.ensures, c.new-router.ensures) refl

@@ -1,0 +1,150 @@
+//! What comes next on a connection: a request, or the end.
+ghost use Rattle.std.specs.Prelude.{◌≡◌, ℕ, List, Option, IfOk, IfErr, IfSome, OnErr, OnOk};
+ghost use Rattle.http_desk.specs.Counted.{inner_of, failures_of, reads_of};
+ghost use Rattle.http_desk.specs.Head.{HasHead};
+ghost use Rattle.http_desk.specs.Input.{unread, ReadsOn, FailsBy};
+ghost use Rattle.http_desk.specs.Outbox.{waiting, Sends};
+ghost use Rattle.http_desk.specs.Reads.{Awaits};
+ghost use Rattle.http_desk.specs.Upcoming.{IsUpcomingHead, IsUpcoming, StopsBy, ended_with};
+
+use crate::connection_end::End;
+use crate::counted::Counted;
+use crate::fault::FaultKind;
+use crate::head::{Head, Reading, read_head};
+use crate::input::Input;
+use crate::outbox::Outbox;
+use std::io::{Read, Write};
+
+/// What stands at the front of the bytes that were read.
+#[derive(Clone, Copy, Debug, PartialEq, Eq)]
+pub(crate) enum Upcoming {
+    /// A request with this head.
+    Request(Head),
+    /// The end of the connection.
+    Ended(End),
+}
+
+// What stands at the front, where no more bytes are needed to tell it.
+fn settled(bytes: &[u8]) -> Option<Upcoming>
+    ensures { IfSome result (λ next. (known : Option (List ℕ)) → IsUpcoming next bytes.now known) }
+{
+    match read_head(bytes) {
+        Reading::Whole(head) => {
+            if bytes.len() < head.length + head.body as usize {
+                return None;
+            }
+            Some(Upcoming::Request(head))
+        }
+        Reading::Partial => None,
+        Reading::Bad => Some(Upcoming::Ended(End::Bad)),
+        Reading::TooLarge => Some(Upcoming::Ended(End::TooLarge)),
+    }
+}
+
+/// What comes next. Before more bytes are read for it, the answers that wait are written.
+pub(crate) fn next_answered<R: Read, W: Write>(
+    reader: &mut Counted<R>,
+    writer: &mut Counted<W>,
+    input: &mut Input,
+    outbox: &mut Outbox,
+) -> Result<Upcoming, FaultKind>
+    ensures reads { ReadsOn input.old input.new (R.remaining (inner_of reader.old))
+        (R.remaining (inner_of reader.new)) (reads_of reader.old) (reads_of reader.new) }
+    ensures next { IfOk result (λ next.
+        IsUpcoming next (unread input.new) (R.remaining (inner_of reader.new))) }
+    ensures sends { OnOk result (Sends (W.contents (inner_of writer.old)) (W.contents (inner_of writer.new))
+        (waiting outbox.old) (waiting outbox.new)) }
+    ensures kept { OnOk result (failures_of reader.new ≡ failures_of reader.old) }
+    ensures kept_writer { OnOk result (failures_of writer.new ≡ failures_of writer.old) }
+    ensures stops { IfErr result (λ kind. StopsBy kind (unread input.new) input.new.turns
+        (failures_of reader.old, failures_of reader.new) (failures_of writer.old, failures_of writer.new)
+        (W.contents (inner_of writer.old)) (W.contents (inner_of writer.new)) (waiting outbox.old)) }
+{
+    if let Some(next) = settled(input.unread()) {
+        return Ok(next);
+    }
+    let Ok(()) = outbox.flush(writer) else {
+        return Err(FaultKind::Write);
+    };
+    next_request(reader, input)
+}
+
+// Reads on until a whole request stands at the front, or the connection ends. Its head is read once.
+fn next_request<R: Read>(reader: &mut Counted<R>, input: &mut Input) -> Result<Upcoming, FaultKind>
+    ensures reads { ReadsOn input.old input.new (R.remaining (inner_of reader.old))
+        (R.remaining (inner_of reader.new)) (reads_of reader.old) (reads_of reader.new) }
+    ensures next { IfOk result (λ next.
+        IsUpcoming next (unread input.new) (R.remaining (inner_of reader.new))) }
+    ensures awaits { OnErr result (Awaits (unread input.new)) }
+    ensures kept { OnOk result (failures_of reader.new ≡ failures_of reader.old) }
+    ensures fault { IfErr result (λ kind.
+        FailsBy kind input.new.turns (failures_of reader.old) (failures_of reader.new)) }
+{
+    match next_head(reader, input)? {
+        Upcoming::Request(head) => whole_request(reader, input, head),
+        Upcoming::Ended(end) => Ok(Upcoming::Ended(end)),
+    }
+}
+
+// Reads on until a head stands at the front.
+fn next_head<R: Read>(reader: &mut Counted<R>, input: &mut Input) -> Result<Upcoming, FaultKind>
+    ensures reads { ReadsOn input.old input.new (R.remaining (inner_of reader.old))
+        (R.remaining (inner_of reader.new)) (reads_of reader.old) (reads_of reader.new) }
+    ensures next { IfOk result (λ next.
+        IsUpcomingHead next (unread input.new) (R.remaining (inner_of reader.new))) }
+    ensures awaits { OnErr result (Awaits (unread input.new)) }
+    ensures kept { OnOk result (failures_of reader.new ≡ failures_of reader.old) }
+    ensures fault { IfErr result (λ kind.
+        FailsBy kind input.new.turns (failures_of reader.old) (failures_of reader.new)) }
+{
+    loop {
+        match read_head(input.unread()) {
+            Reading::Whole(head) => return Ok(Upcoming::Request(head)),
+            Reading::Bad => return Ok(Upcoming::Ended(End::Bad)),
+            Reading::TooLarge => return Ok(Upcoming::Ended(End::TooLarge)),
+            Reading::Partial => {}
+        }
+        if !input.read_more(reader)? {
+            return Ok(Upcoming::Ended(end_of(input.unread())));
+        }
+    }
+}
+
+// How a connection ends that has no further byte, with these bytes of a head.
+fn end_of(bytes: &[u8]) -> End
+    ensures { result ≡ ended_with bytes.now }
+{
+    if bytes.is_empty() {
+        End::Quiet
+    } else {
+        End::Bad
+    }
+}
+
+// Reads on until the body of the head at the front is whole.
+fn whole_request<R: Read>(
+    reader: &mut Counted<R>,
+    input: &mut Input,
+    head: Head,
+) -> Result<Upcoming, FaultKind>
+    requires { HasHead (unread input.old) head }
+    ensures reads { ReadsOn input.old input.new (R.remaining (inner_of reader.old))
+        (R.remaining (inner_of reader.new)) (reads_of reader.old) (reads_of reader.new) }
+    ensures next { IfOk result (λ next.
+        IsUpcoming next (unread input.new) (R.remaining (inner_of reader.new))) }
+    ensures awaits { OnErr result (Awaits (unread input.new)) }
+    ensures kept { OnOk result (failures_of reader.new ≡ failures_of reader.old) }
+    ensures fault { IfErr result (λ kind.
+        FailsBy kind input.new.turns (failures_of reader.old) (failures_of reader.new)) }
+{
+    let size = head.length + head.body as usize;
+    let Ok(()) = input.reserve(size) else {
+        return Ok(Upcoming::Ended(End::Busy));
+    };
+    while input.unread().len() < size {
+        if !input.read_more(reader)? {
+            return Ok(Upcoming::Ended(End::Bad));
+        }
+    }
+    Ok(Upcoming::Request(head))
+}

@@ -1,0 +1,56 @@
+-- The weights of a transaction without a fault.
+use Rattle.std.proofs.Common.{◌≡◌, ℕ, zero, suc, ◌+◌, ◌-◌, ◌<◌, ◌≤◌, Bool, true, false, ◌||◌, List, [], ◌∷◌, ◌++◌, Option, Some, None, if◌then◌else◌, get_or, length, map, max, nat_lt, refl, sym, ap, ◌∙◌, arith}
+use Rattle.std.specs.List.{sum}
+use Rattle.std.proofs.lemmas.Bool.{false≢true}
+use Rattle.std.proofs.lemmas.Bool.Decides.{nat_tests}
+use Rattle.std.proofs.lemmas.List.{map_push}
+use Rattle.std.proofs.lemmas.List.Sums.{sum_by_push}
+use Rattle.cwr_files.specs.declared.transmission.Transaction.{Transaction}
+use Rattle.share_rules.specs.Fault.{collects_too_much, fault_of, first_fault, sentence, sentences, Sentence}
+use Rattle.share_rules.specs.Parties.{Interest, collected, interests}
+use Rattle.share_rules.specs.Weights.{IsWhole, holder_of, total, unclaimed_beside, weights_of}
+use Rattle.share_rules.specs.declared.holder.Holder.{Holder}
+use Rattle.share_rules.specs.declared.office.Office.{Office}
+use Rattle.share_rules.specs.declared.shares.Shares.{Shares}
+
+none_is_none : (k : ℕ) → ◌≡◌ {A = Option ℕ} None (Some k) → ⊥
+none_is_none k e = cc
+
+-- where there is no first fault, no sentence holds
+pub none_holds : (all : List Sentence) (k : ℕ) (d : Sentence) → first_fault all ≡ None → k < length all → (get_or all k d).holds ≡ false
+none_holds [] k d e h = absurd (omega arith)
+none_holds (s ∷ more) k d e h = by_case s.holds refl k h e (λ j none low. none_holds more j d none low)
+  where
+    by_case : (b : Bool) → s.holds ≡ b → (k : ℕ) → k < length (s ∷ more) → (if b then Some s.fault else first_fault more) ≡ None → ((j : ℕ) → first_fault more ≡ None → j < length more → (get_or more j d).holds ≡ false) → (get_or (s ∷ more) k d).holds ≡ false
+    by_case true is k h none recur = absurd (none_is_none s.fault (sym none))
+    by_case false is zero h none recur = is
+    by_case false is (suc k) h none recur = recur k none (omega arith)
+
+-- the collection shares of a transaction without a fault do not add up to more than the limit
+pub clean_collects : (office : Office) (t : Transaction) → fault_of office t ≡ None → collects_too_much office t.records ≡ false
+unfolding fault_of
+clean_collects office t e = none_holds (sentences office t) 7 (sentence 0 false) e (omega arith)
+
+not_one : (a b c : Bool) → (a || b || c) ≡ false → a ≡ false
+not_one true b c e = absurd (false≢true (sym e))
+not_one false b c e = refl
+
+low : (n : ℕ) → nat_lt 10006 n ≡ false → n ≤ 10006
+low n e = grind (arith, nat_tests)
+
+weights_are : (sender : List ℕ) (office : Office) (is : List Interest) → map (λ (h : Holder). h.weight) (map (holder_of sender office) is) ≡ map (λ (s : Shares). s.performing) (map (collected office) is)
+weights_are sender office [] = refl
+weights_are sender office (i ∷ more) = ap (λ (ws : List ℕ). (collected office i).performing ∷ ws) (weights_are sender office more)
+
+-- a transaction without a fault has weights of the whole, or up to what is let pass
+pub clean_is_whole : (sender : List ℕ) (office : Office) (t : Transaction) → fault_of office t ≡ None → IsWhole (weights_of sender office t)
+unfolding weights_of
+clean_is_whole sender office t e =
+    let holders = map (holder_of sender office) (interests t.records) in
+    let shares = map (collected office) (interests t.records) in
+    let claimed = ap sum (weights_are sender office (interests t.records)) in
+    let most = low (sum (map (λ (s : Shares). s.performing) shares)) (not_one _ _ _ (clean_collects office t e)) in
+    let rest = unclaimed_beside holders in
+    let all : total (holders ++ rest ∷ []) ≡ total holders + (max 10000 (total holders) - total holders) =
+    ap sum (map_push (λ (h : Holder). h.weight) holders rest) ∙ sum_by_push (λ (n : ℕ). n) (map (λ (h : Holder). h.weight) holders) rest.weight in
+    (omega (arith, all), omega (arith, all, claimed, most))

@@ -1,0 +1,114 @@
+-- The credits of a closed pool are the same in every book that keeps what was there.
+use Rattle.std.proofs.Common.{◌≡◌, ◌≤◌, ◌&&◌, ◌++◌, ℕ, Bool, true, cond, List, [], ◌∷◌, Option, Some, Result, Ok, Err, is_some, nat_le, map, option_map, unwrap_or, refl, ap, sym, ◌∙◌, arith}
+use Rattle.std.specs.List.{enumerate_from, filter, flat_map, list_all}
+use Rattle.std.proofs.lemmas.Bool.Decides.{nat_tests}
+use Rattle.cwr_files.specs.Contents.{transactions_of}
+use Rattle.cwr_files.specs.Transaction.{number_of_work}
+use Rattle.cwr_files.specs.declared.transmission.Transaction.{Transaction}
+use Rattle.cwr_files.specs.declared.transmission.Transmission.{Transmission}
+use Rattle.perf_returns.specs.Returns.{performances_in}
+use Rattle.perf_returns.specs.declared.performance.Performance.{Performance}
+use Rattle.pool_split.specs.Credits.{credits}
+use Rattle.pool_split.specs.declared.claim.Claim.{Claim}
+use Rattle.pool_split.specs.declared.claim.Credit.{Credit}
+use Rattle.share_rules.specs.declared.office.Office.{Office}
+use Rattle.work_ids.specs.Numbers.{is_pool_number}
+use Rattle.work_ids.specs.declared.fault.IdFault.{IdFault}
+use Rattle.works_core.specs.Line.{line_of}
+use Rattle.works_core.specs.Versions.{work_at}
+use Rattle.society_core.specs.Answers.{answer, credits_answer}
+use Rattle.society_core.specs.Book.{Book, IsSound, body_at, front, is_pool_entry, order_at, return_at, transmissions_to}
+use Rattle.society_core.specs.Entries as entries
+use Rattle.society_core.specs.Entries.{Entry, IsIn}
+use Rattle.society_core.specs.Orders.{Order}
+use Rattle.society_core.specs.Owners.{CutWork, cut_work, is_at, is_version_at, names_recording, sole, versions_at_cut, versions_of_transmission, works_of_cut}
+use Rattle.society_core.specs.Points.{points_by_recording, rows_named}
+use Rattle.society_core.specs.Pools.{credits_of, holders_of}
+use Rattle.society_core.specs.Requests.{AsksCredits, Credited, Query, Reply}
+use Rattle.society_core.specs.Runs.{Run}
+use Rattle.society_core.specs.declared.return_key.ReturnKey.{ReturnKey}
+use Rattle.society_core.specs.declared.transmission_key.TransmissionKey.{TransmissionKey}
+use Rattle.society_core.proofs.Books.{some_body, there_to_front}
+use Rattle.society_core.proofs.Fronts.{first_holds, second_holds}
+use Rattle.society_core.proofs.Gaps.{transmissions_alike}
+use Rattle.society_core.proofs.HeadlineLemmas.{run_keeps}
+
+filter_alike : {X : Type 0} (p q : X → Bool) (xs : List X) → ((x : X) → p x ≡ q x) → filter p xs ≡ filter q xs
+filter_alike p q [] h = refl
+filter_alike p q (x ∷ xs) h =
+    ap (λ (t : Bool). cond t (x ∷ filter p xs) (filter p xs)) (h x) ∙ ap (λ ys. cond (q x) (x ∷ ys) ys) (filter_alike p q xs h)
+
+flat_map_alike : {X Y : Type 0} (f g : X → List Y) (xs : List X) → ((x : X) → f x ≡ g x) → flat_map f xs ≡ flat_map g xs
+flat_map_alike f g [] h = refl
+flat_map_alike f g (x ∷ xs) h = ap (λ ys. ys ++ flat_map f xs) (h x) ∙ ap (λ ys. g x ++ ys) (flat_map_alike f g xs h)
+
+-- the same where each element passes a test
+flat_map_where : {X Y : Type 0} (test : X → Bool) (f g : X → List Y) (xs : List X) → list_all test xs ≡ true → ((x : X) → test x ≡ true → f x ≡ g x) → flat_map f xs ≡ flat_map g xs
+flat_map_where test f g [] all h = refl
+flat_map_where test f g (x ∷ xs) all h =
+    ap (λ ys. ys ++ flat_map f xs) (h x (first_holds (test x) (list_all test xs) all))
+    ∙ ap (λ ys. g x ++ ys) (flat_map_where test f g xs (second_holds (test x) (list_all test xs) all) h)
+
+version_same : (o : Office) (a b : Book) (key : TransmissionKey) (n place : ℕ) (r : Result (List ℕ) IdFault) → transmissions_to a key.sender key.number ≡ transmissions_to b key.sender key.number → is_version_at o a key n place r ≡ is_version_at o b key n place r
+version_same o a b key n place (Ok work) same = ap (λ (ts : List Transmission). is_at n place (work_at (line_of o ts) work key.number)) same
+version_same o a b key n place (Err fault) same = refl
+
+-- a cut shows the same works where the transmissions up to it are the same
+versions_same : (o : Office) (a b : Book) (key : TransmissionKey) → transmissions_to a key.sender key.number ≡ transmissions_to b key.sender key.number → versions_at_cut o a key ≡ versions_at_cut o b key
+versions_same o a b key same =
+    ap (λ (ts : List Transmission). flat_map (λ (sent : ℕ × Transmission). versions_of_transmission o a key sent.0 (transactions_of sent.1)) (enumerate_from 1 ts)) same
+    ∙ flat_map_alike (λ (sent : ℕ × Transmission). versions_of_transmission o a key sent.0 (transactions_of sent.1)) (λ (sent : ℕ × Transmission). versions_of_transmission o b key sent.0 (transactions_of sent.1)) (enumerate_from 1 (transmissions_to b key.sender key.number))
+    (λ sent. ap (map (λ (placed : ℕ × Transaction). cut_work key.sender placed.1))
+    (filter_alike (λ (placed : ℕ × Transaction). is_version_at o a key sent.0 placed.0 (number_of_work placed.1)) (λ (placed : ℕ × Transaction). is_version_at o b key sent.0 placed.0 (number_of_work placed.1)) (enumerate_from 0 (transactions_of sent.1))
+    (λ placed. version_same o a b key sent.0 placed.0 (number_of_work placed.1) same)))
+
+-- what is kept of a book
+pub record Keeps (a b : Book) : Type 0 where
+  pub kept : (e : Entry) → IsIn a e → IsIn b e
+
+-- transmissions up to the front stay
+sent_same : (a b : Book) (s : List ℕ) (n : ℕ) → Keeps a b → n ≤ front a s → transmissions_to a s n ≡ transmissions_to b s n
+sent_same a b s n keeps within = transmissions_alike a b s n (λ k some le.
+    let found = some_body (body_at a s k) (there_to_front a s k some (omega arith)) in
+    found.1 ∙ sym (keeps.kept (entries.Transmission s k found.0) found.1))
+
+cut_within : (n f : ℕ) → nat_le n f ≡ true → n ≤ f
+cut_within n f h = grind (arith, nat_tests)
+
+-- the cut shows the same works
+works_same : (o : Office) (a b : Book) (order : Order) → Keeps a b → list_all (λ key. nat_le key.number (front a key.sender)) order.cut ≡ true → works_of_cut o a order ≡ works_of_cut o b order
+works_same o a b order keeps within =
+    flat_map_where (λ (key : TransmissionKey). nat_le key.number (front a key.sender)) (versions_at_cut o a) (versions_at_cut o b) order.cut within
+    (λ key le. versions_same o a b key (sent_same a b key.sender key.number keeps (cut_within key.number (front a key.sender) le)))
+
+-- the returns have the same rows
+rows_same : (a b : Book) (order : Order) → Keeps a b → list_all (λ key. is_some (return_at a key)) order.returns ≡ true → rows_named a order ≡ rows_named b order
+rows_same a b order keeps there =
+    flat_map_where (λ (key : ReturnKey). is_some (return_at a key)) (λ (key : ReturnKey). performances_in (unwrap_or (return_at a key) [])) (λ (key : ReturnKey). performances_in (unwrap_or (return_at b key) [])) order.returns there
+    (λ key is. let found = some_body (return_at a key) is in
+    ap (λ (o : Option (List ℕ)). performances_in (unwrap_or o [])) (found.1 ∙ sym (keeps.kept (entries.Return key found.0) found.1)))
+
+-- so the credits are the same
+pub credits_same : (o : Office) (a b : Book) (pool : ℕ) (order : Order) → Keeps a b → is_pool_entry a pool order ≡ true → credits_of o a order ≡ credits_of o b order
+unfolding credits_of
+credits_same o a b pool order keeps entry =
+    let cut = list_all (λ (key : TransmissionKey). nat_le key.number (front a key.sender)) order.cut in
+    let returns = list_all (λ (key : ReturnKey). is_some (return_at a key)) order.returns in
+    let both = first_holds (is_pool_number pool && cut) returns entry in
+    let works = works_same o a b order keeps (second_holds (is_pool_number pool) cut both) in
+    let rows = rows_same a b order keeps (second_holds (is_pool_number pool && cut) returns entry) in
+    ap (credits order.amount)
+    (ap (λ (ws : List CutWork). map (claim_by ws) (points_by_recording (rows_named a order))) works
+    ∙ ap (λ (rs : List Performance). map (claim_by (works_of_cut o b order)) (points_by_recording rs)) rows)
+  where
+    claim_by : List CutWork → List ℕ × ℕ → Claim
+    claim_by ws played = record { isrc = played.0; points = played.1; holders = option_map (holders_of o) (sole (filter (names_recording played.0) ws)) }
+
+-- in every book that a run leads to
+pub closed_pool_stays : (o : Office) (before : Book) (qs : List Query) (rs : List Reply) (after : Book) → Run o before qs rs after → IsSound before → (pool : ℕ) (order : Order) → order_at before pool ≡ Some order → answer o after (AsksCredits pool) ≡ answer o before (AsksCredits pool)
+closed_pool_stays o before qs rs after run sound pool order closed =
+    let keeps : Keeps before after = record { kept = λ e there. run_keeps o before qs rs after run e there } in
+    let still : order_at after pool ≡ Some order = keeps.kept (entries.Pool pool order) closed in
+    ap (credits_answer o after) still
+    ∙ ap (λ (cs : List Credit). Credited cs) (sym (credits_same o before after pool order keeps (sound.pools pool order closed)))
+    ∙ sym (ap (credits_answer o before) closed)

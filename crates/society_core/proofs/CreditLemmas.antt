@@ -1,0 +1,244 @@
+-- A version of a work is a clean transaction, so that its weights can be paid.
+use Rattle.std.proofs.Common.{◌≡◌, ℕ, zero, suc, ◌+◌, ◌-◌, ◌<◌, ◌≤◌, Bool, true, false, ◌&&◌, cond, List, [], ◌∷◌, ◌++◌, length, map, get_or, Option, Some, None, refl, ap, sym, subst, ◌∙◌, arith}
+use Rattle.std.proofs.Common.{◌==◌, All, is_some, nat_le, Result, Ok, Err, is_none, option_map, slice_get, unwrap_or, flat_map}
+use Rattle.std.specs.Cmp.{unsigned_Decides}
+use Rattle.std.specs.List.{AllByRecursion, enumerate_from, filter, list_all}
+use Rattle.std.proofs.lemmas.List.{take_all}
+use Rattle.std.proofs.lemmas.List.Elements.{All-map}
+use Rattle.cwr_files.specs.Contents.{transactions_of, transmission_in}
+use Rattle.cwr_files.specs.Transaction.{number_of_work}
+use Rattle.cwr_files.specs.declared.transmission.Transaction.{Transaction}
+use Rattle.cwr_files.specs.declared.transmission.Transmission.{Transmission}
+use Rattle.perf_returns.specs.Returns.{return_fault}
+use Rattle.perf_returns.specs.declared.fault.ReturnFault.{ReturnFault}
+use Rattle.pool_split.specs.Credits.{HasWeights, IsPayable}
+use Rattle.pool_split.specs.declared.claim.Claim.{Claim}
+use Rattle.share_rules.specs.Fault.{fault_of}
+use Rattle.share_rules.specs.declared.holder.Holder.{Holder}
+use Rattle.share_rules.specs.declared.office.Office.{Office}
+use Rattle.share_rules.proofs.Whole.{clean_is_whole}
+use Rattle.work_ids.specs.Numbers.{is_pool_number, is_return_number}
+use Rattle.work_ids.specs.declared.fault.IdFault.{IdFault}
+use Rattle.works_core.specs.Line.{filled_number, judged, judged_by, judged_in, line_of}
+use Rattle.society_core.specs.Book.{Book, IsSound, body_at, front, order_at, return_at, transmissions_to}
+use Rattle.society_core.specs.Candidates.{HasReturns, ReachesCut, StandFor, transactions_sent}
+use Rattle.society_core.specs.Claims.{claims_among, is_candidate_for}
+use Rattle.society_core.specs.Orders.{Order}
+use Rattle.society_core.specs.Owners.{CutWork, cut_work, is_at, is_version_at, names_recording, owner, sole, versions_at_cut, versions_of_transmission, works_of_cut}
+use Rattle.society_core.specs.Pools.{claim_of, holders_of}
+use Rattle.society_core.specs.declared.claim_list.Candidate.{Candidate}
+use Rattle.society_core.specs.declared.return_key.ReturnKey.{ReturnKey}
+use Rattle.society_core.specs.declared.transmission_key.TransmissionKey.{TransmissionKey}
+use Rattle.society_core.proofs.Lines.{line_counted}
+use Rattle.std.proofs.lemmas.Bool.{false≢true}
+use Rattle.works_core.specs.Verdicts.{concerns, is_accepted}
+use Rattle.works_core.specs.Versions.{Placed, work_at, is_version, judged_of, last_version, placed_at, placed_behind, placed_behind_all, placed_line, version_of}
+use Rattle.works_core.specs.declared.judged.Judged.{Judged}
+use Rattle.works_core.specs.declared.judged.Judged.TheVariants.{Clean, Faulty}
+use Rattle.works_core.specs.declared.version.WorkVersion.{WorkVersion}
+use Rattle.society_core.proofs.CandidateLemmas.{both, judged_at, versions_to, versions_to_next}
+
+-- whether a transaction is clean
+abbrev pub is_clean : Judged → Bool
+is_clean (Clean kind number) = true
+is_clean (Faulty fault) = false
+
+accepted_clean : (work : List ℕ) (past : List Placed) (t : Placed) → is_version work past t ≡ true → is_clean t.judged ≡ true
+accepted_clean work past t e = by_case t.judged (both (is_accepted (judged_of past) t.judged) (concerns work t.judged) e).1
+  where
+    by_case : (j : Judged) → concerns work j ≡ true → is_clean j ≡ true
+    by_case (Clean kind number) h = refl
+    by_case (Faulty fault) h = absurd (false≢true h)
+
+-- where a transaction stands in a line
+pub record Stands (line : List (List Judged)) (t : Placed) : Type 0 where
+  pub numbered : 1 ≤ t.transmission
+  pub there : get_or (get_or line (t.transmission - 1) []) t.place (Faulty 0) ≡ t.judged
+
+-- the last version of a work is a clean transaction where it stands
+pub version_clean : (line : List (List Judged)) (work : List ℕ) (past : List Placed) (v : WorkVersion) → AllByRecursion (Stands line) past → last_version work past ≡ Some v → is_clean (get_or (get_or line (v.transmission - 1) []) v.place (Faulty 0)) ≡ true
+version_clean line work [] v all e = absurd (cc)
+version_clean line work (t ∷ past) v all e = by_case (is_version work past t) refl e (version_clean line work past v all.1)
+  where
+    by_case : (b : Bool) → is_version work past t ≡ b → cond b (Some (version_of work past t)) (last_version work past) ≡ Some v → (last_version work past ≡ Some v → is_clean (get_or (get_or line (v.transmission - 1) []) v.place (Faulty 0)) ≡ true) → is_clean (get_or (get_or line (v.transmission - 1) []) v.place (Faulty 0)) ≡ true
+    by_case false is told later = later told
+    by_case true is told later =
+        let same : version_of work past t ≡ v = cc in
+        ap (λ (w : WorkVersion). is_clean (get_or (get_or line (w.transmission - 1) []) w.place (Faulty 0))) (sym same) ∙ ap is_clean all.0.there ∙ accepted_clean work past t is
+
+module _ (P : Placed → Type 0) where
+  stand_behind : (past : List Placed) (n p : ℕ) (js : List Judged) → AllByRecursion P past → ((k : ℕ) → k < length js → P (placed_at n (p + k) (get_or js k (Faulty 0)))) → AllByRecursion P (placed_behind past n p js)
+  stand_behind past n p [] all more = all
+  stand_behind past n p (j ∷ js) all more =
+      let here : p + 0 ≡ p = omega arith in
+      stand_behind (placed_at n p j ∷ past) n (p + 1) js
+      (subst (λ (k : ℕ). P (placed_at n k j)) here (more 0 (omega arith)), all)
+      (λ k h. let next : p + suc k ≡ p + 1 + k = omega arith in subst (λ (i : ℕ). P (placed_at n i (get_or js k (Faulty 0)))) next (more (suc k) (omega arith)))
+
+  stand_behind_all : (past : List Placed) (n : ℕ) (line : List (List Judged)) → AllByRecursion P past → ((i : ℕ) → i < length line → (k : ℕ) → k < length (get_or line i []) → P (placed_at (n + i) k (get_or (get_or line i []) k (Faulty 0)))) → AllByRecursion P (placed_behind_all past n line)
+  stand_behind_all past n [] all more = all
+  stand_behind_all past n (js ∷ line) all more =
+      let here : n + 0 ≡ n = omega arith in
+      stand_behind_all (placed_behind past n 0 js) (n + 1) line
+      (stand_behind past n 0 js all (λ k h. let place : 0 + k ≡ k = omega arith in subst (λ (m : ℕ). P (placed_at m (0 + k) (get_or js k (Faulty 0)))) here (subst (λ (m : ℕ). P (placed_at (n + 0) m (get_or js k (Faulty 0)))) (sym place) (more 0 (omega arith) k h))))
+      (λ i h k below. let next : n + suc i ≡ n + 1 + i = omega arith in subst (λ (m : ℕ). P (placed_at m k (get_or (get_or line i []) k (Faulty 0)))) next (more (suc i) (omega arith) k below))
+
+-- each transaction of a line stands in it
+pub line_stands : (line : List (List Judged)) → AllByRecursion (Stands line) (placed_line line)
+line_stands line = stand_behind_all (Stands line) [] 1 line tt (λ i h k below.
+    let back : 1 + i - 1 ≡ i = omega arith in
+    record { numbered = omega arith; there = ap (λ (m : ℕ). get_or (get_or line m []) k (Faulty 0)) back })
+
+clean_fault : (office : Office) (t : Transaction) → is_clean (judged office t) ≡ true → fault_of office t ≡ None
+clean_fault office t e = by_case (fault_of office t) e
+  where
+    by_case : (f : Option ℕ) → is_clean (judged_by t.kind (filled_number t) f) ≡ true → f ≡ None
+    by_case None h = refl
+    by_case (Some fault) h = absurd (false≢true h)
+
+get_mapped : (office : Office) (ts : List Transaction) (place : ℕ) (t : Transaction) → slice_get ts place ≡ Some t → get_or (map (judged office) ts) place (Faulty 0) ≡ judged office t
+get_mapped office [] place t e = absurd (cc)
+get_mapped office (x ∷ ts) zero t e = let same : x ≡ t = cc in ap (judged office) same
+get_mapped office (x ∷ ts) (suc place) t e = get_mapped office ts place t e
+
+sent_clean : (office : Office) (sent : Transmission) (place : ℕ) (t : Transaction) → slice_get (transactions_of sent) place ≡ Some t → get_or (judged_in office sent) place (Faulty 0) ≡ judged office t
+unfolding judged_in
+sent_clean office sent place t e = get_mapped office (transactions_of sent) place t e
+
+version_at_clean : (office : Office) (line : List (List Judged)) (work : List ℕ) (cut : ℕ) (v : WorkVersion) → length line ≤ cut → work_at line work cut ≡ Some v → is_clean (get_or (get_or line (v.transmission - 1) []) v.place (Faulty 0)) ≡ true
+unfolding work_at
+version_at_clean office line work cut v short e = version_clean line work (placed_line line) v (line_stands line) (ap (λ (l : List (List Judged)). last_version work (placed_line l)) (sym (take_all cut line short)) ∙ e)
+
+same_number : (a b : ℕ) → (a == b) ≡ true → a ≡ b
+same_number a b e = (unsigned_Decides a b).0 e
+
+-- a transaction that is a version at a cut has no fault
+pub version_has_no_fault : (office : Office) (book : Book) (key : TransmissionKey) (k place : ℕ) (t : Transaction) → suc k ≤ key.number → slice_get (transactions_sent book key.sender (suc k)) place ≡ Some t → is_version_at office book key (suc k) place (number_of_work t) ≡ true → fault_of office t ≡ None
+version_has_no_fault office book key k place t within there e = by_work (number_of_work t) e
+  where
+    line : List (List Judged)
+    line = line_of office (transmissions_to book key.sender key.number)
+
+    count : length line ≡ key.number
+    count = line_counted office book key.sender key.number
+
+    by_version : (work : List ℕ) (v : Option WorkVersion) → work_at line work key.number ≡ v → is_at (suc k) place v ≡ true → fault_of office t ≡ None
+    by_version work None is h = absurd (false≢true h)
+    by_version work (Some v) is h =
+        let parts = both (v.transmission == suc k) (v.place == place) h in
+        let number : v.transmission ≡ suc k = same_number v.transmission (suc k) parts.0 in
+        let at : v.place ≡ place = same_number v.place place parts.1 in
+        let back : v.transmission - 1 ≡ k = omega arith in
+        let clean = version_at_clean office line work key.number v (omega (arith, count)) is in
+        let judged_there : get_or (get_or line (v.transmission - 1) []) v.place (Faulty 0) ≡ judged office t =
+        ap (λ (i : ℕ). get_or (get_or line i []) v.place (Faulty 0)) back
+        ∙ ap (λ (i : ℕ). get_or (get_or line k []) i (Faulty 0)) at
+        ∙ ap (λ (js : List Judged). get_or js place (Faulty 0)) (judged_at office book key.sender key.number k within)
+        ∙ sent_clean office (transmission_in (unwrap_or (body_at book key.sender (suc k)) [])) place t there in
+        clean_fault office t (ap is_clean (sym judged_there) ∙ clean)
+
+    by_work : (r : Result (List ℕ) IdFault) → is_version_at office book key (suc k) place r ≡ true → fault_of office t ≡ None
+    by_work (Ok work) h = by_version work (work_at line work key.number) refl h
+    by_work (Err fault) h = absurd (false≢true h)
+
+all_append : {X : Type 0} (P : X → Type 0) (xs ys : List X) → AllByRecursion P xs → AllByRecursion P ys → AllByRecursion P (xs ++ ys)
+all_append P [] ys a b = b
+all_append P (x ∷ xs) ys a b = (a.0, all_append P xs ys a.1 b)
+
+-- whether a work of a cut has no fault
+abbrev pub HasNoFault : Office → CutWork → Type 0
+HasNoFault office work = fault_of office work.transaction ≡ None
+
+placed_clean : (office : Office) (book : Book) (key : TransmissionKey) (number n : ℕ) (ts : List Transaction) →
+    ((k : ℕ) (t : Transaction) → slice_get ts k ≡ Some t → is_version_at office book key number (n + k) (number_of_work t) ≡ true → fault_of office t ≡ None) →
+    AllByRecursion (HasNoFault office) (map (λ (p : ℕ × Transaction). cut_work key.sender p.1) (filter (λ (p : ℕ × Transaction). is_version_at office book key number p.0 (number_of_work p.1)) (enumerate_from n ts)))
+placed_clean office book key number n [] h = tt
+placed_clean office book key number n (t ∷ ts) h =
+    by_case (is_version_at office book key number n (number_of_work t)) refl
+    (placed_clean office book key number (n + 1) ts (λ k x there e. let next : n + 1 + k ≡ n + suc k = omega arith in h (suc k) x there (ap (λ (i : ℕ). is_version_at office book key number i (number_of_work x)) (sym next) ∙ e)))
+  where
+    rest : List (ℕ × Transaction)
+    rest = filter (λ (p : ℕ × Transaction). is_version_at office book key number p.0 (number_of_work p.1)) (enumerate_from (n + 1) ts)
+
+    by_case : (b : Bool) → is_version_at office book key number n (number_of_work t) ≡ b → AllByRecursion (HasNoFault office) (map (λ (p : ℕ × Transaction). cut_work key.sender p.1) rest) → AllByRecursion (HasNoFault office) (map (λ (p : ℕ × Transaction). cut_work key.sender p.1) (cond b ((n, t) ∷ rest) rest))
+    by_case false is more = more
+    by_case true is more = let here : n + 0 ≡ n = omega arith in (h 0 t refl (ap (λ (i : ℕ). is_version_at office book key number i (number_of_work t)) here ∙ is), more)
+
+sender_clean : (office : Office) (book : Book) (key : TransmissionKey) (n : ℕ) → n ≤ key.number → AllByRecursion (HasNoFault office) (versions_to office book key n)
+sender_clean office book key zero h = tt
+sender_clean office book key (suc n) h =
+    let sent = transactions_sent book key.sender (suc n) in
+    subst (AllByRecursion (HasNoFault office)) (sym (versions_to_next office book key n))
+    (all_append (HasNoFault office) (versions_to office book key n) (versions_of_transmission office book key (suc n) sent) (sender_clean office book key n (omega arith))
+    (placed_clean office book key (suc n) 0 sent (λ k t there e. let same : 0 + k ≡ k = omega arith in version_has_no_fault office book key n k t h there (ap (λ (i : ℕ). is_version_at office book key (suc n) i (number_of_work t)) (sym same) ∙ e))))
+
+-- the works of a cut have no fault
+pub works_clean : (office : Office) (book : Book) (keys : List TransmissionKey) → AllByRecursion (HasNoFault office) (flat_map (versions_at_cut office book) keys)
+works_clean office book [] = tt
+works_clean office book (key ∷ keys) = all_append (HasNoFault office) (versions_at_cut office book key) (flat_map (versions_at_cut office book) keys) (sender_clean office book key key.number (omega arith)) (works_clean office book keys)
+
+filter_all : {X : Type 0} (P : X → Type 0) (p : X → Bool) (xs : List X) → AllByRecursion P xs → AllByRecursion P (filter p xs)
+filter_all P p [] all = tt
+filter_all P p (x ∷ xs) all = by_case (p x) (filter_all P p xs all.1)
+  where
+    by_case : (b : Bool) → AllByRecursion P (filter p xs) → AllByRecursion P (cond b (x ∷ filter p xs) (filter p xs))
+    by_case true more = (all.0, more)
+    by_case false more = more
+
+sole_weights : (office : Office) (works : List CutWork) → AllByRecursion (HasNoFault office) works → HasWeights (option_map (holders_of office) (sole works))
+sole_weights office [] all = tt
+sole_weights office (w ∷ []) all = let whole = clean_is_whole w.sender office w.transaction all.0 in (omega (arith, whole.0), omega (arith, whole.1))
+sole_weights office (w ∷ v ∷ more) all = tt
+
+-- the holders of an owner have weights
+pub owner_has_weights : (office : Office) (book : Book) (order : Order) (isrc : List ℕ) → HasWeights (option_map (holders_of office) (owner office book order isrc))
+owner_has_weights office book order isrc = sole_weights office (filter (names_recording isrc) (works_of_cut office book order)) (filter_all (HasNoFault office) (names_recording isrc) (works_of_cut office book order) (works_clean office book order.cut))
+
+sole_map : {X Y : Type 0} (f : X → Y) (xs : List X) → option_map f (sole xs) ≡ sole (map f xs)
+sole_map f [] = refl
+sole_map f (x ∷ []) = refl
+sole_map f (x ∷ y ∷ more) = refl
+
+-- a claim with these holders
+abbrev pub claim_with : List ℕ × ℕ → Option (List Holder) → Claim
+claim_with played holders = record { isrc = played.0; points = played.1; holders = holders }
+
+-- the claims among candidates that stand for the works of a cut are those of the pool
+pub claims_are : (office : Office) (book : Book) (order : Order) (candidates : List Candidate) (ps : List (List ℕ × ℕ)) → StandFor office (works_of_cut office book order) candidates → claims_among ps candidates ≡ map (claim_of office book order) ps
+claims_are office book order candidates [] stand = refl
+claims_are office book order candidates (p ∷ ps) stand =
+    let same : option_map (λ (c : Candidate). c.holders) (sole (filter (is_candidate_for p.0) candidates)) ≡ option_map (holders_of office) (owner office book order p.0) =
+    sole_map (λ (c : Candidate). c.holders) (filter (is_candidate_for p.0) candidates) ∙ ap sole (stand.same p.0) ∙ sym (sole_map (holders_of office) (filter (names_recording p.0) (works_of_cut office book order))) in
+    ap (λ (hs : Option (List Holder)). claim_with p hs ∷ claims_among ps candidates) same
+    ∙ ap (λ (cs : List Claim). claim_of office book order p ∷ cs) (claims_are office book order candidates ps stand)
+
+-- what is read of each claim
+pub isrcs_of_claims : (office : Office) (book : Book) (order : Order) (ps : List (List ℕ × ℕ)) → map (λ (c : Claim). c.isrc) (map (claim_of office book order) ps) ≡ map (λ (e : List ℕ × ℕ). e.0) ps
+isrcs_of_claims office book order [] = refl
+isrcs_of_claims office book order (p ∷ ps) = ap (λ r. p.0 ∷ r) (isrcs_of_claims office book order ps)
+
+pub points_of_claims : (office : Office) (book : Book) (order : Order) (ps : List (List ℕ × ℕ)) → map (λ (c : Claim). c.points) (map (claim_of office book order) ps) ≡ map (λ (e : List ℕ × ℕ). e.1) ps
+points_of_claims office book order [] = refl
+points_of_claims office book order (p ∷ ps) = ap (λ r. p.1 ∷ r) (points_of_claims office book order ps)
+
+-- the claims of a pool can be paid
+pub claims_payable : (office : Office) (book : Book) (order : Order) (ps : List (List ℕ × ℕ)) → All (λ (e : List ℕ × ℕ). 1 ≤ e.1) ps → All IsPayable (map (claim_of office book order) ps)
+claims_payable office book order ps h = All-map IsPayable (claim_of office book order) ps (λ k d low. record { points = h k d low; holders = owner_has_weights office book order _ })
+
+-- what stands in a sound book of an order
+pub order_has_returns : (book : Book) (pool : ℕ) (order : Order) → IsSound book → order_at book pool ≡ Some order → HasReturns book order
+order_has_returns book pool order sound there =
+    let cuts = list_all (λ (key : TransmissionKey). nat_le key.number (front book key.sender)) order.cut in
+    let returns = list_all (λ (key : ReturnKey). is_some (return_at book key)) order.returns in
+    (both (is_pool_number pool && cuts) returns (sound.pools pool order there)).1
+
+pub order_reaches_cut : (book : Book) (pool : ℕ) (order : Order) → IsSound book → order_at book pool ≡ Some order → ReachesCut book order
+order_reaches_cut book pool order sound there =
+    let cuts = list_all (λ (key : TransmissionKey). nat_le key.number (front book key.sender)) order.cut in
+    let returns = list_all (λ (key : ReturnKey). is_some (return_at book key)) order.returns in
+    (both (is_pool_number pool) cuts (both (is_pool_number pool && cuts) returns (sound.pools pool order there)).0).1
+
+-- a return of a sound book has no fault
+pub return_has_no_fault : (book : Book) (key : ReturnKey) (body : List ℕ) (fault : ReturnFault) → IsSound book → return_at book key ≡ Some body → return_fault body ≡ Some fault → ⊥
+return_has_no_fault book key body fault sound there e =
+    false≢true (ap is_none (sym e) ∙ (both (is_return_number key.number) (is_none (return_fault body)) (sound.returns key body there)).1)

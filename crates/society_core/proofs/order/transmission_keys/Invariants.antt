@@ -1,0 +1,6 @@
+use Rattle.std.proofs.Common.{◌≡◌, map, take}
+use Rattle.society_core.specs.Keys.{transmission_key}
+use Rattle.society_core.proofs.order.transmission_keys.Given as goal
+
+abbrev pub invariant-loop-sender : goal.invariant-loop-sender
+invariant-loop-sender l = l.keys.items ≡ map (λ c. transmission_key c.0 c.1) (take l.sender-index l.cut)

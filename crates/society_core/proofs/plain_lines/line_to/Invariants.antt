@@ -1,0 +1,10 @@
+use Rattle.std.proofs.Common.{◌≡◌}
+use Rattle.society_core.specs.Book.{transmissions_to}
+use Rattle.works_core.specs.Line.{line_of}
+use Rattle.society_core.proofs.plain_lines.line_to.Given as goal
+
+abbrev pub invariant-loop-applied : goal.invariant-loop-applied
+invariant-loop-applied l = record {
+  office : l.line.office ≡ l.office;
+  judged : l.line.judged ≡ line_of l.office (transmissions_to l.book l.sender l.applied);
+}

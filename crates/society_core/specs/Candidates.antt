@@ -1,0 +1,60 @@
+-- Candidates for the recordings of a pool, and the works that they stand for.
+use Rattle.std.specs.Prelude.{ℕ, ◌≡◌, ◌++◌, ◌∷◌, Bool, false, if◌then◌else◌, List, [], Result, Ok, Err, map, is_some, nat_le, true, unwrap_or}
+use Rattle.std.specs.List.{filter, list_all}
+use Rattle.cwr_files.specs.Contents.{transactions_of, transmission_in}
+use Rattle.cwr_files.specs.declared.transmission.Transaction.{Transaction}
+use Rattle.perf_returns.specs.Returns.{performances_in}
+use Rattle.perf_returns.specs.declared.performance.Performance.{Performance}
+use Rattle.society_core.specs.declared.return_key.ReturnKey.{ReturnKey}
+use Rattle.share_rules.specs.declared.holder.Holder.{Holder}
+use Rattle.share_rules.specs.declared.office.Office.{Office}
+use Rattle.society_core.specs.Book.{Book, body_at, front, return_at}
+use Rattle.society_core.specs.Claims.{is_candidate_for}
+use Rattle.society_core.specs.Orders.{Order}
+use Rattle.society_core.specs.Owners.{CutWork, cut_work, is_at, names_recording}
+use Rattle.society_core.specs.Pools.{holders_of}
+use Rattle.society_core.specs.declared.claim_list.Candidate.{Candidate}
+use Rattle.work_ids.specs.declared.fault.IdFault.{IdFault}
+use Rattle.works_core.specs.Versions.{work_at}
+use Rattle.works_core.specs.declared.judged.Judged.{Judged}
+
+-- the holders of each candidate for a recording, in order
+abbrev pub holders_among : List Candidate → List ℕ → List (List Holder)
+holders_among candidates isrc = map (λ candidate. candidate.holders) (filter (is_candidate_for isrc) candidates)
+
+-- the holders of each work that names a recording, in order
+abbrev pub holders_naming : Office → List CutWork → List ℕ → List (List Holder)
+holders_naming office works isrc = map (holders_of office) (filter (names_recording isrc) works)
+
+-- candidates stand for works: of each recording they have the holders of the works that name it, in the same order
+pub record StandFor (office : Office) (works : List CutWork) (candidates : List Candidate) : Type 0 where
+  pub same : (isrc : List ℕ) → holders_among candidates isrc ≡ holders_naming office works isrc
+
+-- candidates are added that stand for some works more
+abbrev pub Adds : Office → List CutWork → List Candidate → List Candidate → Type 0
+Adds office more old new = (works : List CutWork) → StandFor office works old → StandFor office (works ++ more) new
+
+-- the transactions of a sender's transmission
+abbrev pub transactions_sent : Book → List ℕ → ℕ → List Transaction
+transactions_sent book sender n = transactions_of (transmission_in (unwrap_or (body_at book sender n) []))
+
+-- each cut of an order is at most its sender's front (profile)
+abbrev pub ReachesCut : Book → Order → Type 0
+ReachesCut book order = list_all (λ key. nat_le key.number (front book key.sender)) order.cut ≡ true
+
+-- whether a transaction is the version that its work has at a cut of a line
+abbrev pub is_version_by : List (List Judged) → ℕ → ℕ → ℕ → Result (List ℕ) IdFault → Bool
+is_version_by line cut number place (Ok work) = is_at number place (work_at line work cut)
+is_version_by line cut number place (Err fault) = false
+
+-- a transaction as the version of its work, where it is one
+abbrev pub work_where : Bool → List ℕ → Transaction → List CutWork
+work_where is_version sender transaction = if is_version then cut_work sender transaction ∷ [] else []
+
+-- each return that an order names is there (profile)
+abbrev pub HasReturns : Book → Order → Type 0
+HasReturns book order = list_all (λ key. is_some (return_at book key)) order.returns ≡ true
+
+-- the performances of a return
+abbrev pub rows_of_return : Book → ReturnKey → List Performance
+rows_of_return book key = performances_in (unwrap_or (return_at book key) [])

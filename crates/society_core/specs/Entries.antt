@@ -1,0 +1,63 @@
+-- The entries of a book, and which of them a list of requests brought.
+use Rattle.std.specs.Prelude.{ℕ, Bool, true, false, List, [], ◌∷◌, ◌≡◌, ◌⊎◌, Option, Some, None}
+use Rattle.society_core.specs.Book.{Book, body_at, order_at, return_at}
+use Rattle.society_core.specs.Orders.{Order}
+use Rattle.society_core.specs.Requests.{Query, Puts, PutsReturn, Closes, ClosesFaulty, AsksAck, AsksSender, AsksWork, AsksVerdicts, AsksCredits, AsksBalance, AsksElsewhere, Reply, Arrived, Stored, Closed, Acknowledged, Stands, Shows, Judged, Credited, Owed, Refused}
+use Rattle.society_core.specs.declared.return_key.ReturnKey.{ReturnKey}
+
+-- an entry: a transmission of a sender under its number, a return under its key, or a pool with its order
+pub data Entry : Type 0 where
+  Transmission : List ℕ → ℕ → List ℕ → Entry
+  Return : ReturnKey → List ℕ → Entry
+  Pool : ℕ → Order → Entry
+
+-- an entry stands in a book
+abbrev pub IsIn : Book → Entry → Type 0
+IsIn book (Transmission sender number body) = body_at book sender number ≡ Some body
+IsIn book (Return key body) = return_at book key ≡ Some body
+IsIn book (Pool pool order) = order_at book pool ≡ Some order
+
+-- the entry that a request is to make, none for a question
+abbrev pub entry_of : Query → Option Entry
+entry_of (Puts sender number body) = Some (Transmission sender number body)
+entry_of (PutsReturn key body) = Some (Return key body)
+entry_of (Closes pool order) = Some (Pool pool order)
+entry_of (ClosesFaulty fault) = None
+entry_of (AsksAck sender number) = None
+entry_of (AsksSender sender) = None
+entry_of (AsksWork sender work) = None
+entry_of (AsksVerdicts sender number) = None
+entry_of (AsksCredits pool) = None
+entry_of (AsksBalance account) = None
+entry_of AsksElsewhere = None
+
+-- whether an answer says that what was sent is in the book (200, 201 or 202 of a put or a close)
+abbrev pub is_acceptance : Reply → Bool
+is_acceptance (Arrived arrival) = true
+is_acceptance (Stored receipt) = true
+is_acceptance (Closed receipt pool) = true
+is_acceptance (Acknowledged text) = false
+is_acceptance (Stands front held) = false
+is_acceptance (Shows shown) = false
+is_acceptance (Judged verdicts) = false
+is_acceptance (Credited credits) = false
+is_acceptance (Owed account units) = false
+is_acceptance (Refused refusal) = false
+
+-- a request was answered as accepted with this entry
+abbrev pub Accepts : Query → Reply → Entry → Type 0
+Accepts query reply entry = (entry_of query ≡ Some entry) × (is_acceptance reply ≡ true)
+
+-- some request of a list was accepted with this entry
+abbrev pub IsAccepted : List Query → List Reply → Entry → Type 0
+IsAccepted [] replies entry = ⊥
+IsAccepted (query ∷ queries) [] entry = ⊥
+IsAccepted (query ∷ queries) (reply ∷ replies) entry = Accepts query reply entry ⊎ IsAccepted queries replies entry
+
+-- the book of a list of requests and its answers: the entries of the opening book and those that were accepted; a set, which knows no order
+abbrev pub BookOf : Book → List Query → List Reply → Entry → Type 0
+BookOf book queries replies entry = IsIn book entry ⊎ IsAccepted queries replies entry
+
+-- a book has exactly these entries
+abbrev pub Holds : Book → (Entry → Type 0) → Type 0
+Holds book Entries = (entry : Entry) → (IsIn book entry → Entries entry) × (Entries entry → IsIn book entry)

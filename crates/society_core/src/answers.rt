@@ -1,0 +1,79 @@
+//! What the office answers.
+use crate::refusal::Refusal;
+use pool_split::Credit;
+use share_rules::Holder;
+use work_ids::{Account, Isrc, Iswc, PoolNumber, TransmissionNumber, WorkNumber};
+use works_core::{Verdict, WorkVersion};
+
+/// Whether a transmission counts: applied where its number is at most its sender's front, else held.
+#[derive(Clone, Copy, Debug, PartialEq, Eq)]
+pub enum Standing {
+    /// It counts: all numbers before it have come.
+    Applied,
+    /// It waits behind its sender's first gap.
+    Held,
+}
+
+/// How a transmission that was put stands now.
+#[derive(Clone, Copy, Debug, PartialEq, Eq)]
+pub struct Arrival {
+    /// Whether the same bytes had come before under this number.
+    pub known: bool,
+    /// The sender's front: the greatest n such that 1 to n have come.
+    pub front: u32,
+    /// Where its number stands against the front.
+    pub standing: Standing,
+}
+
+/// Whether a return or an order is new to the book, or came again.
+#[derive(Clone, Copy, Debug, PartialEq, Eq)]
+pub enum Receipt {
+    /// It was added.
+    New,
+    /// The same had come before under its number.
+    Repeated,
+}
+
+/// How a sender stands: its front, and the numbers above it under which transmissions wait, ascending.
+#[derive(Debug, Drop)]
+pub struct SenderStatus {
+    pub front: u32,
+    pub held: Vec<TransmissionNumber>,
+}
+
+/// A work as its version at the sender's front shows it: title without the blanks at its end, ISRCs in order with
+/// repeats, holders with weights in hundredths of a percent, what nobody claims last (profile).
+#[derive(Debug, Drop)]
+pub struct Work {
+    pub number: WorkNumber,
+    pub version: WorkVersion,
+    pub title: Vec<u8>,
+    pub iswc: Option<Iswc>,
+    pub isrcs: Vec<Isrc>,
+    pub holders: Vec<Holder>,
+}
+
+/// What the office answers.
+#[derive(Debug, Drop)]
+pub enum Answer {
+    /// A put was taken: how the transmission stands.
+    Arrived(Arrival),
+    /// A return is stored.
+    Stored(Receipt),
+    /// A pool is closed.
+    Closed(Receipt, PoolNumber),
+    /// The bytes of an acknowledgement.
+    Acknowledgement(Vec<u8>),
+    /// How a sender stands.
+    Sender(SenderStatus),
+    /// What is shown of a work.
+    Work(Work),
+    /// One verdict for each NWR and REV transaction, in the order of the file.
+    Verdicts(Vec<Verdict>),
+    /// The credits of a pool.
+    Credits(Vec<Credit>),
+    /// The units of money that an account has come to.
+    Balance(Account, u64),
+    /// Why the request is refused.
+    Refused(Refusal),
+}

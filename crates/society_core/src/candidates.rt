@@ -1,0 +1,165 @@
+//! The candidates for the recordings of a pool: the works of its cut, each by the version that it has there.
+ghost use Rattle.std.specs.Prelude.{◌≡◌, ◌≤◌, ◌∷◌, [], IfOk, OnOk, true};
+ghost use Rattle.cwr_files.specs.Transaction.{number_of_work};
+ghost use Rattle.society_core.specs.Book.{IsSound, front, is_there, transmissions_to};
+ghost use Rattle.society_core.specs.Candidates.{Adds, ReachesCut, StandFor, is_version_by, transactions_sent, work_where};
+ghost use Rattle.society_core.specs.Owners.{cut_work, is_at, versions_at_cut, versions_of_transmission, works_of_cut};
+ghost use Rattle.works_core.specs.Line.{line_of};
+ghost use Rattle.works_core.specs.Versions.{work_at};
+
+use crate::claim_list::Candidate;
+use crate::order::PoolOrder;
+use crate::plain_book::PlainBook;
+use crate::plain_lines::{line_to, transmission_of};
+use crate::transmission_key::TransmissionKey;
+use cwr_files::Transaction;
+use pool_split::Holders;
+use share_rules::{Office, weights};
+use std::alloc::{AllocError, Global};
+use std::collections::BTreeSet;
+use work_ids::{SenderKey, TransmissionNumber, WorkNumber};
+use works_core::{SenderLine, isrcs};
+
+/// Adds the candidates that a work's version makes: one for each recording that it names, however often.
+fn add_recordings(
+    alloc: Global,
+    office: &Office,
+    sender: &SenderKey,
+    work: &WorkNumber,
+    transaction: &Transaction<'_>,
+    candidates: &mut Vec<Candidate>,
+) -> Result<(), AllocError>
+    ensures { OnOk result (Adds office.now (cut_work sender.now transaction.now ∷ []) candidates.old.items candidates.new.items) }
+{
+    let named = isrcs(alloc, transaction)?;
+    let mut seen = BTreeSet::new(alloc);
+    for isrc in &named {
+        if seen.insert(*isrc)? {
+            let holders = weights(alloc, sender, transaction, office)?;
+            candidates.push(Candidate {
+                isrc: *isrc,
+                sender: *sender,
+                work: *work,
+                holders: Holders::from_vec(holders),
+            })?;
+        }
+    }
+    Ok(())
+}
+
+/// Whether the version that a work has at a cut is the transaction at this place of this transmission.
+fn is_version_at(
+    line: &SenderLine,
+    cut: TransmissionNumber,
+    work: &WorkNumber,
+    number: TransmissionNumber,
+    place: usize,
+) -> bool
+    ensures { result ≡ is_at number place (work_at line.now.judged work.now cut) }
+{
+    match line.work_at(work, cut) {
+        None => false,
+        Some(version) => version.transmission == number && version.place == place,
+    }
+}
+
+/// Adds the candidates of a transaction, where it is the version that its work has at the sender's cut.
+fn add_transaction(
+    alloc: Global,
+    office: &Office,
+    key: &TransmissionKey,
+    line: &SenderLine,
+    number: TransmissionNumber,
+    place: usize,
+    transaction: &Transaction<'_>,
+    candidates: &mut Vec<Candidate>,
+) -> Result<(), AllocError>
+    ensures { OnOk result (Adds office.now (work_where (is_version_by line.now.judged key.now.number number place (number_of_work transaction.now)) key.now.sender transaction.now) candidates.old.items candidates.new.items) }
+{
+    let Some(work) = transaction.work_number() else {
+        return Ok(());
+    };
+    if !is_version_at(line, key.number, &work, number, place) {
+        return Ok(());
+    }
+    add_recordings(alloc, office, &key.sender, &work, transaction, candidates)
+}
+
+/// Adds the candidates of a sender's transmission: of those of its transactions that are versions at the sender's cut.
+fn add_versions(
+    alloc: Global,
+    office: &Office,
+    book: &PlainBook,
+    key: &TransmissionKey,
+    line: &SenderLine,
+    number: TransmissionNumber,
+    candidates: &mut Vec<Candidate>,
+) -> Result<(), AllocError>
+    requires sound { IsSound book.now }
+    requires line { line.now.judged ≡ line_of office.now (transmissions_to book.now key.now.sender key.now.number) }
+    requires within { number ≤ key.now.number }
+    requires there { is_there book.now key.now.sender number ≡ true }
+    ensures { OnOk result (Adds office.now (versions_of_transmission office.now book.now key.now number (transactions_sent book.now key.now.sender number)) candidates.old.items candidates.new.items) }
+{
+    let transmission = transmission_of(alloc, book, &key.sender, number)?;
+    prove!(number.value() >= 1);
+    let Some(verdicts) = line.verdicts(number) else {
+        unreachable!();
+    };
+    for place in 0..verdicts.len() {
+        let Some(transaction) = transmission.transaction(place) else {
+            unreachable!();
+        };
+        add_transaction(
+            alloc,
+            office,
+            key,
+            line,
+            number,
+            place,
+            transaction,
+            candidates,
+        )?;
+    }
+    Ok(())
+}
+
+/// Adds the candidates of a sender: its works as they are at its cut.
+fn add_sender(
+    alloc: Global,
+    office: &Office,
+    book: &PlainBook,
+    key: &TransmissionKey,
+    candidates: &mut Vec<Candidate>,
+) -> Result<(), AllocError>
+    requires sound { IsSound book.now }
+    requires reached { key.now.number ≤ front book.now key.now.sender }
+    ensures { OnOk result (Adds office.now (versions_at_cut office.now book.now key.now) candidates.old.items candidates.new.items) }
+{
+    let line = line_to(alloc, office, book, &key.sender, key.number.value())?;
+    for sent in 0..key.number.value() {
+        let Some(number) = TransmissionNumber::from_u32(sent + 1) else {
+            unreachable!();
+        };
+        add_versions(alloc, office, book, key, &line, number, candidates)?;
+    }
+    Ok(())
+}
+
+/// The candidates for the recordings of a pool: all works of the cut of its order.
+pub(crate) fn candidates_of(
+    alloc: Global,
+    office: &Office,
+    book: &PlainBook,
+    order: &PoolOrder,
+) -> Result<Vec<Candidate>, AllocError>
+    requires sound { IsSound book.now }
+    requires reached { ReachesCut book.now order.now }
+    ensures { IfOk result (λ candidates. StandFor office.now (works_of_cut office.now book.now order.now) candidates.items) }
+{
+    let mut candidates = Vec::new(alloc);
+    for key in order.cut() {
+        add_sender(alloc, office, book, key, &mut candidates)?;
+    }
+    Ok(candidates)
+}

@@ -1,0 +1,66 @@
+//! The points of the recordings of a pool's performances.
+ghost use Rattle.std.specs.Prelude.{◌≡◌, ◌+◌, ◌<◌, ◌≤◌, ◌++◌, ◌∷◌, [], List, IfOk, OnOk, length};
+ghost use Rattle.perf_returns.specs.declared.performance.Performance.{Performance as Row};
+ghost use Rattle.society_core.specs.Points.{HasPoints, Tallies, points_by_recording, points_of};
+
+use perf_returns::Performance;
+use std::alloc::{AllocError, Global};
+use std::collections::BTreeMap;
+use work_ids::Isrc;
+
+/// The points of each recording of the performances that were added, at most 10,000,000 of them (profile). It takes memory
+/// for each recording once, however often it was performed.
+#[derive(Debug, Drop)]
+pub(crate) struct Tally {
+    totals: BTreeMap<Isrc, u64>,
+}
+
+/// The points of a performance, 1 to 10,000,000,000.
+fn points_of(row: &Performance) -> u64
+    ensures value { result ≡ points_of row.now }
+    ensures played { HasPoints row.now }
+{
+    u64::from(row.plays.value()) * u64::from(row.seconds.value())
+}
+
+impl Tally {
+    /// The tally of no performances.
+    pub(crate) fn new(alloc: Global) -> Tally
+        ensures { Tallies result [] }
+    {
+        Tally {
+            totals: BTreeMap::new(alloc),
+        }
+    }
+
+    /// Adds one performance.
+    fn add(&mut self, row: &Performance) -> Result<(), AllocError>
+        ensures { (rows : List Row) → length rows < 10000000 → Tallies self.old rows → OnOk result (Tallies self.new (rows ++ row.now ∷ [])) }
+    {
+        let points = points_of(row);
+        let known = self.totals.get(&row.isrc).copied().unwrap_or(0);
+        // The points of 10,000,000 performances are at most 10 to the 17, so no total is cut.
+        self.totals.insert(row.isrc, known.saturating_add(points))?;
+        Ok(())
+    }
+
+    /// Adds the performances of a return, behind those that came before, up to 10,000,000 in all (profile).
+    pub(crate) fn add_all(&mut self, more: &[Performance]) -> Result<(), AllocError>
+        ensures { (rows : List Row) → length rows + length more.now ≤ 10000000 → Tallies self.old rows → OnOk result (Tallies self.new (rows ++ more.now)) }
+    {
+        for row in more {
+            self.add(row)?;
+        }
+        Ok(())
+    }
+
+    /// Each recording with its points, ascending by ISRC.
+    pub(crate) fn points_by_recording(&self, alloc: Global) -> Result<Vec<(Isrc, u64)>, AllocError>
+        ensures { (rows : List Row) → Tallies self.now rows → IfOk result (λ points. points.items ≡ points_by_recording rows) }
+    {
+        self.totals
+            .iter()
+            .map(|(isrc, points)| (*isrc, *points))
+            .collect(alloc)
+    }
+}

@@ -1,0 +1,88 @@
+//! Why a request is refused.
+use crate::return_key::ReturnKey;
+use crate::store::StoreFault;
+use cwr_files::{FileFault, ReadFault};
+use perf_returns::{ReturnError, ReturnFault};
+use std::alloc::AllocError;
+use thiserror::Error;
+use work_ids::{PoolNumber, SenderKey};
+
+/// Why a request is refused. A refused request changes nothing.
+#[derive(Clone, Copy, Debug, PartialEq, Eq, Error)]
+pub enum Refusal {
+    /// The number is taken by another content.
+    #[error("reused")]
+    Reused,
+    /// The body is no transmission of this sender.
+    #[error("file fault")]
+    File(FileFault),
+    /// The body is no performance return.
+    #[error("return fault")]
+    Csv(ReturnFault),
+    /// The body is no order: its fault, 1 to 4.
+    #[error("order fault")]
+    Order(u8),
+    /// The cut of this sender is above its front, which is told.
+    #[error("cut above the front")]
+    Cut { sender: SenderKey, front: u32 },
+    /// The order names a return that is not there.
+    #[error("unknown return")]
+    ReturnUnknown(ReturnKey),
+    /// The order names a return that this pool has paid.
+    #[error("paid return")]
+    ReturnPaid { key: ReturnKey, pool: PoolNumber },
+    /// There is no such thing.
+    #[error("unknown")]
+    Unknown,
+    /// Memory or the store failed; the request may be sent again.
+    #[error("unavailable")]
+    Unavailable,
+}
+
+impl From<StoreFault> for Refusal {
+    ghost use Rattle.std.specs.Prelude.{◌≡◌};
+    ghost use Rattle.society_core.specs.declared.refusal.Refusal.TheVariants.{Unavailable};
+
+    ghost from_gives = { λ _ refusal. refusal ≡ Unavailable };
+
+    fn from(_fault: StoreFault) -> Refusal {
+        Refusal::Unavailable
+    }
+}
+
+impl From<AllocError> for Refusal {
+    ghost use Rattle.std.specs.Prelude.{◌≡◌};
+    ghost use Rattle.society_core.specs.declared.refusal.Refusal.TheVariants.{Unavailable};
+
+    ghost from_gives = { λ _ refusal. refusal ≡ Unavailable };
+
+    fn from(_fault: AllocError) -> Refusal {
+        Refusal::Unavailable
+    }
+}
+
+impl From<ReadFault> for Refusal {
+    ghost use Rattle.society_core.specs.Faults.{refusal_for};
+
+    ghost from_gives = { λ fault refusal. refusal_for fault refusal };
+
+    fn from(fault: ReadFault) -> Refusal {
+        match fault {
+            ReadFault::File(fault) => Refusal::File(fault),
+            ReadFault::Memory => Refusal::Unavailable,
+        }
+    }
+}
+
+impl From<ReturnError> for Refusal {
+    ghost use Rattle.society_core.specs.Faults.{refusal_for_return};
+
+    ghost from_gives = { λ fault refusal. refusal_for_return fault refusal };
+
+    fn from(fault: ReturnError) -> Refusal {
+        match fault {
+            ReturnError::Csv(fault) => Refusal::Csv(fault),
+            ReturnError::Memory => Refusal::Unavailable,
+        }
+    }
+}
