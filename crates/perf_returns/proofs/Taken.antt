@@ -2,7 +2,7 @@
 use Rattle.std.proofs.Common.{◌≡◌, ℕ, ◌+◌, ◌-◌, ◌<◌, ◌≤◌, ◌==◌, Bool, true, false, cond, List, [], ◌∷◌, ◌++◌, length, drop, Option, Some, None, Result, Ok, Err, refl, ap, sym, ◌∙◌, arith, if◌then◌else◌, nat_lt}
 use Rattle.std.proofs.lemmas.Bool.Decides.{nat_tests}
 use Rattle.std.proofs.lemmas.List.{append_assoc}
-use Rattle.perf_returns.specs.Returns.{Answers, fault_of_records, first_fault, performances_of, told_at}
+use Rattle.perf_returns.specs.Returns.{AnswersReturn, fault_of_records, first_row_fault, performances_of, told_at}
 use Rattle.perf_returns.specs.Rows.{Takes, fault_at, fault_in, header_fault, row_added, row_of, with_row}
 use Rattle.perf_returns.specs.declared.fault.ReturnError.{ReturnError}
 use Rattle.perf_returns.specs.declared.fault.ReturnError.TheVariants.{Csv, Memory}
@@ -14,32 +14,32 @@ told_none row None later h = (refl, h)
 told_none row (Some n) later h = absurd cc
 
 -- the fault of the record behind those without one is the first
-fault_behind : (k : ℕ) (seen : List (List (List ℕ))) (fields : List (List ℕ)) (more : List (List (List ℕ))) (row n : ℕ) → first_fault k seen ≡ None → row ≡ k + length seen → fault_at row fields ≡ Some n → first_fault k (seen ++ fields ∷ more) ≡ Some (record { number = n; row = row })
+fault_behind : (k : ℕ) (seen : List (List (List ℕ))) (fields : List (List ℕ)) (more : List (List (List ℕ))) (row n : ℕ) → first_row_fault k seen ≡ None → row ≡ k + length seen → fault_at row fields ≡ Some n → first_row_fault k (seen ++ fields ∷ more) ≡ Some (record { number = n; row = row })
 fault_behind k [] fields more row n none place fault =
     let same : row ≡ k = omega arith in
     rw (← same, fault) refl
 fault_behind k (r ∷ seen) fields more row n none place fault =
-    let parts = told_none k (fault_at k r) (first_fault (k + 1) seen) none in
-    ap (λ (o : Option ℕ). told_at k o (first_fault (k + 1) (seen ++ fields ∷ more))) parts.0
+    let parts = told_none k (fault_at k r) (first_row_fault (k + 1) seen) none in
+    ap (λ (o : Option ℕ). told_at k o (first_row_fault (k + 1) (seen ++ fields ∷ more))) parts.0
     ∙ fault_behind (k + 1) seen fields more row n parts.1 (omega arith) fault
 
 -- a record without a fault behind such ones
-pub none_behind : (k : ℕ) (seen : List (List (List ℕ))) (fields : List (List ℕ)) (row : ℕ) → first_fault k seen ≡ None → row ≡ k + length seen → fault_at row fields ≡ None → first_fault k (seen ++ fields ∷ []) ≡ None
+pub none_behind : (k : ℕ) (seen : List (List (List ℕ))) (fields : List (List ℕ)) (row : ℕ) → first_row_fault k seen ≡ None → row ≡ k + length seen → fault_at row fields ≡ None → first_row_fault k (seen ++ fields ∷ []) ≡ None
 none_behind k [] fields row none place fault =
     let same : row ≡ k = omega arith in
     rw (← same, fault) refl
 none_behind k (r ∷ seen) fields row none place fault =
-    let parts = told_none k (fault_at k r) (first_fault (k + 1) seen) none in
-    ap (λ (o : Option ℕ). told_at k o (first_fault (k + 1) (seen ++ fields ∷ []))) parts.0
+    let parts = told_none k (fault_at k r) (first_row_fault (k + 1) seen) none in
+    ap (λ (o : Option ℕ). told_at k o (first_row_fault (k + 1) (seen ++ fields ∷ []))) parts.0
     ∙ none_behind (k + 1) seen fields row parts.1 (omega arith) fault
 
 -- where there is a record, the fault is that of the first row that has one
-fault_of_some : (seen : List (List (List ℕ))) (fields : List (List ℕ)) (more : List (List (List ℕ))) → fault_of_records (seen ++ fields ∷ more) ≡ first_fault 1 (seen ++ fields ∷ more)
+fault_of_some : (seen : List (List (List ℕ))) (fields : List (List ℕ)) (more : List (List (List ℕ))) → fault_of_records (seen ++ fields ∷ more) ≡ first_row_fault 1 (seen ++ fields ∷ more)
 fault_of_some [] fields more = refl
 fault_of_some (r ∷ seen) fields more = refl
 
 -- the same of records that are some
-pub fault_of_all : (seen : List (List (List ℕ))) → 0 < length seen → fault_of_records seen ≡ first_fault 1 seen
+pub fault_of_all : (seen : List (List (List ℕ))) → 0 < length seen → fault_of_records seen ≡ first_row_fault 1 seen
 fault_of_all [] some = absurd (omega arith)
 fault_of_all (r ∷ seen) some = refl
 
@@ -84,7 +84,7 @@ rows_few [] = omega arith
 rows_few (r ∷ seen) = omega (arith, length-performances_of seen)
 
 -- what a row tells when it is refused is the fault of the body, where that is the row's
-pub told_by : (fault : Option ReturnFault) (rows : List Performance) (row : ℕ) (fields : List (List ℕ)) (old new : List Performance) (e : ReturnError) → Takes row fields old new (Err e) → ((n : ℕ) → fault_at row fields ≡ Some n → fault ≡ Some (record { number = n; row = row })) → Answers fault rows (Err e)
+pub told_by : (fault : Option ReturnFault) (rows : List Performance) (row : ℕ) (fields : List (List ℕ)) (old new : List Performance) (e : ReturnError) → Takes row fields old new (Err e) → ((n : ℕ) → fault_at row fields ≡ Some n → fault ≡ Some (record { number = n; row = row })) → AnswersReturn fault rows (Err e)
 told_by fault rows row fields old new (Csv told) takes first =
     let whole : Some (record { number = told.number; row = row }) ≡ Some told = ap (λ (n : ℕ). Some (record { number = told.number; row = n })) (sym takes.1) in
     first told.number takes.0 ∙ whole
@@ -96,6 +96,6 @@ none_seen [] none = refl
 none_seen (r ∷ seen) none = absurd (omega arith)
 
 -- the fault of records that begin so is that of the record behind those without one
-pub fault_of_begun : (all seen : List (List (List ℕ))) (fields : List (List ℕ)) (more : List (List (List ℕ))) (row n : ℕ) → all ≡ (seen ++ fields ∷ []) ++ more → first_fault 1 seen ≡ None → row ≡ 1 + length seen → fault_at row fields ≡ Some n → fault_of_records all ≡ Some (record { number = n; row = row })
+pub fault_of_begun : (all seen : List (List (List ℕ))) (fields : List (List ℕ)) (more : List (List (List ℕ))) (row n : ℕ) → all ≡ (seen ++ fields ∷ []) ++ more → first_row_fault 1 seen ≡ None → row ≡ 1 + length seen → fault_at row fields ≡ Some n → fault_of_records all ≡ Some (record { number = n; row = row })
 fault_of_begun all seen fields more row n begins none place fault =
     ap fault_of_records (begins ∙ append_assoc seen (fields ∷ []) more) ∙ fault_of_some seen fields more ∙ fault_behind 1 seen fields more row n none place fault

@@ -18,14 +18,14 @@ told_at row (Some number) later = Some (record { number = number; row = row })
 told_at row None later = later
 
 -- the fault of the first row that has one, of records whose first one is this row (profile)
-abbrev pub first_fault : ℕ → List (List (List ℕ)) → Option ReturnFault
-first_fault row [] = None
-first_fault row (fields ∷ more) = told_at row (fault_at row fields) (first_fault (row + 1) more)
+abbrev pub first_row_fault : ℕ → List (List (List ℕ)) → Option ReturnFault
+first_row_fault row [] = None
+first_row_fault row (fields ∷ more) = told_at row (fault_at row fields) (first_row_fault (row + 1) more)
 
 -- the fault of the records of a return: 1 at row 1 where there are none (profile)
 abbrev pub fault_of_records : List (List (List ℕ)) → Option ReturnFault
 fault_of_records [] = Some (record { number = 1; row = 1 })
-fault_of_records (header ∷ more) = first_fault 1 (header ∷ more)
+fault_of_records (header ∷ more) = first_row_fault 1 (header ∷ more)
 
 -- the return fault of a body, none where it is a return (profile)
 unfoldable pub return_fault : List ℕ → Option ReturnFault
@@ -41,7 +41,7 @@ unfoldable pub performances_in : List ℕ → List Performance
 performances_in body = performances_of (drop 1 (records_in body))
 
 -- a reader of returns answers these rows where there is no fault, and else this fault; memory may run out
-abbrev pub Answers : Option ReturnFault → List Performance → Result Return ReturnError → Type 0
-Answers fault rows (Ok r) = (fault ≡ None) × (r.rows ≡ rows)
-Answers fault rows (Err (Csv told)) = fault ≡ Some told
-Answers fault rows (Err Memory) = ⊤
+abbrev pub AnswersReturn : Option ReturnFault → List Performance → Result Return ReturnError → Type 0
+AnswersReturn fault rows (Ok r) = (fault ≡ None) × (r.rows ≡ rows)
+AnswersReturn fault rows (Err (Csv told)) = fault ≡ Some told
+AnswersReturn fault rows (Err Memory) = ⊤

@@ -5,7 +5,7 @@ ghost use Rattle.csv.specs.Reading.{error_kind};
 ghost use Rattle.perf_returns.specs.Rows.{Takes};
 ghost use Rattle.perf_returns.specs.Unread.{IsRefused};
 ghost use Rattle.perf_returns.specs.declared.fault.ReturnError.TheVariants.{Memory};
-ghost use Rattle.perf_returns.specs.Returns.{Answers, return_fault, performances_in};
+ghost use Rattle.perf_returns.specs.Returns.{AnswersReturn, return_fault, performances_in};
 
 use crate::fault::{ReturnError, ReturnFault};
 use crate::performance::{Performance, header_fault, read_row};
@@ -66,7 +66,7 @@ fn unread(error: &Error) -> ReturnError
 /// The rows of a return, read from CSV with fields of any number and untrimmed; else the fault of the first row that
 /// has one, or `Memory` (RFC 4180; the header, the limits and the faults: profile).
 pub fn read_return(alloc: Global, body: &[u8]) -> Result<Return, ReturnError>
-    ensures { Answers (return_fault body.now) (performances_in body.now) result }
+    ensures { AnswersReturn (return_fault body.now) (performances_in body.now) result }
 {
     let reader = ReaderBuilder::new()
         .has_headers(false)

@@ -3,4 +3,5 @@ pub mod Counts
 pub mod Thresholds
 pub mod Parts
 pub mod Units
+pub mod Whole
 mod Worked

@@ -4,7 +4,7 @@ use Rattle.std.specs.List.{zip}
 use Rattle.std.proofs.lemmas.List.{map-append}
 use Rattle.std.proofs.lemmas.List.Sums.{sum_by-append, sum_by-cons}
 use Rattle.share_rules.specs.declared.holder.Holder.{Holder}
-use Rattle.pool_split.specs.Credits.{IsPayable, credits, holder_credit, lone_credit, paid_credits, points_of, units_of}
+use Rattle.pool_split.specs.Credits.{IsPayable, credits, holder_credit, lone_credit, paid_credits, points_claimed, units_of}
 use Rattle.pool_split.specs.Split.{split_of}
 use Rattle.pool_split.specs.declared.claim.Claim.{Claim}
 use Rattle.pool_split.specs.declared.claim.Credit.{Credit}
@@ -32,14 +32,14 @@ unfolding credits
 no_claims amount [] none = refl
 no_claims amount (claim ∷ claims) none = absurd (omega arith)
 
-pub some_claims : (amount : ℕ) (claims : List Claim) → 0 < length claims → credits amount claims ≡ paid_credits claims (split_of amount (points_of claims))
+pub some_claims : (amount : ℕ) (claims : List Claim) → 0 < length claims → credits amount claims ≡ paid_credits claims (split_of amount (points_claimed claims))
 unfolding credits
 some_claims amount [] some = absurd (omega arith)
 some_claims amount (claim ∷ claims) some = refl
 
 -- claims have points where there are some
-pub some_points : (claims : List Claim) → 0 < length claims → All IsPayable claims → 1 ≤ sum (points_of claims)
+pub some_points : (claims : List Claim) → 0 < length claims → All IsPayable claims → 1 ≤ sum (points_claimed claims)
 some_points [] some payable = absurd (omega arith)
 some_points (claim ∷ claims) some payable =
     let first = payable 0 claim some in
-    omega (arith, first.points, sum_by-cons (λ (n : ℕ). n) claim.points (points_of claims))
+    omega (arith, first.points, sum_by-cons (λ (n : ℕ). n) claim.points (points_claimed claims))

@@ -15,8 +15,8 @@ abbrev pub weights_in : List Holder → List ℕ
 weights_in holders = map (λ h. h.weight) holders
 
 -- the points of claims
-abbrev pub points_of : List Claim → List ℕ
-points_of claims = map (λ claim. claim.points) claims
+abbrev pub points_claimed : List Claim → List ℕ
+points_claimed claims = map (λ claim. claim.points) claims
 
 -- the units of a credit
 abbrev pub units_of : Credit → ℕ
@@ -46,7 +46,7 @@ paid_credits claims parts = flat_map (λ paid. claim_credits paid.0 paid.1) (zip
 -- the credits of a pool: the amount split over the recordings by their points, each part credited; nobody's where there are none (profile)
 unfoldable pub credits : ℕ → List Claim → List Credit
 credits amount [] = lone_credit None amount
-credits amount (claim ∷ claims) = paid_credits (claim ∷ claims) (split_of amount (points_of (claim ∷ claims)))
+credits amount (claim ∷ claims) = paid_credits (claim ∷ claims) (split_of amount (points_claimed (claim ∷ claims)))
 
 -- holders, where there are some, have weights of at least one and at most 10 to the 18 in all
 abbrev pub HasWeights : Option (List Holder) → Type 0

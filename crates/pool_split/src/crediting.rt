@@ -1,7 +1,7 @@
 //! The credits of a pool.
 ghost use Rattle.std.specs.Prelude.{◌≡◌, ◌≤◌, ◌<◌, ◌^◌, All, IfOk, length, map, sum};
 ghost use Rattle.std.specs.List.{zip};
-ghost use Rattle.pool_split.specs.Credits.{Ascend, IsPayable, claim_credits, credits, holder_credit, lone_credit, paid_credits, points_of, units_of, weights_in};
+ghost use Rattle.pool_split.specs.Credits.{Ascend, IsPayable, claim_credits, credits, holder_credit, lone_credit, paid_credits, points_claimed, units_of, weights_in};
 
 use crate::claim::{Claim, Credit};
 use crate::splitting::split;
@@ -17,8 +17,8 @@ fn weights_in(alloc: Global, holders: &[Holder]) -> Result<Vec<u64>, AllocError>
 }
 
 /// The points of claims.
-fn points_of(alloc: Global, claims: &[Claim]) -> Result<Vec<u64>, AllocError>
-    ensures { IfOk result (λ points. points.items ≡ points_of claims.now) }
+fn points_claimed(alloc: Global, claims: &[Claim]) -> Result<Vec<u64>, AllocError>
+    ensures { IfOk result (λ points. points.items ≡ points_claimed claims.now) }
 {
     claims.iter().map(|claim| claim.points).collect(alloc)
 }
@@ -97,14 +97,14 @@ pub fn credits(alloc: Global, amount: u64, claims: &[Claim]) -> Result<Vec<Credi
     requires amount { amount ≤ 1000000000000 }
     requires ascending { Ascend claims.now }
     requires payable { All IsPayable claims.now }
-    requires points { sum (points_of claims.now) ≤ 1000000000000000000 }
+    requires points { sum (points_claimed claims.now) ≤ 1000000000000000000 }
     ensures credits { IfOk result (λ list. list.items ≡ credits amount claims.now) }
     ensures whole { IfOk result (λ list. sum (map units_of list.items) ≡ amount) }
 {
     if claims.is_empty() {
         return lone_credit(alloc, None, amount);
     }
-    let points = points_of(alloc, claims)?;
+    let points = points_claimed(alloc, claims)?;
     let parts = split(alloc, amount, &points)?;
     paid_credits(alloc, claims, &parts)
 }

@@ -3,6 +3,7 @@
 
 mod claim;
 mod crediting;
+pub mod laws;
 mod splitting;
 mod threshold;
 

@@ -97,6 +97,20 @@ fn check_credits(
     Ok(())
 }
 
+/// Checks what accounts have come to.
+fn check_balances(
+    rt: &impl Abort,
+    alloc: Global,
+    desk: &mut Desk<PlainStore>,
+    wanted: &[(&[u8], u64)],
+) -> Result<(), Fail> {
+    for (account, units) in wanted {
+        let account = Account::from_bytes(account).ok().ok_or("an account")?;
+        assert!(rt; desk.balance(alloc, &account) == Ok(*units));
+    }
+    Ok(())
+}
+
 /// F1, F3 under 1, 2, a return, F3 under 3, and a pool of 1,001 units at cut 3.
 fn closed_at_a_cut(rt: &impl Abort, alloc: Global) -> Result<Desk<PlainStore>, Fail> {
     let mut desk = new_desk(alloc)?;
@@ -113,6 +127,14 @@ fn closed_at_a_cut(rt: &impl Abort, alloc: Global) -> Result<Desk<PlainStore>, F
     assert!(rt; desk.close_pool(alloc, pool(7)?, &first) == Ok(Receipt::New));
     Ok(desk)
 }
+
+/// What its accounts have come to then, and one that has no credit.
+const BALANCES: &[(&[u8], u64)] = &[
+    (b"I00000000199", 501),
+    (b"I00000000295", 500),
+    (b"UNCLAIMED", 0),
+    (b"PPB000000012A1", 0),
+];
 
 /// The credits of that pool.
 const SHARED: &[(&[u8], &[u8], u64)] = &[
@@ -131,7 +153,7 @@ fn pool_closed_at_a_cut(rt: HostRuntime) -> Result<(), Fail> {
     assert!(rt; desk.close_pool(alloc, pool(7)?, &other) == Err(Refusal::Reused));
     check_credits(&rt, alloc, &mut desk, 7, SHARED)?;
     assert!(rt; matches!(desk.credits(alloc, pool(8)?), Err(Refusal::Unknown)));
-    Ok(())
+    check_balances(&rt, alloc, &mut desk, BALANCES)
 }
 
 #[test]
@@ -141,6 +163,7 @@ fn later_revision_changes_no_credit(rt: HostRuntime) -> Result<(), Fail> {
     let mut desk = closed_at_a_cut(&rt, alloc)?;
     put(alloc, &mut desk, FIRST, 4, &revision)?;
     check_credits(&rt, alloc, &mut desk, 7, SHARED)?;
+    check_balances(&rt, alloc, &mut desk, BALANCES)?;
     let mut early = new_desk(alloc)?;
     put(alloc, &mut early, FIRST, 1, F1)?;
     put(alloc, &mut early, FIRST, 2, &revision)?;
@@ -184,7 +207,43 @@ fn two_claimants(rt: HostRuntime) -> Result<(), Fail> {
     assert!(rt; desk.close_pool(alloc, pool(2)?, &order(alloc, 0, 0, &[2])?) == Ok(Receipt::New));
     check_credits(&rt, alloc, &mut desk, 2, &[(b"", b"UNCLAIMED", 0)])?;
     assert!(rt; desk.close_pool(alloc, pool(3)?, &order(alloc, 5, 0, &[])?) == Ok(Receipt::New));
-    check_credits(&rt, alloc, &mut desk, 3, &[(b"", b"UNCLAIMED", 5)])
+    check_credits(&rt, alloc, &mut desk, 3, &[(b"", b"UNCLAIMED", 5)])?;
+    check_balances(&rt, alloc, &mut desk, &[(b"UNCLAIMED", 15)])
+}
+
+#[test]
+fn splits(rt: HostRuntime) -> Result<(), Fail> {
+    let alloc = rt.alloc();
+    let mut desk = new_desk(alloc)?;
+    put(alloc, &mut desk, FIRST, 1, F1)?;
+    let played = b"isrc,plays,seconds\nATABC2600001,1,1\nATABC2600002,1,1\nATABC2600003,1,1\n";
+    assert!(rt; desk.put_return(alloc, &key(1)?, played) == Ok(Receipt::New));
+    assert!(rt; desk.close_pool(alloc, pool(1)?, &order(alloc, 10, 1, &[1])?) == Ok(Receipt::New));
+    check_credits(
+        &rt,
+        alloc,
+        &mut desk,
+        1,
+        &[
+            (b"ATABC2600001", b"I00000000199", 2),
+            (b"ATABC2600001", b"I00000000295", 2),
+            (b"ATABC2600001", b"UNCLAIMED", 0),
+            (b"ATABC2600002", b"UNCLAIMED", 3),
+            (b"ATABC2600003", b"UNCLAIMED", 3),
+        ],
+    )?;
+    let great = order(alloc, 1_000_000_000_000, 1, &[])?;
+    assert!(rt; desk.close_pool(alloc, pool(2)?, &great) == Ok(Receipt::New));
+    check_balances(
+        &rt,
+        alloc,
+        &mut desk,
+        &[
+            (b"I00000000199", 2),
+            (b"I00000000295", 2),
+            (b"UNCLAIMED", 1_000_000_000_006),
+        ],
+    )
 }
 
 #[test]

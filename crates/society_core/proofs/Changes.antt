@@ -1,5 +1,6 @@
 -- What a step does to the book: it stays as it is, or one entry comes under a free number.
 use Rattle.std.proofs.Common.{◌≡◌, ◌⊎◌, inl, inr, ⊎_elim, ℕ, Bool, true, false, cond, List, Option, Some, None, refl, sym, ap, subst, ◌∙◌}
+use Rattle.std.specs.Bool.{⊤}
 use Rattle.std.specs.Cmp.{nat_cmp_total}
 use Rattle.std.specs.Str.{bytes_eq}
 use Rattle.std.proofs.lemmas.Bool.{false≢true}
@@ -37,6 +38,12 @@ abbrev pub IsFree : Book → Entry → Type 0
 IsFree b (Transmission s n x) = body_at b s n ≡ None
 IsFree b (Return key x) = return_at b key ≡ None
 IsFree b (Pool p o) = order_at b p ≡ None
+
+-- nothing in the book refuses an entry
+abbrev pub IsUnrefused : Book → Entry → Type 0
+IsUnrefused b (Transmission s n x) = ⊤
+IsUnrefused b (Return key x) = ⊤
+IsUnrefused b (Pool p o) = close_refusal b o ≡ None
 
 pub entry_there : (b : Book) (e : Entry) → IsIn (with_entry b e) e
 entry_there b (Transmission s n x) = inserted_there transmissions_total exact_transmissions b.transmissions (transmission_key s n) x
@@ -92,6 +99,7 @@ pub record Adds (b : Book) (q : Query) (r : Reply) (c : Book) : Type 0 where
   pub brings : Brings q r entry
   pub accepts : Accepts q r entry
   pub free : IsFree b entry
+  pub unrefused : IsUnrefused b entry
   pub next : c ≡ with_entry b entry
 
 not_accepted : (b : Book) (q : Query) (r : Reply) → is_acceptance r ≡ false → Stays b q r b
@@ -115,7 +123,7 @@ put_changes b s n y None free = added (file_fault s y) refl
   where
     added : (f : Option FileFault) → file_fault s y ≡ f → Stays b (Puts s n y) (added_answer b s n y f) (added_book b s n y f) ⊎ Adds b (Puts s n y) (added_answer b s n y f) (added_book b s n y f)
     added (Some fault) e = inl (not_accepted b (Puts s n y) (added_answer b s n y (Some fault)) refl)
-    added None e = inr (record { entry = Transmission s n y; brings = (refl, e, λ h. cc); accepts = (refl, refl); free = free; next = refl })
+    added None e = inr (record { entry = Transmission s n y; brings = (refl, e, λ h. cc); accepts = (refl, refl); free = free; unrefused = tt; next = refl })
 put_changes b s n y (Some kept) there = known (bytes_eq kept y) refl
   where
     known : (t : Bool) → bytes_eq kept y ≡ t → Stays b (Puts s n y) (put_answer b s n y (cond t Same Other)) (put_book b s n y (cond t Same Other)) ⊎ Adds b (Puts s n y) (put_answer b s n y (cond t Same Other)) (put_book b s n y (cond t Same Other))
@@ -127,7 +135,7 @@ return_changes b key y None free = added (return_fault y) refl
   where
     added : (f : Option ReturnFault) → return_fault y ≡ f → Stays b (PutsReturn key y) (stored_answer f) (stored_book b key y f) ⊎ Adds b (PutsReturn key y) (stored_answer f) (stored_book b key y f)
     added (Some fault) e = inl (not_accepted b (PutsReturn key y) (stored_answer (Some fault)) refl)
-    added None e = inr (record { entry = Return key y; brings = (refl, e, λ h. cc); accepts = (refl, refl); free = free; next = refl })
+    added None e = inr (record { entry = Return key y; brings = (refl, e, λ h. cc); accepts = (refl, refl); free = free; unrefused = tt; next = refl })
 return_changes b key y (Some kept) there = known (bytes_eq kept y) refl
   where
     known : (t : Bool) → bytes_eq kept y ≡ t → Stays b (PutsReturn key y) (return_answer y (cond t Same Other)) (return_book b key y (cond t Same Other)) ⊎ Adds b (PutsReturn key y) (return_answer y (cond t Same Other)) (return_book b key y (cond t Same Other))
@@ -135,11 +143,11 @@ return_changes b key y (Some kept) there = known (bytes_eq kept y) refl
     known false e = inl (not_accepted b (PutsReturn key y) (return_answer y Other) refl)
 
 close_changes : (b : Book) (p : ℕ) (order : Order) (o : Option Order) → order_at b p ≡ o → Stays b (Closes p order) (close_answer b p order (pool_known_by order o)) (close_book b p order (pool_known_by order o)) ⊎ Adds b (Closes p order) (close_answer b p order (pool_known_by order o)) (close_book b p order (pool_known_by order o))
-close_changes b p order None free = added (close_refusal b order)
+close_changes b p order None free = added (close_refusal b order) refl
   where
-    added : (f : Option Refusal) → Stays b (Closes p order) (closed_answer p f) (closed_book b p order f) ⊎ Adds b (Closes p order) (closed_answer p f) (closed_book b p order f)
-    added (Some refusal) = inl (not_accepted b (Closes p order) (closed_answer p (Some refusal)) refl)
-    added None = inr (record { entry = Pool p order; brings = (refl, refl); accepts = (refl, refl); free = free; next = refl })
+    added : (f : Option Refusal) → close_refusal b order ≡ f → Stays b (Closes p order) (closed_answer p f) (closed_book b p order f) ⊎ Adds b (Closes p order) (closed_answer p f) (closed_book b p order f)
+    added (Some refusal) e = inl (not_accepted b (Closes p order) (closed_answer p (Some refusal)) refl)
+    added None e = inr (record { entry = Pool p order; brings = (refl, refl); accepts = (refl, refl); free = free; unrefused = e; next = refl })
 close_changes b p order (Some kept) there = known (same_order kept order) refl
   where
     known : (t : Bool) → same_order kept order ≡ t → Stays b (Closes p order) (close_answer b p order (cond t Same Other)) (close_book b p order (cond t Same Other)) ⊎ Adds b (Closes p order) (close_answer b p order (cond t Same Other)) (close_book b p order (cond t Same Other))

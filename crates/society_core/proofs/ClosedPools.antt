@@ -62,41 +62,48 @@ versions_same o a b key same =
     (filter_alike (λ (placed : ℕ × Transaction). is_version_at o a key sent.0 placed.0 (number_of_work placed.1)) (λ (placed : ℕ × Transaction). is_version_at o b key sent.0 placed.0 (number_of_work placed.1)) (enumerate_from 0 (transactions_of sent.1))
     (λ placed. version_same o a b key sent.0 placed.0 (number_of_work placed.1) same)))
 
--- what is kept of a book
+-- two books show the same to the cuts and the returns of the first: its senders' transmissions up to their fronts, and its returns
+pub record PaysAlike (a b : Book) : Type 0 where
+  pub sent : (s : List ℕ) (n : ℕ) → n ≤ front a s → transmissions_to a s n ≡ transmissions_to b s n
+  pub returned : (key : ReturnKey) → is_some (return_at a key) ≡ true → return_at a key ≡ return_at b key
+
+-- what a book has stays in another
 pub record Keeps (a b : Book) : Type 0 where
   pub kept : (e : Entry) → IsIn a e → IsIn b e
 
--- transmissions up to the front stay
-sent_same : (a b : Book) (s : List ℕ) (n : ℕ) → Keeps a b → n ≤ front a s → transmissions_to a s n ≡ transmissions_to b s n
-sent_same a b s n keeps within = transmissions_alike a b s n (λ k some le.
-    let found = some_body (body_at a s k) (there_to_front a s k some (omega arith)) in
-    found.1 ∙ sym (keeps.kept (entries.Transmission s k found.0) found.1))
+-- a book that keeps what another has pays alike
+pub kept_pays : (a b : Book) → Keeps a b → PaysAlike a b
+kept_pays a b keeps = record {
+  sent = λ s n within. transmissions_alike a b s n (λ k some le.
+  let found = some_body (body_at a s k) (there_to_front a s k some (omega arith)) in
+  found.1 ∙ sym (keeps.kept (entries.Transmission s k found.0) found.1));
+  returned = λ key is. let found = some_body (return_at a key) is in found.1 ∙ sym (keeps.kept (entries.Return key found.0) found.1);
+}
 
 cut_within : (n f : ℕ) → nat_le n f ≡ true → n ≤ f
 cut_within n f h = grind (arith, nat_tests)
 
 -- the cut shows the same works
-works_same : (o : Office) (a b : Book) (order : Order) → Keeps a b → list_all (λ key. nat_le key.number (front a key.sender)) order.cut ≡ true → works_of_cut o a order ≡ works_of_cut o b order
-works_same o a b order keeps within =
+works_same : (o : Office) (a b : Book) (order : Order) → PaysAlike a b → list_all (λ key. nat_le key.number (front a key.sender)) order.cut ≡ true → works_of_cut o a order ≡ works_of_cut o b order
+works_same o a b order alike within =
     flat_map_where (λ (key : TransmissionKey). nat_le key.number (front a key.sender)) (versions_at_cut o a) (versions_at_cut o b) order.cut within
-    (λ key le. versions_same o a b key (sent_same a b key.sender key.number keeps (cut_within key.number (front a key.sender) le)))
+    (λ key le. versions_same o a b key (alike.sent key.sender key.number (cut_within key.number (front a key.sender) le)))
 
 -- the returns have the same rows
-rows_same : (a b : Book) (order : Order) → Keeps a b → list_all (λ key. is_some (return_at a key)) order.returns ≡ true → rows_named a order ≡ rows_named b order
-rows_same a b order keeps there =
+rows_same : (a b : Book) (order : Order) → PaysAlike a b → list_all (λ key. is_some (return_at a key)) order.returns ≡ true → rows_named a order ≡ rows_named b order
+rows_same a b order alike there =
     flat_map_where (λ (key : ReturnKey). is_some (return_at a key)) (λ (key : ReturnKey). performances_in (unwrap_or (return_at a key) [])) (λ (key : ReturnKey). performances_in (unwrap_or (return_at b key) [])) order.returns there
-    (λ key is. let found = some_body (return_at a key) is in
-    ap (λ (o : Option (List ℕ)). performances_in (unwrap_or o [])) (found.1 ∙ sym (keeps.kept (entries.Return key found.0) found.1)))
+    (λ key is. ap (λ (o : Option (List ℕ)). performances_in (unwrap_or o [])) (alike.returned key is))
 
 -- so the credits are the same
-pub credits_same : (o : Office) (a b : Book) (pool : ℕ) (order : Order) → Keeps a b → is_pool_entry a pool order ≡ true → credits_of o a order ≡ credits_of o b order
+pub credits_same : (o : Office) (a b : Book) (pool : ℕ) (order : Order) → PaysAlike a b → is_pool_entry a pool order ≡ true → credits_of o a order ≡ credits_of o b order
 unfolding credits_of
-credits_same o a b pool order keeps entry =
+credits_same o a b pool order alike entry =
     let cut = list_all (λ (key : TransmissionKey). nat_le key.number (front a key.sender)) order.cut in
     let returns = list_all (λ (key : ReturnKey). is_some (return_at a key)) order.returns in
     let both = first_holds (is_pool_number pool && cut) returns entry in
-    let works = works_same o a b order keeps (second_holds (is_pool_number pool) cut both) in
-    let rows = rows_same a b order keeps (second_holds (is_pool_number pool && cut) returns entry) in
+    let works = works_same o a b order alike (second_holds (is_pool_number pool) cut both) in
+    let rows = rows_same a b order alike (second_holds (is_pool_number pool && cut) returns entry) in
     ap (credits order.amount)
     (ap (λ (ws : List CutWork). map (claim_by ws) (points_by_recording (rows_named a order))) works
     ∙ ap (λ (rs : List Performance). map (claim_by (works_of_cut o b order)) (points_by_recording rs)) rows)
@@ -110,5 +117,5 @@ closed_pool_stays o before qs rs after run sound pool order closed =
     let keeps : Keeps before after = record { kept = λ e there. run_keeps o before qs rs after run e there } in
     let still : order_at after pool ≡ Some order = keeps.kept (entries.Pool pool order) closed in
     ap (credits_answer o after) still
-    ∙ ap (λ (cs : List Credit). Credited cs) (sym (credits_same o before after pool order keeps (sound.pools pool order closed)))
+    ∙ ap (λ (cs : List Credit). Credited cs) (sym (credits_same o before after pool order (kept_pays before after keeps) (sound.pools pool order closed)))
     ∙ sym (ap (credits_answer o before) closed)

@@ -1,6 +1,7 @@
 -- What stands behind a sender's first gap counts nowhere.
-use Rattle.std.proofs.Common.{◌≡◌, ℕ, zero, suc, ◌+◌, ◌≤◌, ◌&&◌, Bool, true, false, cond, List, [], ◌∷◌, ◌++◌, Option, Some, None, length, take, min, nat_le, unwrap_or, refl, ap, sym, subst, ◌∙◌, arith, ⊎_elim}
+use Rattle.std.proofs.Common.{◌≡◌, ℕ, zero, suc, ◌+◌, ◌≤◌, ◌&&◌, Bool, true, false, cond, List, [], ◌∷◌, ◌++◌, Option, Some, None, length, take, min, nat_le, option_map, unwrap_or, refl, ap, sym, subst, ◌∙◌, arith, ⊎_elim}
 use Rattle.std.specs.List.{AllByRecursion, slice_get}
+use Rattle.std.specs.Option.{option_and_then}
 use Rattle.std.proofs.lemmas.Bool.{cases_Bool}
 use Rattle.std.proofs.lemmas.List.{length-take}
 use Rattle.std.proofs.lemmas.Bool.Decides.{nat_tests}
@@ -12,7 +13,7 @@ use Rattle.works_core.specs.Line.{line_of, verdicts_at}
 use Rattle.works_core.specs.Versions.{Placed, is_version, last_version, placed_at, placed_behind, placed_behind_all, placed_line, version_of, work_at}
 use Rattle.works_core.specs.declared.judged.Judged as judgement
 use Rattle.works_core.specs.declared.version.WorkVersion.{WorkVersion}
-use Rattle.society_core.specs.Answers.{answer, judged_answer, shown_ack, shown_transaction, shown_version}
+use Rattle.society_core.specs.Answers.{answer, judged_answer, shown_ack, shown_by, shown_version, work_answer}
 use Rattle.society_core.specs.Book.{Book, ack, body_at, front, shown_verdicts, transmissions_to, verdicts_in, version_in}
 use Rattle.society_core.specs.Headline.{AlikeToTheGap}
 use Rattle.society_core.specs.Requests.{AsksAck, AsksVerdicts, AsksWork}
@@ -47,7 +48,7 @@ last_within limit work (t ∷ past) v all e =
     (cases_Bool (is_version work past t))
 
 -- the version of a work at a cut is of a transmission up to the cut
-version_within : (line : List (List judgement.Judged)) (work : List ℕ) (cut : ℕ) (v : WorkVersion) → work_at line work cut ≡ Some v → (1 ≤ v.transmission) × (v.transmission ≤ cut)
+pub version_within : (line : List (List judgement.Judged)) (work : List ℕ) (cut : ℕ) (v : WorkVersion) → work_at line work cut ≡ Some v → (1 ≤ v.transmission) × (v.transmission ≤ cut)
 unfolding work_at
 version_within line work cut v e =
     last_within cut work (placed_line (take cut line)) v (all_within cut [] 1 (take cut line) (omega arith) (let short : length (take cut line) ≡ min cut (length line) = length-take cut line in omega arith) tt) e
@@ -60,7 +61,7 @@ transmissions_alike a b s (suc n) same =
     ∙ ap (λ (o : Option (List ℕ)). transmissions_to b s n ++ transmission_in (unwrap_or o []) ∷ []) (same (suc n) (omega arith) (omega arith))
 
 -- the same up to a number that is at most the front
-alike_to : (a b : Book) (s : List ℕ) (n : ℕ) → AlikeToTheGap a b s → n ≤ front a s → transmissions_to a s n ≡ transmissions_to b s n
+pub alike_to : (a b : Book) (s : List ℕ) (n : ℕ) → AlikeToTheGap a b s → n ≤ front a s → transmissions_to a s n ≡ transmissions_to b s n
 alike_to a b s n alike le = transmissions_alike a b s n (λ k some within. alike.same_bodies k some (omega arith))
 
 version_alike : (o : Office) (a b : Book) (s work : List ℕ) → AlikeToTheGap a b s → version_in o a s work (front a s) ≡ version_in o b s work (front b s)
@@ -68,17 +69,18 @@ version_alike o a b s work alike =
     ap (λ (ts : List Transmission). work_at (line_of o ts) work (front a s)) (alike_to a b s (front a s) alike (omega arith))
     ∙ ap (λ (n : ℕ). version_in o b s work n) alike.same_front
 
-shown_alike : (o : Office) (a b : Book) (s work : List ℕ) (v : Option WorkVersion) → AlikeToTheGap a b s → version_in o a s work (front a s) ≡ v → shown_version o a s work v ≡ shown_version o b s work v
+shown_alike : (o : Office) (a b : Book) (s work : List ℕ) (v : Option WorkVersion) → AlikeToTheGap a b s → version_in o a s work (front a s) ≡ v → option_and_then (shown_version o a s work) v ≡ option_and_then (shown_version o b s work) v
 shown_alike o a b s work None alike e = refl
 shown_alike o a b s work (Some v) alike e =
-    ap (λ (x : Option (List ℕ)). shown_transaction o s work v (slice_get (transactions_of (transmission_in (unwrap_or x []))) v.place))
+    ap (λ (x : Option (List ℕ)). option_map (shown_by o s work v) (slice_get (transactions_of (transmission_in (unwrap_or x []))) v.place))
     (let place = version_within (line_of o (transmissions_to a s (front a s))) work (front a s) v e in alike.same_bodies v.transmission place.0 place.1)
 
 -- what is asked of a work is answered alike
 pub works_alike : (o : Office) (a b : Book) (s work : List ℕ) → AlikeToTheGap a b s → answer o a (AsksWork s work) ≡ answer o b (AsksWork s work)
 works_alike o a b s work alike =
-    shown_alike o a b s work (version_in o a s work (front a s)) alike refl
-    ∙ ap (shown_version o b s work) (version_alike o a b s work alike)
+    ap work_answer
+    (shown_alike o a b s work (version_in o a s work (front a s)) alike refl
+    ∙ ap (option_and_then (shown_version o b s work)) (version_alike o a b s work alike))
 
 -- a test whose number is at most the front
 shown_at : (f : ℕ) (n : ℕ) → (nat_le 1 n && nat_le n f) ≡ true → (1 ≤ n) × (n ≤ f)

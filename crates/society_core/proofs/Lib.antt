@@ -19,6 +19,9 @@ pub mod ClosedPools
 pub mod PointLemmas
 pub mod CandidateLemmas
 pub mod CreditLemmas
+pub mod PoolLemmas
+pub mod HeldLemmas
+pub mod SoundRuns
 pub mod Lines
 pub mod Numbers
 mod Worked

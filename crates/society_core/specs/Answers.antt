@@ -1,5 +1,6 @@
 -- The answer to each request over a book, and the book after it.
-use Rattle.std.specs.Prelude.{ℕ, Bool, true, false, List, [], ◌∷◌, Option, Some, None, if◌then◌else◌, nat_le}
+use Rattle.std.specs.Prelude.{ℕ, Bool, true, false, List, [], ◌∷◌, Option, Some, None, if◌then◌else◌, nat_le, option_map}
+use Rattle.std.specs.Option.{option_and_then}
 use Rattle.std.specs.FinMap as finite
 use Rattle.std.specs.List.{find}
 use Rattle.std.specs.Str.{bytes_eq}
@@ -105,19 +106,19 @@ shown_by office sender work version transaction = record {
   holders = weights_of sender office transaction;
 }
 
--- a transaction that is there is shown
-abbrev pub shown_transaction : Office → List ℕ → List ℕ → WorkVersion → Option Transaction → Reply
-shown_transaction office sender work version (Some transaction) = Shows (shown_by office sender work version transaction)
-shown_transaction office sender work version None = Refused Unknown
+-- what a version shows, if its transaction is there
+abbrev pub shown_version : Office → Book → List ℕ → List ℕ → WorkVersion → Option Shown
+shown_version office book sender work version =
+    option_map (shown_by office sender work version) (transaction_at book sender version.transmission version.place)
 
--- a version that is there is shown by its transaction
-abbrev pub shown_version : Office → Book → List ℕ → List ℕ → Option WorkVersion → Reply
-shown_version office book sender work (Some version) = shown_transaction office sender work version (transaction_at book sender version.transmission version.place)
-shown_version office book sender work None = Refused Unknown
+-- what is shown of a work: its version at the sender's front, if there is one (profile)
+abbrev pub shown_in : Office → Book → List ℕ → List ℕ → Option Shown
+shown_in office book sender work = option_and_then (shown_version office book sender work) (version_in office book sender work (front book sender))
 
--- the work that is shown is its version at the sender's front (profile)
-abbrev pub work_answer : Office → Book → List ℕ → List ℕ → Reply
-work_answer office book sender work = shown_version office book sender work (version_in office book sender work (front book sender))
+-- a work that is there is shown, else it is unknown
+abbrev pub work_answer : Option Shown → Reply
+work_answer (Some shown) = Shows shown
+work_answer None = Refused Unknown
 
 -- whether the book has this return, another one under its key, or none
 abbrev pub return_known_as : Book → ReturnKey → List ℕ → Known
@@ -241,7 +242,7 @@ answer office book (Closes pool order) = close_answer book pool order (pool_know
 answer office book (ClosesFaulty fault) = Refused (refusals.Order fault)
 answer office book (AsksAck sender number) = shown_ack (ack office book sender number)
 answer office book (AsksSender sender) = Stands (front book sender) (held book sender)
-answer office book (AsksWork sender work) = work_answer office book sender work
+answer office book (AsksWork sender work) = work_answer (shown_in office book sender work)
 answer office book (AsksVerdicts sender number) = judged_answer (shown_verdicts office book sender number)
 answer office book (AsksCredits pool) = credits_answer office book (order_at book pool)
 answer office book (AsksBalance account) = Owed account (balance office book account)

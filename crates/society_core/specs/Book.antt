@@ -126,13 +126,13 @@ abbrev pub ack : Office → Book → List ℕ → ℕ → Option (List ℕ)
 ack office book sender n =
     if is_applied book sender n then Some (acknowledgement office sender (transmission_in (unwrap_or (body_at book sender n) [])) (verdicts_in office book sender n)) else None
 
--- whether a key is one of a sender's held transmissions, those with a number above its front
-abbrev pub is_held : Book → List ℕ → TransmissionKey → Bool
-is_held book sender key = bytes_eq key.sender sender && nat_lt (front book sender) key.number
+-- the numbers of a sender's transmissions, ascending
+abbrev pub numbers_of : Book → List ℕ → List ℕ
+numbers_of book sender = map (λ key. key.number) (filter (λ key. bytes_eq key.sender sender) (finite.keys book.transmissions))
 
--- the numbers of a sender's held transmissions, ascending
+-- the numbers of a sender's held transmissions: those above its front, ascending (profile)
 abbrev pub held : Book → List ℕ → List ℕ
-held book sender = map (λ key. key.number) (filter (is_held book sender) (finite.keys book.transmissions))
+held book sender = filter (nat_lt (front book sender)) (numbers_of book sender)
 
 -- the version of a sender's work at a cut, by its transmissions up to the cut alone
 abbrev pub version_in : Office → Book → List ℕ → List ℕ → ℕ → Option WorkVersion

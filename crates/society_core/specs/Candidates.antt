@@ -10,7 +10,7 @@ use Rattle.share_rules.specs.declared.holder.Holder.{Holder}
 use Rattle.share_rules.specs.declared.office.Office.{Office}
 use Rattle.society_core.specs.Book.{Book, body_at, front, return_at}
 use Rattle.society_core.specs.Claims.{is_candidate_for}
-use Rattle.society_core.specs.Orders.{Order}
+use Rattle.society_core.specs.Orders.{IsOrder, Order}
 use Rattle.society_core.specs.Owners.{CutWork, cut_work, is_at, names_recording}
 use Rattle.society_core.specs.Pools.{holders_of}
 use Rattle.society_core.specs.declared.claim_list.Candidate.{Candidate}
@@ -54,6 +54,12 @@ work_where is_version sender transaction = if is_version then cut_work sender tr
 -- each return that an order names is there (profile)
 abbrev pub HasReturns : Book → Order → Type 0
 HasReturns book order = list_all (λ key. is_some (return_at book key)) order.returns ≡ true
+
+-- an order whose pool can be paid out of a book: its returns are there, its cut is reached, and it is in the form in which orders are kept
+pub record CanBePaid (book : Book) (order : Order) : Type 0 where
+  pub returns : HasReturns book order
+  pub reached : ReachesCut book order
+  pub kept : IsOrder order
 
 -- the performances of a return
 abbrev pub rows_of_return : Book → ReturnKey → List Performance

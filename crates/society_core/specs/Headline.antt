@@ -1,9 +1,13 @@
 -- What the book holds after any list of requests, whatever was lost, repeated or reordered.
-use Rattle.std.specs.Prelude.{ℕ, List, [], ◌∷◌, ◌++◌, ◌≡◌, ◌≢◌, ◌≤◌, ◌⊎◌, ◌↔◌, Some, None, map}
+use Rattle.std.specs.Prelude.{ℕ, List, [], ◌∷◌, ◌++◌, ◌≡◌, ◌≢◌, ◌≤◌, ◌⊎◌, ◌↔◌, Some, None, map, true}
+use Rattle.std.specs.List.{AllByRecursion}
 use Rattle.cwr_files.specs.FileFault.{file_fault}
 use Rattle.perf_returns.specs.Returns.{return_fault}
+use Rattle.work_ids.specs.Numbers.{is_pool_number, is_return_number, is_transmission_number}
+use Rattle.work_ids.specs.SenderKey.{is_sender_key}
 use Rattle.society_core.specs.Book.{Book, body_at, front}
 use Rattle.society_core.specs.Entries.{Accepts, BookOf, Entry, Transmission, Return, Pool, Holds, IsIn, entry_of}
+use Rattle.society_core.specs.Orders.{IsOrder}
 use Rattle.society_core.specs.Requests.{Query, Reply, Refused, query_of, reply_of}
 use Rattle.society_core.specs.declared.answers.Answer.{Answer}
 use Rattle.society_core.specs.declared.refusal.Refusal.TheVariants.{Unavailable}
@@ -55,3 +59,23 @@ TellsWhatCame before after requests old new =
 pub record AlikeToTheGap (a b : Book) (sender : List ℕ) : Type 0 where
   pub same_front : front a sender ≡ front b sender
   pub same_bodies : (n : ℕ) → 1 ≤ n → n ≤ front a sender → body_at a sender n ≡ body_at b sender n
+
+-- two books are alike to the gaps: of each sender the same transmissions up to its first gap, and the same returns and pools
+pub record AlikeToTheGaps (a b : Book) : Type 0 where
+  pub sent : (sender : List ℕ) → AlikeToTheGap a b sender
+  pub returns : a.returns ≡ b.returns
+  pub pools : a.pools ≡ b.pools
+
+-- what an entry stands under is within the limits, and an order is in the form in which orders are kept
+abbrev pub HasRightKey : Entry → Type 0
+HasRightKey (Transmission sender number body) = (is_sender_key sender ≡ true) × (is_transmission_number number ≡ true)
+HasRightKey (Return key body) = is_return_number key.number ≡ true
+HasRightKey (Pool pool order) = (is_pool_number pool ≡ true) × IsOrder order
+
+-- the entry that a request is to make, if any, has a right key
+abbrev pub AsksRightly : Query → Type 0
+AsksRightly query = (entry : Entry) → entry_of query ≡ Some entry → HasRightKey entry
+
+-- all requests of a list ask rightly, as each request of `Request` does by its types
+abbrev pub AllAskRightly : List Query → Type 0
+AllAskRightly queries = AllByRecursion AsksRightly queries

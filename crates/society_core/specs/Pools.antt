@@ -1,5 +1,5 @@
 -- What a closed pool credits to whom, and what accounts have come to.
-use Rattle.std.specs.Prelude.{ℕ, List, map, option_map}
+use Rattle.std.specs.Prelude.{ℕ, ◌≡◌, All, List, count_by, map, option_map}
 use Rattle.std.specs.FinMap as finite
 use Rattle.std.specs.List.{filter, flat_map, sum_by}
 use Rattle.pool_split.specs.Credits.{credits, units_of}
@@ -39,6 +39,18 @@ credits_of office book order = credits order.amount (claims_of office book order
 abbrev pub all_credits : Office → Book → List Credit
 all_credits office book = flat_map (credits_of office book) (finite.values book.pools)
 
--- the balance of an account: the sum of its units over the credits of all pools (profile)
+-- the units that some credits give to an account
+abbrev pub units_to : Account → List Credit → ℕ
+units_to account credits = sum_by units_of (filter (λ credit. same_account credit.account account) credits)
+
+-- the balance of an account: its units over the credits of all pools (profile)
 abbrev pub balance : Office → Book → Account → ℕ
-balance office book account = sum_by units_of (filter (λ credit. same_account credit.account account) (all_credits office book))
+balance office book account = units_to account (all_credits office book)
+
+-- a credit's account is once among some accounts
+abbrev pub IsOnceAmong : List Account → Credit → Type 0
+IsOnceAmong accounts credit = count_by (same_account credit.account) accounts ≡ 1
+
+-- some accounts are all that are credited, each once
+abbrev pub AreAllAccounts : Office → Book → List Account → Type 0
+AreAllAccounts office book accounts = All (IsOnceAmong accounts) (all_credits office book)

@@ -11,8 +11,6 @@ use crate::refusal::Refusal;
 use crate::return_key::ReturnKey;
 use crate::store::{Known, KnownTransmission, Payment, Store};
 use crate::transmission_key::TransmissionKey;
-use crate::work::show;
-use ack_files::write_ack;
 use cwr_files::read_transmission;
 use perf_returns::read_return;
 use pool_split::Credit;
@@ -176,16 +174,10 @@ impl<S: Store> Desk<S> {
     ) -> Result<Vec<u8>, Refusal>
         ensures { Inquires (S.state self.old) (S.state self.new) (AsksAck sender.now number) (told (λ text. Acknowledged text.items) result) }
     {
-        let Some(verdicts) = self.store.verdicts(alloc, sender, number)? else {
-            return Err(Refusal::Unknown);
-        };
-        let Some(body) = self.store.transmission(alloc, sender, number)? else {
-            return Err(Refusal::Unavailable);
-        };
-        let Ok(transmission) = read_transmission(alloc, &body, sender) else {
-            return Err(Refusal::Unavailable);
-        };
-        Ok(write_ack(alloc, self.store.office(), sender, &transmission, &verdicts)?)
+        match self.store.ack(alloc, sender, number)? {
+            Some(text) => Ok(text),
+            None => Err(Refusal::Unknown),
+        }
     }
 
     /// How a sender stands: its front and its held numbers; `Unavailable` for want of memory or where the store
@@ -222,28 +214,9 @@ impl<S: Store> Desk<S> {
     ) -> Result<Work, Refusal>
         ensures { Inquires (S.state self.old) (S.state self.new) (AsksWork sender.now work.now) (told (λ work. Shows (shown_of work)) result) }
     {
-        let Some(version) = self.store.work(alloc, sender, work)? else {
-            return Err(Refusal::Unknown);
-        };
-        let Some(body) = self
-            .store
-            .transmission(alloc, sender, version.transmission)?
-        else {
-            return Err(Refusal::Unavailable);
-        };
-        let Ok(transmission) = read_transmission(alloc, &body, sender) else {
-            return Err(Refusal::Unavailable);
-        };
-        match transmission.transaction(version.place) {
+        match self.store.work(alloc, sender, work)? {
+            Some(shown) => Ok(shown),
             None => Err(Refusal::Unknown),
-            Some(transaction) => Ok(show(
-                alloc,
-                self.store.office(),
-                sender,
-                work,
-                version,
-                transaction,
-            )?),
         }
     }
 

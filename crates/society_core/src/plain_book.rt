@@ -2,7 +2,7 @@
 ghost use Rattle.std.specs.Prelude.{◌≡◌, ◌≤◌, ◌&&◌, IfOk, None, OnOk, OnErr, bytes_eq, false, is_some, map, nat_lt, option_map, true, unwrap_or, ℕ, List};
 ghost use Rattle.std.specs.FinMap as finite;
 ghost use Rattle.std.specs.BTreeMap as tree;
-ghost use Rattle.std.specs.BTreeMap.{IsOrdered, keys};
+ghost use Rattle.std.specs.BTreeMap.{IsOrdered, keys, values};
 ghost use Rattle.std.specs.List.{filter, find};
 ghost use Rattle.std.specs.Ordering.{nat_cmp};
 ghost use Rattle.std.specs.List.Sorted.{IsStrictlySortedBy};
@@ -73,6 +73,17 @@ fn payer_in(entries: &BTreeMap<PoolNumber, PoolOrder>, key: &ReturnKey) -> Optio
         }
     }
     payer
+}
+
+/// The orders of all pools; entries are in the order of their pools.
+fn orders_in(
+    alloc: Global,
+    entries: &BTreeMap<PoolNumber, PoolOrder>,
+) -> Result<Vec<&PoolOrder>, AllocError>
+    ensures orders { IfOk result (λ orders. map (λ order. order.now) orders.items ≡ values entries.now) }
+    ensures ordered { IsOrdered nat_cmp entries.now }
+{
+    entries.values().collect(alloc)
 }
 
 /// A sender's front among these entries, of which 1 to `reached` are there and none is past 999,999.
@@ -171,6 +182,13 @@ impl PlainBook {
         ensures { option_map (λ order. order.now) result ≡ order_at self.now pool }
     {
         self.pools.get(&pool)
+    }
+
+    /// The orders of all pools, in the order of the pools.
+    pub fn orders(&self, alloc: Global) -> Result<Vec<&PoolOrder>, AllocError>
+        ensures { IfOk result (λ orders. map (λ order. order.now) orders.items ≡ finite.values self.now.pools) }
+    {
+        orders_in(alloc, &self.pools)
     }
 
     /// A sender's front.

@@ -1,12 +1,16 @@
 //! A sender's line as the book in memory has it: each transmission read anew.
 ghost use Rattle.std.specs.Prelude.{◌≡◌, ◌≤◌, [], IfOk, option_map, true, unwrap_or};
 ghost use Rattle.cwr_files.specs.Contents.{transmission_in};
-ghost use Rattle.society_core.specs.Answers.{known_as, known_with_front};
-ghost use Rattle.society_core.specs.Book.{IsSound, body_at, front, is_there, shown_verdicts, transmissions_to, version_in};
+ghost use Rattle.society_core.specs.Answers.{known_as, known_with_front, shown_in};
+ghost use Rattle.society_core.specs.Requests.{shown_of};
+ghost use Rattle.society_core.specs.Book.{IsSound, ack, body_at, front, is_there, shown_verdicts, transmissions_to, version_in};
 ghost use Rattle.works_core.specs.Line.{line_of};
 
+use crate::answers::Work;
 use crate::plain_book::PlainBook;
 use crate::store::KnownTransmission;
+use crate::work::show;
+use ack_files::write_ack;
 use cwr_files::{ReadFault, Transmission, read_transmission};
 use share_rules::Office;
 use std::alloc::{AllocError, Global};
@@ -100,23 +104,52 @@ pub(crate) fn verdicts_of(
     }
 }
 
-/// A copy of the body of a sender's transmission.
-pub(crate) fn copy_of(
+/// A sender's line up to a transmission of the book, which is read already.
+fn line_with(
     alloc: Global,
+    office: &Office,
+    book: &PlainBook,
+    sender: &SenderKey,
+    number: TransmissionNumber,
+    transmission: &Transmission<'_>,
+) -> Result<SenderLine, AllocError>
+    requires sound { IsSound book.now }
+    requires reached { number ≤ front book.now sender.now }
+    requires read { transmission.now ≡ transmission_in (unwrap_or (body_at book.now sender.now number) []) }
+    ensures { IfOk result (λ line. line.judged ≡ line_of office.now (transmissions_to book.now sender.now number)) }
+{
+    let mut line = line_to(alloc, office, book, sender, number.value() - 1)?;
+    line.apply(number, transmission)?;
+    Ok(line)
+}
+
+/// The acknowledgement of a sender's transmission, none where its number is above the front.
+pub(crate) fn ack_of(
+    alloc: Global,
+    office: &Office,
     book: &PlainBook,
     sender: &SenderKey,
     number: TransmissionNumber,
 ) -> Result<Option<Vec<u8>>, AllocError>
-    ensures { IfOk result (λ body. option_map (λ bytes. bytes.items) body ≡ body_at book.now sender.now number) }
+    requires sound { IsSound book.now }
+    ensures { IfOk result (λ text. option_map (λ bytes. bytes.items) text ≡ ack office.now book.now sender.now number) }
 {
-    match book.transmission(sender, number) {
-        None => Ok(None),
-        Some(body) => Ok(Some(Vec::from_slice(alloc, body)?)),
+    if number.value() > book.front(sender) {
+        return Ok(None);
+    }
+    let transmission = transmission_of(alloc, book, sender, number)?;
+    let line = line_with(alloc, office, book, sender, number, &transmission)?;
+    match line.verdicts(number) {
+        Some(verdicts) => {
+            let text = write_ack(alloc, office, sender, &transmission, verdicts)?;
+            Ok(Some(text))
+        }
+        None => unreachable!(),
     }
 }
 
 /// The version of a sender's work at the sender's front.
-pub(crate) fn work_of(
+fn version_of(
     alloc: Global,
     office: &Office,
     book: &PlainBook,
@@ -132,4 +165,28 @@ pub(crate) fn work_of(
     };
     let line = line_to(alloc, office, book, sender, front)?;
     Ok(line.work_at(work, cut))
+}
+
+/// A sender's work as its version at the sender's front shows it, none where it has none.
+pub(crate) fn work_of(
+    alloc: Global,
+    office: &Office,
+    book: &PlainBook,
+    sender: &SenderKey,
+    work: &WorkNumber,
+) -> Result<Option<Work>, AllocError>
+    requires sound { IsSound book.now }
+    ensures { IfOk result (λ shown. option_map shown_of shown ≡ shown_in office.now book.now sender.now work.now) }
+{
+    let Some(version) = version_of(alloc, office, book, sender, work)? else {
+        return Ok(None);
+    };
+    let transmission = transmission_of(alloc, book, sender, version.transmission)?;
+    match transmission.transaction(version.place) {
+        None => Ok(None),
+        Some(transaction) => {
+            let shown = show(alloc, office, sender, work, version, transaction)?;
+            Ok(Some(shown))
+        }
+    }
 }

@@ -2,11 +2,12 @@
 ghost use Rattle.std.specs.Prelude.{◌≡◌, ◌≤◌, ◌++◌, IfOk, List, OnOk, is_some, length, map, option_map, sum, true};
 ghost use Rattle.perf_returns.specs.declared.performance.Performance.{Performance as Row};
 ghost use Rattle.pool_split.specs.Credits.{units_of};
+ghost use Rattle.society_core.specs.Accounts.{same_account};
 ghost use Rattle.society_core.specs.Answers.{payment_in, pool_known_as, return_known_as};
 ghost use Rattle.society_core.specs.Book.{IsSound, order_at, return_at};
 ghost use Rattle.society_core.specs.Candidates.{HasReturns, ReachesCut, rows_of_return};
 ghost use Rattle.society_core.specs.Points.{Tallies, rows_named};
-ghost use Rattle.society_core.specs.Pools.{balance, credits_of};
+ghost use Rattle.society_core.specs.Pools.{balance, credits_of, units_to};
 
 use crate::candidates::candidates_of;
 use crate::claim_list::claims;
@@ -138,6 +139,32 @@ pub(crate) fn credits_of_pool(
     }
 }
 
+/// Whether two accounts are one.
+fn is_same(a: &Account, b: &Account) -> bool
+    ensures { result ≡ same_account a.now b.now }
+{
+    match (a, b) {
+        (Account::Ipi(a), Account::Ipi(b)) => a == b,
+        (Account::Party(sender, a), Account::Party(other, b)) => sender == other && a == b,
+        (Account::Unclaimed, Account::Unclaimed) => true,
+        _ => false,
+    }
+}
+
+/// The units of an account among the credits of a pool.
+fn units_in(credits: &[Credit], account: &Account) -> u64
+    requires within { sum (map units_of credits.now) ≤ 1000000000000 }
+    ensures { result ≡ units_to account.now credits.now }
+{
+    let mut units = 0;
+    for credit in credits {
+        if is_same(&credit.account, account) {
+            units += credit.units;
+        }
+    }
+    units
+}
+
 /// The balance of an account, in units of money.
 pub(crate) fn balance_of(
     alloc: Global,
@@ -148,5 +175,11 @@ pub(crate) fn balance_of(
     requires sound { IsSound book.now }
     ensures { IfOk result (λ units. units ≡ balance office.now book.now account.now) }
 {
-    Err(AllocError)
+    let orders = book.orders(alloc)?;
+    let mut units = 0;
+    for order in &orders {
+        let credits = credits_by(alloc, office, book, order)?;
+        units += units_in(&credits, account);
+    }
+    Ok(units)
 }

@@ -1,11 +1,14 @@
 //! A store in memory.
-ghost use Rattle.std.specs.Prelude.{◌≡◌, true};
-ghost use Rattle.society_core.specs.Book.{IsSound};
+ghost use Rattle.std.specs.Prelude.{◌≡◌, is_ok, true};
+ghost use Rattle.society_core.specs.Answers.{known_as, known_with_front};
+ghost use Rattle.society_core.specs.Book.{IsSound, front};
+ghost use Rattle.society_core.specs.Plain.{plain_state};
+ghost use Rattle.society_core.specs.State.{Question};
 
-use crate::answers::SenderStatus;
+use crate::answers::{SenderStatus, Work};
 use crate::order::PoolOrder;
 use crate::plain_book::PlainBook;
-use crate::plain_lines::{copy_of, known_in, verdicts_of, work_of};
+use crate::plain_lines::{ack_of, known_in, verdicts_of, work_of};
 use crate::plain_pools::{balance_of, credits_of_pool, known_pool_in, known_return_in, payment_of};
 use crate::return_key::ReturnKey;
 use crate::store::{Known, KnownTransmission, Payment, Store, StoreFault};
@@ -14,7 +17,7 @@ use pool_split::Credit;
 use share_rules::Office;
 use std::alloc::Global;
 use work_ids::{Account, PoolNumber, SenderKey, TransmissionNumber, WorkNumber};
-use works_core::{Verdict, WorkVersion};
+use works_core::Verdict;
 
 /// A store in memory that keeps the three maps of the book and the senders' fronts, and computes every other answer from
 /// them anew.
@@ -55,20 +58,26 @@ impl Store for PlainStore {
         sender: &SenderKey,
         number: TransmissionNumber,
         body: &[u8],
-    ) -> Result<KnownTransmission, StoreFault> {
+    ) -> Result<KnownTransmission, StoreFault>
+        ensures question { Question (plain_state self.old.office self.old.book) (plain_state self.new.office self.new.book) result (λ known. known ≡ known_with_front (front self.old.book sender.now) (known_as self.old.book sender.now number body.now)) }
+        ensures never { is_ok result ≡ true }
+    {
         Ok(known_in(&self.book, sender, number, body))
     }
 
-    fn transmission(
+    fn ack(
         &mut self,
         alloc: Global,
         sender: &SenderKey,
         number: TransmissionNumber,
     ) -> Result<Option<Vec<u8>>, StoreFault> {
-        Ok(copy_of(alloc, &self.book, sender, number)?)
+        Ok(ack_of(alloc, &self.office, &self.book, sender, number)?)
     }
 
-    fn front(&mut self, sender: &SenderKey) -> Result<u32, StoreFault> {
+    fn front(&mut self, sender: &SenderKey) -> Result<u32, StoreFault>
+        ensures question { Question (plain_state self.old.office self.old.book) (plain_state self.new.office self.new.book) result (λ number. number ≡ front self.old.book sender.now) }
+        ensures never { is_ok result ≡ true }
+    {
         Ok(self.book.front(sender))
     }
 
@@ -85,7 +94,7 @@ impl Store for PlainStore {
         alloc: Global,
         sender: &SenderKey,
         work: &WorkNumber,
-    ) -> Result<Option<WorkVersion>, StoreFault> {
+    ) -> Result<Option<Work>, StoreFault> {
         Ok(work_of(alloc, &self.office, &self.book, sender, work)?)
     }
 

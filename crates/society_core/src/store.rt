@@ -3,13 +3,13 @@ ghost use Rattle.std.specs.Prelude.{◌≡◌, IsTrue, None, option_map, ⊤};
 ghost use Rattle.cwr_files.specs.Contents.{transmission_in};
 ghost use Rattle.cwr_files.specs.FileFault.{file_fault};
 ghost use Rattle.perf_returns.specs.Returns.{return_fault};
-ghost use Rattle.society_core.specs.Answers.{close_refusal, known_as, known_with_front, payment_in, pool_known_as, return_known_as};
-ghost use Rattle.society_core.specs.Book.{body_at, front, held, order_at, return_at, shown_verdicts, version_in, with_pool, with_return, with_transmission};
+ghost use Rattle.society_core.specs.Answers.{close_refusal, known_as, known_with_front, payment_in, pool_known_as, return_known_as, shown_in};
+ghost use Rattle.society_core.specs.Book.{ack, body_at, front, held, order_at, return_at, shown_verdicts, with_pool, with_return, with_transmission};
 ghost use Rattle.society_core.specs.Pools.{balance, credits_of};
-ghost use Rattle.society_core.specs.Requests.{standing_of, Stands};
+ghost use Rattle.society_core.specs.Requests.{shown_of, standing_of, Stands};
 ghost use Rattle.society_core.specs.State.{Addition, IsState, Question, State};
 
-use crate::answers::SenderStatus;
+use crate::answers::{SenderStatus, Work};
 use crate::order::PoolOrder;
 use crate::return_key::ReturnKey;
 use cwr_files::Transmission;
@@ -18,7 +18,7 @@ use share_rules::Office;
 use std::alloc::{AllocError, AllocFailed, Global};
 use thiserror::Error;
 use work_ids::{Account, PoolNumber, SenderKey, TransmissionNumber, WorkNumber};
-use works_core::{Verdict, WorkVersion};
+use works_core::Verdict;
 
 /// What the book has under a number, beside a content that is asked for.
 #[derive(Clone, Copy, Debug, PartialEq, Eq)]
@@ -101,33 +101,33 @@ pub trait Store {
         number: TransmissionNumber,
         body: &[u8],
     ) -> Result<KnownTransmission, StoreFault>
-        ensures { Question (state self.old) (state self.new) result (λ known. known ≡ known_with_front (front (state self.old).book sender.now) (known_as (state self.old).book sender.now number body.now)) };
+        ensures question { Question (state self.old) (state self.new) result (λ known. known ≡ known_with_front (front (state self.old).book sender.now) (known_as (state self.old).book sender.now number body.now)) };
 
-    /// The body of a sender's transmission.
-    fn transmission(
+    /// The acknowledgement of a sender's transmission, none where its number is above the front.
+    fn ack(
         &mut self,
         alloc: Global,
         sender: &SenderKey,
         number: TransmissionNumber,
     ) -> Result<Option<Vec<u8>>, StoreFault>
-        ensures { Question (state self.old) (state self.new) result (λ body. option_map (λ bytes. bytes.items) body ≡ body_at (state self.old).book sender.now number) };
+        ensures { Question (state self.old) (state self.new) result (λ text. option_map (λ bytes. bytes.items) text ≡ ack (state self.old).office (state self.old).book sender.now number) };
 
     /// A sender's front.
     fn front(&mut self, sender: &SenderKey) -> Result<u32, StoreFault>
-        ensures { Question (state self.old) (state self.new) result (λ number. number ≡ front (state self.old).book sender.now) };
+        ensures question { Question (state self.old) (state self.new) result (λ number. number ≡ front (state self.old).book sender.now) };
 
     /// How a sender stands: its front, and the numbers of its held transmissions, ascending.
     fn standing(&mut self, alloc: Global, sender: &SenderKey) -> Result<SenderStatus, StoreFault>
         ensures { Question (state self.old) (state self.new) result (λ status. standing_of status ≡ Stands (front (state self.old).book sender.now) (held (state self.old).book sender.now)) };
 
-    /// The version of a sender's work at the sender's front.
+    /// A sender's work as its version at the sender's front shows it, none where it has none.
     fn work(
         &mut self,
         alloc: Global,
         sender: &SenderKey,
         work: &WorkNumber,
-    ) -> Result<Option<WorkVersion>, StoreFault>
-        ensures { Question (state self.old) (state self.new) result (λ version. version ≡ version_in (state self.old).office (state self.old).book sender.now work.now (front (state self.old).book sender.now)) };
+    ) -> Result<Option<Work>, StoreFault>
+        ensures { Question (state self.old) (state self.new) result (λ shown. option_map shown_of shown ≡ shown_in (state self.old).office (state self.old).book sender.now work.now) };
 
     /// The verdicts of a sender's transmission, none where its number is above the front.
     fn verdicts(

@@ -2,7 +2,7 @@ use Rattle.std.proofs.Common.{◌≡◌, ◌∙◌, All, List, ℕ, ap, arith, m
 use Rattle.std.specs.Result.{IfOk}
 use Rattle.pool_split.specs.declared.claim.Credit.{Credit}
 use Rattle.std.specs.List.Sorted.{IsStrictlySortedBy}
-use Rattle.pool_split.specs.Credits.{Ascend, IsPayable, credits, points_of}
+use Rattle.pool_split.specs.Credits.{Ascend, IsPayable, credits, points_claimed}
 use Rattle.pool_split.specs.declared.claim.Claim.{Claim}
 use Rattle.society_core.specs.Claims.{claims_among}
 use Rattle.society_core.specs.Keys.{bytes_cmp}
@@ -55,7 +55,7 @@ credits-requires-clause-points c =
     ∙ ap (λ (xs : List (List ℕ × ℕ)). claims_among xs c.deref-2.result.now) (c.deref.ensures.value ∙ c.in_ok-points.ensures rows c.in_ok-tally.ensures.tally)
     ∙ ap (claims_among ps) c.deref-2.ensures.value
     ∙ claims_are office book order c.in_ok-candidates.candidates.items ps c.in_ok-candidates.ensures in
-    let total : sum (points_of c.deref-3.result.now) ≡ sum (map (λ (e : List ℕ × ℕ). e.1) ps) = ap (λ (cs : List Claim). sum (points_of cs)) same ∙ ap sum (points_of_claims office book order ps) in
+    let total : sum (points_claimed c.deref-3.result.now) ≡ sum (map (λ (e : List ℕ × ℕ). e.1) ps) = ap (λ (cs : List Claim). sum (points_claimed cs)) same ∙ ap sum (points_of_claims office book order ps) in
     let within = all_points_within rows c.in_ok-tally.ensures.tally.played c.in_ok-tally.ensures.limit in
     omega (arith, total, within)
 

@@ -1,0 +1,5 @@
+use Rattle.pool_split.proofs.Whole.{credits_add}
+use Rattle.pool_split.proofs.laws.credits_add_up.Goals as goal
+
+pub returns : goal.returns
+returns c = credits_add

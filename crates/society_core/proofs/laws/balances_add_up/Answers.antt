@@ -1,0 +1,5 @@
+use Rattle.society_core.proofs.PoolLemmas.{balances_sum}
+use Rattle.society_core.proofs.laws.balances_add_up.Goals as goal
+
+pub returns : goal.returns
+returns c = balances_sum
