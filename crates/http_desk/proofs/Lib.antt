@@ -1,9 +1,13 @@
 pub mod CuttingLemmas
 pub mod FieldLemmas
 pub mod HeadLemmas
+pub mod JsonLemmas
 pub mod Known
 pub mod UpcomingLemmas
+pub mod OrderLemmas
 pub mod PathLemmas
 pub mod ServeLemmas
+pub mod StepLemmas
+pub mod TableLemmas
 pub mod TextLemmas
 mod Worked

@@ -11,14 +11,16 @@ use Rattle.matchit.specs.Params.{walk, named}
 use Rattle.matchit.specs.Seek.{first}
 use Rattle.matchit.specs.declared.error.InsertError.{InsertError}
 use Rattle.percent_encoding.specs.Percent.{percent_decode}
-use Rattle.work_ids.specs.Numbers.{is_return_number, is_transmission_number, number_in_text}
-use Rattle.work_ids.specs.Reporter.{reporter_of}
-use Rattle.work_ids.specs.SenderKey.{sender_key_of}
+use Rattle.work_ids.specs.Account.{account_of}
+use Rattle.work_ids.specs.Numbers.{is_pool_number, is_return_number, is_transmission_number, number_in_text}
+use Rattle.work_ids.specs.WorkNumber.{work_number_of}
+use Rattle.work_ids.specs.declared.account.Account.{Account as AccountKey}
 use Rattle.society_core.specs.Keys.{return_key}
-use Rattle.society_core.specs.Requests.{Query, Puts, PutsReturn, AsksAck, AsksElsewhere}
+use Rattle.society_core.specs.Requests.{Query, Puts, PutsReturn, AsksAck, AsksSender, AsksWork, AsksVerdicts, AsksCredits, AsksBalance, AsksElsewhere}
 use Rattle.http_desk.specs.declared.routes.Route.{Route}
-use Rattle.http_desk.specs.declared.routes.Route.TheVariants.{Transmission, Acknowledgement, Return}
+use Rattle.http_desk.specs.declared.routes.Route.TheVariants.{Transmission, Acknowledgement, Return, Sender, Verdicts, Work, Account, Pool}
 use Rattle.http_desk.specs.BodyLength.{is_put}
+use Rattle.http_desk.specs.OrderText.{close_query, reporter_named, sender_of}
 use Rattle.http_desk.specs.Part.{Part}
 
 -- a route's text that reads well takes its place among the routes
@@ -33,9 +35,14 @@ with_route text route rows = added (parse_route text) route rows
 -- the routes of the office (profile)
 unfoldable pub office_routes : RowsOf (RouteOf Route)
 office_routes =
-    with_route (codes "/v1/returns/{reporter}/{n}") Return
+    with_route (codes "/v1/pools/{pool}") Pool
+    (with_route (codes "/v1/accounts/{account}") Account
+    (with_route (codes "/v1/senders/{sender}/works/{work}") Work
+    (with_route (codes "/v1/senders/{sender}/verdicts/{n}") Verdicts
+    (with_route (codes "/v1/senders/{sender}") Sender
+    (with_route (codes "/v1/returns/{reporter}/{n}") Return
     (with_route (codes "/v1/senders/{sender}/acks/{n}") Acknowledgement
-    (with_route (codes "/v1/senders/{sender}/transmissions/{n}") Transmission []))
+    (with_route (codes "/v1/senders/{sender}/transmissions/{n}") Transmission [])))))))
 
 -- the byte is ASCII, and begins neither a query nor a fragment
 abbrev pub is_path_byte : ℕ → Bool
@@ -49,10 +56,6 @@ is_path target = list_all is_path_byte target
 abbrev pub parameter : List ℕ → List (List ℕ × List ℕ) → Option (List ℕ)
 parameter name parts = option_map percent_decode (named name parts)
 
--- the sender key that the bytes spell
-abbrev pub sender_of : List ℕ → Option (List ℕ)
-sender_of bytes = result_ok (sender_key_of bytes)
-
 -- the sender in what the parameters of a route took
 abbrev pub sender_in : List (List ℕ × List ℕ) → Option (List ℕ)
 sender_in parts = option_and_then sender_of (parameter (codes "sender") parts)
@@ -63,28 +66,63 @@ transmission_number_in parts = option_and_then (number_in_text is_transmission_n
 
 -- the reporter in it
 abbrev pub reporter_in : List (List ℕ × List ℕ) → Option (List ℕ)
-reporter_in parts = option_and_then (λ bytes. result_ok (reporter_of bytes)) (parameter (codes "reporter") parts)
+reporter_in parts = option_and_then reporter_named (parameter (codes "reporter") parts)
 
 -- the number of a return in it
 abbrev pub return_number_in : List (List ℕ × List ℕ) → Option ℕ
 return_number_in parts = option_and_then (number_in_text is_return_number) (parameter (codes "n") parts)
 
--- what is asked of a sender or a reporter and a number, where both are there
-abbrev pub asked_of : (List ℕ → ℕ → Query) → Option (List ℕ) → Option ℕ → Query
-asked_of asks (Some party) (Some number) = asks party number
-asked_of asks (Some party) None = AsksElsewhere
-asked_of asks None number = AsksElsewhere
+-- the number of a pool in it
+abbrev pub pool_number_in : List (List ℕ × List ℕ) → Option ℕ
+pool_number_in parts = option_and_then (number_in_text is_pool_number) (parameter (codes "pool") parts)
 
--- what is asked of a route, by whether the method is PUT, and what its parameters took: a route reads its own and no other
+-- the work number in it
+abbrev pub work_number_in : List (List ℕ × List ℕ) → Option (List ℕ)
+work_number_in parts = option_and_then (λ bytes. result_ok (work_number_of bytes)) (parameter (codes "work") parts)
+
+-- the account in it
+abbrev pub account_in : List (List ℕ × List ℕ) → Option AccountKey
+account_in parts = option_and_then (λ bytes. result_ok (account_of bytes)) (parameter (codes "account") parts)
+
+-- what is asked of one thing, where it is there
+abbrev pub asked_of : {X : Type 0} → (X → Query) → Option X → Query
+asked_of asks (Some thing) = asks thing
+asked_of asks None = AsksElsewhere
+
+-- what is asked of a party and something of it, where both are there
+abbrev pub asked_of_both : {X : Type 0} → (List ℕ → X → Query) → Option (List ℕ) → Option X → Query
+asked_of_both asks (Some party) (Some thing) = asks party thing
+asked_of_both asks (Some party) None = AsksElsewhere
+asked_of_both asks None thing = AsksElsewhere
+
+-- what a put asks of a route, by what its parameters took and the body: a route reads its own and no other
+abbrev pub asked_by_put : Route → List (List ℕ × List ℕ) → List ℕ → Query
+asked_by_put Transmission parts body =
+    asked_of_both (λ sender number. Puts sender number body) (sender_in parts) (transmission_number_in parts)
+asked_by_put Return parts body =
+    asked_of_both (λ reporter number. PutsReturn (return_key reporter number) body) (reporter_in parts) (return_number_in parts)
+asked_by_put Pool parts body = asked_of (λ pool. close_query pool body) (pool_number_in parts)
+asked_by_put Acknowledgement parts body = AsksElsewhere
+asked_by_put Sender parts body = AsksElsewhere
+asked_by_put Verdicts parts body = AsksElsewhere
+asked_by_put Work parts body = AsksElsewhere
+asked_by_put Account parts body = AsksElsewhere
+
+-- what a get asks of a route, whatever its body
+abbrev pub asked_by_get : Route → List (List ℕ × List ℕ) → Query
+asked_by_get Acknowledgement parts = asked_of_both AsksAck (sender_in parts) (transmission_number_in parts)
+asked_by_get Sender parts = asked_of AsksSender (sender_in parts)
+asked_by_get Verdicts parts = asked_of_both AsksVerdicts (sender_in parts) (transmission_number_in parts)
+asked_by_get Work parts = asked_of_both AsksWork (sender_in parts) (work_number_in parts)
+asked_by_get Account parts = asked_of AsksBalance (account_in parts)
+asked_by_get Pool parts = asked_of AsksCredits (pool_number_in parts)
+asked_by_get Transmission parts = AsksElsewhere
+asked_by_get Return parts = AsksElsewhere
+
+-- what is asked of a route, by whether the method is PUT
 abbrev pub asked : Bool → Route → List (List ℕ × List ℕ) → List ℕ → Query
-asked true Transmission parts body =
-    asked_of (λ sender number. Puts sender number body) (sender_in parts) (transmission_number_in parts)
-asked true Return parts body =
-    asked_of (λ reporter number. PutsReturn (return_key reporter number) body) (reporter_in parts) (return_number_in parts)
-asked false Acknowledgement parts body = asked_of AsksAck (sender_in parts) (transmission_number_in parts)
-asked true Acknowledgement parts body = AsksElsewhere
-asked false Transmission parts body = AsksElsewhere
-asked false Return parts body = AsksElsewhere
+asked true route parts body = asked_by_put route parts body
+asked false route parts body = asked_by_get route parts
 
 -- what is asked, where a route takes the path
 abbrev pub asked_by : Bool → List ℕ → Option (RouteOf Route) → List ℕ → Query

@@ -3,9 +3,8 @@ use Rattle.std.specs.Prelude.{◌≡◌, ◌⊎◌, ℕ, ◌+◌, ◌*◌, ◌�
 use Rattle.std.specs.Io.KnownBytes.{Appends, Consumes}
 use Rattle.std.specs.List.{flat_map, AllByRecursion}
 use Rattle.society_core.specs.Headline.{OneContent, HoldsWhatCame}
-use Rattle.society_core.specs.Requests.{Reply, reply_of}
+use Rattle.society_core.specs.Requests.{Reply}
 use Rattle.society_core.specs.Runs.{Run, Step}
-use Rattle.society_core.specs.declared.answers.Answer.{Answer}
 use Rattle.society_core.specs.State.{State, Rises}
 use Rattle.http_desk.specs.declared.connection.Served.{Served}
 use Rattle.http_desk.specs.declared.connection_end.End.{End}
@@ -20,10 +19,10 @@ use Rattle.http_desk.specs.Reads.{Awaits, Reads, Cuts, HasNoPart}
 use Rattle.http_desk.specs.Text.{texts, ending}
 
 -- a request was answered by a step from the old book to the new, where the store is clean
-abbrev pub Steps : {S : Type 0} → (S → State) → S → S → Part → Answer → Type 0
-Steps state desk new_desk part answer =
+abbrev pub Steps : {S : Type 0} → (S → State) → S → S → Part → Reply → Type 0
+Steps state desk new_desk part reply =
     IsTrue (state new_desk).is_clean
-    → Step (state desk).office (state desk).book (request_of part) (reply_of answer) (state new_desk).book
+    → Step (state desk).office (state desk).book (request_of part) reply (state new_desk).book
 
 -- the requests were answered in turn, from one state of the store to another; the book is told where the store is clean, and holds what came
 pub record AreAnswered (parts : List Part) (replies : List Reply) (old new : State) : Type 0 where

@@ -9,12 +9,15 @@ use Rattle.society_core.specs.declared.answers.Standing.TheVariants.{Applied, He
 use Rattle.society_core.specs.declared.refusal.Refusal.{Refusal}
 use Rattle.society_core.specs.declared.refusal.Refusal.TheVariants.{Reused, File, Csv, Order, Cut, ReturnUnknown, ReturnPaid, Unknown, Unavailable}
 use Rattle.society_core.specs.Requests.{Reply, Arrived, Stored, Closed, Acknowledged, Stands, Shows, Judged, Credited, Owed, Refused}
+use Rattle.work_ids.specs.Blanks.{without_trailing_blanks}
 use Rattle.http_desk.specs.declared.status.ContentType.{ContentType}
 use Rattle.http_desk.specs.declared.status.ContentType.TheVariants as types
 use Rattle.http_desk.specs.declared.status.Status.{Status}
 use Rattle.http_desk.specs.declared.status.Status.TheVariants as statuses
 use Rattle.http_desk.specs.BodyLength.{closes}
+use Rattle.http_desk.specs.Json.{balance_text, sender_text, verdicts_text, work_text}
 use Rattle.http_desk.specs.Part.{Part}
+use Rattle.http_desk.specs.Table.{table_text}
 use Rattle.http_desk.specs.declared.connection_end.End.{End}
 use Rattle.http_desk.specs.declared.connection_end.End.TheVariants.{Quiet, Closed, Bad, TooLarge, Busy}
 
@@ -38,6 +41,7 @@ phrase_of status = unwrap_or (reason_phrase status) []
 abbrev pub type_text : ContentType → List ℕ
 type_text types.Json = codes "application/json"
 type_text types.File = codes "application/octet-stream"
+type_text types.Table = codes "text/csv"
 
 -- the field that says that the connection ends after the answer, with the line end before it
 abbrev pub connection_field : Bool → List ℕ
@@ -92,33 +96,50 @@ receipt_status Repeated = statuses.Done
 abbrev pub stored_text : List ℕ
 stored_text = codes "{\"state\":\"stored\"}"
 
--- what there is not
-abbrev pub unknown_text : List ℕ
-unknown_text = codes "{\"error\":\"unknown\"}"
+-- the body of a pool that is closed (profile)
+abbrev pub closed_text : ℕ → List ℕ
+closed_text pool = codes "{\"pool\":" ++ decimal pool ++ codes ",\"state\":\"closed\"}"
 
--- the body of a refusal. Those of orders have no text yet: no route leads to them
+-- the body of a cut above its sender's front (profile)
+abbrev pub cut_text : List ℕ → ℕ → List ℕ
+cut_text sender front =
+    codes "{\"error\":\"cut\",\"front\":" ++ decimal front ++ codes ",\"sender\":\"" ++ sender ++ codes "\"}"
+
+-- the body of a return that is not there (profile)
+abbrev pub return_text : List ℕ → ℕ → List ℕ
+return_text reporter number =
+    codes "{\"error\":\"return\",\"number\":" ++ decimal number
+    ++ codes ",\"reporter\":\"" ++ without_trailing_blanks reporter ++ codes "\"}"
+
+-- the body of a return that another pool has paid (profile)
+abbrev pub paid_text : List ℕ → ℕ → ℕ → List ℕ
+paid_text reporter number pool =
+    codes "{\"error\":\"paid\",\"number\":" ++ decimal number ++ codes ",\"pool\":" ++ decimal pool
+    ++ codes ",\"reporter\":\"" ++ without_trailing_blanks reporter ++ codes "\"}"
+
+-- the body of a refusal (profile)
 abbrev pub refusal_text : Refusal → List ℕ
 refusal_text Reused = codes "{\"error\":\"reused\"}"
 refusal_text (File fault) =
     codes "{\"error\":\"file\",\"fault\":" ++ decimal fault.number ++ codes ",\"line\":" ++ decimal fault.line ++ codes "}"
 refusal_text (Csv fault) =
     codes "{\"error\":\"csv\",\"fault\":" ++ decimal fault.number ++ codes ",\"row\":" ++ decimal fault.row ++ codes "}"
-refusal_text (Order fault) = unknown_text
-refusal_text (Cut sender front) = unknown_text
-refusal_text (ReturnUnknown key) = unknown_text
-refusal_text (ReturnPaid key pool) = unknown_text
-refusal_text Unknown = unknown_text
+refusal_text (Order fault) = codes "{\"error\":\"order\",\"fault\":" ++ decimal fault ++ codes "}"
+refusal_text (Cut sender front) = cut_text sender front
+refusal_text (ReturnUnknown key) = return_text key.reporter key.number
+refusal_text (ReturnPaid key pool) = paid_text key.reporter key.number pool
+refusal_text Unknown = codes "{\"error\":\"unknown\"}"
 refusal_text Unavailable = codes "{\"error\":\"busy\"}"
 
--- the status of a refusal
+-- the status of a refusal (profile)
 abbrev pub refusal_status : Refusal → Status
 refusal_status Reused = statuses.Conflict
 refusal_status (File fault) = statuses.Unprocessable
 refusal_status (Csv fault) = statuses.Unprocessable
-refusal_status (Order fault) = statuses.NotFound
-refusal_status (Cut sender front) = statuses.NotFound
-refusal_status (ReturnUnknown key) = statuses.NotFound
-refusal_status (ReturnPaid key pool) = statuses.NotFound
+refusal_status (Order fault) = statuses.Unprocessable
+refusal_status (Cut sender front) = statuses.Conflict
+refusal_status (ReturnUnknown key) = statuses.Conflict
+refusal_status (ReturnPaid key pool) = statuses.Conflict
 refusal_status Unknown = statuses.NotFound
 refusal_status Unavailable = statuses.Unavailable
 
@@ -126,17 +147,21 @@ refusal_status Unavailable = statuses.Unavailable
 abbrev pub refused_text : Refusal → Bool → List ℕ
 refused_text refusal close = answer_text (refusal_status refusal) types.Json (refusal_text refusal) close
 
--- the bytes of an answer; close says that the connection ends after it. Pools, senders, works, verdicts and balances have no text yet: no route leads there
+-- the bytes of an answer to a question, in JSON
+abbrev pub shown_text : List ℕ → Bool → List ℕ
+shown_text body close = answer_text statuses.Done types.Json body close
+
+-- the bytes of an answer; close says that the connection ends after it
 abbrev pub text : Reply → Bool → List ℕ
 text (Arrived arrival) close = answer_text (arrival_status arrival) types.Json (arrival_text arrival) close
 text (Acknowledged bytes) close = answer_text statuses.Done types.File bytes close
 text (Stored receipt) close = answer_text (receipt_status receipt) types.Json stored_text close
-text (Closed receipt pool) close = refused_text Unknown close
-text (Stands front held) close = refused_text Unknown close
-text (Shows work) close = refused_text Unknown close
-text (Judged verdicts) close = refused_text Unknown close
-text (Credited credits) close = refused_text Unknown close
-text (Owed account units) close = refused_text Unknown close
+text (Closed receipt pool) close = answer_text (receipt_status receipt) types.Json (closed_text pool) close
+text (Stands front held) close = shown_text (sender_text front held) close
+text (Shows work) close = shown_text (work_text work) close
+text (Judged verdicts) close = shown_text (verdicts_text verdicts) close
+text (Credited credits) close = answer_text statuses.Done types.Table (table_text credits) close
+text (Owed account units) close = shown_text (balance_text account units) close
 text (Refused refusal) close = refused_text refusal close
 
 -- the bytes of the answers to requests, one after another

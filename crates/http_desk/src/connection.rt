@@ -10,6 +10,7 @@ ghost use Rattle.http_desk.specs.Path.{office_routes};
 ghost use Rattle.http_desk.specs.Room.{IsReady};
 ghost use Rattle.http_desk.specs.Serves.{IsServed, IsGivenUp, KeepsTurns, Steps};
 ghost use Rattle.http_desk.specs.Text.{text, ending};
+ghost use Rattle.http_desk.specs.Told.{IsReadyToSend, told_reply};
 ghost use Rattle.http_desk.specs.Upcoming.{HasPart};
 
 use crate::connection_end::End;
@@ -21,9 +22,10 @@ use crate::outbox::Outbox;
 use crate::reply::{put_reply, write_end};
 use crate::requests::request_for;
 use crate::routes::{Route, routes};
+use crate::told::{Told, tell};
 use crate::upcoming::{Upcoming, next_answered};
 use matchit::Router;
-use society_core::{Answer, Desk, Store, answer};
+use society_core::{Answer, Desk, Refusal, Store, answer};
 use std::alloc::{AllocError, Global};
 use std::io::{Read, Write};
 
@@ -74,23 +76,26 @@ fn answer_front<S: Store>(
     requires routes { router.now ≡ office_routes }
     requires room { 8192 ≤ vec_capacity scratch.old }
     requires part { HasPart bytes.now head.now }
-    ensures step { (has : HasPart bytes.now head.now) → Steps S.state desk.old desk.new has.part result }
+    ensures step { (has : HasPart bytes.now head.now) → Steps S.state desk.old desk.new has.part (reply_of result) }
     ensures office { (S.state desk.new).office ≡ (S.state desk.old).office }
     ensures clean { IsTrue (S.state desk.new).is_clean → IsTrue (S.state desk.old).is_clean }
     ensures room { vec_capacity scratch.old ≤ vec_capacity scratch.new }
 {
     let target = head.target.of(bytes);
     let body = &bytes[head.length..head.length + head.body as usize];
-    let request = request_for(router, scratch, head.put, target, body);
+    let Ok(request) = request_for(alloc, router, scratch, head.put, target, body) else {
+        return Answer::Refused(Refusal::Unavailable);
+    };
     answer(alloc, desk, &request)
 }
 
 // Answers the request at the front of the bytes and takes it.
-fn answer_next<S: Store>(alloc: Global, desk: &mut Desk<S>, room: &mut Room, head: &Head) -> Answer
+fn answer_next<S: Store>(alloc: Global, desk: &mut Desk<S>, room: &mut Room, head: &Head) -> Told
     requires ready { IsReady room.old }
     requires part { HasPart (unread room.old.input) head.now }
     ensures step { (has : HasPart (unread room.old.input) head.now)
-        → Steps S.state desk.old desk.new has.part result }
+        → Steps S.state desk.old desk.new has.part (told_reply result) }
+    ensures told { IsReadyToSend result }
     ensures office { (S.state desk.new).office ≡ (S.state desk.old).office }
     ensures clean { IsTrue (S.state desk.new).is_clean → IsTrue (S.state desk.old).is_clean }
     ensures taken { unread room.new.input
@@ -100,27 +105,28 @@ fn answer_next<S: Store>(alloc: Global, desk: &mut Desk<S>, room: &mut Room, hea
     ensures ready { IsReady room.new }
 {
     let bytes = room.input.unread();
-    let reply = answer_front(alloc, desk, &room.router, &mut room.parameter, bytes, head);
+    let answer = answer_front(alloc, desk, &room.router, &mut room.parameter, bytes, head);
     room.input.take(head.length + head.body as usize);
-    reply
+    tell(alloc, answer)
 }
 
 // Puts an answer behind the texts that wait.
 fn send<W: Write>(
     writer: &mut Counted<W>,
     room: &mut Room,
-    reply: Answer,
+    told: &Told,
     close: bool,
 ) -> Result<(), NotWritten>
-    requires { IsReady room.old }
+    requires ready { IsReady room.old }
+    requires told { IsReadyToSend told.now }
     ensures gathers { Puts W.contents result writer.old writer.new room.old.outbox room.new.outbox
-        (text (reply_of reply) close) }
+        (text (told_reply told.now) close) }
     ensures kept { OnOk result (failures_of writer.new ≡ failures_of writer.old) }
     ensures failed { OnErr result (Rises (failures_of writer.old) (failures_of writer.new)) }
     ensures input { room.new.input ≡ room.old.input }
     ensures ready { IsReady room.new }
 {
-    put_reply(writer, &mut room.outbox, &mut room.body, &reply, close)
+    put_reply(writer, &mut room.outbox, &mut room.body, told, close)
 }
 
 // Writes what waits, and what is due at the end of a connection that answered so many requests.
@@ -211,9 +217,9 @@ fn serve_in<S: Store, R: Read, W: Write>(
             Ok(Upcoming::Ended(end)) => return close_with(writer, &mut room.outbox, end, requests),
             Err(kind) => return Err(DeskFault { kind, requests }),
         };
-        let reply = answer_next(alloc, desk, room, &head);
+        let told = answer_next(alloc, desk, room, &head);
         requests += 1;
-        let Ok(()) = send(writer, room, reply, head.closes) else {
+        let Ok(()) = send(writer, room, &told, head.closes) else {
             return Err(DeskFault {
                 kind: FaultKind::Write,
                 requests,

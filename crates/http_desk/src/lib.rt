@@ -8,13 +8,18 @@ mod counted;
 mod fault;
 mod head;
 mod input;
+mod json;
 mod laws;
+mod order_text;
 mod outbox;
+mod parameters;
 mod reply;
 mod requests;
 mod routes;
 mod status;
+mod table;
 mod text;
+mod told;
 mod upcoming;
 
 pub use connection::{Served, serve};

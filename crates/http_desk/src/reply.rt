@@ -1,16 +1,17 @@
 //! Answers and endings, put among the texts that are written together.
 ghost use Rattle.std.specs.Prelude.{◌≡◌, ◌≤◌, ◌++◌, OnOk, OnErr, vec_capacity};
-ghost use Rattle.society_core.specs.Requests.{reply_of};
 ghost use Rattle.http_desk.specs.Counted.{failures_of};
 ghost use Rattle.http_desk.specs.Outbox.{waiting, Emits, Puts};
 ghost use Rattle.society_core.specs.State.{Rises};
+ghost use Rattle.http_desk.specs.Told.{IsReadyToSend, told_reply};
 ghost use Rattle.http_desk.specs.Text.{arrival_status, receipt_status, refusal_status, refused_text, text, ending};
 
 use crate::connection_end::End;
 use crate::counted::{Counted, NotWritten};
 use crate::outbox::Outbox;
 use crate::status::{ContentType, Status};
-use crate::text::{set_arrival, set_refusal, set_stored};
+use crate::text::{set_arrival, set_closed, set_refusal, set_stored};
+use crate::told::Told;
 use society_core::{Answer, Arrival, Receipt, Refusal, Standing};
 use std::io::Write;
 
@@ -42,11 +43,10 @@ fn refusal_status(refusal: &Refusal) -> Status
         Refusal::Reused => Status::Conflict,
         Refusal::File(_) => Status::Unprocessable,
         Refusal::Csv(_) => Status::Unprocessable,
-        // No route leads to these yet.
-        Refusal::Order(_)
-        | Refusal::Cut { .. }
-        | Refusal::ReturnUnknown(_)
-        | Refusal::ReturnPaid { .. } => Status::NotFound,
+        Refusal::Order(_) => Status::Unprocessable,
+        Refusal::Cut { .. } => Status::Conflict,
+        Refusal::ReturnUnknown(_) => Status::Conflict,
+        Refusal::ReturnPaid { .. } => Status::Conflict,
         Refusal::Unknown => Status::NotFound,
         Refusal::Unavailable => Status::Unavailable,
     }
@@ -72,22 +72,23 @@ fn put_refusal<W: Write>(
     outbox.put_answer(writer, status, ContentType::Json, body, close)
 }
 
-/// Puts the answer to one request behind the texts that wait; its body is made in the room that is given.
+/// Puts the answer to one request behind the texts that wait. A short body is made in the room that is given.
 pub(crate) fn put_reply<W: Write>(
     writer: &mut Counted<W>,
     outbox: &mut Outbox,
     body: &mut Vec<u8>,
-    answer: &Answer,
+    told: &Told,
     close: bool,
 ) -> Result<(), NotWritten>
-    requires { 512 ≤ vec_capacity body.old }
+    requires ready { IsReadyToSend told.now }
+    requires room { 512 ≤ vec_capacity body.old }
     ensures gathers { Puts W.contents result writer.old writer.new outbox.old outbox.new
-        (text (reply_of answer.now) close) }
+        (text (told_reply told.now) close) }
     ensures kept { OnOk result (failures_of writer.new ≡ failures_of writer.old) }
     ensures failed { OnErr result (Rises (failures_of writer.old) (failures_of writer.new)) }
     ensures room { vec_capacity body.old ≤ vec_capacity body.new }
 {
-    match answer {
+    match &told.answer {
         Answer::Arrived(arrival) => {
             set_arrival(body, *arrival);
             let status = arrival_status(*arrival);
@@ -101,13 +102,17 @@ pub(crate) fn put_reply<W: Write>(
             let status = receipt_status(*receipt);
             outbox.put_answer(writer, status, ContentType::Json, body, close)
         }
-        // No route leads to these yet.
-        Answer::Closed(_, _)
-        | Answer::Sender(_)
-        | Answer::Work(_)
-        | Answer::Verdicts(_)
-        | Answer::Credits(_)
-        | Answer::Balance(_, _) => put_refusal(writer, outbox, body, &Refusal::Unknown, close),
+        Answer::Closed(receipt, pool) => {
+            set_closed(body, *pool);
+            let status = receipt_status(*receipt);
+            outbox.put_answer(writer, status, ContentType::Json, body, close)
+        }
+        Answer::Sender(_) | Answer::Work(_) | Answer::Verdicts(_) | Answer::Balance(_, _) => {
+            outbox.put_answer(writer, Status::Done, ContentType::Json, &told.body, close)
+        }
+        Answer::Credits(_) => {
+            outbox.put_answer(writer, Status::Done, ContentType::Table, &told.body, close)
+        }
         Answer::Refused(refusal) => put_refusal(writer, outbox, body, refusal, close),
     }
 }

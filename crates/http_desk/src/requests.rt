@@ -1,18 +1,21 @@
 //! The requests of the office, by method, target and body.
-ghost use Rattle.std.specs.Prelude.{◌≡◌, ◌≤◌, [], length, true, false, vec_capacity};
+ghost use Rattle.std.specs.Prelude.{◌≡◌, ◌≤◌, length, vec_capacity, IfOk};
 ghost use Rattle.matchit.specs.Params.{AllText};
-ghost use Rattle.percent_encoding.specs.Percent.{percent_decode};
 ghost use Rattle.society_core.specs.Requests.{query_of};
 ghost use Rattle.http_desk.specs.declared.routes.Route.TheVariants as route;
-ghost use Rattle.http_desk.specs.Path.{office_routes, is_path_byte, is_path, parameter, sender_in, transmission_number_in, reporter_in, return_number_in, asked, query_for};
-ghost use Rattle.http_desk.specs.Parameters.{IsDecoded, parts_of};
+ghost use Rattle.http_desk.specs.Parameters.{parts_of};
+ghost use Rattle.http_desk.specs.Path.{office_routes, is_path_byte, is_path, asked_by_put, asked_by_get, query_for};
 
+use crate::order_text::close_by;
+use crate::parameters::{
+    account_in_path, number_in_path, pool_in_path, reporter_in_path, return_number_in_path,
+    sender_in_path, work_in_path,
+};
 use crate::routes::Route;
 use matchit::{Params, Router};
-use percent_encoding::percent_decode;
 use society_core::{Request, ReturnKey};
+use std::alloc::{AllocError, Global};
 use std::str;
-use work_ids::{Reporter, ReturnNumber, SenderKey, TransmissionNumber};
 
 fn is_path_byte(byte: u8) -> bool
     ensures { result ≡ is_path_byte byte }
@@ -27,86 +30,6 @@ fn is_path(target: &[u8]) -> bool
     target.iter().all(|byte| is_path_byte(*byte))
 }
 
-// Decodes a parameter into the scratch.
-fn decode(scratch: &mut Vec<u8>, raw: &[u8])
-    requires { length raw.now ≤ vec_capacity scratch.old }
-    ensures value { scratch.new.items ≡ percent_decode raw.now }
-    ensures room { vec_capacity scratch.old ≤ vec_capacity scratch.new }
-{
-    scratch.clear();
-    for byte in percent_decode(raw) {
-        scratch.push(byte).unwrap();
-    }
-}
-
-// Decodes the parameter of this name into the scratch; whether there is one.
-fn take_parameter(scratch: &mut Vec<u8>, params: &Params<'_, '_>, name: &str) -> bool
-    requires text { AllText (parts_of params.now) }
-    requires room { length params.now.path.now ≤ vec_capacity scratch.old }
-    ensures value { IsDecoded result scratch.new.items (parameter name.now (parts_of params.now)) }
-    ensures room { vec_capacity scratch.old ≤ vec_capacity scratch.new }
-{
-    match params.get(name) {
-        Some(raw) => {
-            decode(scratch, raw.as_bytes());
-            true
-        }
-        None => false,
-    }
-}
-
-// The sender in the parameters.
-fn sender_in_path(scratch: &mut Vec<u8>, params: &Params<'_, '_>) -> Option<SenderKey>
-    requires text { AllText (parts_of params.now) }
-    requires room { length params.now.path.now ≤ vec_capacity scratch.old }
-    ensures value { result ≡ sender_in (parts_of params.now) }
-    ensures room { vec_capacity scratch.old ≤ vec_capacity scratch.new }
-{
-    if !take_parameter(scratch, params, "sender") {
-        return None;
-    }
-    SenderKey::from_bytes(scratch).ok()
-}
-
-// The number in the parameters.
-fn number_in_path(scratch: &mut Vec<u8>, params: &Params<'_, '_>) -> Option<TransmissionNumber>
-    requires text { AllText (parts_of params.now) }
-    requires room { length params.now.path.now ≤ vec_capacity scratch.old }
-    ensures value { result ≡ transmission_number_in (parts_of params.now) }
-    ensures room { vec_capacity scratch.old ≤ vec_capacity scratch.new }
-{
-    if !take_parameter(scratch, params, "n") {
-        return None;
-    }
-    TransmissionNumber::from_text(scratch)
-}
-
-// The reporter in the parameters.
-fn reporter_in_path(scratch: &mut Vec<u8>, params: &Params<'_, '_>) -> Option<Reporter>
-    requires text { AllText (parts_of params.now) }
-    requires room { length params.now.path.now ≤ vec_capacity scratch.old }
-    ensures value { result ≡ reporter_in (parts_of params.now) }
-    ensures room { vec_capacity scratch.old ≤ vec_capacity scratch.new }
-{
-    if !take_parameter(scratch, params, "reporter") {
-        return None;
-    }
-    Reporter::from_bytes(scratch).ok()
-}
-
-// The number of a return in the parameters.
-fn return_number_in_path(scratch: &mut Vec<u8>, params: &Params<'_, '_>) -> Option<ReturnNumber>
-    requires text { AllText (parts_of params.now) }
-    requires room { length params.now.path.now ≤ vec_capacity scratch.old }
-    ensures value { result ≡ return_number_in (parts_of params.now) }
-    ensures room { vec_capacity scratch.old ≤ vec_capacity scratch.new }
-{
-    if !take_parameter(scratch, params, "n") {
-        return None;
-    }
-    ReturnNumber::from_text(scratch)
-}
-
 // The put of a transmission, with this body.
 fn put_of_transmission<'b>(
     scratch: &mut Vec<u8>,
@@ -115,7 +38,7 @@ fn put_of_transmission<'b>(
 ) -> Request<'b>
     requires text { AllText (parts_of params.now) }
     requires room { length params.now.path.now ≤ vec_capacity scratch.old }
-    ensures asks { query_of result ≡ asked true route.Transmission (parts_of params.now) body.now }
+    ensures asks { query_of result ≡ asked_by_put route.Transmission (parts_of params.now) body.now }
     ensures room { vec_capacity scratch.old ≤ vec_capacity scratch.new }
 {
     let Some(sender) = sender_in_path(scratch, params) else {
@@ -135,7 +58,7 @@ fn put_of_transmission<'b>(
 fn put_of_return<'b>(scratch: &mut Vec<u8>, params: &Params<'_, '_>, body: &'b [u8]) -> Request<'b>
     requires text { AllText (parts_of params.now) }
     requires room { length params.now.path.now ≤ vec_capacity scratch.old }
-    ensures asks { query_of result ≡ asked true route.Return (parts_of params.now) body.now }
+    ensures asks { query_of result ≡ asked_by_put route.Return (parts_of params.now) body.now }
     ensures room { vec_capacity scratch.old ≤ vec_capacity scratch.new }
 {
     let Some(reporter) = reporter_in_path(scratch, params) else {
@@ -150,11 +73,53 @@ fn put_of_return<'b>(scratch: &mut Vec<u8>, params: &Params<'_, '_>, body: &'b [
     }
 }
 
+// The close of a pool, by the order in this body.
+fn put_of_pool<'b>(
+    alloc: Global,
+    scratch: &mut Vec<u8>,
+    params: &Params<'_, '_>,
+    body: &[u8],
+) -> Result<Request<'b>, AllocError>
+    requires text { AllText (parts_of params.now) }
+    requires room { length params.now.path.now ≤ vec_capacity scratch.old }
+    ensures asks { IfOk result (λ request.
+        query_of request ≡ asked_by_put route.Pool (parts_of params.now) body.now) }
+    ensures room { vec_capacity scratch.old ≤ vec_capacity scratch.new }
+{
+    let Some(pool) = pool_in_path(scratch, params) else {
+        return Ok(Request::Elsewhere);
+    };
+    close_by(alloc, pool, body)
+}
+
+// What a put asks of a route.
+fn put_of<'b>(
+    alloc: Global,
+    route: Route,
+    scratch: &mut Vec<u8>,
+    params: &Params<'_, '_>,
+    body: &'b [u8],
+) -> Result<Request<'b>, AllocError>
+    requires text { AllText (parts_of params.now) }
+    requires room { length params.now.path.now ≤ vec_capacity scratch.old }
+    ensures asks { IfOk result (λ request.
+        query_of request ≡ asked_by_put route (parts_of params.now) body.now) }
+    ensures room { vec_capacity scratch.old ≤ vec_capacity scratch.new }
+{
+    match route {
+        Route::Transmission => Ok(put_of_transmission(scratch, params, body)),
+        Route::Return => Ok(put_of_return(scratch, params, body)),
+        Route::Pool => put_of_pool(alloc, scratch, params, body),
+        Route::Acknowledgement | Route::Sender | Route::Verdicts | Route::Work | Route::Account =>
+            Ok(Request::Elsewhere),
+    }
+}
+
 // The request of an acknowledgement.
 fn get_of_acknowledgement<'b>(scratch: &mut Vec<u8>, params: &Params<'_, '_>) -> Request<'b>
     requires text { AllText (parts_of params.now) }
     requires room { length params.now.path.now ≤ vec_capacity scratch.old }
-    ensures asks { query_of result ≡ asked false route.Acknowledgement (parts_of params.now) [] }
+    ensures asks { query_of result ≡ asked_by_get route.Acknowledgement (parts_of params.now) }
     ensures room { vec_capacity scratch.old ≤ vec_capacity scratch.new }
 {
     let Some(sender) = sender_in_path(scratch, params) else {
@@ -166,32 +131,122 @@ fn get_of_acknowledgement<'b>(scratch: &mut Vec<u8>, params: &Params<'_, '_>) ->
     Request::Acknowledgement { sender, number }
 }
 
-/// What is asked by a method, a target and a body; a parameter is decoded in the scratch.
+// The request of how a sender stands.
+fn get_of_sender<'b>(scratch: &mut Vec<u8>, params: &Params<'_, '_>) -> Request<'b>
+    requires text { AllText (parts_of params.now) }
+    requires room { length params.now.path.now ≤ vec_capacity scratch.old }
+    ensures asks { query_of result ≡ asked_by_get route.Sender (parts_of params.now) }
+    ensures room { vec_capacity scratch.old ≤ vec_capacity scratch.new }
+{
+    let Some(sender) = sender_in_path(scratch, params) else {
+        return Request::Elsewhere;
+    };
+    Request::Sender { sender }
+}
+
+// The request of the verdicts of a transmission.
+fn get_of_verdicts<'b>(scratch: &mut Vec<u8>, params: &Params<'_, '_>) -> Request<'b>
+    requires text { AllText (parts_of params.now) }
+    requires room { length params.now.path.now ≤ vec_capacity scratch.old }
+    ensures asks { query_of result ≡ asked_by_get route.Verdicts (parts_of params.now) }
+    ensures room { vec_capacity scratch.old ≤ vec_capacity scratch.new }
+{
+    let Some(sender) = sender_in_path(scratch, params) else {
+        return Request::Elsewhere;
+    };
+    let Some(number) = number_in_path(scratch, params) else {
+        return Request::Elsewhere;
+    };
+    Request::Verdicts { sender, number }
+}
+
+// The request of a sender's work.
+fn get_of_work<'b>(scratch: &mut Vec<u8>, params: &Params<'_, '_>) -> Request<'b>
+    requires text { AllText (parts_of params.now) }
+    requires room { length params.now.path.now ≤ vec_capacity scratch.old }
+    ensures asks { query_of result ≡ asked_by_get route.Work (parts_of params.now) }
+    ensures room { vec_capacity scratch.old ≤ vec_capacity scratch.new }
+{
+    let Some(sender) = sender_in_path(scratch, params) else {
+        return Request::Elsewhere;
+    };
+    let Some(work) = work_in_path(scratch, params) else {
+        return Request::Elsewhere;
+    };
+    Request::Work { sender, work }
+}
+
+// The request of an account's balance.
+fn get_of_balance<'b>(scratch: &mut Vec<u8>, params: &Params<'_, '_>) -> Request<'b>
+    requires text { AllText (parts_of params.now) }
+    requires room { length params.now.path.now ≤ vec_capacity scratch.old }
+    ensures asks { query_of result ≡ asked_by_get route.Account (parts_of params.now) }
+    ensures room { vec_capacity scratch.old ≤ vec_capacity scratch.new }
+{
+    let Some(account) = account_in_path(scratch, params) else {
+        return Request::Elsewhere;
+    };
+    Request::Balance { account }
+}
+
+// The request of a pool's table.
+fn get_of_table<'b>(scratch: &mut Vec<u8>, params: &Params<'_, '_>) -> Request<'b>
+    requires text { AllText (parts_of params.now) }
+    requires room { length params.now.path.now ≤ vec_capacity scratch.old }
+    ensures asks { query_of result ≡ asked_by_get route.Pool (parts_of params.now) }
+    ensures room { vec_capacity scratch.old ≤ vec_capacity scratch.new }
+{
+    let Some(pool) = pool_in_path(scratch, params) else {
+        return Request::Elsewhere;
+    };
+    Request::Credits { pool }
+}
+
+// What a get asks of a route.
+fn get_of<'b>(route: Route, scratch: &mut Vec<u8>, params: &Params<'_, '_>) -> Request<'b>
+    requires text { AllText (parts_of params.now) }
+    requires room { length params.now.path.now ≤ vec_capacity scratch.old }
+    ensures asks { query_of result ≡ asked_by_get route (parts_of params.now) }
+    ensures room { vec_capacity scratch.old ≤ vec_capacity scratch.new }
+{
+    match route {
+        Route::Acknowledgement => get_of_acknowledgement(scratch, params),
+        Route::Sender => get_of_sender(scratch, params),
+        Route::Verdicts => get_of_verdicts(scratch, params),
+        Route::Work => get_of_work(scratch, params),
+        Route::Account => get_of_balance(scratch, params),
+        Route::Pool => get_of_table(scratch, params),
+        Route::Transmission | Route::Return => Request::Elsewhere,
+    }
+}
+
+/// What is asked by a method, a target and a body; a parameter is decoded in the scratch. `AllocError` where memory is
+/// refused while an order is read.
 pub(crate) fn request_for<'b>(
+    alloc: Global,
     router: &Router<Route>,
     scratch: &mut Vec<u8>,
     put: bool,
     target: &[u8],
     body: &'b [u8],
-) -> Request<'b>
+) -> Result<Request<'b>, AllocError>
     requires routes { router.now ≡ office_routes }
     requires room { length target.now ≤ vec_capacity scratch.old }
-    ensures asks { query_of result ≡ query_for put target.now body.now }
+    ensures asks { IfOk result (λ request. query_of request ≡ query_for put target.now body.now) }
     ensures room { vec_capacity scratch.old ≤ vec_capacity scratch.new }
 {
     if !is_path(target) {
-        return Request::Elsewhere;
+        return Ok(Request::Elsewhere);
     }
     let Ok(path) = str::from_utf8(target) else {
-        return Request::Elsewhere;
+        return Ok(Request::Elsewhere);
     };
     let Ok(found) = router.at(path) else {
-        return Request::Elsewhere;
+        return Ok(Request::Elsewhere);
     };
-    match (put, *found.value) {
-        (true, Route::Transmission) => put_of_transmission(scratch, &found.params, body),
-        (true, Route::Return) => put_of_return(scratch, &found.params, body),
-        (false, Route::Acknowledgement) => get_of_acknowledgement(scratch, &found.params),
-        _ => Request::Elsewhere,
+    if put {
+        put_of(alloc, *found.value, scratch, &found.params, body)
+    } else {
+        Ok(get_of(*found.value, scratch, &found.params))
     }
 }

@@ -14,6 +14,16 @@ pub(crate) enum Route {
     Acknowledgement,
     /// A performance return of a reporter.
     Return,
+    /// How a sender stands.
+    Sender,
+    /// The verdicts of a transmission.
+    Verdicts,
+    /// A work of a sender.
+    Work,
+    /// The balance of an account.
+    Account,
+    /// A pool: its order, and the table of its credits.
+    Pool,
 }
 
 /// The routes of the office.
@@ -33,6 +43,19 @@ pub(crate) fn routes(alloc: Global) -> Result<Router<Route>, AllocError>
         Route::Acknowledgement,
     )?;
     add(&mut router, "/v1/returns/{reporter}/{n}", Route::Return)?;
+    add(&mut router, "/v1/senders/{sender}", Route::Sender)?;
+    add(
+        &mut router,
+        "/v1/senders/{sender}/verdicts/{n}",
+        Route::Verdicts,
+    )?;
+    add(
+        &mut router,
+        "/v1/senders/{sender}/works/{work}",
+        Route::Work,
+    )?;
+    add(&mut router, "/v1/accounts/{account}", Route::Account)?;
+    add(&mut router, "/v1/pools/{pool}", Route::Pool)?;
     Ok(router)
 }
 

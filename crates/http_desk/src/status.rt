@@ -23,6 +23,7 @@ pub(crate) enum Status {
 pub(crate) enum ContentType {
     Json,
     File,
+    Table,
 }
 
 /// The three digits.
@@ -68,5 +69,6 @@ pub(crate) fn type_name(content_type: ContentType) -> &'static str
     match content_type {
         ContentType::Json => "application/json",
         ContentType::File => "application/octet-stream",
+        ContentType::Table => "text/csv",
     }
 }

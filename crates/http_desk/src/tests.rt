@@ -5,6 +5,7 @@ use crate::outbox::Outbox;
 use crate::reply::{put_reply, write_end};
 use crate::requests::request_for;
 use crate::routes::routes;
+use crate::told::tell;
 use cwr_files::FileFault;
 use perf_returns::ReturnFault;
 use society_core::{Answer, Arrival, Receipt, Refusal, Request, Standing};
@@ -69,7 +70,7 @@ fn asked(alloc: Global, put: bool, target: &[u8]) -> Result<Option<u32>, AllocEr
     if target.len() > 8192 {
         return Ok(None);
     }
-    match request_for(&router, &mut scratch, put, target, b"") {
+    match request_for(alloc, &router, &mut scratch, put, target, b"")? {
         Request::PutTransmission { number, .. } => Ok(Some(number.value())),
         Request::Acknowledgement { number, .. } => Ok(Some(number.value())),
         Request::PutReturn { key, .. } => Ok(Some(key.number.value())),
@@ -158,11 +159,12 @@ fn targets_of_returns(rt: HostRuntime) -> Result<(), Fail> {
 }
 
 // What is written for an answer.
-fn written(alloc: Global, answer: &Answer, close: bool) -> Result<Vec<u8>, AllocError> {
+fn written(alloc: Global, answer: Answer, close: bool) -> Result<Vec<u8>, AllocError> {
     let mut writer = Counted::new(Vec::new(alloc));
     let mut outbox = Outbox::new(alloc)?;
     let mut body = Vec::with_capacity(alloc, 512)?;
-    let Ok(()) = put_reply(&mut writer, &mut outbox, &mut body, answer, close) else {
+    let told = tell(alloc, answer);
+    let Ok(()) = put_reply(&mut writer, &mut outbox, &mut body, &told, close) else {
         return Err(AllocError);
     };
     let Ok(()) = outbox.flush(&mut writer) else {
@@ -179,7 +181,7 @@ fn answers(rt: HostRuntime) -> Result<(), Fail> {
         front: 1,
         standing: Standing::Applied,
     });
-    let text = written(alloc, &arrived, false)?;
+    let text = written(alloc, arrived, false)?;
     assert_eq!(rt;
         str::from_utf8(&text),
         Ok(
@@ -190,7 +192,7 @@ fn answers(rt: HostRuntime) -> Result<(), Fail> {
         number: 8,
         line: 10,
     }));
-    let text = written(alloc, &fault, true)?;
+    let text = written(alloc, fault, true)?;
     assert_eq!(rt;
         str::from_utf8(&text),
         Ok(
@@ -199,7 +201,7 @@ fn answers(rt: HostRuntime) -> Result<(), Fail> {
     );
     let mut bytes = Vec::new(alloc);
     bytes.extend_from_slice(b"HDR")?;
-    let text = written(alloc, &Answer::Acknowledgement(bytes), false)?;
+    let text = written(alloc, Answer::Acknowledgement(bytes), false)?;
     assert_eq!(rt;
         str::from_utf8(&text),
         Ok(
@@ -212,14 +214,14 @@ fn answers(rt: HostRuntime) -> Result<(), Fail> {
 #[test]
 fn answers_to_returns(rt: HostRuntime) -> Result<(), Fail> {
     let alloc = rt.alloc();
-    let text = written(alloc, &Answer::Stored(Receipt::New), false)?;
+    let text = written(alloc, Answer::Stored(Receipt::New), false)?;
     assert_eq!(rt;
         str::from_utf8(&text),
         Ok(
             "HTTP/1.1 201 Created\r\nContent-Type: application/json\r\nContent-Length: 18\r\n\r\n{\"state\":\"stored\"}"
         )
     );
-    let text = written(alloc, &Answer::Stored(Receipt::Repeated), false)?;
+    let text = written(alloc, Answer::Stored(Receipt::Repeated), false)?;
     assert_eq!(rt;
         str::from_utf8(&text),
         Ok(
@@ -227,7 +229,7 @@ fn answers_to_returns(rt: HostRuntime) -> Result<(), Fail> {
         )
     );
     let fault = Answer::Refused(Refusal::Csv(ReturnFault { number: 3, row: 12 }));
-    let text = written(alloc, &fault, false)?;
+    let text = written(alloc, fault, false)?;
     assert_eq!(rt;
         str::from_utf8(&text),
         Ok(

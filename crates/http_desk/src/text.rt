@@ -1,12 +1,14 @@
 //! The bytes of answers, put into room that was taken before the first read.
 ghost use Rattle.std.specs.Prelude.{◌≡◌, ◌≤◌, ◌+◌, ◌++◌, length, decimal, vec_len, vec_capacity};
-ghost use Rattle.http_desk.specs.Text.{head_text, code_of, type_text, connection_field, arrival_text, stored_text, refusal_text, standing_text, status_text, fields_text};
+ghost use Rattle.work_ids.specs.Blanks.{without_trailing_blanks};
+ghost use Rattle.http_desk.specs.Text.{closed_text, cut_text, paid_text, return_text, head_text, code_of, type_text, connection_field, arrival_text, stored_text, refusal_text, standing_text, status_text, fields_text};
 
 use crate::status::{ContentType, Status, code, phrase, type_name};
 use cwr_files::FileFault;
 use itoa::Buffer;
 use perf_returns::ReturnFault;
-use society_core::{Arrival, Refusal, Standing};
+use society_core::{Arrival, Refusal, ReturnKey, Standing};
+use work_ids::{PoolNumber, Reporter, SenderKey};
 
 /// Appends bytes for which there is room.
 pub(crate) fn put(out: &mut Vec<u8>, bytes: &[u8])
@@ -154,6 +156,82 @@ fn set(out: &mut Vec<u8>, bytes: &[u8])
     put(out, bytes);
 }
 
+/// Puts the body of a closed pool into a text.
+pub(crate) fn set_closed(out: &mut Vec<u8>, pool: PoolNumber)
+    requires { 512 ≤ vec_capacity out.old }
+    ensures items { out.new.items ≡ closed_text pool }
+    ensures room { vec_capacity out.old ≤ vec_capacity out.new }
+{
+    out.clear();
+    put(out, b"{\"pool\":");
+    put_number(out, u64::from(pool.value()));
+    put(out, b",\"state\":\"closed\"}");
+}
+
+// Puts the body that tells an order fault into a text.
+fn set_order_fault(out: &mut Vec<u8>, fault: u8)
+    requires { 512 ≤ vec_capacity out.old }
+    ensures items { out.new.items ≡ refusal_text (Refusal.Order fault) }
+    ensures room { vec_capacity out.old ≤ vec_capacity out.new }
+{
+    out.clear();
+    put(out, b"{\"error\":\"order\",\"fault\":");
+    put_number(out, u64::from(fault));
+    put(out, b"}");
+}
+
+// Puts the body that tells a cut above its sender's front into a text.
+fn set_cut(out: &mut Vec<u8>, sender: &SenderKey, front: u32)
+    requires { 512 ≤ vec_capacity out.old }
+    ensures items { out.new.items ≡ cut_text sender.now front }
+    ensures room { vec_capacity out.old ≤ vec_capacity out.new }
+{
+    out.clear();
+    put(out, b"{\"error\":\"cut\",\"front\":");
+    put_number(out, u64::from(front));
+    put(out, b",\"sender\":\"");
+    put(out, sender.as_bytes());
+    put(out, b"\"}");
+}
+
+// The text of a reporter, at most 20 bytes.
+fn reporter_text(reporter: &Reporter) -> &[u8]
+    ensures value { result.now ≡ without_trailing_blanks reporter.now }
+    ensures short { length result.now ≤ 20 }
+{
+    reporter.as_bytes()
+}
+
+// Puts the body that tells a return that is not there into a text.
+fn set_unknown_return(out: &mut Vec<u8>, key: &ReturnKey)
+    requires { 512 ≤ vec_capacity out.old }
+    ensures items { out.new.items ≡ return_text key.now.reporter key.now.number }
+    ensures room { vec_capacity out.old ≤ vec_capacity out.new }
+{
+    out.clear();
+    put(out, b"{\"error\":\"return\",\"number\":");
+    put_number(out, u64::from(key.number.value()));
+    put(out, b",\"reporter\":\"");
+    put(out, reporter_text(&key.reporter));
+    put(out, b"\"}");
+}
+
+// Puts the body that tells a paid return into a text.
+fn set_paid_return(out: &mut Vec<u8>, key: &ReturnKey, pool: PoolNumber)
+    requires { 512 ≤ vec_capacity out.old }
+    ensures items { out.new.items ≡ paid_text key.now.reporter key.now.number pool }
+    ensures room { vec_capacity out.old ≤ vec_capacity out.new }
+{
+    out.clear();
+    put(out, b"{\"error\":\"paid\",\"number\":");
+    put_number(out, u64::from(key.number.value()));
+    put(out, b",\"pool\":");
+    put_number(out, u64::from(pool.value()));
+    put(out, b",\"reporter\":\"");
+    put(out, reporter_text(&key.reporter));
+    put(out, b"\"}");
+}
+
 /// Puts the body of a refusal into a text.
 pub(crate) fn set_refusal(out: &mut Vec<u8>, refusal: &Refusal)
     requires { 512 ≤ vec_capacity out.old }
@@ -164,12 +242,11 @@ pub(crate) fn set_refusal(out: &mut Vec<u8>, refusal: &Refusal)
         Refusal::Reused => set(out, b"{\"error\":\"reused\"}"),
         Refusal::File(fault) => set_file_fault(out, *fault),
         Refusal::Csv(fault) => set_return_fault(out, *fault),
-        // No route leads to the first four yet.
-        Refusal::Order(_)
-        | Refusal::Cut { .. }
-        | Refusal::ReturnUnknown(_)
-        | Refusal::ReturnPaid { .. }
-        | Refusal::Unknown => set(out, b"{\"error\":\"unknown\"}"),
+        Refusal::Order(fault) => set_order_fault(out, *fault),
+        Refusal::Cut { sender, front } => set_cut(out, sender, *front),
+        Refusal::ReturnUnknown(key) => set_unknown_return(out, key),
+        Refusal::ReturnPaid { key, pool } => set_paid_return(out, key, *pool),
+        Refusal::Unknown => set(out, b"{\"error\":\"unknown\"}"),
         Refusal::Unavailable => set(out, b"{\"error\":\"busy\"}"),
     }
 }

@@ -126,7 +126,7 @@ no_rows party between (r ∷ more) some =
     no_row party between (row_in r) (rows_behind party (between ++ r ∷ []) more) some ∙ no_rows party (between ++ r ∷ []) more further
 
 -- a record that is an interested party is no territory row
-no_row_in : (r : Record) (p : InterestedParty) → party_in r ≡ Some p → row_in r ≡ None
+pub no_row_in : (r : Record) (p : InterestedParty) → party_in r ≡ Some p → row_in r ≡ None
 no_row_in (kind.Publisher x) p e = refl
 no_row_in (kind.Writer x) p e = refl
 no_row_in _ p e = absurd cc

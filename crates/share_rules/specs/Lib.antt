@@ -3,6 +3,7 @@ pub mod Office
 pub mod Parties
 pub mod Fault
 pub mod Steps
+pub mod Blocks
 pub mod Weights
 pub use Rattle.work_ids.specs.Blanks
 pub use Rattle.work_ids.specs.WorkNumber

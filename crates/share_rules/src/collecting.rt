@@ -26,7 +26,7 @@ fn names_territory(territory: &Fixed<'_, 4>, office: &Office) -> bool
 
 /// Whether a territory row counts at an office: its indicator is I or E, and it names the world or the office's own
 /// territory (profile).
-fn counts(row: &TerritoryRow<'_>, office: &Office) -> bool
+pub(crate) fn counts(row: &TerritoryRow<'_>, office: &Office) -> bool
     ensures { result ≡ counts office.now row.now }
 {
     Indicator::from_field(&row.indicator.field()).is_some()
@@ -34,7 +34,7 @@ fn counts(row: &TerritoryRow<'_>, office: &Office) -> bool
 }
 
 /// The shares of a row that counts: none where it excludes its territory (profile).
-fn shares_by(row: &TerritoryRow<'_>) -> Shares
+pub(crate) fn shares_by(row: &TerritoryRow<'_>) -> Shares
     ensures { result ≡ shares_by (indicator_of row.now.indicator) row.now.shares }
 {
     match Indicator::from_field(&row.indicator.field()) {

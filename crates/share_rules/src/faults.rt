@@ -4,7 +4,9 @@ ghost use Rattle.std.specs.List.{list_any};
 ghost use Rattle.share_rules.specs.Fault.{has_blank_title, has_no_work_number, has_row_without_party, has_wrong_ipi, has_wrong_isrc, has_wrong_iswc, has_wrong_number, has_wrong_share, names_no_publisher};
 ghost use Rattle.work_ids.specs.PartyNumber.{party_number_of};
 
+use crate::many_faults::{many_have_no_publisher, many_have_row_without_party};
 use crate::party::{InterestedParty, Side};
+use crate::party_keys::FEW;
 use crate::party_search::Sought;
 use crate::territory_row::TerritoryRow;
 use cwr_files::Transaction;
@@ -52,8 +54,8 @@ pub(crate) fn have_wrong_share(records: &[Record<'_>]) -> bool
     records.iter().any(|record| has_wrong_share(record))
 }
 
-/// Whether a territory row has no party of its side with its number before it (profile).
-pub(crate) fn has_row_without_party(records: &[Record<'_>]) -> bool
+/// The same as below of a few records, looked through for each row.
+fn few_have_row_without_party(records: &[Record<'_>]) -> bool
     ensures { result ≡ has_row_without_party [] records.now }
 {
     for (index, record) in records.iter().enumerate() {
@@ -64,6 +66,17 @@ pub(crate) fn has_row_without_party(records: &[Record<'_>]) -> bool
         }
     }
     false
+}
+
+/// Whether a territory row has no party of its side with its number before it (profile).
+pub(crate) fn has_row_without_party(records: &[Record<'_>]) -> bool
+    ensures { result ≡ has_row_without_party [] records.now }
+{
+    if records.len() <= FEW {
+        few_have_row_without_party(records)
+    } else {
+        many_have_row_without_party(records)
+    }
 }
 
 /// Whether a record names a publisher's number that is not blank and that no publisher among the records has (profile).
@@ -83,9 +96,13 @@ fn names_no_publisher(records: &[Record<'_>], record: &Record<'_>) -> bool
 pub(crate) fn have_no_publisher(records: &[Record<'_>]) -> bool
     ensures { result ≡ list_any (names_no_publisher records.now) records.now }
 {
-    records
-        .iter()
-        .any(|record| names_no_publisher(records, record))
+    if records.len() <= FEW {
+        records
+            .iter()
+            .any(|record| names_no_publisher(records, record))
+    } else {
+        many_have_no_publisher(records)
+    }
 }
 
 /// Whether the IPI name number of a party is not all digits (profile).

@@ -4,10 +4,15 @@
 mod collecting;
 mod excess;
 mod faults;
+mod found_parties;
 mod holder;
+mod holding;
 mod judging;
+mod latest_shares;
+mod many_faults;
 mod office;
 mod party;
+mod party_keys;
 mod party_search;
 mod share_fields;
 mod shares;

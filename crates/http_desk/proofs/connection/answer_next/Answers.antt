@@ -1,4 +1,9 @@
+use Rattle.society_core.specs.Requests.{reply_of}
+use Rattle.http_desk.specs.Told.{told_reply}
+use Rattle.http_desk.proofs.StepLemmas.{tells_step}
 use Rattle.http_desk.proofs.connection.answer_next.Goals as goal
 
 pub returns-clause-step : goal.returns-clause-step
-returns-clause-step g c = rw c.unread-bytes.ensures at c.answer_front-reply.ensures.step
+returns-clause-step g c =
+    let step = rw c.unread-bytes.ensures at c.answer_front-answer.ensures.step in
+    λ has clean. tells_step _ _ _ (reply_of c.answer_front-answer.result) (told_reply c.tell.result) _ c.tell.ensures.tells (step has clean)

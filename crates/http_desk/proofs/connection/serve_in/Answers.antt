@@ -1,9 +1,9 @@
 use Rattle.std.proofs.Common.{◌∙◌, refl, ap, arith}
-use Rattle.society_core.specs.Requests.{reply_of}
 use Rattle.http_desk.specs.declared.input.Input.{Input}
 use Rattle.http_desk.specs.declared.connection_end.End.TheVariants.{Closed}
 use Rattle.http_desk.specs.Input.{unread}
 use Rattle.http_desk.specs.Outbox.{waiting}
+use Rattle.http_desk.specs.Told.{told_reply}
 use Rattle.http_desk.proofs.ServeLemmas.{SoFar-start, SoFar-next, SoFar-reads, finishes, ended_served, ended_fault, ended_cause, given_up, keeps_turns, countable, goes_on, closes_on, failed, fewer, smaller, rises_from}
 use Rattle.http_desk.proofs.connection.serve_in.Goals as goal
 
@@ -53,18 +53,18 @@ pub overflow_add-requests : goal.overflow_add-requests
 overflow_add-requests g c =
     let so = SoFar-next _ _ _ _ c.next_answered.new.input _ _ _ _ _ _ _ _ (g.W.Write.contents c.next_answered.new.writer.inner) _ (waiting c.next_answered.new.outbox) _ c.loop-head.invariant.0 c.next_answered.ensures.reads c.in-Ok-Request.ensures.sends in
     let has = rw c.in-Ok-Request.field-0-is at c.in-Ok-Request.ensures.next in
-    let after = c.answer_next-reply in
-    let most = countable _ _ c.next_answered.new.input after.new.room.input _ _ _ _ _ (g.S.Store.state after.new.desk) _ _ (g.W.Write.contents c.next_answered.new.writer.inner) (waiting c.next_answered.new.outbox) (waiting c.next_answered.new.outbox) _ _ so has after.ensures.taken after.ensures.turns after.ensures.office after.ensures.clean (reply_of after.result) (after.ensures.step has) in
+    let after = c.answer_next-told in
+    let most = countable _ _ c.next_answered.new.input after.new.room.input _ _ _ _ _ (g.S.Store.state after.new.desk) _ _ (g.W.Write.contents c.next_answered.new.writer.inner) (waiting c.next_answered.new.outbox) (waiting c.next_answered.new.outbox) _ _ so has after.ensures.taken after.ensures.turns after.ensures.office after.ensures.clean (told_reply after.result) (after.ensures.step has) in
     omega (arith, most, c.requires.turns)
 
 pub returns-in_default-clause-fault : goal.returns-in_default-clause-fault
 returns-in_default-clause-fault g c =
     let so = SoFar-next _ _ _ _ c.next_answered.new.input _ _ _ _ _ _ _ _ (g.W.Write.contents c.next_answered.new.writer.inner) _ (waiting c.next_answered.new.outbox) _ c.loop-head.invariant.0 c.next_answered.ensures.reads c.in-Ok-Request.ensures.sends in
     let has = rw c.in-Ok-Request.field-0-is at c.in-Ok-Request.ensures.next in
-    let after = c.answer_next-reply in
+    let after = c.answer_next-told in
     let gathers = rw (ap waiting after.ensures.outbox) at c.in_default.ensures.gathers in
     record {
-      breaks = failed _ _ c.next_answered.new.input after.new.room.input _ _ _ _ _ (g.S.Store.state after.new.desk) _ _ (g.W.Write.contents c.send.new.writer.inner) (waiting c.next_answered.new.outbox) (waiting c.send.new.room.outbox) _ _ so has after.ensures.taken after.ensures.turns after.ensures.office after.ensures.clean (reply_of after.result) (after.ensures.step has)
+      breaks = failed _ _ c.next_answered.new.input after.new.room.input _ _ _ _ _ (g.S.Store.state after.new.desk) _ _ (g.W.Write.contents c.send.new.writer.inner) (waiting c.next_answered.new.outbox) (waiting c.send.new.room.outbox) _ _ so has after.ensures.taken after.ensures.turns after.ensures.office after.ensures.clean (told_reply after.result) (after.ensures.step has)
           gathers;
       cause = rises_from _ _ _ (c.in-Ok-Request.ensures.kept_writer ∙ c.loop-head.invariant.3) c.in_default.ensures.failed;
     }
@@ -78,22 +78,22 @@ pub returns-then-head-clause-served : goal.returns-then-head-clause-served
 returns-then-head-clause-served g c =
     let so = SoFar-next _ _ _ _ c.next_answered.new.input _ _ _ _ _ _ _ _ (g.W.Write.contents c.next_answered.new.writer.inner) _ (waiting c.next_answered.new.outbox) _ c.loop-head.invariant.0 c.next_answered.ensures.reads c.in-Ok-Request.ensures.sends in
     let has = rw c.in-Ok-Request.field-0-is at c.in-Ok-Request.ensures.next in
-    let after = c.answer_next-reply in
+    let after = c.answer_next-told in
     let gathers = rw (ap waiting after.ensures.outbox) at c.in-Ok.ensures.gathers in
     ended_served _ _ _ _ _ (g.W.Write.contents c.close_with-then-head.new.writer.inner) _ _ Closed
-    (closes_on _ _ c.next_answered.new.input after.new.room.input _ _ _ _ _ (g.S.Store.state after.new.desk) _ _ (g.W.Write.contents c.send.new.writer.inner) (waiting c.next_answered.new.outbox) (waiting c.send.new.room.outbox) _ _ so has after.ensures.taken after.ensures.turns after.ensures.office after.ensures.clean (reply_of after.result) (after.ensures.step has)
+    (closes_on _ _ c.next_answered.new.input after.new.room.input _ _ _ _ _ (g.S.Store.state after.new.desk) _ _ (g.W.Write.contents c.send.new.writer.inner) (waiting c.next_answered.new.outbox) (waiting c.send.new.room.outbox) _ _ so has after.ensures.taken after.ensures.turns after.ensures.office after.ensures.clean (told_reply after.result) (after.ensures.step has)
     c.if-head.true gathers) c.close_with-then-head.result c.close_with-then-head.ensures.served
 
 pub returns-then-head-clause-fault : goal.returns-then-head-clause-fault
 returns-then-head-clause-fault g c =
     let so = SoFar-next _ _ _ _ c.next_answered.new.input _ _ _ _ _ _ _ _ (g.W.Write.contents c.next_answered.new.writer.inner) _ (waiting c.next_answered.new.outbox) _ c.loop-head.invariant.0 c.next_answered.ensures.reads c.in-Ok-Request.ensures.sends in
     let has = rw c.in-Ok-Request.field-0-is at c.in-Ok-Request.ensures.next in
-    let after = c.answer_next-reply in
+    let after = c.answer_next-told in
     let gathers = rw (ap waiting after.ensures.outbox) at c.in-Ok.ensures.gathers in
     ended_cause g.S.Store.state g.R.Read.remaining g.W.Write.contents c.args.desk.now after.new.desk c.args.reader.now c.next_answered.new.reader c.args.writer.now c.send.new.writer c.close_with-then-head.new.writer
     c.args.room.now.input.turns _ _ c.close_with-then-head.result (c.in-Ok.ensures.kept ∙ c.in-Ok-Request.ensures.kept_writer ∙ c.loop-head.invariant.3) c.close_with-then-head.ensures.fault
     (ended_fault _ _ _ _ _ (g.W.Write.contents c.close_with-then-head.new.writer.inner) _ _ Closed
-    (closes_on _ _ c.next_answered.new.input after.new.room.input _ _ _ _ _ (g.S.Store.state after.new.desk) _ _ (g.W.Write.contents c.send.new.writer.inner) (waiting c.next_answered.new.outbox) (waiting c.send.new.room.outbox) _ _ so has after.ensures.taken after.ensures.turns after.ensures.office after.ensures.clean (reply_of after.result) (after.ensures.step has)
+    (closes_on _ _ c.next_answered.new.input after.new.room.input _ _ _ _ _ (g.S.Store.state after.new.desk) _ _ (g.W.Write.contents c.send.new.writer.inner) (waiting c.next_answered.new.outbox) (waiting c.send.new.room.outbox) _ _ so has after.ensures.taken after.ensures.turns after.ensures.office after.ensures.clean (told_reply after.result) (after.ensures.step has)
     c.if-head.true gathers) _ _ c.close_with-then-head.result c.close_with-then-head.ensures.fault)
 
 pub returns-then-head-clause-turns : goal.returns-then-head-clause-turns
@@ -105,18 +105,18 @@ pub loop-head-smaller : goal.loop-head-smaller
 loop-head-smaller g c =
     let so = SoFar-next _ _ _ _ c.next_answered.new.input _ _ _ _ _ _ _ _ (g.W.Write.contents c.next_answered.new.writer.inner) _ (waiting c.next_answered.new.outbox) _ c.loop-head.invariant.0 c.next_answered.ensures.reads c.in-Ok-Request.ensures.sends in
     let has = rw c.in-Ok-Request.field-0-is at c.in-Ok-Request.ensures.next in
-    let after = c.answer_next-reply in
-    let less = fewer _ _ c.next_answered.new.input after.new.room.input _ _ _ _ _ (g.S.Store.state after.new.desk) _ _ (g.W.Write.contents c.next_answered.new.writer.inner) (waiting c.next_answered.new.outbox) (waiting c.next_answered.new.outbox) _ _ so has after.ensures.taken after.ensures.turns after.ensures.office after.ensures.clean (reply_of after.result) (after.ensures.step has) in
+    let after = c.answer_next-told in
+    let less = fewer _ _ c.next_answered.new.input after.new.room.input _ _ _ _ _ (g.S.Store.state after.new.desk) _ _ (g.W.Write.contents c.next_answered.new.writer.inner) (waiting c.next_answered.new.outbox) (waiting c.next_answered.new.outbox) _ _ so has after.ensures.taken after.ensures.turns after.ensures.office after.ensures.clean (told_reply after.result) (after.ensures.step has) in
     smaller c.loop-head.room.input c.next_answered.new.input after.new.room.input c.send.new.room.input _ _ _ _ c.next_answered.ensures.reads less c.send.ensures.input
 
 pub loop-head-preserved : goal.loop-head-preserved
 loop-head-preserved g c =
     let so = SoFar-next _ _ _ _ c.next_answered.new.input _ _ _ _ _ _ _ _ (g.W.Write.contents c.next_answered.new.writer.inner) _ (waiting c.next_answered.new.outbox) _ c.loop-head.invariant.0 c.next_answered.ensures.reads c.in-Ok-Request.ensures.sends in
     let has = rw c.in-Ok-Request.field-0-is at c.in-Ok-Request.ensures.next in
-    let after = c.answer_next-reply in
+    let after = c.answer_next-told in
     let gathers = rw (ap waiting after.ensures.outbox) at c.in-Ok.ensures.gathers in
     let same = c.send.ensures.input in (
-      goes_on _ _ c.next_answered.new.input c.send.new.room.input _ _ _ _ _ (g.S.Store.state after.new.desk) _ _ (g.W.Write.contents c.send.new.writer.inner) (waiting c.next_answered.new.outbox) (waiting c.send.new.room.outbox) _ _ so has (ap (λ (i : Input). unread i) same ∙ after.ensures.taken) (ap (λ (i : Input). i.turns) same ∙ after.ensures.turns) after.ensures.office after.ensures.clean (reply_of after.result) (after.ensures.step has) c.if-head.false gathers,
+      goes_on _ _ c.next_answered.new.input c.send.new.room.input _ _ _ _ _ (g.S.Store.state after.new.desk) _ _ (g.W.Write.contents c.send.new.writer.inner) (waiting c.next_answered.new.outbox) (waiting c.send.new.room.outbox) _ _ so has (ap (λ (i : Input). unread i) same ∙ after.ensures.taken) (ap (λ (i : Input). i.turns) same ∙ after.ensures.turns) after.ensures.office after.ensures.clean (told_reply after.result) (after.ensures.step has) c.if-head.false gathers,
       c.send.ensures.ready,
       c.in-Ok-Request.ensures.kept ∙ c.loop-head.invariant.2,
       c.in-Ok.ensures.kept ∙ c.in-Ok-Request.ensures.kept_writer ∙ c.loop-head.invariant.3,

@@ -7,20 +7,14 @@ pub returns-in_default-clause-asks : goal.returns-in_default-clause-asks
 returns-in_default-clause-asks c =
     absurd (c.in_default.ensures.cases.0 (IsUtf8-from_ascii _ (ascii_from_path c.args.target.now (sym c.is_path.ensures ∙ c.if-not-is_path.false))))
 
-pub put_of_transmission-requires-clause-text : goal.put_of_transmission-requires-clause-text
-put_of_transmission-requires-clause-text c =
+pub put_of-requires-clause-text : goal.put_of-requires-clause-text
+put_of-requires-clause-text c =
     let found = rw c.requires.routes at c.in-Ok-at.ensures.found in
     let plain = ascii_from_path c.args.target.now (sym c.is_path.ensures ∙ c.if-not-is_path.false) in
     rw c.in-Ok-at.ensures.path (route_text _ _ found (rw c.in-Ok.ensures.cases.0 plain))
 
-pub put_of_return-requires-clause-text : goal.put_of_return-requires-clause-text
-put_of_return-requires-clause-text c =
-    let found = rw c.requires.routes at c.in-Ok-at.ensures.found in
-    let plain = ascii_from_path c.args.target.now (sym c.is_path.ensures ∙ c.if-not-is_path.false) in
-    rw c.in-Ok-at.ensures.path (route_text _ _ found (rw c.in-Ok.ensures.cases.0 plain))
-
-pub get_of_acknowledgement-requires-clause-text : goal.get_of_acknowledgement-requires-clause-text
-get_of_acknowledgement-requires-clause-text c =
+pub get_of-requires-clause-text : goal.get_of-requires-clause-text
+get_of-requires-clause-text c =
     let found = rw c.requires.routes at c.in-Ok-at.ensures.found in
     let plain = ascii_from_path c.args.target.now (sym c.is_path.ensures ∙ c.if-not-is_path.false) in
     rw c.in-Ok-at.ensures.path (route_text _ _ found (rw c.in-Ok.ensures.cases.0 plain))

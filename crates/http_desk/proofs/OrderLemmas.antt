@@ -1,0 +1,81 @@
+-- Lemmas on the JSON of orders.
+use Rattle.std.proofs.Common.{◌≡◌, ℕ, ◌+◌, Bool, true, false, List, [], ◌∷◌, ◌++◌, drop, Option, Some, None, option_map, refl, sym, ◌∙◌, ap, append_assoc}
+use Rattle.std.specs.Str.{is_utf8, IsUtf8}
+use Rattle.std.proofs.lemmas.Str.{IsUtf8-from_is_utf8, is_utf8-from_IsUtf8}
+use Rattle.serde_json.specs.Data.{Data}
+use Rattle.serde_json.specs.Read.{read}
+use Rattle.serde_json.specs.View.{items_view, view}
+use Rattle.serde_json.specs.declared.value.Value.{Value}
+use Rattle.society_core.specs.Orders.{Order, order_fault, order_of}
+use Rattle.society_core.specs.Requests.{Closes, ClosesFaulty}
+use Rattle.http_desk.specs.OrderText.{OrderNumbers, before, close_asked, json_of, named_number, named_numbers}
+
+-- ---- the value of a body
+
+pub value_read : (body : List ℕ) (value : Data) → IsUtf8 body → read body ≡ Some value → Some value ≡ json_of body
+value_read body value text is = rw (is_utf8-from_IsUtf8 body text) (sym is)
+
+pub value_missing : (body : List ℕ) → (IsUtf8 body → read body ≡ None) → None ≡ json_of body
+value_missing body none = by_text (is_utf8 body) refl
+  where
+    by_text : (t : Bool) → is_utf8 body ≡ t → None ≡ json_of body
+    by_text true e = rw e (sym (none (IsUtf8-from_is_utf8 body e)))
+    by_text false e = rw e refl
+
+-- ---- what numbers ask
+
+pub closes_ordered : (pool : ℕ) (numbers : OrderNumbers) (order : Order) → order_fault numbers.amount numbers.cut numbers.returns ≡ None
+    → order ≡ order_of numbers.amount numbers.cut numbers.returns → Closes pool order ≡ close_asked pool (Some numbers)
+closes_ordered pool numbers order none is = rw none (ap (Closes pool) is)
+
+pub closes_faulty : (pool : ℕ) (numbers : OrderNumbers) (fault : ℕ) → order_fault numbers.amount numbers.cut numbers.returns ≡ Some fault
+    → ClosesFaulty fault ≡ close_asked pool (Some numbers)
+closes_faulty pool numbers fault is = rw is refl
+
+-- ---- lists of names with numbers
+
+-- these and then the others, where they are there
+abbrev pub behind : List (List ℕ × ℕ) → Option (List (List ℕ × ℕ)) → Option (List (List ℕ × ℕ))
+behind done others = option_map (λ (rest : List (List ℕ × ℕ)). done ++ rest) others
+
+-- so far these elements were names with numbers
+abbrev pub ReadSoFar : (List ℕ → Option (List ℕ)) → List Value → ℕ → List (List ℕ × ℕ) → Type 0
+ReadSoFar name values count done =
+    named_numbers name (items_view values) ≡ behind done (named_numbers name (items_view (drop count values)))
+
+pub ReadSoFar-none : (name : List ℕ → Option (List ℕ)) (values : List Value) → ReadSoFar name values 0 []
+ReadSoFar-none name values = all (named_numbers name (items_view values))
+  where
+    all : (o : Option (List (List ℕ × ℕ))) → o ≡ behind [] o
+    all (Some rest) = refl
+    all None = refl
+
+behind_more : (done : List (List ℕ × ℕ)) (first : List ℕ × ℕ) (others : Option (List (List ℕ × ℕ))) → behind done (before (Some first) others) ≡ behind (done ++ first ∷ []) others
+behind_more done first (Some rest) = ap Some (sym (append_assoc done (first ∷ []) rest))
+behind_more done first None = refl
+
+pub ReadSoFar-more : (name : List ℕ → Option (List ℕ)) (values : List Value) (count : ℕ) (done : List (List ℕ × ℕ)) (value : Value) (first : List ℕ × ℕ)
+    → ReadSoFar name values count done → drop count values ≡ value ∷ drop (count + 1) values → Some first ≡ named_number name (view value)
+    → ReadSoFar name values (count + 1) (done ++ first ∷ [])
+ReadSoFar-more name values count done value first so next is =
+    so
+    ∙ ap (λ (vs : List Value). behind done (named_numbers name (items_view vs))) next
+    ∙ ap (λ (o : Option (List ℕ × ℕ)). behind done (before o (named_numbers name (items_view (drop (count + 1) values))))) (sym is)
+    ∙ behind_more done first (named_numbers name (items_view (drop (count + 1) values)))
+
+pub ReadSoFar-fails : (name : List ℕ → Option (List ℕ)) (values : List Value) (count : ℕ) (done : List (List ℕ × ℕ)) (value : Value)
+    → ReadSoFar name values count done → drop count values ≡ value ∷ drop (count + 1) values → None ≡ named_number name (view value)
+    → None ≡ named_numbers name (items_view values)
+ReadSoFar-fails name values count done value so next is =
+    sym (so
+    ∙ ap (λ (vs : List Value). behind done (named_numbers name (items_view vs))) next
+    ∙ ap (λ (o : Option (List ℕ × ℕ)). behind done (before o (named_numbers name (items_view (drop (count + 1) values))))) (sym is))
+
+pub ReadSoFar-all : (name : List ℕ → Option (List ℕ)) (values : List Value) (count : ℕ) (done : List (List ℕ × ℕ))
+    → ReadSoFar name values count done → drop count values ≡ [] → Some done ≡ named_numbers name (items_view values)
+ReadSoFar-all name values count done so end =
+    sym (so ∙ ap (λ (vs : List Value). behind done (named_numbers name (items_view vs))) end ∙ ap Some (append-none done))
+  where
+    append-none : (xs : List (List ℕ × ℕ)) → xs ++ [] ≡ xs
+    append-none [] = refl
+    append-none (x ∷ xs) = ap (λ (v : List (List ℕ × ℕ)). x ∷ v) (append-none xs)

@@ -1,0 +1,73 @@
+-- Lemmas on steps: a reply that shows something is to a question, which leaves the book as it was.
+use Rattle.std.proofs.Common.{◌≡◌, ℕ, List, Option, Some, None, inl, inr, refl, sym, ◌∙◌, subst}
+use Rattle.cwr_files.specs.FileFault.{file_fault}
+use Rattle.cwr_files.specs.declared.fault.FileFault.{FileFault}
+use Rattle.perf_returns.specs.Returns.{return_fault}
+use Rattle.perf_returns.specs.declared.fault.ReturnFault.{ReturnFault}
+use Rattle.share_rules.specs.declared.office.Office.{Office}
+use Rattle.society_core.specs.Answers.{added_answer, added_book, answer, close_answer, close_book, close_refusal, closed_answer, closed_book, known_as, next, pool_known_as, put_answer, put_book, return_answer, return_book, return_known_as, stored_answer, stored_book}
+use Rattle.society_core.specs.Book.{Book}
+use Rattle.society_core.specs.Orders.{Order}
+use Rattle.society_core.specs.Requests.{Query, Puts, PutsReturn, Closes, ClosesFaulty, AsksAck, AsksSender, AsksWork, AsksVerdicts, AsksCredits, AsksBalance, AsksElsewhere, Reply, Refused}
+use Rattle.society_core.specs.Runs.{Step}
+use Rattle.society_core.specs.declared.refusal.Refusal.{Refusal}
+use Rattle.society_core.specs.declared.refusal.Refusal.TheVariants.{Unavailable}
+use Rattle.society_core.specs.declared.return_key.ReturnKey.{ReturnKey}
+use Rattle.society_core.specs.declared.store.Known.{Known}
+use Rattle.society_core.specs.declared.store.Known.TheVariants.{Absent, Same, Other}
+use Rattle.http_desk.specs.Told.{IsShown, Tells}
+
+added_stays : (book : Book) (sender : List ℕ) (number : ℕ) (body : List ℕ) (fault : Option FileFault)
+    → IsShown (added_answer book sender number body fault) → added_book book sender number body fault ≡ book
+added_stays book sender number body (Some fault) shown = refl
+added_stays book sender number body None shown = absurd shown
+
+put_stays : (book : Book) (sender : List ℕ) (number : ℕ) (body : List ℕ) (known : Known)
+    → IsShown (put_answer book sender number body known) → put_book book sender number body known ≡ book
+put_stays book sender number body Same shown = refl
+put_stays book sender number body Other shown = refl
+put_stays book sender number body Absent shown = added_stays book sender number body (file_fault sender body) shown
+
+stored_stays : (book : Book) (key : ReturnKey) (body : List ℕ) (fault : Option ReturnFault)
+    → IsShown (stored_answer fault) → stored_book book key body fault ≡ book
+stored_stays book key body (Some fault) shown = refl
+stored_stays book key body None shown = absurd shown
+
+return_stays : (book : Book) (key : ReturnKey) (body : List ℕ) (known : Known)
+    → IsShown (return_answer body known) → return_book book key body known ≡ book
+return_stays book key body Same shown = refl
+return_stays book key body Other shown = refl
+return_stays book key body Absent shown = stored_stays book key body (return_fault body) shown
+
+closed_stays : (book : Book) (pool : ℕ) (order : Order) (refusal : Option Refusal)
+    → IsShown (closed_answer pool refusal) → closed_book book pool order refusal ≡ book
+closed_stays book pool order (Some refusal) shown = refl
+closed_stays book pool order None shown = absurd shown
+
+close_stays : (book : Book) (pool : ℕ) (order : Order) (known : Known)
+    → IsShown (close_answer book pool order known) → close_book book pool order known ≡ book
+close_stays book pool order Same shown = refl
+close_stays book pool order Other shown = refl
+close_stays book pool order Absent shown = closed_stays book pool order (close_refusal book order) shown
+
+-- a reply that shows something leaves the book as it was
+pub shown_stays : (office : Office) (book : Book) (query : Query) → IsShown (answer office book query) → next book query ≡ book
+shown_stays office book (Puts sender number body) shown = put_stays book sender number body (known_as book sender number body) shown
+shown_stays office book (PutsReturn key body) shown = return_stays book key body (return_known_as book key body) shown
+shown_stays office book (Closes pool order) shown = close_stays book pool order (pool_known_as book pool order) shown
+shown_stays office book (ClosesFaulty fault) shown = refl
+shown_stays office book (AsksAck sender number) shown = refl
+shown_stays office book (AsksSender sender) shown = refl
+shown_stays office book (AsksWork sender work) shown = refl
+shown_stays office book (AsksVerdicts sender number) shown = refl
+shown_stays office book (AsksCredits pool) shown = refl
+shown_stays office book (AsksBalance account) shown = refl
+shown_stays office book AsksElsewhere shown = refl
+
+-- what is told of a step's reply is a step's reply
+pub tells_step : (office : Office) (book : Book) (query : Query) (reply told : Reply) (after : Book)
+    → Tells reply told → Step office book query reply after → Step office book query told after
+tells_step office book query reply told after (inl same) step = subst (λ (r : Reply). Step office book query r after) (sym same) step
+tells_step office book query reply told after (inr (shown, busy)) (inl (is, gone)) =
+    inr (busy, gone ∙ shown_stays office book query (subst IsShown is shown))
+tells_step office book query reply told after (inr (shown, busy)) (inr (is, stays)) = inr (busy, stays)

@@ -1,0 +1,190 @@
+//! Orders that are spelled in JSON.
+ghost use Rattle.std.specs.Prelude.{◌≡◌, option_and_then, IfOk};
+ghost use Rattle.std.specs.Option.{option_map};
+ghost use Rattle.serde_json.specs.Find.{as_array, as_object};
+ghost use Rattle.serde_json.specs.View.{view};
+ghost use Rattle.society_core.specs.Requests.{query_of};
+ghost use Rattle.http_desk.specs.OrderText.{are_three, are_two, close_query, json_of, named_number, named_numbers_in, numbers_in, pair_in, reporter_named, sender_of};
+ghost use Rattle.http_desk.specs.OrderRead.{numbers_read};
+
+use serde_json::Value;
+use society_core::{OrderError, PoolOrder, Request};
+use std::alloc::{AllocError, Global};
+use work_ids::{PoolNumber, Reporter, SenderKey};
+
+/// Order fault of a body of another shape (profile).
+const NO_ORDER: u8 = 1;
+
+/// Members of an order.
+const MEMBERS: usize = 3;
+
+/// Elements of an entry of a cut, or of the list of returns.
+const ELEMENTS: usize = 2;
+
+// The numbers that an order's JSON spells, whatever their limits.
+#[derive(Drop)]
+pub(crate) struct Numbers {
+    amount: u64,
+    cut: Vec<(SenderKey, u64)>,
+    returns: Vec<(Reporter, u64)>,
+}
+
+// Whether a value is an array of two elements.
+fn is_array_of_two(value: &Value) -> bool
+    ensures { result ≡ are_two (as_array (view value.now)) }
+{
+    match value.as_array() {
+        Some(elements) => elements.len() == ELEMENTS,
+        None => false,
+    }
+}
+
+// A text and a whole number, where the value is an array of the two.
+fn pair(value: &Value) -> Option<(&str, u64)>
+    ensures { option_map (λ pair. (pair.0.now, pair.1)) result ≡ pair_in (view value.now) }
+{
+    if !is_array_of_two(value) {
+        return None;
+    }
+    let name = value.get(0usize).and_then(Value::as_str)?;
+    let number = value.get(1usize).and_then(Value::as_u64)?;
+    Some((name, number))
+}
+
+// A sender and a number.
+fn numbered_sender(value: &Value) -> Option<(SenderKey, u64)>
+    ensures { result ≡ named_number sender_of (view value.now) }
+{
+    let (name, number) = pair(value)?;
+    let sender = SenderKey::from_bytes(name.as_bytes()).ok()?;
+    Some((sender, number))
+}
+
+// A reporter and a number.
+fn numbered_reporter(value: &Value) -> Option<(Reporter, u64)>
+    ensures { result ≡ named_number reporter_named (view value.now) }
+{
+    let (name, number) = pair(value)?;
+    let reporter = Reporter::from_bytes(name.as_bytes()).ok()?;
+    Some((reporter, number))
+}
+
+// The cut of an order.
+fn cut_of(alloc: Global, value: &Value) -> Result<Option<Vec<(SenderKey, u64)>>, AllocError>
+    ensures { IfOk result (λ cut.
+        option_map (λ v. v.items) cut ≡ named_numbers_in sender_of (view value.now)) }
+{
+    let Some(list) = value.as_array() else {
+        return Ok(None);
+    };
+    let mut cut = Vec::new(alloc);
+    for entry in list {
+        let Some(named) = numbered_sender(entry) else {
+            return Ok(None);
+        };
+        cut.push(named)?;
+    }
+    Ok(Some(cut))
+}
+
+// The returns of an order.
+fn returns_of(alloc: Global, value: &Value) -> Result<Option<Vec<(Reporter, u64)>>, AllocError>
+    ensures { IfOk result (λ returns.
+        option_map (λ v. v.items) returns ≡ named_numbers_in reporter_named (view value.now)) }
+{
+    let Some(list) = value.as_array() else {
+        return Ok(None);
+    };
+    let mut returns = Vec::new(alloc);
+    for entry in list {
+        let Some(named) = numbered_reporter(entry) else {
+            return Ok(None);
+        };
+        returns.push(named)?;
+    }
+    Ok(Some(returns))
+}
+
+// Whether a value is an object with as many members as an order.
+fn has_members_of_order(value: &Value) -> bool
+    ensures { result ≡ are_three (as_object (view value.now)) }
+{
+    match value.as_object() {
+        Some(members) => members.len() == MEMBERS,
+        None => false,
+    }
+}
+
+// The numbers of an order, where the value has the shape of one.
+fn numbers_of(alloc: Global, value: &Value) -> Result<Option<Numbers>, AllocError>
+    ensures { IfOk result (λ numbers. option_map numbers_read numbers ≡ numbers_in (view value.now)) }
+{
+    if !has_members_of_order(value) {
+        return Ok(None);
+    }
+    let Some(amount) = value.get("amount").and_then(Value::as_u64) else {
+        return Ok(None);
+    };
+    let Some(cut) = value.get("cut") else {
+        return Ok(None);
+    };
+    let Some(cut) = cut_of(alloc, cut)? else {
+        return Ok(None);
+    };
+    let Some(returns) = value.get("returns") else {
+        return Ok(None);
+    };
+    let Some(returns) = returns_of(alloc, returns)? else {
+        return Ok(None);
+    };
+    Ok(Some(Numbers {
+        amount,
+        cut,
+        returns,
+    }))
+}
+
+// The value that a body is, where it is JSON in UTF-8.
+fn value_of(alloc: Global, body: &[u8]) -> Result<Option<Value>, AllocError>
+    ensures { IfOk result (λ value. option_map view value ≡ json_of body.now) }
+{
+    match Value::from_slice(alloc, body) {
+        Ok(value) => Ok(Some(value)),
+        Err(error) => {
+            if error.is_memory() {
+                return Err(AllocError);
+            }
+            Ok(None)
+        }
+    }
+}
+
+// The numbers that a body spells.
+fn numbers_in(alloc: Global, body: &[u8]) -> Result<Option<Numbers>, AllocError>
+    ensures { IfOk result (λ numbers. option_map numbers_read numbers
+        ≡ option_and_then numbers_in (json_of body.now)) }
+{
+    let Some(value) = value_of(alloc, body)? else {
+        return Ok(None);
+    };
+    numbers_of(alloc, &value)
+}
+
+/// What a put of a pool asks by its body: to close it by an order, or its least fault, 1 for another shape. `AllocError`
+/// where memory is refused while it is read.
+pub(crate) fn close_by<'b>(
+    alloc: Global,
+    pool: PoolNumber,
+    body: &[u8],
+) -> Result<Request<'b>, AllocError>
+    ensures { IfOk result (λ request. query_of request ≡ close_query pool body.now) }
+{
+    let Some(numbers) = numbers_in(alloc, body)? else {
+        return Ok(Request::FaultyOrder { fault: NO_ORDER });
+    };
+    match PoolOrder::new(alloc, numbers.amount, &numbers.cut, &numbers.returns) {
+        Ok(order) => Ok(Request::ClosePool { pool, order }),
+        Err(OrderError::Order(fault)) => Ok(Request::FaultyOrder { fault }),
+        Err(OrderError::Memory) => Err(AllocError),
+    }
+}

@@ -1,0 +1,37 @@
+-- Whether a side with a number is among records, one record further (representation).
+use Rattle.std.proofs.Common.{◌≡◌, ℕ, Bool, true, false, ◌||◌, List, [], ◌∷◌, ◌++◌, Some, None, refl, ap, ◌∙◌}
+use Rattle.std.specs.List.{list_any}
+use Rattle.std.proofs.lemmas.List.Folds.{list_any-append}
+use Rattle.cwr_records.specs.declared.record.Record.{Record}
+use Rattle.share_rules.proofs.Blocks.{alike}
+use Rattle.share_rules.specs.Parties.{is_party, party_in, party_is}
+use Rattle.share_rules.specs.declared.party.InterestedParty.{InterestedParty}
+use Rattle.share_rules.specs.declared.party.Side.{Side}
+
+or_true : (a : Bool) → (a || true) ≡ true
+or_true true = refl
+or_true false = refl
+
+or_false : (a : Bool) → (a || false) ≡ a
+or_false true = refl
+or_false false = refl
+
+-- an interested party is found
+pub party_found : (t : Side) (m : List ℕ) (before : List Record) (r : Record) (party : InterestedParty) → party_in r ≡ Some party → alike party.side party.number t m ≡ true → list_any (is_party t m) (before ++ r ∷ []) ≡ true
+party_found t m before r party is same =
+    list_any-append (is_party t m) before (r ∷ [])
+    ∙ ap (λ (b : Bool). list_any (is_party t m) before || (b || false)) (ap (party_is t m) is ∙ same)
+    ∙ or_true (list_any (is_party t m) before)
+
+-- another record is not
+pub other_not_found : (t : Side) (m : List ℕ) (before : List Record) (r : Record) → is_party t m r ≡ false → list_any (is_party t m) (before ++ r ∷ []) ≡ list_any (is_party t m) before
+other_not_found t m before r other =
+    list_any-append (is_party t m) before (r ∷ [])
+    ∙ ap (λ (b : Bool). list_any (is_party t m) before || (b || false)) other
+    ∙ or_false (list_any (is_party t m) before)
+
+pub party_passes : (t : Side) (m : List ℕ) (before : List Record) (r : Record) (party : InterestedParty) → party_in r ≡ Some party → alike party.side party.number t m ≡ false → list_any (is_party t m) (before ++ r ∷ []) ≡ list_any (is_party t m) before
+party_passes t m before r party is other = other_not_found t m before r (ap (party_is t m) is ∙ other)
+
+pub none_found : (t : Side) (m : List ℕ) (before : List Record) (r : Record) → party_in r ≡ None → list_any (is_party t m) (before ++ r ∷ []) ≡ list_any (is_party t m) before
+none_found t m before r is = other_not_found t m before r (ap (party_is t m) is)

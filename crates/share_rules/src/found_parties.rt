@@ -1,0 +1,60 @@
+//! Which parties of a block are among some records.
+ghost use Rattle.std.specs.Prelude.{◌≡◌, ◌∷◌, ◌++◌, [], List, length};
+ghost use Rattle.std.specs.List.{list_any};
+ghost use Rattle.share_rules.specs.Parties.{is_party, party_in};
+ghost use Rattle.cwr_records.specs.declared.record.Record.{Record};
+ghost use Rattle.share_rules.specs.Blocks.{AreFound};
+
+use crate::party::{InterestedParty, Side};
+use crate::party_keys::{BLOCK, PartyKeys};
+use crate::party_search::Sought;
+use cwr_records::{Fixed, Record};
+
+/// An interested party, behind the records that were gone through.
+fn mark_party(keys: &PartyKeys, found: &mut [bool], party: &InterestedParty<'_>)
+    requires { length found.old ≡ BLOCK }
+    ensures { (before : List Record) (r : Record) → party_in r ≡ Some party.now → AreFound keys.now.keys found.old before → AreFound keys.now.keys found.new (before ++ r ∷ []) }
+{
+    if let Some(place) = keys.place(party.side, &party.number) {
+        found[place] = true;
+    }
+}
+
+/// One more record, behind those that were gone through.
+pub(crate) fn mark(keys: &PartyKeys, found: &mut [bool], record: &Record<'_>)
+    requires { length found.old ≡ BLOCK }
+    ensures { (before : List Record) → AreFound keys.now.keys found.old before → AreFound keys.now.keys found.new (before ++ «record».now ∷ []) }
+{
+    if let Some(party) = InterestedParty::of(record) {
+        mark_party(keys, found, &party);
+    }
+}
+
+/// Some records.
+pub(crate) fn mark_all(keys: &PartyKeys, found: &mut [bool], records: &[Record<'_>])
+    requires room { length found.old ≡ BLOCK }
+    requires none { AreFound keys.now.keys found.old [] }
+    ensures { AreFound keys.now.keys found.new records.now }
+{
+    for record in records {
+        mark(keys, found, record);
+    }
+}
+
+/// Whether a party of a side with a number is among the records that were gone through.
+pub(crate) fn is_found(
+    keys: &PartyKeys,
+    found: &[bool],
+    side: Side,
+    number: &Fixed<'_, 9>,
+    records: &[Record<'_>],
+) -> bool
+    requires room { length found.now ≡ BLOCK }
+    requires found { AreFound keys.now.keys found.now records.now }
+    ensures { result ≡ list_any (is_party side number.now) records.now }
+{
+    match keys.place(side, number) {
+        Some(place) => found[place],
+        None => Sought::new(side, number).is_among(records),
+    }
+}

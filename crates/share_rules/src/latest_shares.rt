@@ -1,0 +1,116 @@
+//! The latest shares of each party of a block, as records are gone through from the last one on.
+ghost use Rattle.std.specs.Prelude.{◌≡◌, ◌∷◌, [], List, length};
+ghost use Rattle.cwr_records.specs.declared.record.Record.{Record};
+ghost use Rattle.share_rules.specs.Parties.{party_in, row_in};
+ghost use Rattle.share_rules.specs.Blocks.{AreLatest, collected_in};
+
+use crate::collecting::{collected, counts, shares_by};
+use crate::office::Office;
+use crate::party::InterestedParty;
+use crate::party_keys::{BLOCK, PartyKeys};
+use crate::shares::Shares;
+use crate::territory_row::TerritoryRow;
+use cwr_records::Record;
+
+/// An interested party: what stands behind it belongs to it, and to none before it.
+fn note_party(keys: &PartyKeys, latest: &mut [Option<Shares>], party: &InterestedParty<'_>)
+    requires { length latest.old ≡ BLOCK }
+    ensures { (office : Office) (r : Record) (more : List Record) → party_in r ≡ Some party.now → AreLatest office keys.now.keys latest.old more → AreLatest office keys.now.keys latest.new (r ∷ more) }
+{
+    if let Some(place) = keys.place(party.side, &party.number) {
+        latest[place] = None;
+    }
+}
+
+/// A territory row: its shares where it counts, and no later row does.
+fn note_row(
+    keys: &PartyKeys,
+    latest: &mut [Option<Shares>],
+    row: &TerritoryRow<'_>,
+    office: &Office,
+)
+    requires { length latest.old ≡ BLOCK }
+    ensures { (r : Record) (more : List Record) → row_in r ≡ Some row.now → AreLatest office.now keys.now.keys latest.old more → AreLatest office.now keys.now.keys latest.new (r ∷ more) }
+{
+    if !counts(row, office) {
+        return;
+    }
+    if let Some(place) = keys.place(row.side, &row.number) {
+        if latest[place].is_none() {
+            latest[place] = Some(shares_by(row));
+        }
+    }
+}
+
+/// One more record, in front of those that were gone through.
+pub(crate) fn note(
+    keys: &PartyKeys,
+    latest: &mut [Option<Shares>],
+    record: &Record<'_>,
+    office: &Office,
+)
+    requires { length latest.old ≡ BLOCK }
+    ensures { (more : List Record) → AreLatest office.now keys.now.keys latest.old more → AreLatest office.now keys.now.keys latest.new («record».now ∷ more) }
+{
+    if let Some(party) = InterestedParty::of(record) {
+        note_party(keys, latest, &party);
+        return;
+    }
+    if let Some(row) = TerritoryRow::of(record) {
+        note_row(keys, latest, &row, office);
+    }
+}
+
+/// Some records, from the last one on.
+pub(crate) fn note_all(
+    keys: &PartyKeys,
+    latest: &mut [Option<Shares>],
+    records: &[Record<'_>],
+    office: &Office,
+)
+    requires room { length latest.old ≡ BLOCK }
+    requires none { AreLatest office.now keys.now.keys latest.old [] }
+    ensures { AreLatest office.now keys.now.keys latest.new records.now }
+{
+    let mut end = records.len();
+    while end > 0 {
+        end -= 1;
+        note(keys, latest, &records[end], office);
+    }
+}
+
+/// The collection shares of an interested party at an office, out of the records after it.
+pub(crate) fn collected_by(
+    keys: &PartyKeys,
+    latest: &[Option<Shares>],
+    party: &InterestedParty<'_>,
+    after: &[Record<'_>],
+    office: &Office,
+) -> Shares
+    requires room { length latest.now ≡ BLOCK }
+    requires latest { AreLatest office.now keys.now.keys latest.now after.now }
+    ensures { result ≡ collected_in office.now (Some party.now) after.now }
+{
+    match keys.place(party.side, &party.number) {
+        Some(place) => latest[place].unwrap_or(Shares::none()),
+        None => collected(party, after, office),
+    }
+}
+
+/// What a record collects: nothing where it is no interested party.
+pub(crate) fn collected_in(
+    keys: &PartyKeys,
+    latest: &[Option<Shares>],
+    record: &Record<'_>,
+    after: &[Record<'_>],
+    office: &Office,
+) -> Shares
+    requires room { length latest.now ≡ BLOCK }
+    requires latest { AreLatest office.now keys.now.keys latest.now after.now }
+    ensures { result ≡ collected_in office.now (party_in «record».now) after.now }
+{
+    match InterestedParty::of(record) {
+        Some(party) => collected_by(keys, latest, &party, after, office),
+        None => Shares::none(),
+    }
+}
