@@ -11,3 +11,4 @@ pub mod StepLemmas
 pub mod TableLemmas
 pub mod TextLemmas
 mod Worked
+mod WorkedBodies

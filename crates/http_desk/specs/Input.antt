@@ -1,7 +1,8 @@
 -- Representation, not meaning: bytes that were read and not taken yet, and what reading on does to them.
 use Rattle.std.specs.Prelude.{◌≡◌, ℕ, ◌+◌, ◌*◌, ◌≤◌, List, ◌++◌, length, drop, Option}
 use Rattle.std.specs.Io.KnownBytes.{Consumes}
-use Rattle.http_desk.specs.Counted.{counted_on}
+use Rattle.http_desk.specs.Counted.{counted_on, inner_of, reads_of}
+use Rattle.http_desk.specs.declared.counted.Counted.{Counted}
 use Rattle.http_desk.specs.declared.fault.FaultKind.{FaultKind}
 use Rattle.http_desk.specs.declared.fault.FaultKind.TheVariants.{Read, Write, Turns, Memory}
 use Rattle.http_desk.specs.declared.input.Input.{Input}
@@ -25,6 +26,11 @@ pub record ReadsOn (old new : Input) (known new_known : Option (List ℕ)) (read
   pub counts : new_reads ≡ counted_on reads spent
   pub most : length more ≤ spent * max_piece
   pub least : spent ≤ length more
+
+-- the same of a reader, from one state of it to another
+abbrev pub ReadsFrom : {R : Type 0} → (R → Option (List ℕ)) → Counted R → Counted R → Input → Input → Type 0
+ReadsFrom remaining reader new_reader input new_input =
+    ReadsOn input new_input (remaining (inner_of reader)) (remaining (inner_of new_reader)) (reads_of reader) (reads_of new_reader)
 
 -- why reading failed: the reader did, or no turn was left
 abbrev pub FailsBy : FaultKind → ℕ → ℕ → ℕ → Type 0

@@ -13,6 +13,11 @@ waiting outbox = outbox.bytes.items
 abbrev pub Sends : Option (List ℕ) → Option (List ℕ) → List ℕ → List ℕ → Type 0
 Sends holds new_holds bytes waiting = (sent : List ℕ) × (bytes ≡ sent ++ waiting) × Appends holds new_holds sent
 
+-- the same of a writer and the texts that waited for it and wait now
+abbrev pub SendsTo : {W : Type 0} → (W → Option (List ℕ)) → Counted W → Counted W → Outbox → Outbox → Type 0
+SendsTo contents writer new_writer outbox new_outbox =
+    Sends (contents (inner_of writer)) (contents (inner_of new_writer)) (waiting outbox) (waiting new_outbox)
+
 -- behind what waited these bytes were sent or wait, or after a failure a front of all was appended
 abbrev pub Gathers : {T E : Type 0} → Result T E → Option (List ℕ) → Option (List ℕ) → List ℕ → List ℕ → List ℕ → Type 0
 Gathers result holds new_holds old new bytes =

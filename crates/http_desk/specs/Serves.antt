@@ -17,12 +17,18 @@ use Rattle.http_desk.specs.Part.{Part, print_part, IsOpenPart}
 use Rattle.http_desk.specs.Path.{request_of}
 use Rattle.http_desk.specs.Reads.{Awaits, Reads, Cuts, HasNoPart}
 use Rattle.http_desk.specs.Text.{texts, ending}
+use Rattle.http_desk.specs.Upcoming.{HasPart}
+use Rattle.http_desk.specs.declared.head.Head.{Head}
 
 -- a request was answered by a step from the old book to the new, where the store is clean
 abbrev pub Steps : {S : Type 0} → (S → State) → S → S → Part → Reply → Type 0
 Steps state desk new_desk part reply =
     IsTrue (state new_desk).is_clean
     → Step (state desk).office (state desk).book (request_of part) reply (state new_desk).book
+
+-- the request at the front of the bytes, of whose head this is kept, was answered by such a step
+abbrev pub IsAnswered : {S : Type 0} → (S → State) → S → S → List ℕ → Head → Reply → Type 0
+IsAnswered state desk new_desk bytes head reply = (has : HasPart bytes head) → Steps state desk new_desk has.part reply
 
 -- the requests were answered in turn, from one state of the store to another; the book is told where the store is clean, and holds what came
 pub record AreAnswered (parts : List Part) (replies : List Reply) (old new : State) : Type 0 where
@@ -99,6 +105,18 @@ CausedBy Memory requests turns remaining reader new_reader writer new_writer =
 pub record KeepsTurns {R : Type 0} (remaining : R → Option (List ℕ)) (reader new_reader : Counted R) (turns : ℕ) : Type 0 where
   pub reads : reads_of new_reader ≤ reads_of reader + turns
   pub most : TakesAtMost (remaining (inner_of reader)) (remaining (inner_of new_reader)) (turns * 16384)
+
+-- all these bytes were written, and so many requests are told
+abbrev pub ClosesBy : {W : Type 0} → (W → Option (List ℕ)) → Counted W → Counted W → ℕ → List ℕ → Served → Type 0
+ClosesBy contents writer new_writer requests bytes served =
+    (served.requests ≡ requests) × Appends (contents (inner_of writer)) (contents (inner_of new_writer)) bytes
+
+-- the writer failed at a front of these bytes, after so many requests
+abbrev pub FailsToClose : {W : Type 0} → (W → Option (List ℕ)) → Counted W → Counted W → ℕ → List ℕ → DeskFault → Type 0
+FailsToClose contents writer new_writer requests bytes fault =
+    (fault ≡ record { kind = Write; requests = requests })
+    × AppendsFront (contents (inner_of writer)) (contents (inner_of new_writer)) bytes
+    × Rises (failures_of writer) (failures_of new_writer)
 
 -- a desk served a connection to its end
 abbrev pub IsServed : {S R W : Type 0} → (S → State) → (R → Option (List ℕ)) → (W → Option (List ℕ)) → S → S → Counted R → Counted W → Counted W → Served → Type 0

@@ -1,15 +1,18 @@
 -- Representation, not meaning: what was found at the front of the bytes that were read, and why nothing was.
 use Rattle.std.specs.Prelude.{◌≡◌, ℕ, List, [], ◌∷◌, ◌++◌, length, unwrap_or, Option}
 use Rattle.std.specs.Io.KnownBytes.{Appends}
-use Rattle.http_desk.specs.Counted.{AppendsFront}
+use Rattle.http_desk.specs.Counted.{AppendsFront, failures_of, inner_of}
 use Rattle.http_desk.specs.declared.connection_end.End.{End}
 use Rattle.http_desk.specs.declared.connection_end.End.TheVariants.{Quiet, Bad}
+use Rattle.http_desk.specs.declared.counted.Counted.{Counted}
 use Rattle.http_desk.specs.declared.fault.FaultKind.{FaultKind}
 use Rattle.http_desk.specs.declared.fault.FaultKind.TheVariants.{Read, Write, Turns, Memory}
 use Rattle.http_desk.specs.declared.head.Head.{Head}
+use Rattle.http_desk.specs.declared.input.Input.{Input}
 use Rattle.http_desk.specs.declared.upcoming.Upcoming.{Upcoming}
 use Rattle.http_desk.specs.declared.upcoming.Upcoming.TheVariants.{Request, Ended}
 use Rattle.http_desk.specs.Head.{HasHead, IsKept}
+use Rattle.http_desk.specs.Input.{unread}
 use Rattle.http_desk.specs.Part.{Part, print_part, IsPart}
 use Rattle.http_desk.specs.Reads.{Awaits, Ends}
 use Rattle.society_core.specs.State.{Rises}
@@ -51,3 +54,9 @@ StopsBy Turns bytes turns reader writer holds new_holds waiting =
 StopsBy Write bytes turns reader writer holds new_holds waiting =
     Rises writer.0 writer.1 × AppendsFront holds new_holds waiting
 StopsBy Memory bytes turns reader writer holds new_holds waiting = ⊥
+
+-- the same of a reader, a writer and the bytes that were read, while these texts waited
+abbrev pub IsStopped : {R W : Type 0} → (W → Option (List ℕ)) → Counted R → Counted R → Counted W → Counted W → Input → List ℕ → FaultKind → Type 0
+IsStopped contents reader new_reader writer new_writer input waiting kind =
+    StopsBy kind (unread input) input.turns (failures_of reader, failures_of new_reader) (failures_of writer, failures_of new_writer)
+    (contents (inner_of writer)) (contents (inner_of new_writer)) waiting

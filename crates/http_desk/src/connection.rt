@@ -1,14 +1,13 @@
 //! A connection is served: requests are read, answered in turn, and their answers written.
 ghost use Rattle.std.specs.Prelude.{◌≡◌, ◌≢◌, ◌≤◌, ◌<◌, ◌+◌, ◌++◌, ◌^◌, [], drop, IfOk, IfErr, OnOk, OnErr, IsTrue, vec_capacity};
-ghost use Rattle.std.specs.Io.KnownBytes.{Appends};
 ghost use Rattle.society_core.specs.Requests.{reply_of};
 ghost use Rattle.society_core.specs.State.{Rises};
-ghost use Rattle.http_desk.specs.Counted.{inner_of, failures_of, AppendsFront};
+ghost use Rattle.http_desk.specs.Counted.{failures_of};
 ghost use Rattle.http_desk.specs.Input.{unread};
 ghost use Rattle.http_desk.specs.Outbox.{waiting, Puts};
 ghost use Rattle.http_desk.specs.Path.{office_routes};
 ghost use Rattle.http_desk.specs.Room.{IsReady};
-ghost use Rattle.http_desk.specs.Serves.{IsServed, IsGivenUp, KeepsTurns, Steps};
+ghost use Rattle.http_desk.specs.Serves.{ClosesBy, FailsToClose, IsAnswered, IsServed, IsGivenUp, KeepsTurns};
 ghost use Rattle.http_desk.specs.Text.{text, ending};
 ghost use Rattle.http_desk.specs.Told.{IsReadyToSend, told_reply};
 ghost use Rattle.http_desk.specs.Upcoming.{HasPart};
@@ -76,7 +75,7 @@ fn answer_front<S: Store>(
     requires routes { router.now ≡ office_routes }
     requires room { 8192 ≤ vec_capacity scratch.old }
     requires part { HasPart bytes.now head.now }
-    ensures step { (has : HasPart bytes.now head.now) → Steps S.state desk.old desk.new has.part (reply_of result) }
+    ensures step { IsAnswered S.state desk.old desk.new bytes.now head.now (reply_of result) }
     ensures office { (S.state desk.new).office ≡ (S.state desk.old).office }
     ensures clean { IsTrue (S.state desk.new).is_clean → IsTrue (S.state desk.old).is_clean }
     ensures room { vec_capacity scratch.old ≤ vec_capacity scratch.new }
@@ -93,8 +92,8 @@ fn answer_front<S: Store>(
 fn answer_next<S: Store>(alloc: Global, desk: &mut Desk<S>, room: &mut Room, head: &Head) -> Told
     requires ready { IsReady room.old }
     requires part { HasPart (unread room.old.input) head.now }
-    ensures step { (has : HasPart (unread room.old.input) head.now)
-        → Steps S.state desk.old desk.new has.part (told_reply result) }
+    ensures step { IsAnswered S.state desk.old desk.new (unread room.old.input) head.now
+        (told_reply result) }
     ensures told { IsReadyToSend result }
     ensures office { (S.state desk.new).office ≡ (S.state desk.old).office }
     ensures clean { IsTrue (S.state desk.new).is_clean → IsTrue (S.state desk.old).is_clean }
@@ -136,14 +135,10 @@ fn close_with<W: Write>(
     end: End,
     requests: u128,
 ) -> Result<Served, DeskFault>
-    ensures served { IfOk result (λ served. (served.requests ≡ requests)
-        × Appends (W.contents (inner_of writer.old)) (W.contents (inner_of writer.new))
+    ensures served { IfOk result (ClosesBy W.contents writer.old writer.new requests
         (waiting outbox.old ++ ending end)) }
-    ensures fault { IfErr result (λ fault.
-        (fault ≡ record { kind = FaultKind.Write; requests = requests })
-        × AppendsFront (W.contents (inner_of writer.old)) (W.contents (inner_of writer.new))
-        (waiting outbox.old ++ ending end)
-        × Rises (failures_of writer.old) (failures_of writer.new)) }
+    ensures fault { IfErr result (FailsToClose W.contents writer.old writer.new requests
+        (waiting outbox.old ++ ending end)) }
 {
     match write_end(writer, outbox, end) {
         Ok(()) => Ok(Served { requests }),

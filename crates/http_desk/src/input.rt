@@ -25,8 +25,8 @@ pub(crate) struct Input {
 impl Input {
     ghost use Rattle.std.specs.Prelude.{◌≡◌, ◌<◌, ◌≤◌, ◌+◌, ◌^◌, [], true, false, length, drop, vec_capacity, IfOk, IfErr, OnOk, OnErr};
     ghost use Rattle.std.specs.Io.KnownBytes.{IsAtEnd};
-    ghost use Rattle.http_desk.specs.Counted.{inner_of, failures_of, reads_of};
-    ghost use Rattle.http_desk.specs.Input.{unread, ReadsOn, FailsBy, max_piece};
+    ghost use Rattle.http_desk.specs.Counted.{inner_of, failures_of};
+    ghost use Rattle.http_desk.specs.Input.{unread, ReadsFrom, FailsBy, max_piece};
     ghost use Rattle.http_desk.specs.Reads.{small_request};
 
     /// No byte yet, with room for heads.
@@ -94,8 +94,7 @@ impl Input {
     /// One read: whether it gave bytes. An error changes none of the bytes.
     pub(crate) fn read_more<R: Read>(&mut self, reader: &mut Counted<R>) -> Result<bool, FaultKind>
         requires { length (unread self.old) + max_piece ≤ vec_capacity self.old.bytes }
-        ensures reads { ReadsOn self.old self.new (R.remaining (inner_of reader.old))
-            (R.remaining (inner_of reader.new)) (reads_of reader.old) (reads_of reader.new) }
+        ensures reads { ReadsFrom R.remaining reader.old reader.new self.old self.new }
         ensures room { vec_capacity self.old.bytes ≤ vec_capacity self.new.bytes }
         ensures turn { IfOk result (λ gave. gave ≡ true → self.new.turns < self.old.turns) }
         ensures end { IfOk result (λ gave. gave ≡ false

@@ -1,9 +1,9 @@
 //! The table of a pool.
-ghost use Rattle.std.specs.Prelude.{◌≡◌, ℕ, List, ◌++◌, map, IfOk, OnOk};
+ghost use Rattle.std.specs.Prelude.{◌≡◌, map, IfOk, OnOk};
 ghost use Rattle.csv.specs.Writing.{default_writer, row_text};
 ghost use Rattle.work_ids.specs.Account.{account_text};
 ghost use Rattle.http_desk.specs.Table.{column_names, credit_fields, isrc_field, table_text};
-ghost use Rattle.http_desk.specs.Rows.{HasRows};
+ghost use Rattle.http_desk.specs.Rows.{AddsRow, HasRows};
 
 use csv::{Writer, WriterBuilder};
 use itoa::Buffer;
@@ -34,8 +34,7 @@ fn isrc_text(isrc: &Option<Isrc>) -> &[u8]
 
 // Writes one row.
 fn put_row(table: &mut Writer<Vec<u8>>, fields: &[&[u8]]) -> Result<(), AllocError>
-    ensures { OnOk result ((rows : List ℕ) → HasRows table.old rows
-        → HasRows table.new (rows ++ row_text default_writer (map (λ field. field.now) fields.now))) }
+    ensures { OnOk result (AddsRow table.old table.new (map (λ field. field.now) fields.now)) }
 {
     match table.write_fields(fields) {
         Ok(()) => Ok(()),
@@ -49,8 +48,7 @@ fn put_credit(
     scratch: &mut Vec<u8>,
     credit: &Credit,
 ) -> Result<(), AllocError>
-    ensures { OnOk result ((rows : List ℕ) → HasRows table.old rows
-        → HasRows table.new (rows ++ row_text default_writer (credit_fields credit.now))) }
+    ensures { OnOk result (AddsRow table.old table.new (credit_fields credit.now)) }
 {
     set_account(scratch, &credit.account)?;
     let mut digits = Buffer::new();

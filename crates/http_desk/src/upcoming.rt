@@ -1,11 +1,11 @@
 //! What comes next on a connection: a request, or the end.
 ghost use Rattle.std.specs.Prelude.{◌≡◌, ℕ, List, Option, IfOk, IfErr, IfSome, OnErr, OnOk};
-ghost use Rattle.http_desk.specs.Counted.{inner_of, failures_of, reads_of};
+ghost use Rattle.http_desk.specs.Counted.{inner_of, failures_of};
 ghost use Rattle.http_desk.specs.Head.{HasHead};
-ghost use Rattle.http_desk.specs.Input.{unread, ReadsOn, FailsBy};
-ghost use Rattle.http_desk.specs.Outbox.{waiting, Sends};
+ghost use Rattle.http_desk.specs.Input.{unread, ReadsFrom, FailsBy};
+ghost use Rattle.http_desk.specs.Outbox.{waiting, SendsTo};
 ghost use Rattle.http_desk.specs.Reads.{Awaits};
-ghost use Rattle.http_desk.specs.Upcoming.{IsUpcomingHead, IsUpcoming, StopsBy, ended_with};
+ghost use Rattle.http_desk.specs.Upcoming.{IsUpcomingHead, IsUpcoming, IsStopped, ended_with};
 
 use crate::connection_end::End;
 use crate::counted::Counted;
@@ -48,17 +48,14 @@ pub(crate) fn next_answered<R: Read, W: Write>(
     input: &mut Input,
     outbox: &mut Outbox,
 ) -> Result<Upcoming, FaultKind>
-    ensures reads { ReadsOn input.old input.new (R.remaining (inner_of reader.old))
-        (R.remaining (inner_of reader.new)) (reads_of reader.old) (reads_of reader.new) }
+    ensures reads { ReadsFrom R.remaining reader.old reader.new input.old input.new }
     ensures next { IfOk result (λ next.
         IsUpcoming next (unread input.new) (R.remaining (inner_of reader.new))) }
-    ensures sends { OnOk result (Sends (W.contents (inner_of writer.old)) (W.contents (inner_of writer.new))
-        (waiting outbox.old) (waiting outbox.new)) }
+    ensures sends { OnOk result (SendsTo W.contents writer.old writer.new outbox.old outbox.new) }
     ensures kept { OnOk result (failures_of reader.new ≡ failures_of reader.old) }
     ensures kept_writer { OnOk result (failures_of writer.new ≡ failures_of writer.old) }
-    ensures stops { IfErr result (λ kind. StopsBy kind (unread input.new) input.new.turns
-        (failures_of reader.old, failures_of reader.new) (failures_of writer.old, failures_of writer.new)
-        (W.contents (inner_of writer.old)) (W.contents (inner_of writer.new)) (waiting outbox.old)) }
+    ensures stops { IfErr result (IsStopped W.contents reader.old reader.new writer.old writer.new
+        input.new (waiting outbox.old)) }
 {
     if let Some(next) = settled(input.unread()) {
         return Ok(next);
@@ -71,8 +68,7 @@ pub(crate) fn next_answered<R: Read, W: Write>(
 
 // Reads on until a whole request stands at the front, or the connection ends. Its head is read once.
 fn next_request<R: Read>(reader: &mut Counted<R>, input: &mut Input) -> Result<Upcoming, FaultKind>
-    ensures reads { ReadsOn input.old input.new (R.remaining (inner_of reader.old))
-        (R.remaining (inner_of reader.new)) (reads_of reader.old) (reads_of reader.new) }
+    ensures reads { ReadsFrom R.remaining reader.old reader.new input.old input.new }
     ensures next { IfOk result (λ next.
         IsUpcoming next (unread input.new) (R.remaining (inner_of reader.new))) }
     ensures awaits { OnErr result (Awaits (unread input.new)) }
@@ -88,8 +84,7 @@ fn next_request<R: Read>(reader: &mut Counted<R>, input: &mut Input) -> Result<U
 
 // Reads on until a head stands at the front.
 fn next_head<R: Read>(reader: &mut Counted<R>, input: &mut Input) -> Result<Upcoming, FaultKind>
-    ensures reads { ReadsOn input.old input.new (R.remaining (inner_of reader.old))
-        (R.remaining (inner_of reader.new)) (reads_of reader.old) (reads_of reader.new) }
+    ensures reads { ReadsFrom R.remaining reader.old reader.new input.old input.new }
     ensures next { IfOk result (λ next.
         IsUpcomingHead next (unread input.new) (R.remaining (inner_of reader.new))) }
     ensures awaits { OnErr result (Awaits (unread input.new)) }
@@ -128,8 +123,7 @@ fn whole_request<R: Read>(
     head: Head,
 ) -> Result<Upcoming, FaultKind>
     requires { HasHead (unread input.old) head }
-    ensures reads { ReadsOn input.old input.new (R.remaining (inner_of reader.old))
-        (R.remaining (inner_of reader.new)) (reads_of reader.old) (reads_of reader.new) }
+    ensures reads { ReadsFrom R.remaining reader.old reader.new input.old input.new }
     ensures next { IfOk result (λ next.
         IsUpcoming next (unread input.new) (R.remaining (inner_of reader.new))) }
     ensures awaits { OnErr result (Awaits (unread input.new)) }

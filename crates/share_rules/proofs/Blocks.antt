@@ -236,15 +236,15 @@ descend_within keys key (step ∷ steps) place = by_case (nat_le (get_or keys (p
     by_case true h k = let e = sum-cons step steps in omega (arith, h, e)
     by_case false h k = let e = sum-cons step steps in omega (arith, k, e)
 
--- a place is one of 1,024
-pub place_within : (keys : List ℕ) (s : Side) (n : List ℕ) (place : ℕ) → place_in keys s n ≡ Some place → place < 1024
+-- a place is one of 2,048
+pub place_within : (keys : List ℕ) (s : Side) (n : List ℕ) (place : ℕ) → place_in keys s n ≡ Some place → place < 2048
 unfolding place_in place_of
 place_within keys s n place e = by_case (nat_eq (get_or keys (descend keys (party_key s n) halves 0) 0) (party_key s n)) e
   where
-    by_case : (b : Bool) → ◌≡◌ {A = Option ℕ} (if b then Some (descend keys (party_key s n) halves 0) else None) (Some place) → place < 1024
+    by_case : (b : Bool) → ◌≡◌ {A = Option ℕ} (if b then Some (descend keys (party_key s n) halves 0) else None) (Some place) → place < 2048
     by_case false e = absurd (none_is_some place e)
     by_case true e = let h = descend_within keys (party_key s n) halves 0 in let is = some_is _ place e in omega (arith, h, is)
 
 -- one value for all is the answer where each has it
-pub one_for_all : {V : Type 0} (answer : Side → List ℕ → V) (keys : List ℕ) (v : V) → ((t : Side) (m : List ℕ) → answer t m ≡ v) → AreAnswers answer keys (replicate 1024 v)
-one_for_all {V} answer keys v all t m place d bytes there = get_or-replicate 1024 place v d (place_within keys t m place there) ∙ sym (all t m)
+pub one_for_all : {V : Type 0} (answer : Side → List ℕ → V) (keys : List ℕ) (v : V) → ((t : Side) (m : List ℕ) → answer t m ≡ v) → AreAnswers answer keys (replicate 2048 v)
+one_for_all {V} answer keys v all t m place d bytes there = get_or-replicate 2048 place v d (place_within keys t m place there) ∙ sym (all t m)

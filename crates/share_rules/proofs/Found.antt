@@ -1,9 +1,13 @@
 -- Whether a side with a number is among records, one record further (representation).
-use Rattle.std.proofs.Common.{◌≡◌, ℕ, Bool, true, false, ◌||◌, List, [], ◌∷◌, ◌++◌, Some, None, refl, ap, ◌∙◌}
+use Rattle.std.proofs.Common.{◌≡◌, ℕ, Bool, true, false, ◌||◌, List, [], ◌∷◌, ◌++◌, Some, None, refl, sym, ap, ◌∙◌}
 use Rattle.std.specs.List.{list_any}
 use Rattle.std.proofs.lemmas.List.Folds.{list_any-append}
+use Rattle.std.proofs.lemmas.Bool.{false≢true}
 use Rattle.cwr_records.specs.declared.record.Record.{Record}
+use Rattle.cwr_records.specs.declared.record.Record.TheVariants as kind
 use Rattle.share_rules.proofs.Blocks.{alike}
+use Rattle.share_rules.specs.Blocks.{is_link}
+use Rattle.share_rules.specs.Fault.{names_no_publisher}
 use Rattle.share_rules.specs.Parties.{is_party, party_in, party_is}
 use Rattle.share_rules.specs.declared.party.InterestedParty.{InterestedParty}
 use Rattle.share_rules.specs.declared.party.Side.{Side}
@@ -35,3 +39,19 @@ party_passes t m before r party is other = other_not_found t m before r (ap (par
 
 pub none_found : (t : Side) (m : List ℕ) (before : List Record) (r : Record) → party_in r ≡ None → list_any (is_party t m) (before ++ r ∷ []) ≡ list_any (is_party t m) before
 none_found t m before r is = other_not_found t m before r (ap (party_is t m) is)
+
+neither : (a b : Bool) → (a || b) ≡ false → (a ≡ false) × (b ≡ false)
+neither false b e = (refl, e)
+neither true b e = absurd (false≢true (sym e))
+
+named_by_link : (records : List Record) (r : Record) → is_link r ≡ false → names_no_publisher records r ≡ false
+named_by_link records (kind.PublisherForWriter x) e = absurd (false≢true (sym e))
+named_by_link records _ e = refl
+
+-- where no record is a link, none names a publisher
+pub no_links : (records block : List Record) → list_any is_link block ≡ false → list_any (names_no_publisher records) block ≡ false
+no_links records [] e = refl
+no_links records (r ∷ more) e =
+    let parts = neither (is_link r) (list_any is_link more) e in
+    ap (λ (b : Bool). b || list_any (names_no_publisher records) more) (named_by_link records r parts.0)
+    ∙ no_links records more parts.1

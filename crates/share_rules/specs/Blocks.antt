@@ -1,11 +1,12 @@
 -- How the parties of many records are looked up without a search for each: their keys, the places of these in a block, and what a block keeps at each (representation).
-use Rattle.std.specs.Prelude.{ℕ, ◌≡◌, ◌+◌, ◌*◌, ◌<◌, Bool, false, ◌&&◌, ◌==◌, nat_le, List, [], ◌∷◌, take, drop, get_or, Option, Some, None, map, if◌then◌else◌}
+use Rattle.std.specs.Prelude.{ℕ, ◌≡◌, ◌+◌, ◌*◌, ◌<◌, Bool, true, false, ◌&&◌, ◌==◌, nat_le, List, [], ◌∷◌, ◌++◌, take, drop, get_or, Option, Some, None, map, if◌then◌else◌}
 use Rattle.std.specs.List.{sum, list_any}
 use Rattle.cwr_records.specs.Blanks.{trimmed}
 use Rattle.cwr_records.specs.Typed.{indicator_of}
 use Rattle.cwr_records.specs.declared.record.Record.{Record}
+use Rattle.cwr_records.specs.declared.record.Record.TheVariants as kind
 use Rattle.share_rules.specs.Fault.{has_row_without_party}
-use Rattle.share_rules.specs.Parties.{collected, counts, interests, is_party, no_shares, row_in, shares_by}
+use Rattle.share_rules.specs.Parties.{collected, counts, interests, is_party, no_shares, row_in, shares_by, party_in}
 use Rattle.share_rules.specs.Steps.{row_is}
 use Rattle.share_rules.specs.Weights.{account_by, holder_of}
 use Rattle.share_rules.specs.declared.holder.Holder.{Holder}
@@ -46,9 +47,9 @@ descend keys key (step ∷ steps) place = descend keys key steps (if nat_le (get
 unfoldable pub place_of : List ℕ → List ℕ → ℕ → Option ℕ
 place_of steps keys key = if get_or keys (descend keys key steps 0) 0 == key then Some (descend keys key steps 0) else None
 
--- the steps that halve a block of 1,024
+-- the steps that halve a block of 2,048
 abbrev pub halves : List ℕ
-halves = 512 ∷ 256 ∷ 128 ∷ 64 ∷ 32 ∷ 16 ∷ 8 ∷ 4 ∷ 2 ∷ 1 ∷ []
+halves = 1024 ∷ 512 ∷ 256 ∷ 128 ∷ 64 ∷ 32 ∷ 16 ∷ 8 ∷ 4 ∷ 2 ∷ 1 ∷ []
 
 -- the place in a block of a party of a side with a number
 unfoldable pub place_in : List ℕ → Side → List ℕ → Option ℕ
@@ -88,6 +89,26 @@ AreLatest office keys values records = AreAnswers (λ s number. latest office s 
 abbrev pub AreFound : List ℕ → List Bool → List Record → Type 0
 AreFound keys values records = AreAnswers (λ s number. list_any (is_party s number) records) keys values
 
+-- what a block keeps as one more record is put in front of others
+abbrev pub TakesRecord : Office → List ℕ → List (Option Shares) → List (Option Shares) → Record → Type 0
+TakesRecord office keys old new r = (more : List Record) → AreLatest office keys old more → AreLatest office keys new (r ∷ more)
+
+-- the same where that record is an interested party
+abbrev pub TakesParty : List ℕ → List (Option Shares) → List (Option Shares) → InterestedParty → Type 0
+TakesParty keys old new party = (office : Office) (r : Record) → party_in r ≡ Some party → TakesRecord office keys old new r
+
+-- the same where it is a territory row
+abbrev pub TakesRow : Office → List ℕ → List (Option Shares) → List (Option Shares) → TerritoryRow → Type 0
+TakesRow office keys old new row = (r : Record) → row_in r ≡ Some row → TakesRecord office keys old new r
+
+-- what a block keeps as one more record is put behind others
+abbrev pub FindsRecord : List ℕ → List Bool → List Bool → Record → Type 0
+FindsRecord keys old new r = (before : List Record) → AreFound keys old before → AreFound keys new (before ++ r ∷ [])
+
+-- the same where that record is an interested party
+abbrev pub FindsParty : List ℕ → List Bool → List Bool → InterestedParty → Type 0
+FindsParty keys old new party = (r : Record) → party_in r ≡ Some party → FindsRecord keys old new r
+
 -- what a record collects by the records after it: nothing where it is no interested party
 abbrev pub collected_in : Office → Option InterestedParty → List Record → Shares
 collected_in office None after = no_shares
@@ -116,11 +137,20 @@ holder_with sender party shares = record {
   weight = shares.performing;
 }
 
+-- the holder that an interested party is by the records after it, where there is one
+abbrev pub holder_if : List ℕ → Office → Option InterestedParty → List Record → List Holder
+holder_if sender office None after = []
+holder_if sender office (Some party) after = holder_of sender office (record { party = party; after = after }) ∷ []
+
 -- the holder that a record is by the records after it, where it is an interested party
-abbrev pub holders_in : List ℕ → Office → Option InterestedParty → List Record → List Holder
-holders_in sender office None after = []
-holders_in sender office (Some party) after = holder_of sender office (record { party = party; after = after }) ∷ []
+abbrev pub holders_in : List ℕ → Office → Record → List Record → List Holder
+holders_in sender office r after = holder_if sender office (party_in r) after
 
 -- the holders among the records from a place on
 abbrev pub holders_from : List ℕ → Office → List Record → ℕ → List Holder
 holders_from sender office records place = map (holder_of sender office) (interests (drop place records))
+
+-- whether a record links a writer to a publisher (CISAC CWR 2.2)
+abbrev pub is_link : Record → Bool
+is_link (kind.PublisherForWriter r) = true
+is_link _ = false

@@ -1,9 +1,8 @@
 //! Which parties of a block are among some records.
-ghost use Rattle.std.specs.Prelude.{◌≡◌, ◌∷◌, ◌++◌, [], List, length};
+ghost use Rattle.std.specs.Prelude.{◌≡◌, [], length};
 ghost use Rattle.std.specs.List.{list_any};
-ghost use Rattle.share_rules.specs.Parties.{is_party, party_in};
-ghost use Rattle.cwr_records.specs.declared.record.Record.{Record};
-ghost use Rattle.share_rules.specs.Blocks.{AreFound};
+ghost use Rattle.share_rules.specs.Parties.{is_party};
+ghost use Rattle.share_rules.specs.Blocks.{AreFound, FindsParty, FindsRecord};
 
 use crate::party::{InterestedParty, Side};
 use crate::party_keys::{BLOCK, PartyKeys};
@@ -13,7 +12,7 @@ use cwr_records::{Fixed, Record};
 /// An interested party, behind the records that were gone through.
 fn mark_party(keys: &PartyKeys, found: &mut [bool], party: &InterestedParty<'_>)
     requires { length found.old ≡ BLOCK }
-    ensures { (before : List Record) (r : Record) → party_in r ≡ Some party.now → AreFound keys.now.keys found.old before → AreFound keys.now.keys found.new (before ++ r ∷ []) }
+    ensures { FindsParty keys.now.keys found.old found.new party.now }
 {
     if let Some(place) = keys.place(party.side, &party.number) {
         found[place] = true;
@@ -23,7 +22,7 @@ fn mark_party(keys: &PartyKeys, found: &mut [bool], party: &InterestedParty<'_>)
 /// One more record, behind those that were gone through.
 pub(crate) fn mark(keys: &PartyKeys, found: &mut [bool], record: &Record<'_>)
     requires { length found.old ≡ BLOCK }
-    ensures { (before : List Record) → AreFound keys.now.keys found.old before → AreFound keys.now.keys found.new (before ++ «record».now ∷ []) }
+    ensures { FindsRecord keys.now.keys found.old found.new «record».now }
 {
     if let Some(party) = InterestedParty::of(record) {
         mark_party(keys, found, &party);

@@ -1,7 +1,6 @@
 //! The holders of a work, with their weights.
 ghost use Rattle.std.specs.Prelude.{◌≡◌, ◌≤◌, ◌++◌, ◌∷◌, [], IfOk, OnOk, length, reverse};
 ghost use Rattle.share_rules.specs.Blocks.{AreLatest, holder_with, holders_from, holders_in};
-ghost use Rattle.share_rules.specs.Parties.{party_in};
 ghost use Rattle.share_rules.specs.Weights.{account_by};
 ghost use Rattle.work_ids.specs.IpiName.{ipi_field_of};
 ghost use Rattle.work_ids.specs.PartyNumber.{party_number_of};
@@ -74,15 +73,15 @@ fn push_record(
     sender: &SenderKey,
     keys: &PartyKeys,
     latest: &[Option<Shares>],
-    record: &Record<'_>,
+    line: &Record<'_>,
     after: &[Record<'_>],
     office: &Office,
 ) -> Result<(), AllocError>
     requires room { length latest.now ≡ BLOCK }
     requires latest { AreLatest office.now keys.now.keys latest.now after.now }
-    ensures { OnOk result (holders.new.items ≡ holders.old.items ++ holders_in sender.now office.now (party_in «record».now) after.now) }
+    ensures { OnOk result (holders.new.items ≡ holders.old.items ++ holders_in sender.now office.now line.now after.now) }
 {
-    if let Some(party) = InterestedParty::of(record) {
+    if let Some(party) = InterestedParty::of(line) {
         let shares = collected_by(keys, latest, &party, after, office);
         push_holder(holders, sender, &party, shares)?;
     }
@@ -144,7 +143,7 @@ fn many_holders(
     Ok(holders)
 }
 
-/// The holders among some records, in record order.
+/// The holders among some records, in record order; an error where memory runs out.
 pub(crate) fn holders_among(
     alloc: Global,
     sender: &SenderKey,

@@ -43,8 +43,8 @@ const WRONG_ISRC: u8 = 10;
 /// Fault: a number of a party is not printable ASCII (profile).
 const WRONG_NUMBER: u8 = 11;
 
-/// The least fault of a transaction at an office, none where it is clean (profile). It takes no memory, and at most as
-/// many steps as the square of the number of records.
+/// The least fault of a transaction at an office, none where it is clean (profile). It takes no memory but some stack,
+/// and goes through the records at most three times for each 2,048 of them, beside once for each other fault.
 #[tactic(auto, unfolding(crate::specs::Fault::fault_of))]
 pub fn judge(transaction: &Transaction<'_>, office: &Office) -> Option<u8>
     ensures { result ≡ fault_of office.now transaction.now }

@@ -1,8 +1,7 @@
 //! The latest shares of each party of a block, as records are gone through from the last one on.
-ghost use Rattle.std.specs.Prelude.{◌≡◌, ◌∷◌, [], List, length};
-ghost use Rattle.cwr_records.specs.declared.record.Record.{Record};
-ghost use Rattle.share_rules.specs.Parties.{party_in, row_in};
-ghost use Rattle.share_rules.specs.Blocks.{AreLatest, collected_in};
+ghost use Rattle.std.specs.Prelude.{◌≡◌, [], length};
+ghost use Rattle.share_rules.specs.Parties.{party_in};
+ghost use Rattle.share_rules.specs.Blocks.{AreLatest, TakesParty, TakesRecord, TakesRow, collected_in};
 
 use crate::collecting::{collected, counts, shares_by};
 use crate::office::Office;
@@ -15,7 +14,7 @@ use cwr_records::Record;
 /// An interested party: what stands behind it belongs to it, and to none before it.
 fn note_party(keys: &PartyKeys, latest: &mut [Option<Shares>], party: &InterestedParty<'_>)
     requires { length latest.old ≡ BLOCK }
-    ensures { (office : Office) (r : Record) (more : List Record) → party_in r ≡ Some party.now → AreLatest office keys.now.keys latest.old more → AreLatest office keys.now.keys latest.new (r ∷ more) }
+    ensures { TakesParty keys.now.keys latest.old latest.new party.now }
 {
     if let Some(place) = keys.place(party.side, &party.number) {
         latest[place] = None;
@@ -30,7 +29,7 @@ fn note_row(
     office: &Office,
 )
     requires { length latest.old ≡ BLOCK }
-    ensures { (r : Record) (more : List Record) → row_in r ≡ Some row.now → AreLatest office.now keys.now.keys latest.old more → AreLatest office.now keys.now.keys latest.new (r ∷ more) }
+    ensures { TakesRow office.now keys.now.keys latest.old latest.new row.now }
 {
     if !counts(row, office) {
         return;
@@ -50,7 +49,7 @@ pub(crate) fn note(
     office: &Office,
 )
     requires { length latest.old ≡ BLOCK }
-    ensures { (more : List Record) → AreLatest office.now keys.now.keys latest.old more → AreLatest office.now keys.now.keys latest.new («record».now ∷ more) }
+    ensures { TakesRecord office.now keys.now.keys latest.old latest.new «record».now }
 {
     if let Some(party) = InterestedParty::of(record) {
         note_party(keys, latest, &party);

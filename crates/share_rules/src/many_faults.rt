@@ -1,9 +1,9 @@
 //! The faults of many records whose parties are missing, found block by block.
-ghost use Rattle.std.specs.Prelude.{◌≡◌, ◌≤◌, ◌||◌, [], length, take, drop, List};
+ghost use Rattle.std.specs.Prelude.{◌≡◌, ◌≤◌, ◌||◌, [], length};
 ghost use Rattle.std.specs.List.{list_any};
 ghost use Rattle.share_rules.specs.Fault.{has_row_without_party, is_row_without_party, names_no_publisher};
 ghost use Rattle.share_rules.specs.Parties.{row_in};
-ghost use Rattle.share_rules.specs.Blocks.{AreFound, rows_from};
+ghost use Rattle.share_rules.specs.Blocks.{AreFound, is_link, rows_from};
 
 use crate::found_parties::{is_found, mark, mark_all};
 use crate::party::Side;
@@ -81,10 +81,27 @@ fn names_no_publisher(
     }
 }
 
-/// Whether one of the records of a block names no publisher among all of them.
+/// Whether a record links a writer to a publisher.
+fn is_link(record: &Record<'_>) -> bool
+    ensures { result ≡ is_link «record».now }
+{
+    matches!(record, Record::PublisherForWriter(_))
+}
+
+/// Whether one of the records of a block links a writer to a publisher.
+fn has_link(block: &[Record<'_>]) -> bool
+    ensures { result ≡ list_any is_link block.now }
+{
+    block.iter().any(|record| is_link(record))
+}
+
+/// Whether one of the records of a block names no publisher among all of them: only a link does.
 fn block_has_no_publisher(records: &[Record<'_>], block: &[Record<'_>]) -> bool
     ensures { result ≡ list_any (names_no_publisher records.now) block.now }
 {
+    if !has_link(block) {
+        return false;
+    }
     let keys = PartyKeys::of(block);
     let mut found = [false; BLOCK];
     mark_all(&keys, &mut found, records);

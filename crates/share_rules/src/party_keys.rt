@@ -4,23 +4,23 @@ ghost use Rattle.std.specs.Prelude.{◌≡◌, ◌<◌, ◌≤◌, length, IfSom
 ghost use Rattle.cwr_records.specs.Blanks.{trimmed};
 ghost use Rattle.share_rules.specs.Blocks.{AreBytes, descend, halves, key_of, party_key, place_in};
 
-use crate::party::{InterestedParty, Side};
-use crate::territory_row::TerritoryRow;
+use crate::party::Side;
 use cwr_records::{Fixed, Record};
 
-/// Records of one block.
-pub(crate) const BLOCK: usize = 1_024;
+/// Records of one block: a table of their keys stands on the stack (32 KiB).
+pub(crate) const BLOCK: usize = 2_048;
 
-/// Records of a transaction that is gone through record by record, since that is faster than to make a block.
+/// The most records of a transaction that is searched for each party: that is faster there than to make a block.
 pub(crate) const FEW: usize = 32;
 
 /// The steps that halve a block, from its half on.
-const HALVES: [usize; 10] = [512, 256, 128, 64, 32, 16, 8, 4, 2, 1];
+const HALVES: [usize; 11] = [1_024, 512, 256, 128, 64, 32, 16, 8, 4, 2, 1];
 
 /// The base of a key's digits: one for each byte, and one for no byte.
 const BASE: u128 = 257;
 
-/// The keys of the parties that the records of a block name, sorted, and past them keys of nobody.
+/// The keys of the parties that the records of a block name, sorted, and nobody's behind them. That they are sorted is
+/// for speed alone: no answer rests on it.
 #[derive(Drop)]
 pub(crate) struct PartyKeys {
     keys: [u128; BLOCK],
@@ -52,8 +52,8 @@ fn party_key(side: Side, number: &Fixed<'_, 9>) -> u128
     key_of(side, number.field().trimmed())
 }
 
-/// The key of the party that a record is, is a territory row of, or names as a writer's publisher; none of any party
-/// where it names none.
+/// The key of the party that a record is, is a territory row of, or names as a writer's publisher, and nobody's where
+/// it names none.
 fn named_key(record: &Record<'_>) -> u128 {
     match record {
         Record::Publisher(publisher) => party_key(Side::Publisher, &publisher.party),

@@ -208,3 +208,42 @@ fn holders_without_an_ipi_name_number(rt: HostRuntime) -> Result<(), Fail> {
     );
     Ok(())
 }
+
+/// Publishers of one number, more than a block of records has.
+const PUBLISHERS: usize = 2_100;
+
+/// What stands behind these publishers, and the fault.
+const BEHIND: [(&[&[u8]], Option<u8>); 3] = [
+    (
+        &[b"SPT0000000000000002P1             050001000010000I2136 001"],
+        None,
+    ),
+    // a row of nobody
+    (
+        &[b"SPT0000000000000002P2             050001000010000I2136 001"],
+        Some(6),
+    ),
+    // a link to nobody
+    (&[b"PWR0000000000000002P2"], Some(7)),
+];
+
+#[test]
+fn works_of_many_parties(rt: HostRuntime) -> Result<(), Fail> {
+    let office = office().ok_or("an office")?;
+    let sender = SenderKey::from_bytes(b"PB000000012").ok().ok_or("a key")?;
+    for (behind, fault) in BEHIND {
+        let mut lines: Vec<&[u8]> = Vec::new(rt.alloc());
+        lines.push(SONG[0])?;
+        for _ in 0..PUBLISHERS {
+            lines.push(b"SPU000000000000000101P1")?;
+        }
+        lines.extend_from_slice(behind)?;
+        let song = transaction(rt.alloc(), lines.as_slice())?;
+        assert_eq!(rt; judge(&song, &office), fault);
+        let paid = weights(rt.alloc(), &sender, &song, &office)?;
+        assert_eq!(rt; paid.len(), PUBLISHERS + 1);
+        let last = paid.get(PUBLISHERS - 1).ok_or("a holder")?;
+        assert_eq!(rt; last.weight, if fault.is_none() { 5_000 } else { 0 });
+    }
+    Ok(())
+}

@@ -7,6 +7,8 @@ mod ample_tests;
 #[cfg(test)]
 mod desk_tests;
 #[cfg(test)]
+mod http_tests;
+#[cfg(test)]
 mod pool_tests;
 mod replay;
 #[cfg(test)]

@@ -7,7 +7,7 @@ use Rattle.share_rules.proofs.Found.{party_found, party_passes}
 use Rattle.share_rules.proofs.found_parties.mark_party.Goals as goal
 
 pub returns-in-Some : goal.returns-in-Some
-returns-in-Some c before r is kept =
+returns-in-Some c r is before kept =
     let party = c.args.party.now in
     let values = c.args.found.now in
     let room : c.in-Some.place < length values = omega (arith, c.requires, c.in-Some.ensures.within) in
@@ -17,7 +17,7 @@ returns-in-Some c before r is kept =
     kept
 
 pub returns-in_default : goal.returns-in_default
-returns-in_default c before r is kept =
+returns-in_default c r is before kept =
     let party = c.args.party.now in
     answers_stay (λ (s : Side) (n : List ℕ). list_any (is_party s n) before) (λ (s : Side) (n : List ℕ). list_any (is_party s n) (before ++ r ∷ [])) c.args.keys.now.keys c.args.found.now party.side party.number (sym c.in_default.ensures.place)
     (λ t m other. party_passes t m before r party is other)

@@ -6,7 +6,7 @@ use Rattle.share_rules.proofs.Latest.{party_ends, party_passes}
 use Rattle.share_rules.proofs.latest_shares.note_party.Goals as goal
 
 pub returns-in-Some : goal.returns-in-Some
-returns-in-Some c office r more is kept =
+returns-in-Some c office r is more kept =
     let party = c.args.party.now in
     let values = c.args.latest.now in
     let room : c.in-Some.place < length values = omega (arith, c.requires, c.in-Some.ensures.within) in
@@ -16,7 +16,7 @@ returns-in-Some c office r more is kept =
     kept
 
 pub returns-in_default : goal.returns-in_default
-returns-in_default c office r more is kept =
+returns-in_default c office r is more kept =
     let party = c.args.party.now in
     answers_stay (λ (s : Side) (n : List ℕ). latest office s n more) (λ (s : Side) (n : List ℕ). latest office s n (r ∷ more)) c.args.keys.now.keys c.args.latest.now party.side party.number (sym c.in_default.ensures.place)
     (λ t m other. party_passes office t m r more party is other)

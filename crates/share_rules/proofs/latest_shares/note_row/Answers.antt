@@ -7,7 +7,7 @@ use Rattle.share_rules.proofs.Latest.{first_taken, later_stays, row_counts, row_
 use Rattle.share_rules.proofs.latest_shares.note_row.Goals as goal
 
 pub returns-then-is_none : goal.returns-then-is_none
-returns-then-is_none c r more is kept =
+returns-then-is_none c r is more kept =
     let row = c.args.row.now in
     let office = c.args.office.now in
     let values = c.args.latest.now in
@@ -22,7 +22,7 @@ returns-then-is_none c r more is kept =
     kept
 
 pub returns-else-is_none : goal.returns-else-is_none
-returns-else-is_none c r more is kept =
+returns-else-is_none c r is more kept =
     let row = c.args.row.now in
     let office = c.args.office.now in
     let values = c.args.latest.now in
@@ -36,7 +36,7 @@ returns-else-is_none c r more is kept =
     kept
 
 pub returns-in_default : goal.returns-in_default
-returns-in_default c r more is kept =
+returns-in_default c r is more kept =
     let row = c.args.row.now in
     let office = c.args.office.now in
     answers_stay (λ (s : Side) (n : List ℕ). latest office s n more) (λ (s : Side) (n : List ℕ). latest office s n (r ∷ more)) c.args.keys.now.keys c.args.latest.now row.side row.number (sym c.in_default.ensures.place)

@@ -7,7 +7,7 @@ use Rattle.share_rules.proofs.party_keys.PartyKeys.descend.Goals.{else-self-plac
 pub bounds-self-place : goal.bounds-self-place
 bounds-self-place c =
     let l = c.loop-step in
-    let room = room_left halves l.step-index l.place 1024 (omega arith) l.invariant.room in
+    let room = room_left halves l.step-index l.place 2048 (omega arith) l.invariant.room in
     omega (arith, room)
 
 pub loop-step-preserved : goal.loop-step-preserved
@@ -17,7 +17,7 @@ loop-step-preserved c =
     let key = c.args.key in
     let i = l.step-index in
     let step = get_or halves i 0 in
-    let room = room_left halves i l.place 1024 (omega arith) l.invariant.room in
+    let room = room_left halves i l.place 2048 (omega arith) l.invariant.room in
     elim c.if-self-place.branch [
       | then-self-place w ↦ record {
         room = omega (arith, room, w.place-is);

@@ -1,0 +1,63 @@
+-- Worked values: bodies byte for byte, and what bodies that close a pool ask.
+use Rattle.std.specs.Prelude.{◌≡◌, ℕ, List, [], ◌∷◌, Some, None, option_and_then, refl, codes}
+use Rattle.std.specs.Fmt.{digits}
+use Rattle.csv.specs.Writing.{escaped, fields_text, is_blank}
+use Rattle.percent_encoding.specs.Percent.{percent_encode_byte}
+use Rattle.serde_json.proofs.OnLiterals.{serde_json_on_literals}
+use Rattle.serde_json.specs.Read.{read}
+use Rattle.work_ids.specs.declared.account.Account.TheVariants.{Party, Unclaimed}
+use Rattle.works_core.specs.declared.verdict.Verdict.TheVariants.{Accepted, Rejected}
+use Rattle.society_core.specs.Requests.{Query, ClosesFaulty}
+use Rattle.http_desk.specs.Json.{balance_text, sender_text, title_text, verdicts_text}
+use Rattle.http_desk.specs.OrderText.{close_asked, numbers_in}
+use Rattle.http_desk.specs.Table.{table_text}
+
+two_held : sender_text 0 (2 ∷ 3 ∷ []) ≡ codes "{\"front\":0,\"held\":[2,3]}"
+unfolding sender_text serde_json_on_literals digits
+two_held = refl
+
+nobody : sender_text 0 [] ≡ codes "{\"front\":0,\"held\":[]}"
+unfolding sender_text serde_json_on_literals digits
+nobody = refl
+
+two_verdicts : verdicts_text (Accepted 1 0 ∷ Rejected 5 ∷ []) ≡ codes "[{\"ordinal\":1,\"revision\":0},{\"fault\":5}]"
+unfolding verdicts_text serde_json_on_literals digits
+two_verdicts = refl
+
+-- a party's number that has a quotation mark and a backslash
+escaped_account : balance_text (Party (codes "PB000000012") (codes "a\"b\\     ")) 0 ≡ codes "{\"account\":\"PPB000000012a\\\"b\\\\\",\"units\":0}"
+unfolding balance_text serde_json_on_literals digits
+escaped_account = refl
+
+escaped_title : title_text (195 ∷ 137 ∷ 84 ∷ 37 ∷ []) ≡ codes "%C3%89T%25"
+unfolding percent_encode_byte
+escaped_title = refl
+
+unowned : table_text (record { isrc = None; account = Unclaimed; units = 5 } ∷ []) ≡ codes "isrc,account,units\n-,UNCLAIMED,5\n"
+unfolding table_text fields_text escaped is_blank digits
+unowned = refl
+
+-- a party's number that has a comma and a quotation mark
+quoted_account : table_text (record { isrc = Some (codes "ATABC2600001"); account = Party (codes "PB000000012") (codes "a,\"      "); units = 0 } ∷ []) ≡ codes "isrc,account,units\nATABC2600001,\"PPB000000012a,\"\"\",0\n"
+unfolding table_text fields_text escaped is_blank digits
+quoted_account = refl
+
+-- what a text of ASCII asks of pool 7
+abbrev close_of : List ℕ → Query
+close_of text = close_asked 7 (option_and_then numbers_in (read text))
+
+an_array : close_of (codes "[]") ≡ ClosesFaulty 1
+unfolding serde_json_on_literals
+an_array = refl
+
+another_member : close_of (codes "{\"amount\":1,\"cut\":[],\"returns\":[],\"kind\":0}") ≡ ClosesFaulty 1
+unfolding serde_json_on_literals
+another_member = refl
+
+amount_over_the_limit : close_of (codes "{\"amount\":1000000000001,\"cut\":[],\"returns\":[]}") ≡ ClosesFaulty 2
+unfolding serde_json_on_literals
+amount_over_the_limit = refl
+
+return_named_twice : close_of (codes "{\"amount\":1,\"cut\":[],\"returns\":[[\"R\",1],[\"R\",1]]}") ≡ ClosesFaulty 4
+unfolding serde_json_on_literals
+return_named_twice = refl
