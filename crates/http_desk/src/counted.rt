@@ -14,7 +14,7 @@ pub struct Counted<T> {
 
 /// The writer failed, or took no byte.
 #[derive(Clone, Copy, Debug, PartialEq, Eq)]
-pub(crate) struct NotWritten;
+pub struct NotWritten;
 
 impl<T> Counted<T> {
     ghost use Rattle.std.specs.Prelude.{◌≡◌};
@@ -73,7 +73,7 @@ impl<W: Write> Counted<W> {
     ghost use Rattle.society_core.specs.State.{Rises};
 
     /// All bytes, in order; an error, or a write that takes no byte, is counted and ends it.
-    pub(crate) fn write_all(&mut self, bytes: &[u8]) -> Result<(), NotWritten>
+    pub fn write_all(&mut self, bytes: &[u8]) -> Result<(), NotWritten>
         ensures wrote { Writes result (W.contents (inner_of self.old)) (W.contents (inner_of self.new)) bytes.now }
         ensures kept { OnOk result (failures_of self.new ≡ failures_of self.old) }
         ensures failed { OnErr result (Rises (failures_of self.old) (failures_of self.new)) }

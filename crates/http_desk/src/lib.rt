@@ -24,7 +24,7 @@ mod upcoming;
 
 pub use connection::{Served, serve};
 pub use connection_end::End;
-pub use counted::Counted;
+pub use counted::{Counted, NotWritten};
 pub use fault::{DeskFault, FaultKind};
 pub use laws::one_cutting;
 
