@@ -1,11 +1,11 @@
 -- Lemmas on the JSON of answers: none of it is a float, and what is escaped of a title.
 use Rattle.std.proofs.Common.{◌≡◌, ℕ, zero, suc, ◌<◌, ◌≤◌, Bool, true, false, cond, List, [], ◌∷◌, ◌++◌, map, flat_map, Vec, Result, IfOk, Global, refl, sym, ◌∙◌, ap, subst, arith}
-use Rattle.std.specs.Prelude.{◌==◌, ◌&&◌, not, nat_le, nat_lt}
+use Rattle.std.specs.Prelude.{◌&&◌, not, nat_le, nat_lt}
 use Rattle.std.specs.Char.{is_ascii}
 use Rattle.std.proofs.lemmas.Bool.{and_parts}
 use Rattle.std.proofs.lemmas.Bool.Decides.{nat_tests}
 use Rattle.std.proofs.lemmas.Result.{IfOk-weaker}
-use Rattle.percent_encoding.specs.AsciiSet.{contains, should_percent_encode}
+use Rattle.percent_encoding.specs.AsciiSet.{should_percent_encode}
 use Rattle.percent_encoding.specs.Percent.{encode_byte, percent_encode, percent_encode_byte}
 use Rattle.percent_encoding.specs.declared.ascii_set.AsciiSet.{AsciiSet}
 use Rattle.serde_json.specs.Data.{Data}

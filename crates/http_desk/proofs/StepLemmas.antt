@@ -8,10 +8,9 @@ use Rattle.share_rules.specs.declared.office.Office.{Office}
 use Rattle.society_core.specs.Answers.{added_answer, added_book, answer, close_answer, close_book, close_refusal, closed_answer, closed_book, known_as, next, pool_known_as, put_answer, put_book, return_answer, return_book, return_known_as, stored_answer, stored_book}
 use Rattle.society_core.specs.Book.{Book}
 use Rattle.society_core.specs.Orders.{Order}
-use Rattle.society_core.specs.Requests.{Query, Puts, PutsReturn, Closes, ClosesFaulty, AsksAck, AsksSender, AsksWork, AsksVerdicts, AsksCredits, AsksBalance, AsksElsewhere, Reply, Refused}
+use Rattle.society_core.specs.Requests.{Query, Puts, PutsReturn, Closes, ClosesFaulty, AsksAck, AsksSender, AsksWork, AsksVerdicts, AsksCredits, AsksBalance, AsksElsewhere, Reply}
 use Rattle.society_core.specs.Runs.{Step}
 use Rattle.society_core.specs.declared.refusal.Refusal.{Refusal}
-use Rattle.society_core.specs.declared.refusal.Refusal.TheVariants.{Unavailable}
 use Rattle.society_core.specs.declared.return_key.ReturnKey.{ReturnKey}
 use Rattle.society_core.specs.declared.store.Known.{Known}
 use Rattle.society_core.specs.declared.store.Known.TheVariants.{Absent, Same, Other}

@@ -1,7 +1,6 @@
 -- Representation, not meaning: an answer with the body that was made for it before it is sent.
 use Rattle.std.specs.Prelude.{◌≡◌, ◌⊎◌, ℕ, List, ⊤}
 use Rattle.society_core.specs.Requests.{Reply, Arrived, Stored, Closed, Acknowledged, Stands, Shows, Judged, Credited, Owed, Refused, reply_of}
-use Rattle.society_core.specs.declared.answers.Answer.{Answer}
 use Rattle.society_core.specs.declared.refusal.Refusal.TheVariants.{Unavailable}
 use Rattle.http_desk.specs.Json.{balance_text, sender_text, verdicts_text, work_text}
 use Rattle.http_desk.specs.Table.{table_text}

@@ -1,4 +1,3 @@
-use Rattle.std.proofs.Common.{◌∙◌}
 use Rattle.http_desk.proofs.JsonLemmas.{title_escaped}
 use Rattle.http_desk.proofs.json.title_text.Goals as goal
 

@@ -1,0 +1,63 @@
+-- A list of rows, written one at a time.
+use Rattle.std.proofs.Common.{ℕ, ◌+◌, ◌<◌, List, [], ◌∷◌, ◌++◌, length, map, take, get_or, Result, Ok, Err, sym, ap, subst, ◌∙◌, not, IsPermutation}
+use Rattle.std.proofs.lemmas.List.{map-append, take_more}
+use Rattle.std.specs.Result.{IsErr}
+use Rattle.std.proofs.lemmas.List.Sums.{fold_push}
+use Rattle.std.proofs.lemmas.List.Sorted.{IsPermutation-refl, IsPermutation-trans, IsPermutation-cons}
+use Rattle.sqlite_value.specs.Order.{Row, column}
+use Rattle.sqlite_keyed.proofs.ListLemmas.{IsPermutation-filter}
+use Rattle.sqlite.specs.Effect.{Database}
+use Rattle.sqlite_schema.specs.declared.schema.Table.{Table}
+use Rattle.sqlite.specs.State.{State}
+use Rattle.society_rows.specs.declared.fault.RowFault.{RowFault}
+use Rattle.society_rows.specs.Effects.{Writes}
+use Rattle.society_rows.specs.Stored.{rows_in, HasLayout, has_first, put_over, Adds, Puts, PutsAll}
+use Rattle.society_rows.proofs.Adds.{others_then, others_same, adds_none, adds_then}
+use Rattle.society_rows.proofs.Effects.{writes_none, writes_then}
+
+pub adds_first : (table : Table) (a : State) → Writes {X = Unit {0}} a a (Ok tt) (Adds table [])
+adds_first table a = writes_none HasLayout a (Adds table []) (adds_none table a.now)
+
+-- a write that failed after those that went through
+fails_after : (a b c : State) (P Q Z : Database → Database → Type 0) → ((e f : Database) → P e f → HasLayout f) → (fault : RowFault) (result : Result (Unit {0}) RowFault) → IsErr result
+    → Writes {X = Unit {0}} a b (Ok tt) P → Writes {X = Unit {0}} b c (Err fault) Q → Writes a c result Z
+fails_after a b c P Q Z keeps fault (Ok x) is before more = absurd cc
+fails_after a b c P Q Z keeps fault (Err other) is before more =
+    let both = writes_then HasLayout HasLayout a b c tt (Err fault) P Q (λ _ _. Unit {0}) keeps (λ d e f p q. tt) before more in
+    record { change = λ clean inside has. tt; inside = λ clean inside. tt; kept = both.kept; survives = both.survives }
+
+module _ {R : Type 0} (table : Table) (values : R → Row) (rows : List R) (i : ℕ) (d : R) (a b c : State) (before : Writes {X = Unit {0}} a b (Ok tt) (Adds table (map values (take i rows)))) where
+  pub adds_next : (within : i < length rows) (x : Unit {0}) → Writes b c (Ok x) (Adds table (values (get_or rows i d) ∷ [])) → Writes {X = Unit {0}} a c (Ok tt) (Adds table (map values (take (i + 1) rows)))
+  adds_next within x more =
+      subst (λ l. Writes {X = Unit {0}} a c (Ok tt) (Adds table l)) (sym (map-append values (take i rows) (get_or rows i d ∷ [])) ∙ ap (map values) (sym (take_more rows i d within)))
+      (writes_then HasLayout HasLayout a b c tt (Ok tt) (Adds table (map values (take i rows))) (Adds table (values (get_or rows i d) ∷ [])) (Adds table (map values (take i rows) ++ values (get_or rows i d) ∷ []))
+      (λ e f h. h.layout) (λ e f k. adds_then table (map values (take i rows)) (values (get_or rows i d) ∷ []) e f k) before more)
+
+  pub adds_fails : (fault : RowFault) (all : List Row) (result : Result (Unit {0}) RowFault) → IsErr result → Writes {X = Unit {0}} b c (Err fault) (Adds table (values (get_or rows i d) ∷ []))
+      → Writes a c result (Adds table all)
+  adds_fails fault all result is more =
+      fails_after a b c (Adds table (map values (take i rows))) (Adds table (values (get_or rows i d) ∷ [])) (Adds table all) (λ e f h. h.layout) fault result is before more
+
+pub puts_first : (table : Table) (a : State) → Writes {X = Unit {0}} a a (Ok tt) (PutsAll table [])
+puts_first table a = writes_none HasLayout a (PutsAll table []) (λ has. record { layout = has; rows = λ _. IsPermutation-refl _; numbered = λ h. h; others = others_same table a.now })
+
+puts_then : (table : Table) (before : List Row) (row : Row) (a b c : Database) → PutsAll table before a b → Puts table row b c → PutsAll table (before ++ row ∷ []) a c
+puts_then table before row a b c one two = record {
+  layout = two.layout;
+  rows = λ old. subst (λ l. IsPermutation l (rows_in table c.trees)) (sym (fold_push (λ rs r. put_over r rs) (rows_in table a.trees) before row))
+      (IsPermutation-trans _ _ _ (IsPermutation-cons row _ _ (IsPermutation-filter (λ r. not (has_first (column row 0) r)) _ _ (one.rows old))) (two.rows (one.numbered old)));
+  numbered = λ old. two.numbered (one.numbered old);
+  others = others_then table a b c one.others two.others;
+}
+
+module _ {R : Type 0} (table : Table) (values : R → Row) (rows : List R) (i : ℕ) (d : R) (a b c : State) (before : Writes {X = Unit {0}} a b (Ok tt) (PutsAll table (map values (take i rows)))) where
+  pub puts_next : (within : i < length rows) (x : Unit {0}) → Writes b c (Ok x) (Puts table (values (get_or rows i d))) → Writes {X = Unit {0}} a c (Ok tt) (PutsAll table (map values (take (i + 1) rows)))
+  puts_next within x more =
+      subst (λ l. Writes {X = Unit {0}} a c (Ok tt) (PutsAll table l)) (sym (map-append values (take i rows) (get_or rows i d ∷ [])) ∙ ap (map values) (sym (take_more rows i d within)))
+      (writes_then HasLayout HasLayout a b c tt (Ok tt) (PutsAll table (map values (take i rows))) (Puts table (values (get_or rows i d))) (PutsAll table (map values (take i rows) ++ values (get_or rows i d) ∷ []))
+      (λ e f h. h.layout) (λ e f k. puts_then table (map values (take i rows)) (values (get_or rows i d)) e f k) before more)
+
+  pub puts_fails : (fault : RowFault) (all : List Row) (result : Result (Unit {0}) RowFault) → IsErr result → Writes {X = Unit {0}} b c (Err fault) (Puts table (values (get_or rows i d)))
+      → Writes a c result (PutsAll table all)
+  puts_fails fault all result is more =
+      fails_after a b c (PutsAll table (map values (take i rows))) (Puts table (values (get_or rows i d))) (PutsAll table all) (λ e f h. h.layout) fault result is before more

@@ -1,0 +1,104 @@
+-- The statements over the table of recordings of versions.
+use Rattle.std.proofs.Common.{◌≡◌, ℕ, ℤ, true, List, [], ◌∷◌, codes, Ok, refl, sym}
+use Rattle.sqlite_value.specs.declared.value.Value.TheVariants.{Null, Int, Text}
+use Rattle.sqlite_value.specs.declared.keys.Collation.TheVariants.{Binary}
+use Rattle.sqlite_value.specs.declared.keys.Key.{Key}
+use Rattle.sqlite_value.specs.Keys.{ascending}
+use Rattle.sqlite_value.specs.Order.{Row, column}
+use Rattle.sqlite_sql.specs.declared.ops.BinaryOp.TheVariants.{Compare}
+use Rattle.sqlite_sql.specs.declared.ops.CompareOp.TheVariants.{Eq}
+use Rattle.sqlite_sql.specs.Term.{Term, lit, col, op2}
+use Rattle.sqlite_schema.specs.declared.command.Command.TheVariants.{Insert}
+use Rattle.sqlite_schema.specs.declared.command.Source.TheVariants.{Values}
+use Rattle.sqlite_schema.specs.Rules.{equal}
+use Rattle.sqlite_tied.specs.Compute.{everything}
+use Rattle.sqlite.specs.Listing.{understood}
+use Rattle.sqlite.specs.State.{State, ExecutesInside, Shown}
+use Rattle.sqlite.proofs.Callers.{IsPlain, command_of}
+use Rattle.society_rows.specs.Layout.{written_out, layout, recordings}
+use Rattle.society_rows.specs.Reads.{Lists, has_key, has_at}
+use Rattle.society_rows.specs.Stored.{HasLayout, Adds}
+use Rattle.society_rows.proofs.Answers.{picked}
+use Rattle.society_rows.proofs.Booleans.{and_true}
+use Rattle.society_rows.proofs.Casts.{cast_null, cast_int}
+use Rattle.society_rows.proofs.Inserts.{IsSettled, Stores, inserts}
+use Rattle.society_rows.proofs.Queries.{IsQuery, IsListing, lists_by}
+
+settled : IsSettled recordings 9
+unfolding understood everything written_out
+settled = record { listed = refl; uncounted = refl; unstamped = refl }
+
+abbrev terms : List Term
+terms = lit Null ∷ col 0 0 ∷ col 0 1 ∷ col 0 2 ∷ col 0 3 ∷ []
+
+abbrev pub insert_text : List ℕ
+insert_text = codes "INSERT INTO recordings (sender, work, revision, isrc) VALUES (?1, ?2, ?3, ?4)"
+
+insert_is : (command_of (understood layout insert_text) ≡ Insert 9 (Values terms 5)) × IsPlain (understood layout insert_text)
+unfolding understood everything written_out
+insert_is = (refl, (refl, refl))
+
+abbrev row_of : List ℕ → List ℕ → ℤ → List ℕ → Row
+row_of sender work revision isrc = Text sender ∷ Text work ∷ Int revision ∷ Text isrc ∷ []
+
+stores : (sender : List ℕ) (work : List ℕ) (revision : ℤ) (isrc : List ℕ) → Stores recordings (Null ∷ Text sender ∷ Text work ∷ Int revision ∷ Text isrc ∷ []) (row_of sender work revision isrc)
+unfolding written_out
+stores sender work revision isrc rows = rw (cast_null, cast_int revision)
+
+pub adds_row : (sender : List ℕ) (work : List ℕ) (revision : ℤ) (isrc : List ℕ) (old new : State) (count : ℕ) → HasLayout old.now → ExecutesInside 0 insert_text (row_of sender work revision isrc) old new (Ok count) → Adds recordings (row_of sender work revision isrc ∷ []) old.now new.now
+adds_row sender work revision isrc old new count has h =
+    inserts recordings 9 settled old new insert_text (row_of sender work revision isrc) terms 5 ((Null ∷ Text sender ∷ Text work ∷ Int revision ∷ Text isrc ∷ []) ∷ []) (row_of sender work revision isrc ∷ []) (Ok count) insert_is.0 insert_is.1 refl (stores sender work revision isrc, tt) has h
+
+abbrev project : List Term
+project = col 1 1 ∷ col 1 2 ∷ col 1 3 ∷ col 1 4 ∷ []
+
+abbrev order : List (Term × Key)
+order = (col 1 1, ascending Binary) ∷ (col 1 2, ascending Binary) ∷ (col 1 3, ascending Binary) ∷ (col 1 4, ascending Binary) ∷ []
+
+abbrev shown_names : List (List ℕ)
+shown_names = codes "sender" ∷ codes "work" ∷ codes "revision" ∷ codes "isrc" ∷ []
+
+abbrev pub all_recordings_text : List ℕ
+all_recordings_text = codes "SELECT sender, work, revision, isrc FROM recordings ORDER BY sender, work, revision, isrc"
+
+pub all_recordings_is : IsQuery all_recordings_text (picked 16 ([]) project order) shown_names
+unfolding understood everything written_out
+all_recordings_is = record { command = refl; plain = (refl, refl); unlisted = refl }
+
+all_recordings_listing : IsListing recordings ([]) project order ([]) (λ _. true) 4
+unfolding written_out
+all_recordings_listing = record { shows = λ r. refl; tests = λ r. refl; orders = λ a b. refl }
+
+pub all_recordings_lists : (old new : State) (rows : List Row) → HasLayout old.now → Shown all_recordings_text ([]) old new rows → Lists recordings (λ _. true) 4 old.now.trees rows
+unfolding written_out
+all_recordings_lists = lists_by recordings all_recordings_text ([]) project order shown_names all_recordings_is ([]) (λ _. true) 4 all_recordings_listing
+
+abbrev pub recordings_of_text : List ℕ
+recordings_of_text = codes "SELECT sender, work, revision, isrc FROM recordings WHERE sender = ?1 AND work = ?2 ORDER BY sender, work, revision, isrc"
+
+pub recordings_of_is : IsQuery recordings_of_text (picked 16 (op2 (Compare Eq Binary) (col 1 1) (col 0 0) ∷ op2 (Compare Eq Binary) (col 1 2) (col 0 1) ∷ []) project order) shown_names
+unfolding understood everything written_out
+recordings_of_is = record { command = refl; plain = (refl, refl); unlisted = refl }
+
+recordings_of_listing : (sender : List ℕ) (work : List ℕ) → IsListing recordings (op2 (Compare Eq Binary) (col 1 1) (col 0 0) ∷ op2 (Compare Eq Binary) (col 1 2) (col 0 1) ∷ []) project order (Text sender ∷ Text work ∷ []) (has_key (Text sender ∷ Text work ∷ [])) 4
+unfolding written_out
+recordings_of_listing sender work = record { shows = λ r. refl; tests = λ r. refl; orders = λ a b. refl }
+
+pub recordings_of_lists : (sender : List ℕ) (work : List ℕ) (old new : State) (rows : List Row) → HasLayout old.now → Shown recordings_of_text (Text sender ∷ Text work ∷ []) old new rows → Lists recordings (has_key (Text sender ∷ Text work ∷ [])) 4 old.now.trees rows
+unfolding written_out
+recordings_of_lists sender work = lists_by recordings recordings_of_text (op2 (Compare Eq Binary) (col 1 1) (col 0 0) ∷ op2 (Compare Eq Binary) (col 1 2) (col 0 1) ∷ []) project order shown_names recordings_of_is (Text sender ∷ Text work ∷ []) (has_key (Text sender ∷ Text work ∷ [])) 4 (recordings_of_listing sender work)
+
+abbrev pub recordings_with_text : List ℕ
+recordings_with_text = codes "SELECT sender, work, revision, isrc FROM recordings WHERE isrc = ?1 ORDER BY sender, work, revision, isrc"
+
+pub recordings_with_is : IsQuery recordings_with_text (picked 16 (op2 (Compare Eq Binary) (col 1 4) (col 0 0) ∷ []) project order) shown_names
+unfolding understood everything written_out
+recordings_with_is = record { command = refl; plain = (refl, refl); unlisted = refl }
+
+recordings_with_listing : (isrc : List ℕ) → IsListing recordings (op2 (Compare Eq Binary) (col 1 4) (col 0 0) ∷ []) project order (Text isrc ∷ []) (has_at 3 (Text isrc)) 4
+unfolding written_out
+recordings_with_listing isrc = record { shows = λ r. refl; tests = λ r. sym (and_true (equal Binary (column r 4) (Text isrc))); orders = λ a b. refl }
+
+pub recordings_with_lists : (isrc : List ℕ) (old new : State) (rows : List Row) → HasLayout old.now → Shown recordings_with_text (Text isrc ∷ []) old new rows → Lists recordings (has_at 3 (Text isrc)) 4 old.now.trees rows
+unfolding written_out
+recordings_with_lists isrc = lists_by recordings recordings_with_text (op2 (Compare Eq Binary) (col 1 4) (col 0 0) ∷ []) project order shown_names recordings_with_is (Text isrc ∷ []) (has_at 3 (Text isrc)) 4 (recordings_with_listing isrc)

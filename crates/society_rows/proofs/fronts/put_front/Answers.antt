@@ -1,0 +1,16 @@
+use Rattle.std.proofs.Common.{pos}
+use Rattle.sqlite.specs.Held.{state}
+use Rattle.society_rows.specs.Layout.{fronts}
+use Rattle.society_rows.specs.Rows.{front_values}
+use Rattle.society_rows.specs.Stored.{HasLayout, Puts}
+use Rattle.society_rows.proofs.Effects.{writes_by}
+use Rattle.society_rows.proofs.FrontTable.{put_text, puts_row}
+use Rattle.society_rows.proofs.fronts.put_front.Goals as goal
+
+pub returns-clause-written : goal.returns-clause-written
+returns-clause-written g c =
+    let row = c.args.row.now in
+    let old = state g.S.Store c.args.tx.now.conn.now in
+    let new = state g.S.Store c.run.new.tx.conn.now in
+    writes_by HasLayout old new put_text (front_values row) c.run.result (Puts fronts (front_values row)) (λ clean inside. rw (c.to_sql.ensures, c.to_sql-2.ensures) at (c.run.ensures.ran clean inside)) c.run.ensures.survives
+    (λ count. puts_row row.sender.now (pos row.front) row.works old new count)

@@ -1,0 +1,13 @@
+use Rattle.std.proofs.Common.{◌≡◌, map, take, Ok}
+use Rattle.sqlite.specs.Held.{state}
+use Rattle.society_rows.specs.Effects.{Writes}
+use Rattle.society_rows.specs.Layout.{fronts}
+use Rattle.society_rows.specs.Rows.{front_values}
+use Rattle.society_rows.specs.Stored.{PutsAll}
+use Rattle.society_rows.proofs.fronts.put_fronts.Given as goal
+
+abbrev pub invariant-loop-row : goal.invariant-loop-row
+invariant-loop-row g l = record {
+  same_reference : l.tx.conn.ghost_name ≡ l.initial.tx.conn.ghost_name;
+  written : Writes {X = Unit {0}} (state g.S.Store l.initial.tx.conn.now) (state g.S.Store l.tx.conn.now) (Ok tt) (PutsAll fronts (map front_values (take l.row-index l.rows)));
+}

@@ -1,0 +1,23 @@
+use Rattle.std.proofs.Common.{◌∙◌, map, refl}
+use Rattle.sqlite.specs.Held.{state}
+use Rattle.society_rows.specs.Layout.{pool_returns}
+use Rattle.society_rows.specs.Rows.{pool_return_values}
+use Rattle.society_rows.proofs.ListWrites.{adds_first, adds_next, adds_fails}
+use Rattle.society_rows.proofs.pool_returns.add_pool_returns.Goals as goal
+
+pub loop-row-init : goal.loop-row-init
+loop-row-init g c = record { same_reference = refl; written = adds_first pool_returns (state g.S.Store c.args.tx.now.conn.now) }
+
+pub loop-row-preserved : goal.loop-row-preserved
+loop-row-preserved g c = record {
+  same_reference = c.add_pool_return.ensures.same_reference ∙ c.loop-row.invariant.same_reference;
+  written = adds_next pool_returns pool_return_values c.args.rows.now c.loop-row.row-index _ (state g.S.Store c.args.tx.now.conn.now) (state g.S.Store c.loop-row.tx.conn.now)
+      (state g.S.Store c.add_pool_return.new.tx.conn.now) c.loop-row.invariant.written c.loop-row-test.true tt c.in_ok-add_pool_return.ensures.written;
+}
+
+pub returns-in_err-add_pool_return : goal.returns-in_err-add_pool_return
+returns-in_err-add_pool_return g c =
+    let written = adds_fails pool_returns pool_return_values c.args.rows.now c.loop-row.row-index _ (state g.S.Store c.args.tx.now.conn.now) (state g.S.Store c.loop-row.tx.conn.now)
+    (state g.S.Store c.add_pool_return.new.tx.conn.now) c.loop-row.invariant.written c.in_err-add_pool_return.field-0.0 (map pool_return_values c.args.rows.now) c.from_residual.result
+    c.from_residual.ensures.0 c.in_err-add_pool_return.ensures.written in
+    record { same_reference = c.add_pool_return.ensures.same_reference ∙ c.loop-row.invariant.same_reference; written = written }

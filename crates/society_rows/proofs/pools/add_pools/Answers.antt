@@ -1,0 +1,23 @@
+use Rattle.std.proofs.Common.{◌∙◌, map, refl}
+use Rattle.sqlite.specs.Held.{state}
+use Rattle.society_rows.specs.Layout.{pools}
+use Rattle.society_rows.specs.Rows.{pool_values}
+use Rattle.society_rows.proofs.ListWrites.{adds_first, adds_next, adds_fails}
+use Rattle.society_rows.proofs.pools.add_pools.Goals as goal
+
+pub loop-row-init : goal.loop-row-init
+loop-row-init g c = record { same_reference = refl; written = adds_first pools (state g.S.Store c.args.tx.now.conn.now) }
+
+pub loop-row-preserved : goal.loop-row-preserved
+loop-row-preserved g c = record {
+  same_reference = c.add_pool.ensures.same_reference ∙ c.loop-row.invariant.same_reference;
+  written = adds_next pools pool_values c.args.rows.now c.loop-row.row-index _ (state g.S.Store c.args.tx.now.conn.now) (state g.S.Store c.loop-row.tx.conn.now)
+      (state g.S.Store c.add_pool.new.tx.conn.now) c.loop-row.invariant.written c.loop-row-test.true tt c.in_ok-add_pool.ensures.written;
+}
+
+pub returns-in_err-add_pool : goal.returns-in_err-add_pool
+returns-in_err-add_pool g c =
+    let written = adds_fails pools pool_values c.args.rows.now c.loop-row.row-index _ (state g.S.Store c.args.tx.now.conn.now) (state g.S.Store c.loop-row.tx.conn.now)
+    (state g.S.Store c.add_pool.new.tx.conn.now) c.loop-row.invariant.written c.in_err-add_pool.field-0.0 (map pool_values c.args.rows.now) c.from_residual.result
+    c.from_residual.ensures.0 c.in_err-add_pool.ensures.written in
+    record { same_reference = c.add_pool.ensures.same_reference ∙ c.loop-row.invariant.same_reference; written = written }

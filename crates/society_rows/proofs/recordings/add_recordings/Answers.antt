@@ -1,0 +1,23 @@
+use Rattle.std.proofs.Common.{◌∙◌, map, refl}
+use Rattle.sqlite.specs.Held.{state}
+use Rattle.society_rows.specs.Layout.{recordings}
+use Rattle.society_rows.specs.Rows.{recording_values}
+use Rattle.society_rows.proofs.ListWrites.{adds_first, adds_next, adds_fails}
+use Rattle.society_rows.proofs.recordings.add_recordings.Goals as goal
+
+pub loop-row-init : goal.loop-row-init
+loop-row-init g c = record { same_reference = refl; written = adds_first recordings (state g.S.Store c.args.tx.now.conn.now) }
+
+pub loop-row-preserved : goal.loop-row-preserved
+loop-row-preserved g c = record {
+  same_reference = c.add_recording.ensures.same_reference ∙ c.loop-row.invariant.same_reference;
+  written = adds_next recordings recording_values c.args.rows.now c.loop-row.row-index _ (state g.S.Store c.args.tx.now.conn.now) (state g.S.Store c.loop-row.tx.conn.now)
+      (state g.S.Store c.add_recording.new.tx.conn.now) c.loop-row.invariant.written c.loop-row-test.true tt c.in_ok-add_recording.ensures.written;
+}
+
+pub returns-in_err-add_recording : goal.returns-in_err-add_recording
+returns-in_err-add_recording g c =
+    let written = adds_fails recordings recording_values c.args.rows.now c.loop-row.row-index _ (state g.S.Store c.args.tx.now.conn.now) (state g.S.Store c.loop-row.tx.conn.now)
+    (state g.S.Store c.add_recording.new.tx.conn.now) c.loop-row.invariant.written c.in_err-add_recording.field-0.0 (map recording_values c.args.rows.now) c.from_residual.result
+    c.from_residual.ensures.0 c.in_err-add_recording.ensures.written in
+    record { same_reference = c.add_recording.ensures.same_reference ∙ c.loop-row.invariant.same_reference; written = written }

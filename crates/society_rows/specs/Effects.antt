@@ -1,0 +1,30 @@
+-- What a call within a transaction does, whatever table it is on.
+use Rattle.std.specs.Prelude.{◌≡◌, ◌⊎◌, ℕ, List, Result, Ok, Err, IsTrue, OnOk, MatchResult}
+use Rattle.sqlite_value.specs.Order.{Row}
+use Rattle.sqlite.specs.declared.error.Error.{Error}
+use Rattle.sqlite.specs.Effect.{Database}
+use Rattle.sqlite.specs.State.{State, HasCleanDisk, IsUnchanged, IsRolledBack, KeepsCommit, Survives, ExecutesInside}
+use Rattle.society_rows.specs.declared.fault.RowFault.{RowFault}
+use Rattle.society_rows.specs.Faults.{fault_of}
+use Rattle.society_rows.specs.Stored.{HasLayout}
+
+-- the statement ran, or its error is told
+abbrev pub RanAs : List ℕ → Row → State → State → Result (Unit {0}) RowFault → Type 0
+RanAs text params old new (Ok _) = (count : ℕ) × ExecutesInside 0 text params old new (Ok count)
+RanAs text params old new (Err fault) = (error : Error) × (fault ≡ fault_of error) × ExecutesInside 0 text params old new (Err error)
+
+-- A write in a transaction: where the database was of a kind it makes this change, it commits nothing, and a crash leaves what it
+-- left before.
+pub record WritesOver {X : Type 0} (Was : Database → Type 0) (old new : State) (result : Result X RowFault) (Change : Database → Database → Type 0) : Type 0 where
+  pub change : HasCleanDisk new → IsTrue old.in_transaction → Was old.now → OnOk result (Change old.now new.now)
+  pub inside : HasCleanDisk new → IsTrue old.in_transaction → OnOk result (IsTrue new.in_transaction)
+  pub kept : HasCleanDisk new → IsTrue old.in_transaction → KeepsCommit old new
+  pub survives : Survives old new (λ _. ⊥)
+
+-- the same over layout 2
+abbrev pub Writes : {X : Type 0} → State → State → Result X RowFault → (Database → Database → Type 0) → Type 0
+Writes = WritesOver HasLayout
+
+-- one statement: it went through on an open connection, or it changed nothing, or the whole transaction is undone
+abbrev pub IsWhole : {X : Type 0} → State → State → Result X RowFault → Type 0
+IsWhole old new result = HasCleanDisk new → IsTrue old.in_transaction → MatchResult result (λ _. IsTrue old.is_open) (λ _. IsUnchanged old new ⊎ IsRolledBack old new)

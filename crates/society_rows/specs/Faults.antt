@@ -1,0 +1,21 @@
+-- What is told of an error of SQLite.
+use Rattle.sqlite.specs.declared.error.ErrorCode.TheVariants.{OutOfMemory}
+use Rattle.sqlite.specs.declared.error.Error.{Error}
+use Rattle.sqlite.specs.declared.error.Error.TheVariants.{SqliteFailure, SqlInputError, InvalidParameterCount, ExecuteReturnedResults, InvalidQuery, MultipleStatement, QueryReturnedNoRows, InvalidColumnIndex, InvalidColumnType, IntegralValueOutOfRange, Utf8Error}
+use Rattle.society_rows.specs.declared.fault.RowFault.{RowFault}
+use Rattle.society_rows.specs.declared.fault.RowFault.TheVariants.{Memory, Schema, Unread, Refused}
+
+-- want of memory, a statement that doesn't fit the schema, a value of another form, or else the error itself
+abbrev pub fault_of : Error → RowFault
+fault_of (SqliteFailure OutOfMemory) = Memory
+fault_of (SqliteFailure code) = Refused (SqliteFailure code)
+fault_of (SqlInputError why) = Schema
+fault_of (InvalidParameterCount given wanted) = Schema
+fault_of ExecuteReturnedResults = Schema
+fault_of InvalidQuery = Schema
+fault_of MultipleStatement = Schema
+fault_of QueryReturnedNoRows = Refused QueryReturnedNoRows
+fault_of (InvalidColumnIndex at) = Unread
+fault_of (InvalidColumnType at found) = Unread
+fault_of (IntegralValueOutOfRange at) = Unread
+fault_of (Utf8Error at) = Unread

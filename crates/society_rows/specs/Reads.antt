@@ -1,0 +1,57 @@
+-- What a reading within a transaction gives.
+use Rattle.std.specs.Prelude.{◌≡◌, ◌⊎◌, ℕ, suc, Bool, true, ◌&&◌, List, [], ◌∷◌, filter, Vec, Result, Ok, Err, IfOk, OnOk, OnErr, IsPermutation, IsSorted}
+use Rattle.sqlite_value.specs.Keys.{rising}
+use Rattle.sqlite_value.specs.Order.{Row, column}
+use Rattle.sqlite_trees.specs.Tree.{Trees}
+use Rattle.sqlite_sql.specs.Query.{key_cmp}
+use Rattle.sqlite_schema.specs.declared.schema.Table.{Table}
+use Rattle.std.specs.declared.alloc.Global.{Global}
+use Rattle.sqlite.specs.declared.error.Error.{Error}
+use Rattle.sqlite_value.specs.declared.keys.Collation.TheVariants.{Binary}
+use Rattle.sqlite_value.specs.declared.value.Value.{Value}
+use Rattle.sqlite_sql.specs.declared.ops.BinaryOp.TheVariants.{Compare}
+use Rattle.sqlite_sql.specs.declared.ops.CompareOp.TheVariants.{Gt}
+use Rattle.sqlite_sql.specs.Ops.{is_true, binary}
+use Rattle.sqlite_schema.specs.Rules.{equal}
+use Rattle.sqlite.specs.State.{State, HasCleanDisk, IsUnchanged, IsRolledBack, Survives, Shown, FailsToQuery, IsTooLate}
+use Rattle.society_rows.specs.declared.fault.RowFault.{RowFault}
+use Rattle.society_rows.specs.Faults.{fault_of}
+use Rattle.society_rows.specs.Stored.{rows_in, HasLayout}
+
+-- the first columns are these values, as SQL compares them
+abbrev pub has_key_from : ℕ → Row → Row → Bool
+has_key_from at [] row = true
+has_key_from at (v ∷ key) row = equal Binary (column row at) v && has_key_from (suc at) key row
+
+abbrev pub has_key : Row → Row → Bool
+has_key = has_key_from 0
+
+-- the column at this place is this value
+abbrev pub has_at : ℕ → Value → Row → Bool
+has_at at v row = equal Binary (column row at) v
+
+-- SQL's >
+abbrev pub exceeds : Value → Value → Bool
+exceeds v w = is_true (binary (Compare Gt Binary) v w)
+
+-- the first column is this value, and the second is above that one
+abbrev pub is_above : Value → Value → Row → Bool
+is_above key least row = equal Binary (column row 0) key && exceeds (column row 1) least
+
+-- the rows of the table that pass, each once, ascending by so many of their first columns
+pub record Lists (table : Table) (passes : Row → Bool) (width : ℕ) (db : Trees) (found : List Row) : Type 0 where
+  pub rows : IsPermutation (filter passes (rows_in table db)) found
+  pub sorted : IsSorted (key_cmp 0 (rising width [])) found
+
+-- the query showed these rows, or its error is told
+abbrev pub Selected : List ℕ → Row → State → State → Result (Vec Row Global) RowFault → Type 0
+Selected text params old new (Ok rows) = Shown text params old new rows.items
+Selected text params old new (Err fault) =
+    (error : Error) × (fault ≡ fault_of error) × (FailsToQuery text params old new error ⊎ IsTooLate text params old new error)
+
+-- A reading: over layout 2 it finds this, it changes nothing unless a failure undoes the whole transaction, and it commits nothing.
+pub record Reads {X : Type 0} (old new : State) (result : Result X RowFault) (Found : Trees → X → Type 0) : Type 0 where
+  pub found : HasCleanDisk new → HasLayout old.now → IfOk result (Found old.now.trees)
+  pub same : HasCleanDisk new → HasLayout old.now → OnOk result (IsUnchanged old new)
+  pub whole : HasCleanDisk new → OnErr result (IsUnchanged old new ⊎ IsRolledBack old new)
+  pub survives : Survives old new (λ _. ⊥)

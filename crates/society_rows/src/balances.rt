@@ -1,0 +1,102 @@
+//! The table of balances.
+ghost use Rattle.std.specs.Prelude.{◌≡◌, map, true, [], ◌∷◌, IfOk, IfErr};
+ghost use Rattle.sqlite_value.specs.declared.value.Value.TheVariants.{Text};
+ghost use Rattle.sqlite.specs.Held.{state};
+ghost use Rattle.society_rows.specs.declared.fault.RowFault.TheVariants.{Unread};
+ghost use Rattle.society_rows.specs.Effects.{Writes, IsWhole};
+ghost use Rattle.society_rows.specs.Layout.{balances};
+ghost use Rattle.society_rows.specs.Reads.{Lists, Reads, has_key};
+ghost use Rattle.society_rows.specs.Rows.{balance_values};
+ghost use Rattle.society_rows.specs.Stored.{Puts, PutsAll};
+
+use crate::RowFault;
+use crate::reading::{integer, text};
+use crate::statement::{run, select};
+use sqlite::types::ToSql;
+use sqlite::{Alter, Row, Transaction};
+use sqlite_value::value::ValueRef;
+
+/// What an account has: its units of money over all pools.
+#[derive(Clone, Copy, Debug)]
+pub struct BalanceRow<'a> {
+    pub account: &'a [u8],
+    pub units: i64,
+}
+
+impl<'a> BalanceRow<'a> {
+    /// The row that these values are, in the order of the columns; else `Unread`.
+    pub fn from_row(row: &'a Row) -> Result<BalanceRow<'a>, RowFault>
+        ensures value { IfOk result (λ x. balance_values x ≡ row.now) }
+        ensures fault { IfErr result (λ e. e ≡ Unread) }
+    {
+        if row.column_count() != 2 {
+            return Err(RowFault::Unread);
+        }
+        Ok(BalanceRow {
+            account: text(row, 0)?,
+            units: integer(row, 1)?,
+        })
+    }
+}
+
+/// Puts a balance, in place of the one that is there under its key.
+pub fn put_balance<S: Alter>(
+    tx: &mut Transaction<'_, S>,
+    row: &BalanceRow<'_>,
+) -> Result<(), RowFault>
+    ensures same_reference { tx.new.conn.ghost_name ≡ tx.old.conn.ghost_name }
+    ensures written { Writes (state S.Store tx.old.conn.now) (state S.Store tx.new.conn.now) result
+        (Puts balances (balance_values row.now)) }
+    ensures whole { IsWhole (state S.Store tx.old.conn.now) (state S.Store tx.new.conn.now) result }
+{
+    run(
+        tx,
+        "INSERT INTO balances (account, units) VALUES (?1, ?2) ON CONFLICT (account) DO UPDATE SET account = excluded.account, units = excluded.units",
+        &[ValueRef::Text(row.account), (&row.units).to_sql()],
+    )
+}
+
+/// Puts balances, each in place of the one that is there under its key. After an error some may be in the
+/// transaction.
+pub fn put_balances<S: Alter>(
+    tx: &mut Transaction<'_, S>,
+    rows: &[BalanceRow<'_>],
+) -> Result<(), RowFault>
+    ensures same_reference { tx.new.conn.ghost_name ≡ tx.old.conn.ghost_name }
+    ensures written { Writes (state S.Store tx.old.conn.now) (state S.Store tx.new.conn.now) result
+        (PutsAll balances (map balance_values rows.now)) }
+{
+    for row in rows {
+        put_balance(tx, row)?;
+    }
+    Ok(())
+}
+
+/// All balances, by account.
+pub fn all_balances<S: Alter>(tx: &mut Transaction<'_, S>) -> Result<Vec<Row>, RowFault>
+    ensures same_reference { tx.new.conn.ghost_name ≡ tx.old.conn.ghost_name }
+    ensures read { Reads (state S.Store tx.old.conn.now) (state S.Store tx.new.conn.now) result
+        (λ db rows. Lists balances (λ _. true) 1 db rows.items) }
+{
+    select(
+        tx,
+        "SELECT account, units FROM balances ORDER BY account",
+        &[],
+    )
+}
+
+/// The balance of an account, if it has one.
+pub fn balance_at<S: Alter>(
+    tx: &mut Transaction<'_, S>,
+    account: &[u8],
+) -> Result<Vec<Row>, RowFault>
+    ensures same_reference { tx.new.conn.ghost_name ≡ tx.old.conn.ghost_name }
+    ensures read { Reads (state S.Store tx.old.conn.now) (state S.Store tx.new.conn.now) result
+        (λ db rows. Lists balances (has_key (Text account.now ∷ [])) 1 db rows.items) }
+{
+    select(
+        tx,
+        "SELECT account, units FROM balances WHERE account = ?1 ORDER BY account",
+        &[ValueRef::Text(account)],
+    )
+}

@@ -1,0 +1,57 @@
+//! Why a statement gave no rows or wrote none.
+ghost use Rattle.std.specs.Prelude.{◌≡◌};
+ghost use Rattle.society_rows.specs.Faults.{fault_of};
+ghost use Rattle.society_rows.specs.declared.fault.RowFault.TheVariants.{Memory};
+
+use sqlite::{Error, ErrorCode};
+use std::alloc::{AllocError, AllocFailed};
+
+/// Why a statement gave no rows or wrote none.
+#[derive(Clone, Copy, Debug, PartialEq, Eq, Drop, thiserror::Error)]
+pub enum RowFault {
+    /// Memory ran out.
+    #[error("out of memory")]
+    Memory,
+    /// The statement does not fit the schema.
+    #[error("the statement does not fit the schema")]
+    Schema,
+    /// A value has another form than its column's.
+    #[error("a value of another form")]
+    Unread,
+    /// SQLite refused the statement, or the store failed: as it said.
+    #[error("the database refused")]
+    Refused(Error),
+}
+
+impl From<Error> for RowFault {
+    ghost from_gives = { λ error fault. fault ≡ fault_of error };
+
+    fn from(error: Error) -> RowFault {
+        match error {
+            Error::SqliteFailure(ErrorCode::OutOfMemory) => RowFault::Memory,
+            Error::SqliteFailure(_) => RowFault::Refused(error),
+            Error::InvalidColumnIndex(_)
+            | Error::InvalidColumnType(_, _)
+            | Error::IntegralValueOutOfRange(_)
+            | Error::Utf8Error(_) => RowFault::Unread,
+            Error::QueryReturnedNoRows => RowFault::Refused(error),
+            _ => RowFault::Schema,
+        }
+    }
+}
+
+impl From<AllocError> for RowFault {
+    ghost from_gives = { λ _ fault. fault ≡ Memory };
+
+    fn from(_e: AllocError) -> RowFault {
+        RowFault::Memory
+    }
+}
+
+impl<T: Drop> From<AllocFailed<T>> for RowFault {
+    ghost from_gives = { λ _ fault. fault ≡ Memory };
+
+    fn from(_e: AllocFailed<T>) -> RowFault {
+        RowFault::Memory
+    }
+}

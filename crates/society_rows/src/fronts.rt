@@ -1,0 +1,103 @@
+//! The table of fronts.
+ghost use Rattle.std.specs.Prelude.{◌≡◌, map, true, [], ◌∷◌, IfOk, IfErr};
+ghost use Rattle.sqlite_value.specs.declared.value.Value.TheVariants.{Text};
+ghost use Rattle.sqlite.specs.Held.{state};
+ghost use Rattle.society_rows.specs.declared.fault.RowFault.TheVariants.{Unread};
+ghost use Rattle.society_rows.specs.Effects.{Writes, IsWhole};
+ghost use Rattle.society_rows.specs.Layout.{fronts};
+ghost use Rattle.society_rows.specs.Reads.{Lists, Reads, has_key};
+ghost use Rattle.society_rows.specs.Rows.{front_values};
+ghost use Rattle.society_rows.specs.Stored.{Puts, PutsAll};
+
+use crate::RowFault;
+use crate::reading::{integer, text, whole};
+use crate::statement::{run, select};
+use sqlite::types::ToSql;
+use sqlite::{Alter, Row, Transaction};
+use sqlite_value::value::ValueRef;
+
+/// How far a sender's transmissions came: the greatest number up to which all are there, and its accepted works up
+/// to it.
+#[derive(Clone, Copy, Debug)]
+pub struct FrontRow<'a> {
+    pub sender: &'a [u8],
+    pub front: u32,
+    pub works: i64,
+}
+
+impl<'a> FrontRow<'a> {
+    /// The row that these values are, in the order of the columns; else `Unread`.
+    pub fn from_row(row: &'a Row) -> Result<FrontRow<'a>, RowFault>
+        ensures value { IfOk result (λ x. front_values x ≡ row.now) }
+        ensures fault { IfErr result (λ e. e ≡ Unread) }
+    {
+        if row.column_count() != 3 {
+            return Err(RowFault::Unread);
+        }
+        Ok(FrontRow {
+            sender: text(row, 0)?,
+            front: whole(row, 1)?,
+            works: integer(row, 2)?,
+        })
+    }
+}
+
+/// Puts a front, in place of the one that is there under its key.
+pub fn put_front<S: Alter>(tx: &mut Transaction<'_, S>, row: &FrontRow<'_>) -> Result<(), RowFault>
+    ensures same_reference { tx.new.conn.ghost_name ≡ tx.old.conn.ghost_name }
+    ensures written { Writes (state S.Store tx.old.conn.now) (state S.Store tx.new.conn.now) result
+        (Puts fronts (front_values row.now)) }
+    ensures whole { IsWhole (state S.Store tx.old.conn.now) (state S.Store tx.new.conn.now) result }
+{
+    run(
+        tx,
+        "INSERT INTO fronts (sender, front, works) VALUES (?1, ?2, ?3) ON CONFLICT (sender) DO UPDATE SET sender = excluded.sender, front = excluded.front, works = excluded.works",
+        &[
+            ValueRef::Text(row.sender),
+            row.front.to_sql(),
+            (&row.works).to_sql(),
+        ],
+    )
+}
+
+/// Puts fronts, each in place of the one that is there under its key. After an error some may be in the
+/// transaction.
+pub fn put_fronts<S: Alter>(
+    tx: &mut Transaction<'_, S>,
+    rows: &[FrontRow<'_>],
+) -> Result<(), RowFault>
+    ensures same_reference { tx.new.conn.ghost_name ≡ tx.old.conn.ghost_name }
+    ensures written { Writes (state S.Store tx.old.conn.now) (state S.Store tx.new.conn.now) result
+        (PutsAll fronts (map front_values rows.now)) }
+{
+    for row in rows {
+        put_front(tx, row)?;
+    }
+    Ok(())
+}
+
+/// All fronts, by sender.
+pub fn all_fronts<S: Alter>(tx: &mut Transaction<'_, S>) -> Result<Vec<Row>, RowFault>
+    ensures same_reference { tx.new.conn.ghost_name ≡ tx.old.conn.ghost_name }
+    ensures read { Reads (state S.Store tx.old.conn.now) (state S.Store tx.new.conn.now) result
+        (λ db rows. Lists fronts (λ _. true) 1 db rows.items) }
+{
+    select(
+        tx,
+        "SELECT sender, front, works FROM fronts ORDER BY sender",
+        &[],
+    )
+}
+
+/// The front of a sender, if it has one.
+pub fn front_at<S: Alter>(tx: &mut Transaction<'_, S>, sender: &[u8]) -> Result<Vec<Row>, RowFault>
+    ensures same_reference { tx.new.conn.ghost_name ≡ tx.old.conn.ghost_name }
+    ensures read { Reads (state S.Store tx.old.conn.now) (state S.Store tx.new.conn.now) result
+        (λ db rows. Lists fronts (has_key (Text sender.now ∷ [])) 1 db rows.items) }
+{
+    select(
+        tx,
+        "SELECT sender, front, works FROM fronts WHERE sender = ?1 ORDER BY sender",
+        &[ValueRef::Text(sender)],
+    )
+}

@@ -1,0 +1,79 @@
+//! The layout of the tables, and how they begin.
+ghost use Rattle.std.specs.Prelude.{◌≡◌, ℕ, List, map, false, IsTrue, OnOk, OnErr};
+ghost use Rattle.std.specs.Borrow.{Bor};
+ghost use Rattle.sqlite.specs.Held.{state};
+ghost use Rattle.sqlite.specs.State.{HasCleanDisk, Survives};
+ghost use Rattle.society_rows.specs.Effects.{WritesOver};
+ghost use Rattle.society_rows.specs.NewBook.{IsBare, IsEmptyBook, IsNewBook, Begins};
+ghost use Rattle.society_rows.specs.Rows.{office_values};
+ghost use Rattle.society_rows.specs.Texts.{all_texts};
+
+use crate::office::add_office;
+use crate::statement::run;
+use crate::{OfficeRow, RowFault};
+use sqlite::{Alter, Connection, Transaction};
+
+/// The tables of layout 2, each after those that it refers to.
+const TABLES: [&str; 12] = [
+    "CREATE TABLE office (one INTEGER NOT NULL PRIMARY KEY CHECK (one = 1), layout INTEGER NOT NULL, society INTEGER NOT NULL, territory INTEGER NOT NULL, name TEXT NOT NULL) STRICT",
+    "CREATE TABLE transmissions (sender TEXT NOT NULL, number INTEGER NOT NULL, body BLOB NOT NULL, PRIMARY KEY (sender, number)) STRICT",
+    "CREATE TABLE returns (reporter TEXT NOT NULL, number INTEGER NOT NULL, body BLOB NOT NULL, PRIMARY KEY (reporter, number)) STRICT",
+    "CREATE TABLE pools (pool INTEGER NOT NULL PRIMARY KEY, amount INTEGER NOT NULL) STRICT",
+    "CREATE TABLE pool_cuts (pool INTEGER NOT NULL, sender TEXT NOT NULL, number INTEGER NOT NULL, PRIMARY KEY (pool, sender), FOREIGN KEY (pool) REFERENCES pools (pool), FOREIGN KEY (sender, number) REFERENCES transmissions (sender, number)) STRICT",
+    "CREATE TABLE pool_returns (reporter TEXT NOT NULL, number INTEGER NOT NULL, pool INTEGER NOT NULL, PRIMARY KEY (reporter, number), FOREIGN KEY (reporter, number) REFERENCES returns (reporter, number), FOREIGN KEY (pool) REFERENCES pools (pool)) STRICT",
+    "CREATE TABLE fronts (sender TEXT NOT NULL PRIMARY KEY, front INTEGER NOT NULL, works INTEGER NOT NULL) STRICT",
+    "CREATE TABLE verdicts (sender TEXT NOT NULL, number INTEGER NOT NULL, place INTEGER NOT NULL, fault INTEGER NOT NULL, ordinal INTEGER NOT NULL, revision INTEGER NOT NULL, PRIMARY KEY (sender, number, place)) STRICT",
+    "CREATE TABLE versions (sender TEXT NOT NULL, work TEXT NOT NULL, revision INTEGER NOT NULL, number INTEGER NOT NULL, place INTEGER NOT NULL, ordinal INTEGER NOT NULL, PRIMARY KEY (sender, work, revision)) STRICT",
+    "CREATE TABLE recordings (sender TEXT NOT NULL, work TEXT NOT NULL, revision INTEGER NOT NULL, isrc TEXT NOT NULL, PRIMARY KEY (sender, work, revision, isrc)) STRICT",
+    "CREATE TABLE credits (pool INTEGER NOT NULL, line INTEGER NOT NULL, isrc TEXT NOT NULL, account TEXT NOT NULL, units INTEGER NOT NULL, PRIMARY KEY (pool, line)) STRICT",
+    "CREATE TABLE balances (account TEXT NOT NULL PRIMARY KEY, units INTEGER NOT NULL) STRICT",
+];
+
+/// Makes the tables of the texts, those of layout 2, in a database that has none.
+fn make_tables<S: Alter>(tx: &mut Transaction<'_, S>, texts: &[&str]) -> Result<(), RowFault>
+    requires { map (λ (t : Bor (List ℕ)). t.now) texts.now ≡ all_texts }
+    ensures same_reference { tx.new.conn.ghost_name ≡ tx.old.conn.ghost_name }
+    ensures made { WritesOver IsBare (state S.Store tx.old.conn.now) (state S.Store tx.new.conn.now) result
+        (λ _. IsEmptyBook) }
+{
+    for text in texts {
+        run(tx, text, &[])?;
+    }
+    Ok(())
+}
+
+/// Makes the tables of layout 2 in a database that has none.
+pub(crate) fn lay_out<S: Alter>(tx: &mut Transaction<'_, S>) -> Result<(), RowFault>
+    ensures same_reference { tx.new.conn.ghost_name ≡ tx.old.conn.ghost_name }
+    ensures made { WritesOver IsBare (state S.Store tx.old.conn.now) (state S.Store tx.new.conn.now) result
+        (λ _. IsEmptyBook) }
+{
+    make_tables(tx, &TABLES)
+}
+
+/// Makes the tables and writes the row of the office.
+fn begin_book<S: Alter>(tx: &mut Transaction<'_, S>, office: &OfficeRow<'_>) -> Result<(), RowFault>
+    ensures same_reference { tx.new.conn.ghost_name ≡ tx.old.conn.ghost_name }
+    ensures begun { WritesOver IsBare (state S.Store tx.old.conn.now) (state S.Store tx.new.conn.now) result
+        (λ _. Begins (office_values office.now)) }
+{
+    lay_out(tx)?;
+    add_office(tx, office)
+}
+
+/// Makes the tables of layout 2 in a database that has none, and writes the row of the office, in one transaction.
+/// After an error, and after a crash, the database is as it was or the whole new book.
+pub fn create<S: Alter>(conn: &mut Connection<S>, office: &OfficeRow<'_>) -> Result<(), RowFault>
+    requires { conn.old.in_transaction ≡ false }
+    ensures created { HasCleanDisk (state S.Store conn.new) → IsBare (state S.Store conn.old).now
+        → OnOk result (Begins (office_values office.now) (state S.Store conn.new).now × ((state S.Store conn.new).now ≡ (state S.Store conn.new).committed)) }
+    ensures neither { HasCleanDisk (state S.Store conn.new) → IsTrue (state S.Store conn.new).is_open
+        → OnErr result (((state S.Store conn.new).now ≡ (state S.Store conn.old).committed) × ((state S.Store conn.new).committed ≡ (state S.Store conn.old).committed)) }
+    ensures ended { conn.new.in_transaction ≡ false }
+    ensures crash { Survives (state S.Store conn.old) (state S.Store conn.new) (λ db. IsBare (state S.Store conn.old).now → IsNewBook (office_values office.now) db) }
+{
+    let mut tx = conn.transaction();
+    begin_book(&mut tx, office)?;
+    tx.commit()?;
+    Ok(())
+}

@@ -1,0 +1,48 @@
+//! The tables of the office in SQLite: typed rows, and one call for each statement over them.
+//!
+//! The rows of a table stand for a set, seen as a list up to its order. But for `create`, each call runs within a
+//! transaction of the caller's and commits nothing.
+#![tactic(auto)]
+
+mod balances;
+mod credits;
+mod fault;
+mod fronts;
+mod layout;
+mod office;
+mod pool_cuts;
+mod pool_returns;
+mod pools;
+mod reading;
+mod recordings;
+mod returns;
+mod statement;
+mod transmissions;
+mod verdicts;
+mod versions;
+
+pub use balances::{BalanceRow, all_balances, balance_at, put_balance, put_balances};
+pub use credits::{CreditRow, add_credit, add_credits, all_credits, credits_of};
+pub use fault::RowFault;
+pub use fronts::{FrontRow, all_fronts, front_at, put_front, put_fronts};
+pub use layout::create;
+pub use office::OfficeRow;
+pub use pool_cuts::{PoolCutRow, add_pool_cut, add_pool_cuts, all_pool_cuts, cuts_of};
+pub use pool_returns::{
+    PoolReturnRow, add_pool_return, add_pool_returns, all_pool_returns, pool_return_at,
+    returns_of_pool,
+};
+pub use pools::{PoolRow, add_pool, add_pools, all_pools, pool_at};
+pub use recordings::{
+    RecordingRow, add_recording, add_recordings, all_recordings, recordings_of, recordings_with,
+};
+pub use returns::{ReturnRow, add_return, add_returns, all_returns, return_at};
+pub use transmissions::{
+    TransmissionRow, add_transmission, add_transmissions, all_transmissions, transmission_at,
+    transmissions_above,
+};
+pub use verdicts::{VerdictRow, add_verdict, add_verdicts, all_verdicts, verdicts_of};
+pub use versions::{VersionRow, add_version, add_versions, all_versions, versions_of};
+
+#[cfg(test)]
+mod tests;

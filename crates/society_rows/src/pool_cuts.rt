@@ -1,0 +1,104 @@
+//! The table of the cuts of pools.
+ghost use Rattle.std.specs.Prelude.{◌≡◌, map, [], ◌∷◌, true, pos, IfOk, IfErr};
+ghost use Rattle.sqlite_value.specs.declared.value.Value.TheVariants.{Int};
+ghost use Rattle.sqlite.specs.Held.{state};
+ghost use Rattle.society_rows.specs.declared.fault.RowFault.TheVariants.{Unread};
+ghost use Rattle.society_rows.specs.Effects.{Writes, IsWhole};
+ghost use Rattle.society_rows.specs.Layout.{pool_cuts};
+ghost use Rattle.society_rows.specs.Reads.{Lists, Reads, has_key};
+ghost use Rattle.society_rows.specs.Rows.{pool_cut_values};
+ghost use Rattle.society_rows.specs.Stored.{Adds};
+
+use crate::RowFault;
+use crate::reading::{text, whole};
+use crate::statement::{run, select};
+use sqlite::types::ToSql;
+use sqlite::{Alter, Row, Transaction};
+use sqlite_value::value::ValueRef;
+
+/// How far a pool goes for a sender: the number of the last transmission that counts.
+#[derive(Clone, Copy, Debug)]
+pub struct PoolCutRow<'a> {
+    pub pool: u32,
+    pub sender: &'a [u8],
+    pub number: u32,
+}
+
+impl<'a> PoolCutRow<'a> {
+    /// The row that these values are, in the order of the columns; else `Unread`.
+    pub fn from_row(row: &'a Row) -> Result<PoolCutRow<'a>, RowFault>
+        ensures value { IfOk result (λ x. pool_cut_values x ≡ row.now) }
+        ensures fault { IfErr result (λ e. e ≡ Unread) }
+    {
+        if row.column_count() != 3 {
+            return Err(RowFault::Unread);
+        }
+        Ok(PoolCutRow {
+            pool: whole(row, 0)?,
+            sender: text(row, 1)?,
+            number: whole(row, 2)?,
+        })
+    }
+}
+
+/// Adds a pool cut, whose key has to be free.
+pub fn add_pool_cut<S: Alter>(
+    tx: &mut Transaction<'_, S>,
+    row: &PoolCutRow<'_>,
+) -> Result<(), RowFault>
+    ensures same_reference { tx.new.conn.ghost_name ≡ tx.old.conn.ghost_name }
+    ensures written { Writes (state S.Store tx.old.conn.now) (state S.Store tx.new.conn.now) result
+        (Adds pool_cuts (pool_cut_values row.now ∷ [])) }
+    ensures whole { IsWhole (state S.Store tx.old.conn.now) (state S.Store tx.new.conn.now) result }
+{
+    run(
+        tx,
+        "INSERT INTO pool_cuts (pool, sender, number) VALUES (?1, ?2, ?3)",
+        &[
+            row.pool.to_sql(),
+            ValueRef::Text(row.sender),
+            row.number.to_sql(),
+        ],
+    )
+}
+
+/// Adds the cuts of pools, whose keys have to be free. After an error some may be in the transaction.
+pub fn add_pool_cuts<S: Alter>(
+    tx: &mut Transaction<'_, S>,
+    rows: &[PoolCutRow<'_>],
+) -> Result<(), RowFault>
+    ensures same_reference { tx.new.conn.ghost_name ≡ tx.old.conn.ghost_name }
+    ensures written { Writes (state S.Store tx.old.conn.now) (state S.Store tx.new.conn.now) result
+        (Adds pool_cuts (map pool_cut_values rows.now)) }
+{
+    for row in rows {
+        add_pool_cut(tx, row)?;
+    }
+    Ok(())
+}
+
+/// All the cuts of pools, by pool and sender.
+pub fn all_pool_cuts<S: Alter>(tx: &mut Transaction<'_, S>) -> Result<Vec<Row>, RowFault>
+    ensures same_reference { tx.new.conn.ghost_name ≡ tx.old.conn.ghost_name }
+    ensures read { Reads (state S.Store tx.old.conn.now) (state S.Store tx.new.conn.now) result
+        (λ db rows. Lists pool_cuts (λ _. true) 2 db rows.items) }
+{
+    select(
+        tx,
+        "SELECT pool, sender, number FROM pool_cuts ORDER BY pool, sender",
+        &[],
+    )
+}
+
+/// The cuts of a pool, by sender.
+pub fn cuts_of<S: Alter>(tx: &mut Transaction<'_, S>, pool: u32) -> Result<Vec<Row>, RowFault>
+    ensures same_reference { tx.new.conn.ghost_name ≡ tx.old.conn.ghost_name }
+    ensures read { Reads (state S.Store tx.old.conn.now) (state S.Store tx.new.conn.now) result
+        (λ db rows. Lists pool_cuts (has_key (Int (pos pool) ∷ [])) 2 db rows.items) }
+{
+    select(
+        tx,
+        "SELECT pool, sender, number FROM pool_cuts WHERE pool = ?1 ORDER BY pool, sender",
+        &[pool.to_sql()],
+    )
+}

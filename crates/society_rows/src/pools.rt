@@ -1,0 +1,88 @@
+//! The table of pools.
+ghost use Rattle.std.specs.Prelude.{◌≡◌, map, [], ◌∷◌, true, pos, IfOk, IfErr};
+ghost use Rattle.sqlite_value.specs.declared.value.Value.TheVariants.{Int};
+ghost use Rattle.sqlite.specs.Held.{state};
+ghost use Rattle.society_rows.specs.declared.fault.RowFault.TheVariants.{Unread};
+ghost use Rattle.society_rows.specs.Effects.{Writes, IsWhole};
+ghost use Rattle.society_rows.specs.Layout.{pools};
+ghost use Rattle.society_rows.specs.Reads.{Lists, Reads, has_key};
+ghost use Rattle.society_rows.specs.Rows.{pool_values};
+ghost use Rattle.society_rows.specs.Stored.{Adds};
+
+use crate::RowFault;
+use crate::reading::{integer, whole};
+use crate::statement::{run, select};
+use sqlite::types::ToSql;
+use sqlite::{Alter, Row, Transaction};
+use sqlite_value::value::ValueRef;
+
+/// A pool: its number and its amount in units of money.
+#[derive(Clone, Copy, Debug)]
+pub struct PoolRow {
+    pub pool: u32,
+    pub amount: i64,
+}
+
+impl PoolRow {
+    /// The row that these values are, in the order of the columns; else `Unread`.
+    pub fn from_row(row: &Row) -> Result<PoolRow, RowFault>
+        ensures value { IfOk result (λ x. pool_values x ≡ row.now) }
+        ensures fault { IfErr result (λ e. e ≡ Unread) }
+    {
+        if row.column_count() != 2 {
+            return Err(RowFault::Unread);
+        }
+        Ok(PoolRow {
+            pool: whole(row, 0)?,
+            amount: integer(row, 1)?,
+        })
+    }
+}
+
+/// Adds a pool, whose key has to be free.
+pub fn add_pool<S: Alter>(tx: &mut Transaction<'_, S>, row: &PoolRow) -> Result<(), RowFault>
+    ensures same_reference { tx.new.conn.ghost_name ≡ tx.old.conn.ghost_name }
+    ensures written { Writes (state S.Store tx.old.conn.now) (state S.Store tx.new.conn.now) result
+        (Adds pools (pool_values row.now ∷ [])) }
+    ensures whole { IsWhole (state S.Store tx.old.conn.now) (state S.Store tx.new.conn.now) result }
+{
+    run(
+        tx,
+        "INSERT INTO pools (pool, amount) VALUES (?1, ?2)",
+        &[row.pool.to_sql(), (&row.amount).to_sql()],
+    )
+}
+
+/// Adds pools, whose keys have to be free. After an error some may be in the transaction.
+pub fn add_pools<S: Alter>(tx: &mut Transaction<'_, S>, rows: &[PoolRow]) -> Result<(), RowFault>
+    ensures same_reference { tx.new.conn.ghost_name ≡ tx.old.conn.ghost_name }
+    ensures written { Writes (state S.Store tx.old.conn.now) (state S.Store tx.new.conn.now) result
+        (Adds pools (map pool_values rows.now)) }
+{
+    for row in rows {
+        add_pool(tx, row)?;
+    }
+    Ok(())
+}
+
+/// All pools, by pool.
+pub fn all_pools<S: Alter>(tx: &mut Transaction<'_, S>) -> Result<Vec<Row>, RowFault>
+    ensures same_reference { tx.new.conn.ghost_name ≡ tx.old.conn.ghost_name }
+    ensures read { Reads (state S.Store tx.old.conn.now) (state S.Store tx.new.conn.now) result
+        (λ db rows. Lists pools (λ _. true) 1 db rows.items) }
+{
+    select(tx, "SELECT pool, amount FROM pools ORDER BY pool", &[])
+}
+
+/// The pool of a number, if there is one.
+pub fn pool_at<S: Alter>(tx: &mut Transaction<'_, S>, pool: u32) -> Result<Vec<Row>, RowFault>
+    ensures same_reference { tx.new.conn.ghost_name ≡ tx.old.conn.ghost_name }
+    ensures read { Reads (state S.Store tx.old.conn.now) (state S.Store tx.new.conn.now) result
+        (λ db rows. Lists pools (has_key (Int (pos pool) ∷ [])) 1 db rows.items) }
+{
+    select(
+        tx,
+        "SELECT pool, amount FROM pools WHERE pool = ?1 ORDER BY pool",
+        &[pool.to_sql()],
+    )
+}

@@ -1,0 +1,55 @@
+//! The values of a row, as their columns have them.
+ghost use Rattle.std.specs.Prelude.{◌≡◌, pos, IfOk, IfErr, FitsSigned};
+ghost use Rattle.std.specs.Int.{w64};
+ghost use Rattle.sqlite_value.specs.Order.{column};
+ghost use Rattle.sqlite_value.specs.declared.value.Value.TheVariants.{Int, Text, Blob};
+ghost use Rattle.society_rows.specs.declared.fault.RowFault.TheVariants.{Unread};
+
+use crate::RowFault;
+use sqlite::Row;
+use sqlite_value::value::ValueRef;
+
+/// The text in a column, as bytes; else `Unread`.
+pub(crate) fn text(row: &Row, at: usize) -> Result<&[u8], RowFault>
+    ensures value { IfOk result (λ t. column row.now at ≡ Text t.now) }
+    ensures fault { IfErr result (λ e. e ≡ Unread) }
+{
+    match row.get_ref(at) {
+        Ok(ValueRef::Text(bytes)) => Ok(bytes),
+        _ => Err(RowFault::Unread),
+    }
+}
+
+/// The bytes in a column; else `Unread`.
+pub(crate) fn bytes(row: &Row, at: usize) -> Result<&[u8], RowFault>
+    ensures value { IfOk result (λ b. column row.now at ≡ Blob b.now) }
+    ensures fault { IfErr result (λ e. e ≡ Unread) }
+{
+    match row.get_ref(at) {
+        Ok(ValueRef::Blob(bytes)) => Ok(bytes),
+        _ => Err(RowFault::Unread),
+    }
+}
+
+/// The whole number in a column, which is at least 0 and fits 32 bits; else `Unread`.
+pub(crate) fn whole(row: &Row, at: usize) -> Result<u32, RowFault>
+    ensures value { IfOk result (λ n. column row.now at ≡ Int (pos n)) }
+    ensures fault { IfErr result (λ e. e ≡ Unread) }
+{
+    match row.get_ref(at) {
+        Ok(ValueRef::Int(n)) => u32::try_from(n).map_err(|_| RowFault::Unread),
+        _ => Err(RowFault::Unread),
+    }
+}
+
+/// The whole number in a column; else `Unread`.
+pub(crate) fn integer(row: &Row, at: usize) -> Result<i64, RowFault>
+    ensures value { IfOk result (λ n. column row.now at ≡ Int n) }
+    ensures range { IfOk result (λ n. FitsSigned w64 n) }
+    ensures fault { IfErr result (λ e. e ≡ Unread) }
+{
+    match row.get_ref(at) {
+        Ok(ValueRef::Int(n)) => Ok(n),
+        _ => Err(RowFault::Unread),
+    }
+}

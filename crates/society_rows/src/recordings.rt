@@ -1,0 +1,127 @@
+//! The table of recordings of versions.
+ghost use Rattle.std.specs.Prelude.{◌≡◌, map, [], ◌∷◌, true, IfOk, IfErr};
+ghost use Rattle.sqlite_value.specs.declared.value.Value.TheVariants.{Text};
+ghost use Rattle.sqlite.specs.Held.{state};
+ghost use Rattle.society_rows.specs.declared.fault.RowFault.TheVariants.{Unread};
+ghost use Rattle.society_rows.specs.Effects.{Writes, IsWhole};
+ghost use Rattle.society_rows.specs.Layout.{recordings};
+ghost use Rattle.society_rows.specs.Reads.{Lists, Reads, has_key, has_at};
+ghost use Rattle.society_rows.specs.Rows.{recording_values};
+ghost use Rattle.society_rows.specs.Stored.{Adds};
+
+use crate::RowFault;
+use crate::reading::{integer, text};
+use crate::statement::{run, select};
+use sqlite::types::ToSql;
+use sqlite::{Alter, Row, Transaction};
+use sqlite_value::value::ValueRef;
+
+/// A recording of a version of a work: its ISRC.
+#[derive(Clone, Copy, Debug)]
+pub struct RecordingRow<'a> {
+    pub sender: &'a [u8],
+    pub work: &'a [u8],
+    pub revision: i64,
+    pub isrc: &'a [u8],
+}
+
+impl<'a> RecordingRow<'a> {
+    /// The row that these values are, in the order of the columns; else `Unread`.
+    pub fn from_row(row: &'a Row) -> Result<RecordingRow<'a>, RowFault>
+        ensures value { IfOk result (λ x. recording_values x ≡ row.now) }
+        ensures fault { IfErr result (λ e. e ≡ Unread) }
+    {
+        if row.column_count() != 4 {
+            return Err(RowFault::Unread);
+        }
+        Ok(RecordingRow {
+            sender: text(row, 0)?,
+            work: text(row, 1)?,
+            revision: integer(row, 2)?,
+            isrc: text(row, 3)?,
+        })
+    }
+}
+
+/// Adds a recording, whose key has to be free.
+pub fn add_recording<S: Alter>(
+    tx: &mut Transaction<'_, S>,
+    row: &RecordingRow<'_>,
+) -> Result<(), RowFault>
+    ensures same_reference { tx.new.conn.ghost_name ≡ tx.old.conn.ghost_name }
+    ensures written { Writes (state S.Store tx.old.conn.now) (state S.Store tx.new.conn.now) result
+        (Adds recordings (recording_values row.now ∷ [])) }
+    ensures whole { IsWhole (state S.Store tx.old.conn.now) (state S.Store tx.new.conn.now) result }
+{
+    run(
+        tx,
+        "INSERT INTO recordings (sender, work, revision, isrc) VALUES (?1, ?2, ?3, ?4)",
+        &[
+            ValueRef::Text(row.sender),
+            ValueRef::Text(row.work),
+            (&row.revision).to_sql(),
+            ValueRef::Text(row.isrc),
+        ],
+    )
+}
+
+/// Adds recordings of versions, whose keys have to be free. After an error some may be in the transaction.
+pub fn add_recordings<S: Alter>(
+    tx: &mut Transaction<'_, S>,
+    rows: &[RecordingRow<'_>],
+) -> Result<(), RowFault>
+    ensures same_reference { tx.new.conn.ghost_name ≡ tx.old.conn.ghost_name }
+    ensures written { Writes (state S.Store tx.old.conn.now) (state S.Store tx.new.conn.now) result
+        (Adds recordings (map recording_values rows.now)) }
+{
+    for row in rows {
+        add_recording(tx, row)?;
+    }
+    Ok(())
+}
+
+/// All recordings of versions, by sender, work, revision and isrc.
+pub fn all_recordings<S: Alter>(tx: &mut Transaction<'_, S>) -> Result<Vec<Row>, RowFault>
+    ensures same_reference { tx.new.conn.ghost_name ≡ tx.old.conn.ghost_name }
+    ensures read { Reads (state S.Store tx.old.conn.now) (state S.Store tx.new.conn.now) result
+        (λ db rows. Lists recordings (λ _. true) 4 db rows.items) }
+{
+    select(
+        tx,
+        "SELECT sender, work, revision, isrc FROM recordings ORDER BY sender, work, revision, isrc",
+        &[],
+    )
+}
+
+/// The recordings of a work, by revision and ISRC.
+pub fn recordings_of<S: Alter>(
+    tx: &mut Transaction<'_, S>,
+    sender: &[u8],
+    work: &[u8],
+) -> Result<Vec<Row>, RowFault>
+    ensures same_reference { tx.new.conn.ghost_name ≡ tx.old.conn.ghost_name }
+    ensures read { Reads (state S.Store tx.old.conn.now) (state S.Store tx.new.conn.now) result
+        (λ db rows. Lists recordings (has_key (Text sender.now ∷ Text work.now ∷ [])) 4 db rows.items) }
+{
+    select(
+        tx,
+        "SELECT sender, work, revision, isrc FROM recordings WHERE sender = ?1 AND work = ?2 ORDER BY sender, work, revision, isrc",
+        &[ValueRef::Text(sender), ValueRef::Text(work)],
+    )
+}
+
+/// The recordings under an ISRC, by sender, work and revision.
+pub fn recordings_with<S: Alter>(
+    tx: &mut Transaction<'_, S>,
+    isrc: &[u8],
+) -> Result<Vec<Row>, RowFault>
+    ensures same_reference { tx.new.conn.ghost_name ≡ tx.old.conn.ghost_name }
+    ensures read { Reads (state S.Store tx.old.conn.now) (state S.Store tx.new.conn.now) result
+        (λ db rows. Lists recordings (has_at 3 (Text isrc.now)) 4 db rows.items) }
+{
+    select(
+        tx,
+        "SELECT sender, work, revision, isrc FROM recordings WHERE isrc = ?1 ORDER BY sender, work, revision, isrc",
+        &[ValueRef::Text(isrc)],
+    )
+}

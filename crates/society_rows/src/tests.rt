@@ -1,0 +1,320 @@
+//! The rows of each table are read back as they were written, over memory.
+ghost use Rattle.std.specs.Prelude.{◌≡◌, false, IfOk};
+
+use super::*;
+use sqlite::{Connection, MemStore, Row, Transaction};
+use sqlite_value::value::ValueRef;
+use std::alloc::{AllocError, Global};
+use std::test::Fail;
+
+const SENDER: &[u8] = b"PB000000012";
+
+/// A new book of the example society, in memory.
+fn book(alloc: Global) -> Result<Connection<MemStore>, RowFault>
+    ensures { IfOk result (λ conn. conn.in_transaction ≡ false) }
+{
+    let mut conn = Connection::open_in_memory(alloc)?;
+    if !conn.is_autocommit() {
+        return Err(RowFault::Unread);
+    }
+    create(
+        &mut conn,
+        &OfficeRow {
+            society: 900,
+            territory: 40,
+            name: b"EXAMPLE SOCIETY",
+        },
+    )?;
+    Ok(conn)
+}
+
+fn tell(text: &mut String, alloc: Global, value: ValueRef<'_>) -> Result<(), AllocError> {
+    match value {
+        ValueRef::Int(n) => text.push_str(format!(in alloc; "{n}")?.as_str())?,
+        ValueRef::Text(bytes) | ValueRef::Blob(bytes) => {
+            for byte in bytes {
+                text.push(char::from(*byte))?;
+            }
+        }
+        _ => text.push('?')?,
+    }
+    text.push('|')
+}
+
+fn tell_row(text: &mut String, alloc: Global, row: &Row) -> Result<(), AllocError> {
+    for at in 0..row.column_count() {
+        if let Ok(value) = row.get_ref(at) {
+            tell(text, alloc, value)?;
+        }
+    }
+    text.push(';')
+}
+
+/// The values of rows, `|` behind each and `;` behind each row.
+fn told(alloc: Global, rows: Vec<Row>) -> Result<String, AllocError> {
+    let mut text = String::new(alloc);
+    for row in &rows {
+        tell_row(&mut text, alloc, row)?;
+    }
+    Ok(text)
+}
+
+// These have no clause, so that the proof of a test does not carry the state of each call.
+
+fn write_book(tx: &mut Transaction<'_, MemStore>) -> Result<(), RowFault> {
+    let two = TransmissionRow {
+        sender: SENDER,
+        number: 2,
+        body: b"second",
+    };
+    let one = TransmissionRow {
+        sender: SENDER,
+        number: 1,
+        body: b"",
+    };
+    add_transmissions(tx, &[two, one])?;
+    add_returns(
+        tx,
+        &[ReturnRow {
+            reporter: b"RADIO1",
+            number: 3,
+            body: b"isrc,plays,seconds",
+        }],
+    )
+}
+
+fn write_pools(tx: &mut Transaction<'_, MemStore>) -> Result<(), RowFault> {
+    add_pools(
+        tx,
+        &[PoolRow {
+            pool: 7,
+            amount: 1_000_000_000_000,
+        }],
+    )?;
+    add_pool_cuts(
+        tx,
+        &[PoolCutRow {
+            pool: 7,
+            sender: SENDER,
+            number: 2,
+        }],
+    )?;
+    add_pool_returns(
+        tx,
+        &[PoolReturnRow {
+            reporter: b"RADIO1",
+            number: 3,
+            pool: 7,
+        }],
+    )
+}
+
+fn write_works(tx: &mut Transaction<'_, MemStore>) -> Result<(), RowFault> {
+    let first = VersionRow {
+        sender: SENDER,
+        work: b"W1",
+        revision: 0,
+        number: 1,
+        place: 0,
+        ordinal: 99_999_999_999,
+    };
+    let next = VersionRow {
+        sender: SENDER,
+        work: b"W1",
+        revision: 1,
+        number: 2,
+        place: 4,
+        ordinal: 99_999_999_999,
+    };
+    add_versions(tx, &[next, first])?;
+    add_recordings(
+        tx,
+        &[RecordingRow {
+            sender: SENDER,
+            work: b"W1",
+            revision: 0,
+            isrc: b"ATABC2600001",
+        }],
+    )
+}
+
+fn write_verdicts(tx: &mut Transaction<'_, MemStore>) -> Result<(), RowFault> {
+    add_verdicts(
+        tx,
+        &[VerdictRow {
+            sender: SENDER,
+            number: 1,
+            place: 0,
+            fault: 21,
+            ordinal: 0,
+            revision: 0,
+        }],
+    )?;
+    add_credits(
+        tx,
+        &[CreditRow {
+            pool: 7,
+            line: 0,
+            isrc: b"-",
+            account: b"UNCLAIMED",
+            units: 5,
+        }],
+    )
+}
+
+fn write_fronts(tx: &mut Transaction<'_, MemStore>) -> Result<(), RowFault> {
+    let early = FrontRow {
+        sender: SENDER,
+        front: 0,
+        works: 0,
+    };
+    let late = FrontRow {
+        sender: SENDER,
+        front: 2,
+        works: 1,
+    };
+    let other = FrontRow {
+        sender: b"PB000000034",
+        front: 1,
+        works: 0,
+    };
+    put_fronts(tx, &[early, other, late])
+}
+
+fn write_balances(tx: &mut Transaction<'_, MemStore>) -> Result<(), RowFault> {
+    let before = BalanceRow {
+        account: b"UNCLAIMED",
+        units: 5,
+    };
+    let after = BalanceRow {
+        account: b"UNCLAIMED",
+        units: 999_999_999_999_999_999,
+    };
+    put_balances(tx, &[before, after])
+}
+
+fn read_book(tx: &mut Transaction<'_, MemStore>, alloc: Global) -> Result<String, RowFault> {
+    let mut text = told(alloc, all_transmissions(tx)?)?;
+    text.push_str(told(alloc, all_returns(tx)?)?.as_str())?;
+    Ok(text)
+}
+
+fn read_pools(tx: &mut Transaction<'_, MemStore>, alloc: Global) -> Result<String, RowFault> {
+    let mut text = told(alloc, all_pools(tx)?)?;
+    text.push_str(told(alloc, all_pool_cuts(tx)?)?.as_str())?;
+    text.push_str(told(alloc, all_pool_returns(tx)?)?.as_str())?;
+    Ok(text)
+}
+
+fn read_works(tx: &mut Transaction<'_, MemStore>, alloc: Global) -> Result<String, RowFault> {
+    let mut text = told(alloc, all_versions(tx)?)?;
+    text.push_str(told(alloc, all_recordings(tx)?)?.as_str())?;
+    Ok(text)
+}
+
+fn read_verdicts(tx: &mut Transaction<'_, MemStore>, alloc: Global) -> Result<String, RowFault> {
+    let mut text = told(alloc, all_verdicts(tx)?)?;
+    text.push_str(told(alloc, all_credits(tx)?)?.as_str())?;
+    Ok(text)
+}
+
+fn read_fronts(tx: &mut Transaction<'_, MemStore>, alloc: Global) -> Result<String, RowFault> {
+    let mut text = told(alloc, all_fronts(tx)?)?;
+    text.push_str(told(alloc, all_balances(tx)?)?.as_str())?;
+    Ok(text)
+}
+
+fn read_by_key(tx: &mut Transaction<'_, MemStore>, alloc: Global) -> Result<String, RowFault> {
+    let mut text = told(alloc, transmission_at(tx, SENDER, 2)?)?;
+    text.push_str(told(alloc, transmissions_above(tx, SENDER, 1)?)?.as_str())?;
+    text.push_str(told(alloc, transmissions_above(tx, SENDER, 2)?)?.as_str())?;
+    text.push_str(told(alloc, return_at(tx, b"RADIO1", 3)?)?.as_str())?;
+    Ok(text)
+}
+
+fn read_pool(tx: &mut Transaction<'_, MemStore>, alloc: Global) -> Result<String, RowFault> {
+    let mut text = told(alloc, pool_at(tx, 7)?)?;
+    text.push_str(told(alloc, cuts_of(tx, 7)?)?.as_str())?;
+    text.push_str(told(alloc, pool_return_at(tx, b"RADIO1", 3)?)?.as_str())?;
+    text.push_str(told(alloc, returns_of_pool(tx, 8)?)?.as_str())?;
+    Ok(text)
+}
+
+fn read_work(tx: &mut Transaction<'_, MemStore>, alloc: Global) -> Result<String, RowFault> {
+    let mut text = told(alloc, versions_of(tx, SENDER, b"W1")?)?;
+    text.push_str(told(alloc, recordings_of(tx, SENDER, b"W2")?)?.as_str())?;
+    text.push_str(told(alloc, recordings_with(tx, b"ATABC2600001")?)?.as_str())?;
+    text.push_str(told(alloc, verdicts_of(tx, SENDER, 1)?)?.as_str())?;
+    Ok(text)
+}
+
+fn read_money(tx: &mut Transaction<'_, MemStore>, alloc: Global) -> Result<String, RowFault> {
+    let mut text = told(alloc, credits_of(tx, 7)?)?;
+    text.push_str(told(alloc, front_at(tx, SENDER)?)?.as_str())?;
+    text.push_str(told(alloc, balance_at(tx, b"UNCLAIMED")?)?.as_str())?;
+    Ok(text)
+}
+
+#[test]
+fn the_book_is_read_back(rt: HostRuntime) -> Result<(), Fail> {
+    let mut conn = book(rt.alloc())?;
+    let mut tx = conn.transaction();
+    write_book(&mut tx)?;
+    write_pools(&mut tx)?;
+    assert_eq!(rt;
+        read_book(&mut tx, rt.alloc())?.as_str(),
+        "PB000000012|1||;PB000000012|2|second|;RADIO1|3|isrc,plays,seconds|;"
+    );
+    assert_eq!(rt;
+        read_pools(&mut tx, rt.alloc())?.as_str(),
+        "7|1000000000000|;7|PB000000012|2|;RADIO1|3|7|;"
+    );
+    assert_eq!(rt;
+        read_by_key(&mut tx, rt.alloc())?.as_str(),
+        "PB000000012|2|second|;PB000000012|2|second|;RADIO1|3|isrc,plays,seconds|;"
+    );
+    assert_eq!(rt;
+        read_pool(&mut tx, rt.alloc())?.as_str(),
+        "7|1000000000000|;7|PB000000012|2|;RADIO1|3|7|;"
+    );
+    Ok(())
+}
+
+#[test]
+fn what_is_derived_is_read_back(rt: HostRuntime) -> Result<(), Fail> {
+    let mut conn = book(rt.alloc())?;
+    let mut tx = conn.transaction();
+    write_works(&mut tx)?;
+    write_verdicts(&mut tx)?;
+    assert_eq!(rt;
+        read_works(&mut tx, rt.alloc())?.as_str(),
+        "PB000000012|W1|0|1|0|99999999999|;PB000000012|W1|1|2|4|99999999999|;PB000000012|W1|0|ATABC2600001|;"
+    );
+    assert_eq!(rt;
+        read_verdicts(&mut tx, rt.alloc())?.as_str(),
+        "PB000000012|1|0|21|0|0|;7|0|-|UNCLAIMED|5|;"
+    );
+    assert_eq!(rt;
+        read_work(&mut tx, rt.alloc())?.as_str(),
+        "PB000000012|W1|0|1|0|99999999999|;PB000000012|W1|1|2|4|99999999999|;PB000000012|W1|0|ATABC2600001|;PB000000012|1|0|21|0|0|;"
+    );
+    Ok(())
+}
+
+#[test]
+fn a_front_and_a_balance_give_way(rt: HostRuntime) -> Result<(), Fail> {
+    let mut conn = book(rt.alloc())?;
+    let mut tx = conn.transaction();
+    write_verdicts(&mut tx)?;
+    write_fronts(&mut tx)?;
+    write_balances(&mut tx)?;
+    assert_eq!(rt;
+        read_fronts(&mut tx, rt.alloc())?.as_str(),
+        "PB000000012|2|1|;PB000000034|1|0|;UNCLAIMED|999999999999999999|;"
+    );
+    assert_eq!(rt;
+        read_money(&mut tx, rt.alloc())?.as_str(),
+        "7|0|-|UNCLAIMED|5|;PB000000012|2|1|;UNCLAIMED|999999999999999999|;"
+    );
+    Ok(())
+}

@@ -1,0 +1,125 @@
+//! The table of transmissions.
+ghost use Rattle.std.specs.Prelude.{◌≡◌, map, [], ◌∷◌, true, pos, IfOk, IfErr};
+ghost use Rattle.sqlite_value.specs.declared.value.Value.TheVariants.{Int, Text};
+ghost use Rattle.sqlite.specs.Held.{state};
+ghost use Rattle.society_rows.specs.declared.fault.RowFault.TheVariants.{Unread};
+ghost use Rattle.society_rows.specs.Effects.{Writes, IsWhole};
+ghost use Rattle.society_rows.specs.Layout.{transmissions};
+ghost use Rattle.society_rows.specs.Reads.{Lists, Reads, has_key, is_above};
+ghost use Rattle.society_rows.specs.Rows.{transmission_values};
+ghost use Rattle.society_rows.specs.Stored.{Adds};
+
+use crate::RowFault;
+use crate::reading::{bytes, text, whole};
+use crate::statement::{run, select};
+use sqlite::types::ToSql;
+use sqlite::{Alter, Row, Transaction};
+use sqlite_value::value::ValueRef;
+
+/// A transmission: its sender key, its number, and the bytes of its file.
+#[derive(Clone, Copy, Debug)]
+pub struct TransmissionRow<'a> {
+    pub sender: &'a [u8],
+    pub number: u32,
+    pub body: &'a [u8],
+}
+
+impl<'a> TransmissionRow<'a> {
+    /// The row that these values are, in the order of the columns; else `Unread`.
+    pub fn from_row(row: &'a Row) -> Result<TransmissionRow<'a>, RowFault>
+        ensures value { IfOk result (λ x. transmission_values x ≡ row.now) }
+        ensures fault { IfErr result (λ e. e ≡ Unread) }
+    {
+        if row.column_count() != 3 {
+            return Err(RowFault::Unread);
+        }
+        Ok(TransmissionRow {
+            sender: text(row, 0)?,
+            number: whole(row, 1)?,
+            body: bytes(row, 2)?,
+        })
+    }
+}
+
+/// Adds a transmission, whose key has to be free.
+pub fn add_transmission<S: Alter>(
+    tx: &mut Transaction<'_, S>,
+    row: &TransmissionRow<'_>,
+) -> Result<(), RowFault>
+    ensures same_reference { tx.new.conn.ghost_name ≡ tx.old.conn.ghost_name }
+    ensures written { Writes (state S.Store tx.old.conn.now) (state S.Store tx.new.conn.now) result
+        (Adds transmissions (transmission_values row.now ∷ [])) }
+    ensures whole { IsWhole (state S.Store tx.old.conn.now) (state S.Store tx.new.conn.now) result }
+{
+    run(
+        tx,
+        "INSERT INTO transmissions (sender, number, body) VALUES (?1, ?2, ?3)",
+        &[
+            ValueRef::Text(row.sender),
+            row.number.to_sql(),
+            ValueRef::Blob(row.body),
+        ],
+    )
+}
+
+/// Adds transmissions, whose keys have to be free. After an error some may be in the transaction.
+pub fn add_transmissions<S: Alter>(
+    tx: &mut Transaction<'_, S>,
+    rows: &[TransmissionRow<'_>],
+) -> Result<(), RowFault>
+    ensures same_reference { tx.new.conn.ghost_name ≡ tx.old.conn.ghost_name }
+    ensures written { Writes (state S.Store tx.old.conn.now) (state S.Store tx.new.conn.now) result
+        (Adds transmissions (map transmission_values rows.now)) }
+{
+    for row in rows {
+        add_transmission(tx, row)?;
+    }
+    Ok(())
+}
+
+/// All transmissions, by sender and number.
+pub fn all_transmissions<S: Alter>(tx: &mut Transaction<'_, S>) -> Result<Vec<Row>, RowFault>
+    ensures same_reference { tx.new.conn.ghost_name ≡ tx.old.conn.ghost_name }
+    ensures read { Reads (state S.Store tx.old.conn.now) (state S.Store tx.new.conn.now) result
+        (λ db rows. Lists transmissions (λ _. true) 2 db rows.items) }
+{
+    select(
+        tx,
+        "SELECT sender, number, body FROM transmissions ORDER BY sender, number",
+        &[],
+    )
+}
+
+/// The transmission of a sender under a number, if there is one.
+pub fn transmission_at<S: Alter>(
+    tx: &mut Transaction<'_, S>,
+    sender: &[u8],
+    number: u32,
+) -> Result<Vec<Row>, RowFault>
+    ensures same_reference { tx.new.conn.ghost_name ≡ tx.old.conn.ghost_name }
+    ensures read { Reads (state S.Store tx.old.conn.now) (state S.Store tx.new.conn.now) result
+        (λ db rows. Lists transmissions (has_key (Text sender.now ∷ Int (pos number) ∷ [])) 2 db rows.items) }
+{
+    select(
+        tx,
+        "SELECT sender, number, body FROM transmissions WHERE sender = ?1 AND number = ?2 ORDER BY sender, number",
+        &[ValueRef::Text(sender), number.to_sql()],
+    )
+}
+
+/// The transmissions of a sender above a number, by number.
+pub fn transmissions_above<S: Alter>(
+    tx: &mut Transaction<'_, S>,
+    sender: &[u8],
+    number: u32,
+) -> Result<Vec<Row>, RowFault>
+    ensures same_reference { tx.new.conn.ghost_name ≡ tx.old.conn.ghost_name }
+    ensures read { Reads (state S.Store tx.old.conn.now) (state S.Store tx.new.conn.now) result
+        (λ db rows. Lists transmissions (is_above (Text sender.now) (Int (pos number))) 2 db rows.items) }
+{
+    select(
+        tx,
+        "SELECT sender, number, body FROM transmissions WHERE sender = ?1 AND number > ?2 ORDER BY sender, number",
+        &[ValueRef::Text(sender), number.to_sql()],
+    )
+}

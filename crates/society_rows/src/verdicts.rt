@@ -1,0 +1,117 @@
+//! The table of verdicts.
+ghost use Rattle.std.specs.Prelude.{◌≡◌, map, [], ◌∷◌, true, pos, IfOk, IfErr};
+ghost use Rattle.sqlite_value.specs.declared.value.Value.TheVariants.{Int, Text};
+ghost use Rattle.sqlite.specs.Held.{state};
+ghost use Rattle.society_rows.specs.declared.fault.RowFault.TheVariants.{Unread};
+ghost use Rattle.society_rows.specs.Effects.{Writes, IsWhole};
+ghost use Rattle.society_rows.specs.Layout.{verdicts};
+ghost use Rattle.society_rows.specs.Reads.{Lists, Reads, has_key};
+ghost use Rattle.society_rows.specs.Rows.{verdict_values};
+ghost use Rattle.society_rows.specs.Stored.{Adds};
+
+use crate::RowFault;
+use crate::reading::{integer, text, whole};
+use crate::statement::{run, select};
+use sqlite::types::ToSql;
+use sqlite::{Alter, Row, Transaction};
+use sqlite_value::value::ValueRef;
+
+/// What a transaction was answered: fault 0 is accepted; ordinal and revision are 0 where it was rejected.
+#[derive(Clone, Copy, Debug)]
+pub struct VerdictRow<'a> {
+    pub sender: &'a [u8],
+    pub number: u32,
+    pub place: u32,
+    pub fault: u32,
+    pub ordinal: i64,
+    pub revision: i64,
+}
+
+impl<'a> VerdictRow<'a> {
+    /// The row that these values are, in the order of the columns; else `Unread`.
+    pub fn from_row(row: &'a Row) -> Result<VerdictRow<'a>, RowFault>
+        ensures value { IfOk result (λ x. verdict_values x ≡ row.now) }
+        ensures fault { IfErr result (λ e. e ≡ Unread) }
+    {
+        if row.column_count() != 6 {
+            return Err(RowFault::Unread);
+        }
+        Ok(VerdictRow {
+            sender: text(row, 0)?,
+            number: whole(row, 1)?,
+            place: whole(row, 2)?,
+            fault: whole(row, 3)?,
+            ordinal: integer(row, 4)?,
+            revision: integer(row, 5)?,
+        })
+    }
+}
+
+/// Adds a verdict, whose key has to be free.
+pub fn add_verdict<S: Alter>(
+    tx: &mut Transaction<'_, S>,
+    row: &VerdictRow<'_>,
+) -> Result<(), RowFault>
+    ensures same_reference { tx.new.conn.ghost_name ≡ tx.old.conn.ghost_name }
+    ensures written { Writes (state S.Store tx.old.conn.now) (state S.Store tx.new.conn.now) result
+        (Adds verdicts (verdict_values row.now ∷ [])) }
+    ensures whole { IsWhole (state S.Store tx.old.conn.now) (state S.Store tx.new.conn.now) result }
+{
+    run(
+        tx,
+        "INSERT INTO verdicts (sender, number, place, fault, ordinal, revision) VALUES (?1, ?2, ?3, ?4, ?5, ?6)",
+        &[
+            ValueRef::Text(row.sender),
+            row.number.to_sql(),
+            row.place.to_sql(),
+            row.fault.to_sql(),
+            (&row.ordinal).to_sql(),
+            (&row.revision).to_sql(),
+        ],
+    )
+}
+
+/// Adds verdicts, whose keys have to be free. After an error some may be in the transaction.
+pub fn add_verdicts<S: Alter>(
+    tx: &mut Transaction<'_, S>,
+    rows: &[VerdictRow<'_>],
+) -> Result<(), RowFault>
+    ensures same_reference { tx.new.conn.ghost_name ≡ tx.old.conn.ghost_name }
+    ensures written { Writes (state S.Store tx.old.conn.now) (state S.Store tx.new.conn.now) result
+        (Adds verdicts (map verdict_values rows.now)) }
+{
+    for row in rows {
+        add_verdict(tx, row)?;
+    }
+    Ok(())
+}
+
+/// All verdicts, by sender, number and place.
+pub fn all_verdicts<S: Alter>(tx: &mut Transaction<'_, S>) -> Result<Vec<Row>, RowFault>
+    ensures same_reference { tx.new.conn.ghost_name ≡ tx.old.conn.ghost_name }
+    ensures read { Reads (state S.Store tx.old.conn.now) (state S.Store tx.new.conn.now) result
+        (λ db rows. Lists verdicts (λ _. true) 3 db rows.items) }
+{
+    select(
+        tx,
+        "SELECT sender, number, place, fault, ordinal, revision FROM verdicts ORDER BY sender, number, place",
+        &[],
+    )
+}
+
+/// The verdicts of a transmission, by place.
+pub fn verdicts_of<S: Alter>(
+    tx: &mut Transaction<'_, S>,
+    sender: &[u8],
+    number: u32,
+) -> Result<Vec<Row>, RowFault>
+    ensures same_reference { tx.new.conn.ghost_name ≡ tx.old.conn.ghost_name }
+    ensures read { Reads (state S.Store tx.old.conn.now) (state S.Store tx.new.conn.now) result
+        (λ db rows. Lists verdicts (has_key (Text sender.now ∷ Int (pos number) ∷ [])) 3 db rows.items) }
+{
+    select(
+        tx,
+        "SELECT sender, number, place, fault, ordinal, revision FROM verdicts WHERE sender = ?1 AND number = ?2 ORDER BY sender, number, place",
+        &[ValueRef::Text(sender), number.to_sql()],
+    )
+}

@@ -1,0 +1,117 @@
+//! The table of versions of works.
+ghost use Rattle.std.specs.Prelude.{◌≡◌, map, [], ◌∷◌, true, IfOk, IfErr};
+ghost use Rattle.sqlite_value.specs.declared.value.Value.TheVariants.{Text};
+ghost use Rattle.sqlite.specs.Held.{state};
+ghost use Rattle.society_rows.specs.declared.fault.RowFault.TheVariants.{Unread};
+ghost use Rattle.society_rows.specs.Effects.{Writes, IsWhole};
+ghost use Rattle.society_rows.specs.Layout.{versions};
+ghost use Rattle.society_rows.specs.Reads.{Lists, Reads, has_key};
+ghost use Rattle.society_rows.specs.Rows.{version_values};
+ghost use Rattle.society_rows.specs.Stored.{Adds};
+
+use crate::RowFault;
+use crate::reading::{integer, text, whole};
+use crate::statement::{run, select};
+use sqlite::types::ToSql;
+use sqlite::{Alter, Row, Transaction};
+use sqlite_value::value::ValueRef;
+
+/// A version of a work: where its transaction stands, and its work's ordinal.
+#[derive(Clone, Copy, Debug)]
+pub struct VersionRow<'a> {
+    pub sender: &'a [u8],
+    pub work: &'a [u8],
+    pub revision: i64,
+    pub number: u32,
+    pub place: u32,
+    pub ordinal: i64,
+}
+
+impl<'a> VersionRow<'a> {
+    /// The row that these values are, in the order of the columns; else `Unread`.
+    pub fn from_row(row: &'a Row) -> Result<VersionRow<'a>, RowFault>
+        ensures value { IfOk result (λ x. version_values x ≡ row.now) }
+        ensures fault { IfErr result (λ e. e ≡ Unread) }
+    {
+        if row.column_count() != 6 {
+            return Err(RowFault::Unread);
+        }
+        Ok(VersionRow {
+            sender: text(row, 0)?,
+            work: text(row, 1)?,
+            revision: integer(row, 2)?,
+            number: whole(row, 3)?,
+            place: whole(row, 4)?,
+            ordinal: integer(row, 5)?,
+        })
+    }
+}
+
+/// Adds a version, whose key has to be free.
+pub fn add_version<S: Alter>(
+    tx: &mut Transaction<'_, S>,
+    row: &VersionRow<'_>,
+) -> Result<(), RowFault>
+    ensures same_reference { tx.new.conn.ghost_name ≡ tx.old.conn.ghost_name }
+    ensures written { Writes (state S.Store tx.old.conn.now) (state S.Store tx.new.conn.now) result
+        (Adds versions (version_values row.now ∷ [])) }
+    ensures whole { IsWhole (state S.Store tx.old.conn.now) (state S.Store tx.new.conn.now) result }
+{
+    run(
+        tx,
+        "INSERT INTO versions (sender, work, revision, number, place, ordinal) VALUES (?1, ?2, ?3, ?4, ?5, ?6)",
+        &[
+            ValueRef::Text(row.sender),
+            ValueRef::Text(row.work),
+            (&row.revision).to_sql(),
+            row.number.to_sql(),
+            row.place.to_sql(),
+            (&row.ordinal).to_sql(),
+        ],
+    )
+}
+
+/// Adds versions of works, whose keys have to be free. After an error some may be in the transaction.
+pub fn add_versions<S: Alter>(
+    tx: &mut Transaction<'_, S>,
+    rows: &[VersionRow<'_>],
+) -> Result<(), RowFault>
+    ensures same_reference { tx.new.conn.ghost_name ≡ tx.old.conn.ghost_name }
+    ensures written { Writes (state S.Store tx.old.conn.now) (state S.Store tx.new.conn.now) result
+        (Adds versions (map version_values rows.now)) }
+{
+    for row in rows {
+        add_version(tx, row)?;
+    }
+    Ok(())
+}
+
+/// All versions of works, by sender, work and revision.
+pub fn all_versions<S: Alter>(tx: &mut Transaction<'_, S>) -> Result<Vec<Row>, RowFault>
+    ensures same_reference { tx.new.conn.ghost_name ≡ tx.old.conn.ghost_name }
+    ensures read { Reads (state S.Store tx.old.conn.now) (state S.Store tx.new.conn.now) result
+        (λ db rows. Lists versions (λ _. true) 3 db rows.items) }
+{
+    select(
+        tx,
+        "SELECT sender, work, revision, number, place, ordinal FROM versions ORDER BY sender, work, revision",
+        &[],
+    )
+}
+
+/// The versions of a work, by revision.
+pub fn versions_of<S: Alter>(
+    tx: &mut Transaction<'_, S>,
+    sender: &[u8],
+    work: &[u8],
+) -> Result<Vec<Row>, RowFault>
+    ensures same_reference { tx.new.conn.ghost_name ≡ tx.old.conn.ghost_name }
+    ensures read { Reads (state S.Store tx.old.conn.now) (state S.Store tx.new.conn.now) result
+        (λ db rows. Lists versions (has_key (Text sender.now ∷ Text work.now ∷ [])) 3 db rows.items) }
+{
+    select(
+        tx,
+        "SELECT sender, work, revision, number, place, ordinal FROM versions WHERE sender = ?1 AND work = ?2 ORDER BY sender, work, revision",
+        &[ValueRef::Text(sender), ValueRef::Text(work)],
+    )
+}
