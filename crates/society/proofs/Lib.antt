@@ -1,3 +1,4 @@
+pub mod ConnectionLemmas
 pub mod ReplayLemmas
 pub mod WordLemmas
 mod Worked

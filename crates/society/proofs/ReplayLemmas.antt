@@ -15,7 +15,7 @@ use Rattle.society_core.specs.State.{State}
 use Rattle.society.specs.Replays.{AnswersFromNothing, Replays, BreaksOff, most_turns}
 
 -- the answers are a run from the empty book on
-from_nothing : (office : Office) (old new : State) (parts : List Part) (replies : List Reply) → old.office ≡ office → old.book ≡ empty_book → IsTrue new.is_clean → AreAnswered parts replies old new → AnswersFromNothing office parts replies
+pub from_nothing : (office : Office) (old new : State) (parts : List Part) (replies : List Reply) → old.office ≡ office → old.book ≡ empty_book → IsTrue new.is_clean → AreAnswered parts replies old new → AnswersFromNothing office parts replies
 from_nothing office old new parts replies same empty clean answers = record {
   after = new.book;
   each = answers.each;

@@ -1,7 +1,7 @@
 -- Worked values of what the program's words ask for.
 use Rattle.std.specs.Prelude.{◌≡◌, ℕ, List, [], ◌∷◌, refl, codes}
 use Rattle.work_ids.specs.Digits.{number_of}
-use Rattle.society.specs.Words.{AsksReplay, HasBadName, HasBadWords, asked}
+use Rattle.society.specs.Words.{AsksReplay, AsksServe, HasBadName, HasBadWords, asked}
 
 -- the words for these values
 abbrev words : List ℕ → List ℕ → List ℕ → List (List ℕ)
@@ -54,3 +54,28 @@ one_more = refl
 
 nothing : asked (codes "society" ∷ []) ≡ HasBadWords
 nothing = refl
+
+-- the words for these values, to serve
+abbrev serve_words : List ℕ → List ℕ → List (List ℕ)
+serve_words port connections =
+    codes "society" ∷ codes "serve" ∷ codes "--port" ∷ port ∷ codes "--connections" ∷ connections ∷ codes "--society" ∷ codes "900" ∷ codes "--territory" ∷ codes "40" ∷ codes "--name" ∷ codes "X" ∷ []
+
+serve : asked (serve_words (codes "8080") (codes "1000000")) ≡ AsksServe (record { port = 8080; connections = 1000000 }) 900 40 (codes "X")
+unfolding number_of
+serve = refl
+
+no_port : asked (serve_words (codes "0") (codes "1")) ≡ HasBadWords
+unfolding number_of
+no_port = refl
+
+past_the_ports : asked (serve_words (codes "65536") (codes "1")) ≡ HasBadWords
+unfolding number_of
+past_the_ports = refl
+
+no_connections : asked (serve_words (codes "8080") (codes "0")) ≡ HasBadWords
+unfolding number_of
+no_connections = refl
+
+too_many_connections : asked (serve_words (codes "8080") (codes "1000001")) ≡ HasBadWords
+unfolding number_of
+too_many_connections = refl

@@ -1,2 +1,3 @@
+pub mod Connections
 pub mod Replays
 pub mod Words

@@ -1,9 +1,10 @@
 //! The program: `society replay --society N --territory N --name TEXT` serves standard input to standard
-//! output over a book in memory.
+//! output over a book in memory; `society serve --port N --connections N` and the same serves connections on this machine.
 #![tactic(auto)]
 
 #[cfg(test)]
 mod ample_tests;
+mod connections;
 #[cfg(test)]
 mod desk_tests;
 #[cfg(test)]
@@ -13,6 +14,7 @@ mod pool_tests;
 mod replay;
 #[cfg(test)]
 mod samples;
+mod serving;
 mod starting;
 #[cfg(test)]
 mod streams;
@@ -40,6 +42,7 @@ fn main(rt: HostRuntime) -> ExitCode {
     let mut reader = Counted::new(rt.stdin());
     let mut out = Counted::new(rt.stdout());
     ExitCode::from(start(
+        &rt,
         alloc,
         words.as_slice(),
         &mut reader,

@@ -8,10 +8,10 @@ use std::alloc::Global;
 use std::io::{Read, Write};
 
 /// Most reads of one stream.
-const TURNS: u64 = 100_000_000;
+pub const TURNS: u64 = 100_000_000;
 
 /// Status of a stream that was served to its end.
-const SERVED: u8 = 0;
+pub const SERVED: u8 = 0;
 
 /// Status of a stream that broke off.
 pub const BROKEN_OFF: u8 = 1;
@@ -43,8 +43,8 @@ pub fn replay<R: Read, W: Write, E: Write>(
     }
 }
 
-// What a fault is called.
-fn fault_name(kind: FaultKind) -> &'static str
+/// What a fault is called.
+pub fn fault_name(kind: FaultKind) -> &'static str
     ensures { result.now ≡ fault_name kind }
 {
     match kind {

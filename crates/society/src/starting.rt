@@ -1,13 +1,15 @@
 ghost use Rattle.std.specs.Prelude.{◌≡◌, ◌⊎◌, map, string_bytes};
-ghost use Rattle.share_rules.specs.declared.office.Office.{Office};
+ghost use Rattle.society.specs.Connections.{ServesOffice, StopsServing};
 ghost use Rattle.society.specs.Replays.{Replays, BreaksOff};
-ghost use Rattle.society.specs.Words.{AsksFor, IsWrong, asked, status_without};
+ghost use Rattle.society.specs.Words.{IsWrong, StartsReplay, StartsServing, asked, status_without};
 
 use crate::replay::{BROKEN_OFF, replay, report};
-use crate::words::{Words, office_in};
+use crate::serving::serve_office;
+use crate::words::{Words, words_in};
 use http_desk::{Counted, DeskFault, FaultKind};
 use std::alloc::Global;
 use std::io::{self, ErrorKind, Read, Write};
+use std::net::{Net, TcpListener, TcpStream};
 
 /// Status where the words are none that the program knows.
 const WRONG_WORDS: u8 = 2;
@@ -21,9 +23,11 @@ pub enum NoWords {
     Memory,
 }
 
-/// Does what the program's words ask for: replays the reader at the office that they name, or, where they are wrong,
-/// writes one line on `err` and reads and writes nothing else. Answers the exit status: that of `replay`, or 2.
-pub fn start<R: Read, W: Write, E: Write>(
+/// Does what the program's words ask for: replays the reader at the office that they name, or serves connections there, or,
+/// where they are wrong, writes one line on `err` and reads and writes nothing else. Answers the exit status: that of
+/// `replay` or of `serve_office`, or 2.
+pub fn start<N: Net<Listener = TcpListener, Stream = TcpStream>, R: Read, W: Write, E: Write>(
+    net: &N,
     alloc: Global,
     words: &[String],
     reader: &mut Counted<R>,
@@ -33,13 +37,20 @@ pub fn start<R: Read, W: Write, E: Write>(
     ensures wrong { IsWrong (asked (map string_bytes words.now))
         → (result ≡ 2) × (reader.new ≡ reader.old) × (out.new ≡ out.old) }
     ensures status { (result ≡ 0) ⊎ ((result ≡ 1) ⊎ ((result ≡ 2) × IsWrong (asked (map string_bytes words.now)))) }
-    ensures served { result ≡ 0 → (office : Office) × AsksFor (asked (map string_bytes words.now)) office
-        × Replays office R.remaining W.contents reader.old out.old out.new }
-    ensures broken_off { result ≡ 1 → (office : Office) × AsksFor (asked (map string_bytes words.now)) office
-        × BreaksOff office R.remaining W.contents reader.old reader.new out.old out.new }
+    ensures served { result ≡ 0
+        → StartsReplay (asked (map string_bytes words.now)) (λ office.
+        Replays office R.remaining W.contents reader.old out.old out.new)
+        ⊎ StartsServing (asked (map string_bytes words.now)) (λ place office.
+        ServesOffice office W.contents out.old out.new place.connections) }
+    ensures broken_off { result ≡ 1
+        → StartsReplay (asked (map string_bytes words.now)) (λ office.
+        BreaksOff office R.remaining W.contents reader.old reader.new out.old out.new)
+        ⊎ StartsServing (asked (map string_bytes words.now)) (λ place office.
+        StopsServing office W.contents out.old out.new place.connections) }
 {
-    match office_in(words) {
+    match words_in(words) {
         Words::Replay(office) => replay(alloc, &office, reader, out, err),
+        Words::Serve(place, office) => serve_office(net, alloc, &office, place, out, err),
         Words::BadName => refuse(err, "bad name"),
         Words::BadWords => refuse(err, "bad words"),
     }

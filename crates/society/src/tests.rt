@@ -517,7 +517,7 @@ fn words_of_the_program(rt: HostRuntime) -> Result<(), Fail> {
         let mut reader = Counted::new(input.as_slice());
         let mut out = Counted::new(Vec::<u8>::new(alloc));
         let mut err = Vec::<u8>::new(alloc);
-        let told = start(alloc, list.as_slice(), &mut reader, &mut out, &mut err);
+        let told = start(&rt, alloc, list.as_slice(), &mut reader, &mut out, &mut err);
         assert_eq!(rt; told, status);
         assert_eq!(rt; err.as_slice(), line.as_bytes());
         assert_eq!(rt; out.into_inner().is_empty(), status != 0);

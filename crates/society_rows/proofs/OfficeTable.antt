@@ -2,6 +2,13 @@
 use Rattle.std.proofs.Common.{inl, ◌≡◌, ℕ, ℤ, pos, List, [], ◌∷◌, codes, Ok, refl, ◌∙◌, subst, map, IsPermutation}
 use Rattle.sqlite_value.specs.declared.value.Value.TheVariants.{Null, Int, Text}
 use Rattle.sqlite_value.specs.Order.{Row}
+use Rattle.sqlite_value.specs.declared.keys.Collation.TheVariants.{Binary}
+use Rattle.sqlite_value.specs.declared.keys.Key.{Key}
+use Rattle.sqlite_value.specs.Keys.{ascending}
+use Rattle.society_rows.specs.Reads.{Lists}
+use Rattle.society_rows.proofs.Answers.{picked}
+use Rattle.society_rows.proofs.Queries.{IsQuery, IsListing, lists_by}
+use Rattle.std.proofs.Common.{true}
 use Rattle.sqlite_sql.specs.Term.{Term, lit, col}
 use Rattle.sqlite_schema.specs.declared.command.Command.TheVariants.{Insert}
 use Rattle.sqlite_schema.specs.declared.command.Source.TheVariants.{Values}
@@ -10,7 +17,7 @@ use Rattle.sqlite_rules.specs.Lists.{Has}
 use Rattle.sqlite_tied.specs.Compute.{everything}
 use Rattle.sqlite.specs.Effect.{Database}
 use Rattle.sqlite.specs.Listing.{understood}
-use Rattle.sqlite.specs.State.{State, ExecutesInside}
+use Rattle.sqlite.specs.State.{State, ExecutesInside, Shown}
 use Rattle.sqlite.proofs.Callers.{IsPlain, command_of, one_permutation}
 use Rattle.society_rows.specs.Layout.{written_out, layout, all_tables, office}
 use Rattle.society_rows.specs.NewBook.{IsEmptyBook, Begins}
@@ -60,3 +67,27 @@ begins row d e none more =
         empty = all_from _ all_tables (λ t has other. all_has _ all_tables t more.others has other ∙ all_has _ all_tables t none.empty has);
       };
     }
+
+abbrev pub all_offices_text : List ℕ
+all_offices_text = codes "SELECT one, layout, society, territory, name FROM office ORDER BY one"
+
+abbrev project : List Term
+project = col 1 0 ∷ col 1 2 ∷ col 1 3 ∷ col 1 4 ∷ col 1 5 ∷ []
+
+abbrev order : List (Term × Key)
+order = (col 1 0, ascending Binary) ∷ []
+
+abbrev shown_names : List (List ℕ)
+shown_names = codes "one" ∷ codes "layout" ∷ codes "society" ∷ codes "territory" ∷ codes "name" ∷ []
+
+pub all_offices_is : IsQuery all_offices_text (picked 0 [] project order) shown_names
+unfolding understood everything written_out
+all_offices_is = record { command = refl; plain = (refl, refl); unlisted = refl }
+
+all_offices_listing : IsListing office [] project order [] (λ _. true) 1
+unfolding written_out
+all_offices_listing = record { shows = λ r. refl; tests = λ r. refl; orders = λ a b. refl }
+
+pub all_offices_lists : (old new : State) (rows : List Row) → HasLayout old.now → Shown all_offices_text [] old new rows → Lists office (λ _. true) 1 old.now.trees rows
+unfolding written_out
+all_offices_lists = lists_by office all_offices_text [] project order shown_names all_offices_is [] (λ _. true) 1 all_offices_listing

@@ -66,11 +66,14 @@ fn begin_book<S: Alter>(tx: &mut Transaction<'_, S>, office: &OfficeRow<'_>) -> 
 pub fn create<S: Alter>(conn: &mut Connection<S>, office: &OfficeRow<'_>) -> Result<(), RowFault>
     requires { conn.old.in_transaction ≡ false }
     ensures created { HasCleanDisk (state S.Store conn.new) → IsBare (state S.Store conn.old).now
-        → OnOk result (Begins (office_values office.now) (state S.Store conn.new).now × ((state S.Store conn.new).now ≡ (state S.Store conn.new).committed)) }
+        → OnOk result (Begins (office_values office.now) (state S.Store conn.new).now
+        × ((state S.Store conn.new).now ≡ (state S.Store conn.new).committed)) }
     ensures neither { HasCleanDisk (state S.Store conn.new) → IsTrue (state S.Store conn.new).is_open
-        → OnErr result (((state S.Store conn.new).now ≡ (state S.Store conn.old).committed) × ((state S.Store conn.new).committed ≡ (state S.Store conn.old).committed)) }
+        → OnErr result (((state S.Store conn.new).now ≡ (state S.Store conn.old).committed)
+        × ((state S.Store conn.new).committed ≡ (state S.Store conn.old).committed)) }
     ensures ended { conn.new.in_transaction ≡ false }
-    ensures crash { Survives (state S.Store conn.old) (state S.Store conn.new) (λ db. IsBare (state S.Store conn.old).now → IsNewBook (office_values office.now) db) }
+    ensures crash { Survives (state S.Store conn.old) (state S.Store conn.new)
+        (λ db. IsBare (state S.Store conn.old).now → IsNewBook (office_values office.now) db) }
 {
     let mut tx = conn.transaction();
     begin_book(&mut tx, office)?;

@@ -26,7 +26,7 @@ pub use credits::{CreditRow, add_credit, add_credits, all_credits, credits_of};
 pub use fault::RowFault;
 pub use fronts::{FrontRow, all_fronts, front_at, put_front, put_fronts};
 pub use layout::create;
-pub use office::OfficeRow;
+pub use office::{LAYOUT, OfficeRow, all_offices};
 pub use pool_cuts::{PoolCutRow, add_pool_cut, add_pool_cuts, all_pool_cuts, cuts_of};
 pub use pool_returns::{
     PoolReturnRow, add_pool_return, add_pool_returns, all_pool_returns, pool_return_at,

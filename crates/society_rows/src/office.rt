@@ -1,16 +1,22 @@
 //! The table of the office, which has one row.
-ghost use Rattle.std.specs.Prelude.{◌≡◌, [], ◌∷◌};
+ghost use Rattle.std.specs.Prelude.{◌≡◌, [], ◌∷◌, true, IfOk, IfErr};
 ghost use Rattle.sqlite.specs.Held.{state};
+ghost use Rattle.society_rows.specs.declared.fault.RowFault.TheVariants.{Unread};
 ghost use Rattle.society_rows.specs.Effects.{Writes};
 ghost use Rattle.society_rows.specs.Layout.{office};
+ghost use Rattle.society_rows.specs.Reads.{Lists, Reads};
 ghost use Rattle.society_rows.specs.Rows.{office_values};
 ghost use Rattle.society_rows.specs.Stored.{Adds};
 
 use crate::RowFault;
-use crate::statement::run;
+use crate::reading::{text, whole};
+use crate::statement::{run, select};
 use sqlite::types::ToSql;
-use sqlite::{Alter, Transaction};
+use sqlite::{Alter, Row, Transaction};
 use sqlite_value::value::ValueRef;
+
+/// The layout that is written: 2, the book and what is derived from it.
+pub const LAYOUT: u32 = 2;
 
 /// The office whose tables these are: its society, its territory and its name.
 #[derive(Clone, Copy, Debug)]
@@ -18,6 +24,28 @@ pub struct OfficeRow<'a> {
     pub society: u32,
     pub territory: u32,
     pub name: &'a [u8],
+}
+
+impl<'a> OfficeRow<'a> {
+    /// The row that these values are, in the order of the columns; else `Unread`, also where the layout is not 2.
+    pub fn from_row(row: &'a Row) -> Result<OfficeRow<'a>, RowFault>
+        ensures value { IfOk result (λ x. office_values x ≡ row.now) }
+        ensures fault { IfErr result (λ e. e ≡ Unread) }
+    {
+        if row.column_count() != 5 {
+            return Err(RowFault::Unread);
+        }
+        let one = whole(row, 0)?;
+        let layout = whole(row, 1)?;
+        if one != 1 || layout != LAYOUT {
+            return Err(RowFault::Unread);
+        }
+        Ok(OfficeRow {
+            society: whole(row, 2)?,
+            territory: whole(row, 3)?,
+            name: text(row, 4)?,
+        })
+    }
 }
 
 /// Adds the row of the office, which has to be the first.
@@ -37,5 +65,18 @@ pub(crate) fn add_office<S: Alter>(
             row.territory.to_sql(),
             ValueRef::Text(row.name),
         ],
+    )
+}
+
+/// The rows of the office: one, unless the table is empty.
+pub fn all_offices<S: Alter>(tx: &mut Transaction<'_, S>) -> Result<Vec<Row>, RowFault>
+    ensures same_reference { tx.new.conn.ghost_name ≡ tx.old.conn.ghost_name }
+    ensures read { Reads (state S.Store tx.old.conn.now) (state S.Store tx.new.conn.now) result
+        (λ db rows. Lists office (λ _. true) 1 db rows.items) }
+{
+    select(
+        tx,
+        "SELECT one, layout, society, territory, name FROM office ORDER BY one",
+        &[],
     )
 }

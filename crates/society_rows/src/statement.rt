@@ -32,7 +32,8 @@ pub(crate) fn select<S: Alter>(
     params: &[ValueRef<'_>],
 ) -> Result<Vec<Row>, RowFault>
     ensures same_reference { tx.new.conn.ghost_name ≡ tx.old.conn.ghost_name }
-    ensures selected { HasCleanDisk (state S.Store tx.new.conn.now) → Selected sql.now (bound params.now) (state S.Store tx.old.conn.now) (state S.Store tx.new.conn.now) result }
+    ensures selected { HasCleanDisk (state S.Store tx.new.conn.now) → Selected sql.now (bound params.now) (state S.Store tx.old.conn.now)
+        (state S.Store tx.new.conn.now) result }
     ensures survives { Survives (state S.Store tx.old.conn.now) (state S.Store tx.new.conn.now) (λ _. ⊥) }
 {
     Ok(tx.query_all(sql, params)?)
