@@ -9,11 +9,9 @@ ghost use Rattle.pool_split.specs.declared.claim.Claim.{Claim};
 /// and each part is less than one unit from its share (profile).
 pub fn splits_are_fair()
     ensures { (amount : ℕ) (weights : List ℕ) → 1 ≤ sum weights → IsFair amount weights (split_of amount weights) }
-{
-}
+{}
 
 /// The units of a pool's credits add up to its amount, whatever is claimed of it (profile).
 pub fn credits_add_up()
     ensures { (amount : ℕ) (claims : List Claim) → All IsPayable claims → sum (map units_of (credits amount claims)) ≡ amount }
-{
-}
+{}

@@ -75,8 +75,8 @@ pub record Keeps (a b : Book) : Type 0 where
 pub kept_pays : (a b : Book) → Keeps a b → PaysAlike a b
 kept_pays a b keeps = record {
   sent = λ s n within. transmissions_alike a b s n (λ k some le.
-  let found = some_body (body_at a s k) (there_to_front a s k some (omega arith)) in
-  found.1 ∙ sym (keeps.kept (entries.Transmission s k found.0) found.1));
+      let found = some_body (body_at a s k) (there_to_front a s k some (omega arith)) in
+      found.1 ∙ sym (keeps.kept (entries.Transmission s k found.0) found.1));
   returned = λ key is. let found = some_body (return_at a key) is in found.1 ∙ sym (keeps.kept (entries.Return key found.0) found.1);
 }
 

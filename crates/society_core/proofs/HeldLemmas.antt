@@ -33,6 +33,7 @@ chosen_twice s f (k ∷ keys) =
     first once rest true true e = ap (λ (ns : List ℕ). k.number ∷ ns) e
     first once rest true false e = e
     first once rest false b e = e
+
     second : (mine : List TransmissionKey) (a : Bool) → filter (nat_lt f) (map (λ key. key.number) (cond a (k ∷ mine) mine)) ≡ cond a (cond (nat_lt f k.number) (k.number ∷ filter (nat_lt f) (map (λ key. key.number) mine)) (filter (nat_lt f) (map (λ key. key.number) mine))) (filter (nat_lt f) (map (λ key. key.number) mine))
     second mine true = refl
     second mine false = refl
@@ -48,6 +49,7 @@ any_above f n (x ∷ xs) = by_case (nat_lt f x) (x == n) refl refl ∙ ap (λ (r
   where
     rest : Bool
     rest = list_any (λ m. m == n) (filter (nat_lt f) xs)
+
     same : (b e : Bool) → nat_lt f x ≡ b → (x == n) ≡ e → (b && e) ≡ (nat_lt f n && e)
     same b true is equal = let one : x ≡ n = grind (arith, nat_tests) in ap (λ (t : Bool). t && true) (sym is ∙ ap (nat_lt f) one)
     same true false is equal = none (nat_lt f n)
@@ -60,6 +62,7 @@ any_above f n (x ∷ xs) = by_case (nat_lt f x) (x == n) refl refl ∙ ap (λ (r
         none : (b : Bool) → false ≡ (b && false)
         none true = refl
         none false = refl
+
     by_case : (b e : Bool) → nat_lt f x ≡ b → (x == n) ≡ e → list_any (λ m. m == n) (cond (nat_lt f x) (x ∷ filter (nat_lt f) xs) (filter (nat_lt f) xs)) ≡ ((nat_lt f n && (x == n)) || rest)
     by_case b e is equal =
         kept (nat_lt f x) ∙ ap (λ (t : Bool). t || rest) (ap (λ (t : Bool). t && (x == n)) is ∙ ap (λ (t : Bool). b && t) equal ∙ same b e is equal ∙ ap (λ (t : Bool). nat_lt f n && t) (sym equal))
@@ -67,6 +70,7 @@ any_above f n (x ∷ xs) = by_case (nat_lt f x) (x == n) refl refl ∙ ap (λ (r
         kept : (c : Bool) → list_any (λ m. m == n) (cond c (x ∷ filter (nat_lt f) xs) (filter (nat_lt f) xs)) ≡ ((c && (x == n)) || rest)
         kept true = refl
         kept false = refl
+
     spread : (a b c : Bool) → ((a && b) || (a && c)) ≡ (a && (b || c))
     spread true b c = refl
     spread false b c = refl
@@ -104,6 +108,7 @@ any_number s n (k ∷ keys) =
   where
     mine : List TransmissionKey
     mine = filter (is_of s) keys
+
     kept : (c : Bool) → list_any (λ m. m == n) (map (λ key. key.number) (cond c (k ∷ mine) mine)) ≡ ((c && (k.number == n)) || list_any (λ m. m == n) (map (λ key. key.number) mine))
     kept true = refl
     kept false = refl

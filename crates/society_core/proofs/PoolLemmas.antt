@@ -59,6 +59,7 @@ points_by_limits row plays seconds =
   where
     at_least : (n : ℕ) → nat_le 1 n ≡ true → 1 ≤ n
     at_least n h = grind (arith, nat_tests)
+
     at_most : (n most : ℕ) → nat_le n most ≡ true → n ≤ most
     at_most n most h = grind (arith, nat_tests)
 
@@ -132,6 +133,7 @@ less_than k j e = by_case (nat_lt k j) refl e
     by_equal : (b : Bool) → cond b Equal Greater ≡ Less → ⊥
     by_equal true h = cc
     by_equal false h = cc
+
     by_case : (b : Bool) → nat_lt k j ≡ b → cond b Less (cond (k == j) Equal Greater) ≡ Less → k < j
     by_case true is h = grind (arith, nat_tests)
     by_case false is h = absurd (by_equal (k == j) h)
@@ -214,6 +216,7 @@ part_within account (c ∷ cs) =
   where
     rest : List Credit
     rest = filter (λ credit. same_account credit.account account) cs
+
     more : (b : Bool) → sum_by units_of (cond b (c ∷ rest) rest) ≤ units_of c + sum_by units_of rest
     more true = omega (arith, sum_by-cons units_of c rest)
     more false = omega arith
@@ -227,6 +230,7 @@ units_more account c cs = by_case (same_account c.account account)
   where
     rest : List Credit
     rest = filter (λ credit. same_account credit.account account) cs
+
     by_case : (b : Bool) → sum_by units_of (cond b (c ∷ rest) rest) ≡ one_if b (units_of c) + sum_by units_of rest
     by_case true = sum_by-cons units_of c rest
     by_case false = omega arith

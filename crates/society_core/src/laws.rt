@@ -72,8 +72,7 @@ pub fn closed_pools_stay()
 pub fn held_numbers_wait()
     ensures waits { (book : Book) (sender : List ℕ) (n : ℕ) → list_any (λ m. m == n) (held book sender) ≡ (nat_lt (front book sender) n && is_there book sender n) }
     ensures ascending { (book : Book) (sender : List ℕ) → IsStrictlySortedBy nat_cmp (held book sender) }
-{
-}
+{}
 
 /// The units of a pool's credits add up to its amount, whatever the book holds, and each return that its order names is
 /// named once.
@@ -81,25 +80,21 @@ pub fn pools_are_whole()
     ensures whole { (office : Office) (book : Book) (order : Order) → sum (map units_of (credits_of office book order)) ≡ order.amount }
     ensures once { (book : Book) (pool : ℕ) (order : Order) → IsSound book → order_at book pool ≡ Some order → ascending return_cmp order.returns ≡ order.returns }
     ensures apart { (book : Book) (pool other : ℕ) (order another : Order) (key : ReturnKey) → IsSound book → order_at book pool ≡ Some order → order_at book other ≡ Some another → names_return key order ≡ true → names_return key another ≡ true → pool ≡ other }
-{
-}
+{}
 
 /// The balances of all accounts add up to the amounts of all pools.
 pub fn balances_add_up()
     ensures { (office : Office) (book : Book) (accounts : List Account) → AreAllAccounts office book accounts → sum (map (balance office book) accounts) ≡ sum (map (λ (order : Order). order.amount) (values book.pools)) }
-{
-}
+{}
 
 /// A run of requests that ask rightly, as all typed requests do, leads from a sound book to a sound book.
 pub fn runs_keep_books_sound()
     ensures { (office : Office) (before : Book) (queries : List Query) (replies : List Reply) (after : Book) → Run office before queries replies after → AllAskRightly queries → IsSound before → IsSound after }
-{
-}
+{}
 
 /// What is held pays nothing: two books that are alike up to each sender's first gap, with the same returns and pools, give
 /// the same credits and balances.
 pub fn what_is_held_pays_nothing()
     ensures credits { (office : Office) (a b : Book) (pool : ℕ) → IsSound a → AlikeToTheGaps a b → answer office a (AsksCredits pool) ≡ answer office b (AsksCredits pool) }
     ensures balances { (office : Office) (a b : Book) (account : Account) → IsSound a → AlikeToTheGaps a b → answer office a (AsksBalance account) ≡ answer office b (AsksBalance account) }
-{
-}
+{}

@@ -25,8 +25,9 @@ pub use claim_list::{Candidate, claims};
 pub use desk::Desk;
 pub use laws::{
     balances_add_up, book_holds_what_came, book_is_what_was_accepted, closed_pools_stay,
-    front_is_the_first_gap, held_numbers_wait, order_of_arrival_is_free, pools_are_whole, runs_keep_books_sound,
-    what_is_accepted_stays, what_is_held_pays_nothing, what_waits_is_unapplied,
+    front_is_the_first_gap, held_numbers_wait, order_of_arrival_is_free, pools_are_whole,
+    runs_keep_books_sound, what_is_accepted_stays, what_is_held_pays_nothing,
+    what_waits_is_unapplied,
 };
 pub use order::{OrderError, PoolOrder, orders_are_sets};
 pub use plain_store::PlainStore;
