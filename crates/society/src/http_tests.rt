@@ -69,18 +69,34 @@ fn tell(
     out.extend_from_slice(body.as_bytes())
 }
 
+/// Appends the requests of rows to a stream, and their answers to what is wanted of it.
+fn add_rows(
+    alloc: Global,
+    input: &mut Vec<u8>,
+    wanted: &mut Vec<u8>,
+    rows: &[Row<'_>],
+) -> Result<(), AllocError> {
+    for (line, body, status, kind, text) in rows {
+        ask(alloc, input, line, "", body)?;
+        tell(alloc, wanted, status, kind, "", text)?;
+    }
+    Ok(())
+}
+
+/// Sends a stream, and compares all that is written.
+fn compare(rt: &impl Abort, alloc: Global, input: &[u8], wanted: &[u8]) -> Result<(), Fail> {
+    let (out, status) = replayed(alloc, input)?;
+    assert_eq!(rt; str::from_utf8(&out), str::from_utf8(wanted));
+    assert_eq!(rt; status, 0);
+    Ok(())
+}
+
 /// Sends the requests of all rows in one stream, and compares all that is written.
 fn check(rt: &impl Abort, alloc: Global, rows: &[Row<'_>]) -> Result<(), Fail> {
     let mut input = Vec::new(alloc);
     let mut wanted = Vec::new(alloc);
-    for (line, body, status, kind, text) in rows {
-        ask(alloc, &mut input, line, "", body)?;
-        tell(alloc, &mut wanted, status, kind, "", text)?;
-    }
-    let (out, status) = replayed(alloc, input.as_slice())?;
-    assert_eq!(rt; str::from_utf8(&out), str::from_utf8(&wanted));
-    assert_eq!(rt; status, 0);
-    Ok(())
+    add_rows(alloc, &mut input, &mut wanted, rows)?;
+    compare(rt, alloc, input.as_slice(), wanted.as_slice())
 }
 
 /// A put of a transmission that is applied.
@@ -90,26 +106,22 @@ fn applied<'a>(line: &'a str, body: &'a [u8], text: &'a str) -> Row<'a> {
 
 #[test]
 fn first_gap_filled(rt: HostRuntime) -> Result<(), Fail> {
-    let revised = f2(rt.alloc())?;
+    let alloc = rt.alloc();
+    let revised = f2(alloc)?;
+    let mut input = Vec::new(alloc);
+    let mut wanted = Vec::new(alloc);
+    let third = "PUT /v1/senders/PB000000012/transmissions/3";
+    let second = "PUT /v1/senders/PB000000012/transmissions/2";
     let held = "{\"front\":0,\"state\":\"held\"}";
-    check(
-        &rt,
-        rt.alloc(),
+    ask(alloc, &mut input, third, "", F3)?;
+    tell(alloc, &mut wanted, "202 Accepted", JSON, "", held)?;
+    ask(alloc, &mut input, second, "", revised.as_slice())?;
+    tell(alloc, &mut wanted, "202 Accepted", JSON, "", held)?;
+    add_rows(
+        alloc,
+        &mut input,
+        &mut wanted,
         &[
-            (
-                "PUT /v1/senders/PB000000012/transmissions/3",
-                F3,
-                "202 Accepted",
-                JSON,
-                held,
-            ),
-            (
-                "PUT /v1/senders/PB000000012/transmissions/2",
-                revised.as_slice(),
-                "202 Accepted",
-                JSON,
-                held,
-            ),
             (
                 "GET /v1/senders/PB000000012",
                 b"",
@@ -165,7 +177,8 @@ fn first_gap_filled(rt: HostRuntime) -> Result<(), Fail> {
                 str::from_utf8(F3_ACK)?,
             ),
         ],
-    )
+    )?;
+    compare(&rt, alloc, input.as_slice(), wanted.as_slice())
 }
 
 #[test]
