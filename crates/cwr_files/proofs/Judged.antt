@@ -1,8 +1,8 @@
 -- A body without a fault is a file, and a file within the sizes has none.
 use Rattle.std.proofs.Common.{◌≡◌, ℕ, ◌+◌, ◌<◌, ◌≤◌, ◌^◌, Bool, true, false, cond, eqb, List, [], ◌∷◌, length, map, refl, ap, sym, ◌∙◌, subst, arith, Option, Some, None}
-use Rattle.std.specs.Prelude.{◌&&◌, nat_lt, sum_by, bytes_eq}
+use Rattle.std.specs.Prelude.{◌&&◌, sum_by, bytes_eq}
 use Rattle.std.specs.List.{AllByRecursion}
-use Rattle.std.proofs.lemmas.Bool.{and_parts, or_parts, or_from, ltb-false, le-ltb}
+use Rattle.std.proofs.lemmas.Bool.{and_parts}
 use Rattle.std.proofs.lemmas.List.Elements.{All-from_recursion, recursion_from_All}
 use Rattle.std.proofs.lemmas.List.Sums.{sum_by-cons}
 use Rattle.cwr_records.specs.Lines.{pieces, onto_first, line_of, lines}
@@ -21,6 +21,7 @@ use Rattle.cwr_files.specs.Contents.{contents, transmission_in, is_headed}
 use Rattle.cwr_files.specs.Reading.{Holds, IsJudged}
 use Rattle.cwr_files.proofs.Behind.{structure-behind, counts-behind}
 use Rattle.cwr_files.proofs.OnePass.{end-behind}
+use Rattle.cwr_files.proofs.TooLarge.{too_large-parts, too_large-from}
 use Rattle.cwr_files.proofs.Passing.{Passes, passes-from}
 use Rattle.cwr_files.proofs.Steps.{at_header}
 use Rattle.cwr_files.proofs.Sound.{sound}
@@ -94,16 +95,6 @@ pieces-total : (body : List ℕ) → total (pieces body) ≡ length body
 unfolding total
 pieces-total [] = refl
 pieces-total (b ∷ bs) = omega (arith, cut-total (eqb b 10) b (pieces bs), pieces-total bs)
-
-too_large-parts : (end : ℕ) (line : List ℕ) → is_too_large end line ≡ false → (length line ≤ max_line) × (end ≤ max_body)
-unfolding is_too_large
-too_large-parts end line e =
-    let p = or_parts (nat_lt max_line (length line)) (nat_lt max_body end) e in
-    (ltb-false max_line (length line) p.0, ltb-false max_body end p.1)
-
-too_large-from : (end : ℕ) (line : List ℕ) → length line ≤ max_line → end ≤ max_body → is_too_large end line ≡ false
-unfolding is_too_large
-too_large-from end line a b = or_from _ _ (le-ltb max_line (length line) a) (le-ltb max_body end b)
 
 lines-fit : (n : ℕ) (ps : List (List ℕ)) → HaveSizes n ps → AllByRecursion (λ l. length l ≤ max_line) (map line_of ps)
 unfolding HaveSizes

@@ -2,7 +2,9 @@ pub mod LineFacts
 pub mod Chained
 pub mod Behind
 pub mod Room
+pub mod TooLarge
 pub mod OnePass
+pub mod Settled
 pub mod Listing
 pub mod Steps
 pub mod Passing

@@ -12,6 +12,9 @@ pub mod Counts
 pub mod Contents
 pub mod Transaction
 pub mod Reading
+pub mod Prefixes
+pub mod ReadTo
+pub mod Fed
 pub use Rattle.cwr_records.specs.Lines
 pub use Rattle.cwr_records.specs.Records
 pub use Rattle.work_ids.specs.Characters

@@ -2,10 +2,12 @@
 ghost use Rattle.std.specs.Prelude.{◌≡◌, ◌^◌, ◌<◌};
 ghost use Rattle.cwr_files.specs.FileFault.{file_fault};
 ghost use Rattle.cwr_files.specs.Counts.{counted_end};
+ghost use Rattle.cwr_files.specs.ReadTo.{HasReadLines};
 
 use crate::counts::{Counts, Stage, step};
 use crate::fault::FileFault;
-use cwr_records::split_line;
+use crate::progress::{Progress, at_next_line, read_lines};
+use cwr_records::line_of;
 use work_ids::SenderKey;
 
 /// The file fault of a body for a sender, the first line that has one and there size first, else the least
@@ -13,22 +15,25 @@ use work_ids::SenderKey;
 pub fn find_fault(body: &[u8], sender: &SenderKey) -> Option<FileFault>
     ensures { result ≡ file_fault sender.now body.now }
 {
-    let mut counts = Counts::new();
-    let mut rest = body;
-    while !rest.is_empty() {
-        let (line, after) = split_line(rest);
-        match step(sender, &counts, body.len() - after.len(), &line) {
-            Ok(more) => counts = more,
-            Err(number) => {
-                return Some(FileFault {
-                    number,
-                    line: counts.lines as usize + 1,
-                });
-            }
-        }
-        rest = after;
+    match read_lines(sender, body, &Progress::new(), 0) {
+        Ok(at) => last_fault(sender, body, &at),
+        Err(fault) => Some(fault),
     }
-    end_fault(&counts)
+}
+
+/// The file fault of a body whose lines that have ended are read: that of a last line without its end, or of the end.
+pub fn last_fault(sender: &SenderKey, body: &[u8], at: &Progress) -> Option<FileFault>
+    requires { HasReadLines sender.now body.now at.now }
+    ensures { result ≡ file_fault sender.now body.now }
+{
+    let rest = &body[at.start..];
+    if rest.is_empty() {
+        return end_fault(&at.counts);
+    }
+    match step(sender, &at.counts, body.len(), &line_of(rest)) {
+        Ok(counts) => end_fault(&counts),
+        Err(number) => Some(at_next_line(number, at)),
+    }
 }
 
 /// The fault of a body that ends behind these counts: 1 it has no line, 10 it has no trailer.

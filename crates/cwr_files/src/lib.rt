@@ -6,15 +6,18 @@ mod counts;
 mod dates;
 mod fault;
 mod fault_finder;
+mod file_reader;
 mod limits;
 mod line_faults;
 mod line_numbers;
+mod progress;
 mod reader;
 mod record_types;
 mod transmission;
 
 pub use fault::{FileFault, ReadFault};
 pub use fault_finder::find_fault;
+pub use file_reader::FileReader;
 pub use reader::{one_or_the_other, read_transmission};
 pub use transmission::{Group, Groups, Records, Transaction, Transactions, Transmission};
 

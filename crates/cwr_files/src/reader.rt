@@ -6,7 +6,7 @@ ghost use Rattle.cwr_files.specs.Contents.{transmission_in};
 ghost use Rattle.cwr_files.specs.Reading.{Holds, Answers, TellsFault, IsJudged};
 
 use crate::builder::contents;
-use crate::fault::ReadFault;
+use crate::fault::{FileFault, ReadFault};
 use crate::fault_finder::find_fault;
 use crate::transmission::Transmission;
 use std::alloc::Global;
@@ -25,7 +25,23 @@ pub fn read_transmission<'a>(
     ensures reads { IfOk result (λ t. t ≡ transmission_in body.now) }
     ensures fault { TellsFault (file_fault sender.now body.now) result }
 {
-    if let Some(fault) = find_fault(body, sender) {
+    told(alloc, body, sender, find_fault(body, sender))
+}
+
+/// What a body is, whose file fault is this one.
+pub fn told<'a>(
+    alloc: Global,
+    body: &'a [u8],
+    sender: &SenderKey,
+    fault: Option<FileFault>,
+) -> Result<Transmission<'a>, ReadFault>
+    requires { fault ≡ file_fault sender.now body.now }
+    ensures found { IfOk result (Holds body.now sender.now) }
+    ensures only { (t : Transmission) → Holds body.now sender.now t → Answers t result }
+    ensures reads { IfOk result (λ t. t ≡ transmission_in body.now) }
+    ensures fault { TellsFault (file_fault sender.now body.now) result }
+{
+    if let Some(fault) = fault {
         return Err(ReadFault::File(fault));
     }
     let transmission = contents(alloc, body)?;

@@ -342,3 +342,115 @@ fn many_groups_and_many_songs(rt: HostRuntime) -> Result<(), Fail> {
     }
     Ok(())
 }
+
+/// A reader that was fed a body in pieces of so many bytes.
+fn fed(alloc: Global, key: &SenderKey, body: &[u8], count: usize) -> Result<FileReader, ReadFault> {
+    let mut reader = FileReader::new(alloc, key);
+    for piece in body.chunks(count.max(1)) {
+        reader.feed(piece)?;
+    }
+    Ok(reader)
+}
+
+#[test]
+fn one_file_in_pieces(rt: HostRuntime) -> Result<(), Fail> {
+    let key = sender().ok_or("a key")?;
+    let body = joined(rt.alloc(), SONG.as_slice(), b"\r\n")?;
+    assert_eq!(rt; body.len(), 1_048);
+    for count in [1, 7, 1_048] {
+        let reader = fed(rt.alloc(), &key, body.as_slice(), count)?;
+        assert_eq!(rt; reader.body(), body.as_slice());
+        let transmission = reader.finish(rt.alloc())?;
+        assert_eq!(rt; transmission.groups.as_slice().len(), 1);
+        let song = transmission.transaction(0).ok_or("a song")?;
+        assert_eq!(rt; song.records.as_slice().len(), 7);
+        assert_eq!(rt; song.title().trimmed_end(), b"FIRST SONG".as_slice());
+        assert!(rt; transmission.transaction(1).is_none());
+    }
+    Ok(())
+}
+
+/// How many bytes a reader takes one by one, and then its fault; a byte after that one changes nothing.
+fn taken(
+    alloc: Global,
+    key: &SenderKey,
+    body: &[u8],
+) -> Result<(usize, Option<FileFault>), ReadFault> {
+    let mut reader = FileReader::new(alloc, key);
+    for (place, byte) in body.iter().enumerate() {
+        match reader.feed(&[*byte]) {
+            Ok(()) => {}
+            Err(ReadFault::Memory) => return Err(ReadFault::Memory),
+            Err(ReadFault::File(fault)) => {
+                let kept = reader.body().len();
+                let again = reader.feed(body);
+                let same = matches!(&again, Err(ReadFault::File(later)) if *later == fault);
+                let ends = reader.finish(alloc);
+                let last = matches!(&ends, Err(ReadFault::File(later)) if *later == fault);
+                let told = same && last && reader.body().len() == kept;
+                return Ok((place, if told { Some(fault) } else { None }));
+            }
+        }
+    }
+    Ok((body.len(), None))
+}
+
+#[test]
+fn faults_told_byte_by_byte(rt: HostRuntime) -> Result<(), Fail> {
+    let key = sender().ok_or("a key")?;
+    let counts = changed(rt.alloc(), 10, &[b"GRT000010000000100000008"])?;
+    let fault = Some(FileFault {
+        number: 8,
+        line: 10,
+    });
+    assert_eq!(rt; taken(rt.alloc(), &key, counts.as_slice())?, (1_021, fault));
+    let widest = filled(rt.alloc(), 2_000 - 86)?;
+    assert_eq!(rt;
+        taken(rt.alloc(), &key, widest.as_slice())?,
+        (widest.len(), None)
+    );
+    let wider = filled(rt.alloc(), 2_001 - 86)?;
+    let size = Some(FileFault {
+        number: 12,
+        line: 1,
+    });
+    assert_eq!(rt; taken(rt.alloc(), &key, wider.as_slice())?, (2_000, size));
+    Ok(())
+}
+
+#[test]
+fn bodies_that_end_early(rt: HostRuntime) -> Result<(), Fail> {
+    let key = sender().ok_or("a key")?;
+    let empty = FileReader::new(rt.alloc(), &key);
+    let first = matches!(
+        empty.finish(rt.alloc()),
+        Err(ReadFault::File(FileFault { number: 1, line: 1 }))
+    );
+    assert!(rt; first);
+    let body = joined(rt.alloc(), SONG.as_slice(), b"\n")?;
+    let front = body.as_slice().get(..1_036).ok_or("a front")?;
+    let whole = fed(rt.alloc(), &key, front, 1)?;
+    assert!(rt; whole.finish(rt.alloc()).is_ok());
+    let early = body.as_slice().get(..1_035).ok_or("a front")?;
+    let part = fed(rt.alloc(), &key, early, 1)?;
+    let counts = matches!(
+        part.finish(rt.alloc()),
+        Err(ReadFault::File(FileFault {
+            number: 9,
+            line: 11
+        }))
+    );
+    assert!(rt; counts);
+    Ok(())
+}
+
+#[test]
+fn largest_body_in_pieces(rt: HostRuntime) -> Result<(), Fail> {
+    let key = sender().ok_or("a key")?;
+    let largest = with_blank_lines(rt.alloc(), LARGEST)?;
+    let mut reader = fed(rt.alloc(), &key, largest.as_slice(), 65_536)?;
+    assert!(rt; reader.finish(rt.alloc()).is_ok());
+    assert!(rt; matches!(reader.feed(b" "), Err(ReadFault::File(_))));
+    assert_eq!(rt; reader.into_body().len(), LARGEST + 1);
+    Ok(())
+}

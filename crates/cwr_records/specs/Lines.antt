@@ -1,6 +1,6 @@
 -- Lines of a transmission and fields of a line.
-use Rattle.std.specs.Prelude.{◌≡◌, ℕ, ◌+◌, ◌-◌, ◌<◌, Bool, cond, eqb, List, [], ◌∷◌, ◌++◌, map, length, get_or, take, drop}
-use Rattle.std.specs.List.{list_all}
+use Rattle.std.specs.Prelude.{◌≡◌, ℕ, ◌+◌, ◌-◌, ◌<◌, ◌≤◌, Bool, cond, eqb, List, [], ◌∷◌, ◌++◌, map, length, get_or, take, drop}
+use Rattle.std.specs.List.{list_all, list_any}
 use Rattle.work_ids.specs.Blanks.{is_blank_byte, fill as filled_with_blanks}
 
 -- a byte in front of the first of some pieces, where there is none as a piece of its own
@@ -12,6 +12,16 @@ onto_first b (p ∷ ps) = (b ∷ p) ∷ ps
 abbrev pub pieces : List ℕ → List (List ℕ)
 pieces [] = []
 pieces (b ∷ bs) = cond (eqb b 10) ((b ∷ []) ∷ pieces bs) (onto_first b (pieces bs))
+
+-- whether an LF stands among bytes
+abbrev pub has_line_end : List ℕ → Bool
+has_line_end bytes = list_any (λ b. eqb b 10) bytes
+
+-- so many first bytes of a body are its first piece, its LF included, whatever follows the bytes that are there
+pub record IsWholePiece (bytes : List ℕ) (count : ℕ) : Type 0 where
+  pub some : 0 < count
+  pub within : count ≤ length bytes
+  pub always : (more : List ℕ) → pieces (bytes ++ more) ≡ take count bytes ∷ pieces (drop count bytes ++ more)
 
 -- bytes without their last one, where that is b
 abbrev pub without_last : ℕ → List ℕ → List ℕ

@@ -35,7 +35,7 @@ pub use group_trailer::GroupTrailer;
 pub use indicator::Indicator;
 pub use kind::{RecordKind, read_as};
 pub use layout::{Layout, LineFields, Position};
-pub use line::{Line, split_line};
+pub use line::{Line, line_of, split_line, whole_piece};
 pub use publisher::{PublisherRecord, PublisherRole};
 pub use publisher_for_writer::PublisherForWriter;
 pub use publisher_territory::PublisherTerritory;

@@ -1,11 +1,12 @@
 //! A line of a transmission, and the cutting of a body into lines.
-ghost use Rattle.std.specs.Prelude.{◌≡◌, ◌<◌, ◌≤◌, ◌-◌, ◌+◌, ◌∷◌, [], ◌≢◌, ◌==◌, ℕ, List, length, take, drop, position};
+ghost use Rattle.std.specs.Prelude.{◌≡◌, ◌<◌, ◌≤◌, ◌-◌, ◌+◌, ◌∷◌, [], ◌≢◌, ℕ, List, length, take, drop, false, MatchOption};
 ghost use Rattle.cwr_records.specs.Layouts.{field_in, width_of};
 ghost use Rattle.cwr_records.specs.Places.{record_sequence_in, record_type_in, transaction_sequence_in};
-ghost use Rattle.cwr_records.specs.Lines.{field, fill, is_blank, pieces, without_last, IsFirstLine};
+ghost use Rattle.cwr_records.specs.Lines.{field, fill, has_line_end, is_blank, line_of, pieces, without_last, IsFirstLine, IsWholePiece};
 
 use crate::field::Field;
 use crate::layout::{Position, RECORD_SEQUENCE, RECORD_TYPE, TRANSACTION_SEQUENCE};
+use memchr::memchr;
 use std::marker::Model;
 use work_ids::are_blank;
 
@@ -107,8 +108,15 @@ pub fn split_line<'a>(bytes: &'a [u8]) -> (Line<'a>, &'a [u8])
     ensures { IsFirstLine bytes.now result.0 result.1.now }
 {
     let (piece, rest) = bytes.split_at(piece_len(bytes));
-    let line = without_last(without_last(piece, b'\n'), b'\r');
-    (Line::new(line), rest)
+    (line_of(piece), rest)
+}
+
+/// The line of a piece of a body: without its LF, then without one CR at its end.
+#[tactic(auto, unfolding(crate::specs::Lines::line_of))]
+pub fn line_of<'a>(piece: &'a [u8]) -> Line<'a>
+    ensures { result ≡ line_of piece.now }
+{
+    Line::new(without_last(without_last(piece, b'\n'), b'\r'))
 }
 
 /// How many bytes the first piece has, its LF included.
@@ -118,17 +126,23 @@ fn piece_len(bytes: &[u8]) -> usize
     ensures within { result ≤ length bytes.now }
     ensures piece { pieces bytes.now ≡ take result bytes.now ∷ pieces (drop result bytes.now) }
 {
-    match line_feed(bytes) {
-        Some(end) => end + 1,
+    match whole_piece(bytes, 0) {
+        Some(count) => count,
         None => bytes.len(),
     }
 }
 
-/// The index of the first LF.
-fn line_feed(bytes: &[u8]) -> Option<usize>
-    ensures { result ≡ position (λ b. b == 10) bytes.now }
+/// How many bytes the first piece has whatever follows, its LF included; none where no LF is among the bytes. The
+/// first `searched` bytes are known to hold none.
+pub fn whole_piece(bytes: &[u8], searched: usize) -> Option<usize>
+    requires within { searched ≤ length bytes.now }
+    requires none_there { has_line_end (take searched bytes.now) ≡ false }
+    ensures { MatchOption result (has_line_end bytes.now ≡ false) (IsWholePiece bytes.now) }
 {
-    bytes.iter().position(|byte| *byte == b'\n')
+    match memchr(b'\n', &bytes[searched..]) {
+        Some(place) => Some(searched + place + 1),
+        None => None,
+    }
 }
 
 /// The bytes without their last one, where that is `end`.
