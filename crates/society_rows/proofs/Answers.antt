@@ -1,5 +1,5 @@
 -- SELECT of one table, with WHERE and ORDER BY.
-use Rattle.std.proofs.Common.{◌≡◌, ℕ, pos, negsuc, ◌<◌, ◌^◌, nat_le, ◌-◌, Bool, true, false, cond, List, [], ◌∷◌, ◌++◌, map, filter, flat_map, slice_get, None, unwrap_or, refl, sym, ap, subst, subst₂, ◌∙◌, ◌+◌, length, get_or, arith, Ordering, IsSorted, IsPermutation}
+use Rattle.std.proofs.Common.{◌≡◌, ℕ, pos, negsuc, ◌<◌, ◌^◌, nat_le, ◌-◌, Bool, true, false, cond, List, [], ◌∷◌, ◌++◌, map, filter, take, flat_map, slice_get, None, unwrap_or, refl, sym, ap, subst, subst₂, ◌∙◌, ◌+◌, length, get_or, arith, Ordering, IsSorted, IsPermutation}
 use Rattle.std.specs.List.{list_all, AllByRecursion}
 use Rattle.std.specs.Ordering.{is_lt}
 use Rattle.std.proofs.lemmas.List.{length-map, get_or-map}
@@ -27,6 +27,10 @@ picked tree filters project order = record {
   limit = lit (Int (negsuc 0));
   offset = lit (Int (pos 0));
 }
+
+-- the same, and only the first of them
+abbrev pub picked_first : ℕ → List Term → List Term → List (Term × Key) → Query
+picked_first tree filters project order = record (picked tree filters project order) { limit = lit (Int (pos 1)) }
 
 abbrev pub passes_in : List Term → Row → Row → Bool
 passes_in filters params r = list_all (holds (params ∷ r ∷ [])) filters
@@ -97,3 +101,9 @@ module _ (tree : ℕ) (filters project : List Term) (order : List (Term × Key))
       let same : is_lt (cmp (get_or a.ordered (k + 1) none).1 (get_or a.ordered k none).1) ≡ false =
       subst₂ (λ (x y : Output). is_lt (cmp x.1 y.1) ≡ false) (sym next.1) (sym now.1) (ap is_lt (sym (shows next.0 now.0)) ∙ there) in
       subst₂ (λ (x y : Row). is_lt (cmp x y) ≡ false) (sym (get_or-map (λ (o : Output). o.1) a.ordered (k + 1) none d within)) (sym (get_or-map (λ (o : Output). o.1) a.ordered k none d (omega arith))) same)
+
+-- the first of an answer
+pub first_answer : (tree : ℕ) (filters project : List Term) (order : List (Term × Key)) (db : Trees) (params : Row) (rows : List Row)
+    → IsAnswer (picked_first tree filters project order) db params rows → (all : List Row) × IsAnswer (picked tree filters project order) db params all × (rows ≡ take 1 all)
+first_answer tree filters project order db params rows a =
+    (map (λ (o : Output). o.1) a.ordered, record { staged = a.staged; grouped = a.grouped; kept = a.kept; distinct = a.distinct; ordered = a.ordered; same = a.same; sorted = a.sorted; shown = refl }, a.shown)

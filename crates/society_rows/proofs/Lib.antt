@@ -1,5 +1,6 @@
 pub mod Adds
 pub mod Answers
+pub mod AskedRows
 pub mod BalanceTable
 pub mod Booleans
 pub mod Casts
@@ -10,6 +11,7 @@ pub mod Effects
 pub mod FrontTable
 pub mod Inserts
 pub mod ListWrites
+pub mod Listings
 pub mod NewBooks
 pub mod OfficeTable
 pub mod Parts
@@ -21,6 +23,8 @@ pub mod Queries
 pub mod RecordingTable
 pub mod References
 pub mod ReturnTable
+pub mod RowFolds
+pub mod RunFolds
 pub mod Rowids
 pub mod Texts
 pub mod TransmissionTable

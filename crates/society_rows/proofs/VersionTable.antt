@@ -15,12 +15,12 @@ use Rattle.sqlite.specs.Listing.{understood}
 use Rattle.sqlite.specs.State.{State, ExecutesInside, Shown}
 use Rattle.sqlite.proofs.Callers.{IsPlain, command_of}
 use Rattle.society_rows.specs.Layout.{written_out, layout, versions}
-use Rattle.society_rows.specs.Reads.{Lists, has_key}
+use Rattle.society_rows.specs.Reads.{Lists, IsFirstOf, falling, has_key}
 use Rattle.society_rows.specs.Stored.{HasLayout, Adds}
-use Rattle.society_rows.proofs.Answers.{picked}
+use Rattle.society_rows.proofs.Answers.{picked, picked_first}
 use Rattle.society_rows.proofs.Casts.{cast_null, cast_int}
 use Rattle.society_rows.proofs.Inserts.{IsSettled, Stores, inserts}
-use Rattle.society_rows.proofs.Queries.{IsQuery, IsListing, lists_by}
+use Rattle.society_rows.proofs.Queries.{IsQuery, IsShowing, IsListing, lists_by, first_by}
 
 settled : IsSettled versions 8
 unfolding understood everything written_out
@@ -85,3 +85,24 @@ versions_of_listing sender work = record { shows = λ r. refl; tests = λ r. ref
 pub versions_of_lists : (sender : List ℕ) (work : List ℕ) (old new : State) (rows : List Row) → HasLayout old.now → Shown versions_of_text (Text sender ∷ Text work ∷ []) old new rows → Lists versions (has_key (Text sender ∷ Text work ∷ [])) 3 old.now.trees rows
 unfolding written_out
 versions_of_lists sender work = lists_by versions versions_of_text (op2 (Compare Eq Binary) (col 1 1) (col 0 0) ∷ op2 (Compare Eq Binary) (col 1 2) (col 0 1) ∷ []) project order shown_names versions_of_is (Text sender ∷ Text work ∷ []) (has_key (Text sender ∷ Text work ∷ [])) 3 (versions_of_listing sender work)
+
+abbrev downwards : Key
+downwards = record { collation = Binary; descending = true }
+
+abbrev falling_order : List (Term × Key)
+falling_order = (col 1 1, downwards) ∷ (col 1 2, downwards) ∷ (col 1 3, downwards) ∷ []
+
+abbrev pub last_version_of_text : List ℕ
+last_version_of_text = codes "SELECT sender, work, revision, number, place, ordinal FROM versions WHERE sender = ?1 AND work = ?2 ORDER BY sender DESC, work DESC, revision DESC LIMIT 1"
+
+pub last_version_of_is : IsQuery last_version_of_text (picked_first 14 (op2 (Compare Eq Binary) (col 1 1) (col 0 0) ∷ op2 (Compare Eq Binary) (col 1 2) (col 0 1) ∷ []) project falling_order) shown_names
+unfolding understood everything written_out
+last_version_of_is = record { command = refl; plain = (refl, refl); unlisted = refl }
+
+last_version_of_listing : (sender : List ℕ) (work : List ℕ) → IsShowing versions (op2 (Compare Eq Binary) (col 1 1) (col 0 0) ∷ op2 (Compare Eq Binary) (col 1 2) (col 0 1) ∷ []) project falling_order (Text sender ∷ Text work ∷ []) (has_key (Text sender ∷ Text work ∷ [])) (falling 3)
+unfolding written_out
+last_version_of_listing sender work = record { shows = λ r. refl; tests = λ r. refl; orders = λ a b. refl }
+
+pub last_version_of_shows : (sender : List ℕ) (work : List ℕ) (old new : State) (rows : List Row) → HasLayout old.now → Shown last_version_of_text (Text sender ∷ Text work ∷ []) old new rows → IsFirstOf versions (has_key (Text sender ∷ Text work ∷ [])) 3 old.now.trees rows
+unfolding written_out
+last_version_of_shows sender work = first_by versions last_version_of_text (op2 (Compare Eq Binary) (col 1 1) (col 0 0) ∷ op2 (Compare Eq Binary) (col 1 2) (col 0 1) ∷ []) project falling_order shown_names last_version_of_is (Text sender ∷ Text work ∷ []) (has_key (Text sender ∷ Text work ∷ [])) 3 (last_version_of_listing sender work)

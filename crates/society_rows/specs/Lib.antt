@@ -1,8 +1,11 @@
 pub mod Effects
 pub mod Faults
+pub mod Folds
 pub mod Layout
 pub mod NewBook
+pub mod Questions
 pub mod Reads
 pub mod Rows
 pub mod Stored
+pub mod TableNames
 pub mod Texts

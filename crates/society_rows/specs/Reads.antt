@@ -1,5 +1,6 @@
 -- What a reading within a transaction gives.
-use Rattle.std.specs.Prelude.{◌≡◌, ◌⊎◌, ℕ, suc, Bool, true, ◌&&◌, List, [], ◌∷◌, filter, Vec, Result, Ok, Err, IfOk, OnOk, OnErr, IsPermutation, IsSorted}
+use Rattle.std.specs.Prelude.{◌≡◌, ◌⊎◌, ℕ, zero, suc, Bool, true, ◌&&◌, List, [], ◌∷◌, filter, take, Vec, Result, Ok, Err, IsTrue, IfOk, OnOk, OnErr, IsPermutation, IsSorted}
+use Rattle.sqlite_value.specs.declared.keys.Key.{Key}
 use Rattle.sqlite_value.specs.Keys.{rising}
 use Rattle.sqlite_value.specs.Order.{Row, column}
 use Rattle.sqlite_trees.specs.Tree.{Trees}
@@ -13,7 +14,7 @@ use Rattle.sqlite_sql.specs.declared.ops.BinaryOp.TheVariants.{Compare}
 use Rattle.sqlite_sql.specs.declared.ops.CompareOp.TheVariants.{Gt}
 use Rattle.sqlite_sql.specs.Ops.{is_true, binary}
 use Rattle.sqlite_schema.specs.Rules.{equal}
-use Rattle.sqlite.specs.State.{State, HasCleanDisk, IsUnchanged, IsRolledBack, Survives, Shown, FailsToQuery, IsTooLate}
+use Rattle.sqlite.specs.State.{State, HasCleanDisk, IsUnchanged, IsRolledBack, KeepsCommit, Survives, Shown, FailsToQuery, IsTooLate}
 use Rattle.society_rows.specs.declared.fault.RowFault.{RowFault}
 use Rattle.society_rows.specs.Faults.{fault_of}
 use Rattle.society_rows.specs.Stored.{rows_in, HasLayout}
@@ -43,15 +44,30 @@ pub record Lists (table : Table) (passes : Row → Bool) (width : ℕ) (db : Tre
   pub rows : IsPermutation (filter passes (rows_in table db)) found
   pub sorted : IsSorted (key_cmp 0 (rising width [])) found
 
+-- by so many columns, each descending
+abbrev pub falling : ℕ → List Key
+falling zero = []
+falling (suc n) = record { collation = Binary; descending = true } ∷ falling n
+
+-- of the rows of the table that pass, the greatest by so many of their first columns; no row where none passes
+pub record IsFirstOf (table : Table) (passes : Row → Bool) (width : ℕ) (db : Trees) (found : List Row) : Type 0 where
+  pub all : List Row
+  pub rows : IsPermutation (filter passes (rows_in table db)) all
+  pub sorted : IsSorted (key_cmp 0 (falling width)) all
+  pub first : found ≡ take 1 all
+
 -- the query showed these rows, or its error is told
 abbrev pub Selected : List ℕ → Row → State → State → Result (Vec Row Global) RowFault → Type 0
 Selected text params old new (Ok rows) = Shown text params old new rows.items
 Selected text params old new (Err fault) =
     (error : Error) × (fault ≡ fault_of error) × (FailsToQuery text params old new error ⊎ IsTooLate text params old new error)
 
--- A reading: over layout 2 it finds this, it changes nothing unless a failure undoes the whole transaction, and it commits nothing.
+-- A reading: over layout 2 it finds this, it changes nothing unless a failure undoes the whole transaction, and it commits nothing. An
+-- answer comes from an open connection alone.
 pub record Reads {X : Type 0} (old new : State) (result : Result X RowFault) (Found : Trees → X → Type 0) : Type 0 where
   pub found : HasCleanDisk new → HasLayout old.now → IfOk result (Found old.now.trees)
   pub same : HasCleanDisk new → HasLayout old.now → OnOk result (IsUnchanged old new)
   pub whole : HasCleanDisk new → OnErr result (IsUnchanged old new ⊎ IsRolledBack old new)
+  pub was_open : HasCleanDisk new → OnOk result (IsTrue old.is_open)
+  pub kept : HasCleanDisk new → IsTrue old.in_transaction → KeepsCommit old new
   pub survives : Survives old new (λ _. ⊥)

@@ -9,9 +9,9 @@ ghost use Rattle.society_rows.specs.Reads.{Lists, Reads, has_key};
 ghost use Rattle.society_rows.specs.Rows.{balance_values};
 ghost use Rattle.society_rows.specs.Stored.{Puts, PutsAll};
 
-use crate::RowFault;
 use crate::reading::{integer, text};
 use crate::statement::{run, select};
+use crate::{RowFault, TableName, all_rows};
 use sqlite::types::ToSql;
 use sqlite::{Alter, Row, Transaction};
 use sqlite_value::value::ValueRef;
@@ -78,11 +78,7 @@ pub fn all_balances<S: Alter>(tx: &mut Transaction<'_, S>) -> Result<Vec<Row>, R
     ensures read { Reads (state S.Store tx.old.conn.now) (state S.Store tx.new.conn.now) result
         (λ db rows. Lists balances (λ _. true) 1 db rows.items) }
 {
-    select(
-        tx,
-        "SELECT account, units FROM balances ORDER BY account",
-        &[],
-    )
+    all_rows(tx, TableName::Balances)
 }
 
 /// The balance of an account, if it has one.

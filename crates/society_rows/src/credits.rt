@@ -9,9 +9,9 @@ ghost use Rattle.society_rows.specs.Reads.{Lists, Reads, has_key};
 ghost use Rattle.society_rows.specs.Rows.{credit_values};
 ghost use Rattle.society_rows.specs.Stored.{Adds};
 
-use crate::RowFault;
 use crate::reading::{integer, text, whole};
 use crate::statement::{run, select};
+use crate::{RowFault, TableName, all_rows};
 use sqlite::types::ToSql;
 use sqlite::{Alter, Row, Transaction};
 use sqlite_value::value::ValueRef;
@@ -89,11 +89,7 @@ pub fn all_credits<S: Alter>(tx: &mut Transaction<'_, S>) -> Result<Vec<Row>, Ro
     ensures read { Reads (state S.Store tx.old.conn.now) (state S.Store tx.new.conn.now) result
         (λ db rows. Lists credits (λ _. true) 2 db rows.items) }
 {
-    select(
-        tx,
-        "SELECT pool, line, isrc, account, units FROM credits ORDER BY pool, line",
-        &[],
-    )
+    all_rows(tx, TableName::Credits)
 }
 
 /// The credits of a pool, by line.

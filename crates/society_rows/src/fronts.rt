@@ -9,9 +9,9 @@ ghost use Rattle.society_rows.specs.Reads.{Lists, Reads, has_key};
 ghost use Rattle.society_rows.specs.Rows.{front_values};
 ghost use Rattle.society_rows.specs.Stored.{Puts, PutsAll};
 
-use crate::RowFault;
 use crate::reading::{integer, text, whole};
 use crate::statement::{run, select};
+use crate::{RowFault, TableName, all_rows};
 use sqlite::types::ToSql;
 use sqlite::{Alter, Row, Transaction};
 use sqlite_value::value::ValueRef;
@@ -82,11 +82,7 @@ pub fn all_fronts<S: Alter>(tx: &mut Transaction<'_, S>) -> Result<Vec<Row>, Row
     ensures read { Reads (state S.Store tx.old.conn.now) (state S.Store tx.new.conn.now) result
         (λ db rows. Lists fronts (λ _. true) 1 db rows.items) }
 {
-    select(
-        tx,
-        "SELECT sender, front, works FROM fronts ORDER BY sender",
-        &[],
-    )
+    all_rows(tx, TableName::Fronts)
 }
 
 /// The front of a sender, if it has one.

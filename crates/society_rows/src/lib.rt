@@ -7,16 +7,19 @@
 mod balances;
 mod credits;
 mod fault;
+mod folding;
 mod fronts;
 mod layout;
 mod office;
 mod pool_cuts;
 mod pool_returns;
 mod pools;
+mod questions;
 mod reading;
 mod recordings;
 mod returns;
 mod statement;
+mod tables;
 mod transmissions;
 mod verdicts;
 mod versions;
@@ -24,6 +27,7 @@ mod versions;
 pub use balances::{BalanceRow, all_balances, balance_at, put_balance, put_balances};
 pub use credits::{CreditRow, add_credit, add_credits, all_credits, credits_of};
 pub use fault::RowFault;
+pub use folding::{RowFold, fold_above, fold_run, fold_table};
 pub use fronts::{FrontRow, all_fronts, front_at, put_front, put_fronts};
 pub use layout::create;
 pub use office::{LAYOUT, OfficeRow, all_offices};
@@ -33,16 +37,20 @@ pub use pool_returns::{
     returns_of_pool,
 };
 pub use pools::{PoolRow, add_pool, add_pools, all_pools, pool_at};
+pub use questions::{Question, answer, ask};
 pub use recordings::{
     RecordingRow, add_recording, add_recordings, all_recordings, recordings_of, recordings_with,
 };
 pub use returns::{ReturnRow, add_return, add_returns, all_returns, return_at};
+pub use tables::{TableName, all_rows};
 pub use transmissions::{
     TransmissionRow, add_transmission, add_transmissions, all_transmissions, transmission_at,
     transmissions_above,
 };
 pub use verdicts::{VerdictRow, add_verdict, add_verdicts, all_verdicts, verdicts_of};
-pub use versions::{VersionRow, add_version, add_versions, all_versions, versions_of};
+pub use versions::{
+    VersionRow, add_version, add_versions, all_versions, last_version_of, versions_of,
+};
 
 #[cfg(test)]
 mod tests;

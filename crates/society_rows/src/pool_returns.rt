@@ -9,9 +9,9 @@ ghost use Rattle.society_rows.specs.Reads.{Lists, Reads, has_key, has_at};
 ghost use Rattle.society_rows.specs.Rows.{pool_return_values};
 ghost use Rattle.society_rows.specs.Stored.{Adds};
 
-use crate::RowFault;
 use crate::reading::{text, whole};
 use crate::statement::{run, select};
+use crate::{RowFault, TableName, all_rows};
 use sqlite::types::ToSql;
 use sqlite::{Alter, Row, Transaction};
 use sqlite_value::value::ValueRef;
@@ -83,11 +83,7 @@ pub fn all_pool_returns<S: Alter>(tx: &mut Transaction<'_, S>) -> Result<Vec<Row
     ensures read { Reads (state S.Store tx.old.conn.now) (state S.Store tx.new.conn.now) result
         (λ db rows. Lists pool_returns (λ _. true) 2 db rows.items) }
 {
-    select(
-        tx,
-        "SELECT reporter, number, pool FROM pool_returns ORDER BY reporter, number",
-        &[],
-    )
+    all_rows(tx, TableName::PoolReturns)
 }
 
 /// The pool that pays a return, if there is one.

@@ -9,9 +9,9 @@ ghost use Rattle.society_rows.specs.Reads.{Lists, Reads, has_key};
 ghost use Rattle.society_rows.specs.Rows.{pool_values};
 ghost use Rattle.society_rows.specs.Stored.{Adds};
 
-use crate::RowFault;
 use crate::reading::{integer, whole};
 use crate::statement::{run, select};
+use crate::{RowFault, TableName, all_rows};
 use sqlite::types::ToSql;
 use sqlite::{Alter, Row, Transaction};
 use sqlite_value::value::ValueRef;
@@ -71,7 +71,7 @@ pub fn all_pools<S: Alter>(tx: &mut Transaction<'_, S>) -> Result<Vec<Row>, RowF
     ensures read { Reads (state S.Store tx.old.conn.now) (state S.Store tx.new.conn.now) result
         (λ db rows. Lists pools (λ _. true) 1 db rows.items) }
 {
-    select(tx, "SELECT pool, amount FROM pools ORDER BY pool", &[])
+    all_rows(tx, TableName::Pools)
 }
 
 /// The pool of a number, if there is one.

@@ -9,9 +9,9 @@ ghost use Rattle.society_rows.specs.Reads.{Lists, Reads, has_key, has_at};
 ghost use Rattle.society_rows.specs.Rows.{recording_values};
 ghost use Rattle.society_rows.specs.Stored.{Adds};
 
-use crate::RowFault;
 use crate::reading::{integer, text};
 use crate::statement::{run, select};
+use crate::{RowFault, TableName, all_rows};
 use sqlite::types::ToSql;
 use sqlite::{Alter, Row, Transaction};
 use sqlite_value::value::ValueRef;
@@ -86,11 +86,7 @@ pub fn all_recordings<S: Alter>(tx: &mut Transaction<'_, S>) -> Result<Vec<Row>,
     ensures read { Reads (state S.Store tx.old.conn.now) (state S.Store tx.new.conn.now) result
         (λ db rows. Lists recordings (λ _. true) 4 db rows.items) }
 {
-    select(
-        tx,
-        "SELECT sender, work, revision, isrc FROM recordings ORDER BY sender, work, revision, isrc",
-        &[],
-    )
+    all_rows(tx, TableName::Recordings)
 }
 
 /// The recordings of a work, by revision and ISRC.

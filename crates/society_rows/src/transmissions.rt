@@ -9,9 +9,9 @@ ghost use Rattle.society_rows.specs.Reads.{Lists, Reads, has_key, is_above};
 ghost use Rattle.society_rows.specs.Rows.{transmission_values};
 ghost use Rattle.society_rows.specs.Stored.{Adds};
 
-use crate::RowFault;
 use crate::reading::{bytes, text, whole};
 use crate::statement::{run, select};
+use crate::{RowFault, TableName, all_rows};
 use sqlite::types::ToSql;
 use sqlite::{Alter, Row, Transaction};
 use sqlite_value::value::ValueRef;
@@ -83,11 +83,7 @@ pub fn all_transmissions<S: Alter>(tx: &mut Transaction<'_, S>) -> Result<Vec<Ro
     ensures read { Reads (state S.Store tx.old.conn.now) (state S.Store tx.new.conn.now) result
         (λ db rows. Lists transmissions (λ _. true) 2 db rows.items) }
 {
-    select(
-        tx,
-        "SELECT sender, number, body FROM transmissions ORDER BY sender, number",
-        &[],
-    )
+    all_rows(tx, TableName::Transmissions)
 }
 
 /// The transmission of a sender under a number, if there is one.

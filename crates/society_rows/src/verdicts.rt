@@ -9,9 +9,9 @@ ghost use Rattle.society_rows.specs.Reads.{Lists, Reads, has_key};
 ghost use Rattle.society_rows.specs.Rows.{verdict_values};
 ghost use Rattle.society_rows.specs.Stored.{Adds};
 
-use crate::RowFault;
 use crate::reading::{integer, text, whole};
 use crate::statement::{run, select};
+use crate::{RowFault, TableName, all_rows};
 use sqlite::types::ToSql;
 use sqlite::{Alter, Row, Transaction};
 use sqlite_value::value::ValueRef;
@@ -92,11 +92,7 @@ pub fn all_verdicts<S: Alter>(tx: &mut Transaction<'_, S>) -> Result<Vec<Row>, R
     ensures read { Reads (state S.Store tx.old.conn.now) (state S.Store tx.new.conn.now) result
         (λ db rows. Lists verdicts (λ _. true) 3 db rows.items) }
 {
-    select(
-        tx,
-        "SELECT sender, number, place, fault, ordinal, revision FROM verdicts ORDER BY sender, number, place",
-        &[],
-    )
+    all_rows(tx, TableName::Verdicts)
 }
 
 /// The verdicts of a transmission, by place.

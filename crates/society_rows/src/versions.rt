@@ -5,13 +5,13 @@ ghost use Rattle.sqlite.specs.Held.{state};
 ghost use Rattle.society_rows.specs.declared.fault.RowFault.TheVariants.{Unread};
 ghost use Rattle.society_rows.specs.Effects.{Writes, IsWhole};
 ghost use Rattle.society_rows.specs.Layout.{versions};
-ghost use Rattle.society_rows.specs.Reads.{Lists, Reads, has_key};
+ghost use Rattle.society_rows.specs.Reads.{Lists, Reads, IsFirstOf, has_key};
 ghost use Rattle.society_rows.specs.Rows.{version_values};
 ghost use Rattle.society_rows.specs.Stored.{Adds};
 
-use crate::RowFault;
 use crate::reading::{integer, text, whole};
 use crate::statement::{run, select};
+use crate::{RowFault, TableName, all_rows};
 use sqlite::types::ToSql;
 use sqlite::{Alter, Row, Transaction};
 use sqlite_value::value::ValueRef;
@@ -92,11 +92,7 @@ pub fn all_versions<S: Alter>(tx: &mut Transaction<'_, S>) -> Result<Vec<Row>, R
     ensures read { Reads (state S.Store tx.old.conn.now) (state S.Store tx.new.conn.now) result
         (λ db rows. Lists versions (λ _. true) 3 db rows.items) }
 {
-    select(
-        tx,
-        "SELECT sender, work, revision, number, place, ordinal FROM versions ORDER BY sender, work, revision",
-        &[],
-    )
+    all_rows(tx, TableName::Versions)
 }
 
 /// The versions of a work, by revision.
@@ -112,6 +108,23 @@ pub fn versions_of<S: Alter>(
     select(
         tx,
         "SELECT sender, work, revision, number, place, ordinal FROM versions WHERE sender = ?1 AND work = ?2 ORDER BY sender, work, revision",
+        &[ValueRef::Text(sender), ValueRef::Text(work)],
+    )
+}
+
+/// The last version of a work, if there is one: that of the greatest revision.
+pub fn last_version_of<S: Alter>(
+    tx: &mut Transaction<'_, S>,
+    sender: &[u8],
+    work: &[u8],
+) -> Result<Vec<Row>, RowFault>
+    ensures same_reference { tx.new.conn.ghost_name ≡ tx.old.conn.ghost_name }
+    ensures read { Reads (state S.Store tx.old.conn.now) (state S.Store tx.new.conn.now) result
+        (λ db rows. IsFirstOf versions (has_key (Text sender.now ∷ Text work.now ∷ [])) 3 db rows.items) }
+{
+    select(
+        tx,
+        "SELECT sender, work, revision, number, place, ordinal FROM versions WHERE sender = ?1 AND work = ?2 ORDER BY sender DESC, work DESC, revision DESC LIMIT 1",
         &[ValueRef::Text(sender), ValueRef::Text(work)],
     )
 }

@@ -1,0 +1,116 @@
+-- Rows that are gone over one at a time.
+use Rattle.std.proofs.Common.{◌≡◌, ◌⊎◌, ℕ, List, [], ◌∷◌, ◌++◌, None, Result, Ok, Err, IfOk, sym, ap, subst, ◌∙◌, inl, inr, arith}
+use Rattle.std.specs.Result.{IsErr}
+use Rattle.std.proofs.lemmas.List.Sums.{fold_push}
+use Rattle.sqlite_value.specs.Order.{Row}
+use Rattle.sqlite_trees.specs.Tree.{Trees}
+use Rattle.sqlite.specs.declared.error.Error.{Error}
+use Rattle.sqlite.specs.Effect.{Database}
+use Rattle.sqlite.specs.Clock.{timed}
+use Rattle.sqlite.specs.Listing.{understood, reads_listing, IsSourceOf}
+use Rattle.sqlite.specs.State.{State, HasCleanDisk, IsUnchanged, IsRolledBack, Survives, Fails, FailsToQuery, Shown, ShowsRows, IsStatement, CommitsShowing}
+use Rattle.sqlite.proofs.Callers.{IsPlain, never_commits, unchanged_then}
+use Rattle.sqlite.proofs.StateLemmas.{survives_then, survives_weaker}
+use Rattle.sqlite.proofs.StreamLemmas.{rolled_back_since}
+use Rattle.sqlite_schema.specs.declared.schema.Schema.{Schema}
+use Rattle.sqlite_resolve.specs.declared.compiled.Compiled.{Compiled}
+use Rattle.sqlite_resolve.specs.declared.error.CompileError.{CompileError}
+use Rattle.society_rows.specs.declared.fault.RowFault.{RowFault}
+use Rattle.society_rows.specs.Folds.{ReadsAlone, HasTaken, OfOtherLayout}
+use Rattle.society_rows.specs.Layout.{layout}
+use Rattle.society_rows.specs.Stored.{HasLayout}
+use Rattle.society_rows.proofs.Queries.{failed_query}
+
+-- a query whose text is known under the layout commits nothing there
+pub commits_nothing : (text : List ℕ) (params : Row) (old new : State) → IsPlain (understood layout text) → Survives old new (CommitsShowing text params old) → Survives old new (OfOtherLayout old)
+commits_nothing text params old new plain = survives_weaker old new _ _ (λ clean db h has. never_commits text params old db (subst (λ s. IsPlain (understood s text)) (sym has) plain) h)
+
+-- what came later commits nothing at all
+pub survives_on : (old mid new : State) → Survives old mid (OfOtherLayout old) → Survives mid new (λ _. ⊥) → Survives old new (OfOtherLayout old)
+survives_on old mid new = survives_then old mid new (OfOtherLayout old) (λ _. ⊥) (OfOtherLayout old) (λ _ db h. h) (λ _ db none. absurd none)
+
+-- a reading that failed, and what it left
+pub fails_alone : {X : Type 0} (old new : State) (result : Result X RowFault) (Found : Trees → X → Type 0) → IsErr result
+    → (HasCleanDisk new → HasLayout old.now → IsUnchanged old new ⊎ IsRolledBack old new) → Survives old new (OfOtherLayout old) → ReadsAlone old new result Found
+fails_alone old new (Ok x) Found is whole survives = absurd cc
+fails_alone old new (Err e) Found is whole survives = record { found = λ clean has. tt; same = λ clean has. tt; whole = whole; survives = survives }
+
+-- a query that did not begin
+pub refused_alone : {X : Type 0} (text : List ℕ) (params : Row) (old new : State) (error : Error) (result : Result X RowFault) (Found : Trees → X → Type 0) → IsErr result → IsPlain (understood layout text)
+    → (HasCleanDisk new → FailsToQuery text params old new error) → Survives old new (CommitsShowing text params old) → ReadsAlone old new result Found
+refused_alone text params old new error result Found is plain fails survives =
+    fails_alone old new result Found is (λ clean has. failed_query text params old new error (fails clean)) (commits_nothing text params old new plain survives)
+
+-- a query that failed between two rows
+pub stopped_alone : {X : Type 0} (old mid new : State) (error : Error) (result : Result X RowFault) (Found : Trees → X → Type 0) → IsErr result → Survives old mid (OfOtherLayout old)
+    → (HasCleanDisk mid → HasLayout old.now → IsUnchanged old mid) → (HasCleanDisk new → Fails mid new ⊥ error ⊎ IsUnchanged mid new) → Survives mid new (λ _. ⊥) → ReadsAlone old new result Found
+stopped_alone old mid new error result Found is before same kept survives =
+    let early = λ (clean : HasCleanDisk new). let was : HasCleanDisk mid = omega (arith, survives.clean) in was in
+    fails_alone old new result Found is
+    (λ clean has. elim (kept clean) [
+      | inl failed ↦ inr (rolled_back_since old mid new (same (early clean) has) before.counts failed.3)
+      | inr still ↦ inl (unchanged_then old mid new (same (early clean) has) still)
+    ])
+    (survives_on old mid new before survives)
+
+-- one more row
+pub takes_row : {F : Type 0} (step : F → Row → F) (Now Later : List Row → Type 0) (first old new : F) (row : Row) → ((rows : List Row) → Now rows → Later (rows ++ row ∷ []))
+    → HasTaken step Now first old → new ≡ step old row → HasTaken step Later first new
+takes_row step Now Later first old new row more taken is = record {
+  rows = taken.rows ++ row ∷ [];
+  these = more taken.rows taken.these;
+  folded = is ∙ ap (λ x. step x row) taken.folded ∙ sym (fold_push step first taken.rows row);
+}
+
+-- the same rows, known as others
+pub taken_as : {F : Type 0} (step : F → Row → F) (Now Later : List Row → Type 0) (first new : F) → ((rows : List Row) → Now rows → Later rows) → HasTaken step Now first new → HasTaken step Later first new
+taken_as step Now Later first new turns taken = record { rows = taken.rows; these = turns taken.rows taken.these; folded = taken.folded }
+
+pub plain_under : (text : List ℕ) (schema : Schema) → schema ≡ layout → IsPlain (understood layout text) → IsPlain (understood schema text)
+plain_under text schema has plain = subst (λ s. IsPlain (understood s text)) (sym has) plain
+
+-- what is known of the rows that a query shows
+pub lists_alone : {F : Type 0} (step : F → Row → F) (text : List ℕ) (params : Row) (old new : State) (result : Result (Unit {0}) RowFault) (first last : F) (Rows : Trees → List Row → Type 0)
+    → ((rows : List Row) → HasLayout old.now → Shown text params old new rows → Rows old.now.trees rows)
+    → ReadsAlone old new result (λ _ _. HasTaken step (Shown text params old new) first last) → ReadsAlone old new result (λ db _. HasTaken step (Rows db) first last)
+lists_alone step text params old new result first last Rows lists h = record { found = λ clean has. on result has (h.found clean has); same = h.same; whole = h.whole; survives = h.survives }
+  where
+    on : (r : Result (Unit {0}) RowFault) → HasLayout old.now → IfOk r (λ _. HasTaken step (Shown text params old new) first last) → IfOk r (λ _. HasTaken step (Rows old.now.trees) first last)
+    on (Ok x) has taken = taken_as step _ _ first last (λ rows. lists rows has) taken
+    on (Err e) has none = tt
+
+-- unchanged, and then again
+pub same_on : (old mid new : State) → Survives mid new (λ _. ⊥) → (HasCleanDisk mid → HasLayout old.now → IsUnchanged old mid) → (HasCleanDisk new → IsUnchanged mid new)
+    → HasCleanDisk new → HasLayout old.now → IsUnchanged old new
+same_on old mid new survives before later clean has = let was : HasCleanDisk mid = omega (arith, survives.clean) in unchanged_then old mid new (before was has) (later clean)
+
+plain_compiled : (r : Result Compiled CompileError) (c : Compiled) → r ≡ Ok c → IsPlain r → c.returning ≡ None
+plain_compiled r c is plain = (subst IsPlain is plain).0
+
+-- an answer to a later state that was as before is an answer to the earlier
+shown_before : (text : List ℕ) (params : Row) (old mid new : State) (rows : List Row) → IsPlain (understood old.now.schema text) → IsUnchanged old mid → Shown text params mid new rows → Shown text params old new rows
+unfolding Shown
+shown_before text params old mid new rows plain same h =
+    let it : IsStatement old text params h.0 = record { is = subst (λ (d : Database). understood d.schema text ≡ Ok h.0) same.0.now_is h.1.is; whole = h.1.whole; given = h.1.given; now = h.1.now } in
+    let none = plain_compiled (understood old.now.schema text) h.0 it.is plain in
+    let full = timed params h.0.formats h.1.now in
+    let read = subst (ShowsRows mid new text h.0 full rows) none h.2 in
+    let source = subst (λ (d : Database). IsSourceOf (reads_listing d.schema text) d read.0) same.0.now_is read.1 in
+    (h.0, it, subst (ShowsRows old new text h.0 full rows) (sym none) (read.0, source, read.2, unchanged_then old mid new same read.3))
+
+-- the last row is behind it
+pub ends_alone : {F : Type 0} (step : F → Row → F) (Now : List Row → Type 0) (text : List ℕ) (params : Row) (old mid new : State) (first last : F) → IsPlain (understood layout text)
+    → Survives old mid (OfOtherLayout old) → (HasCleanDisk mid → HasLayout old.now → IsUnchanged old mid) → (HasCleanDisk mid → HasLayout old.now → HasTaken step Now first last)
+    → (HasCleanDisk new → (rows : List Row) → Now rows → Shown text params mid new rows) → (HasCleanDisk new → IsUnchanged mid new) → Survives mid new (λ _. ⊥)
+    → ReadsAlone {X = Unit {0}} old new (Ok tt) (λ _ _. HasTaken step (Shown text params old new) first last)
+ends_alone step Now text params old mid new first last plain before same taken shown later survives =
+    let early = λ (clean : HasCleanDisk new). let was : HasCleanDisk mid = omega (arith, survives.clean) in was in
+    record {
+      found = λ clean has.
+          taken_as step Now (Shown text params old new) first last
+          (λ rows now. shown_before text params old mid new rows (plain_under text old.now.schema has plain) (same (early clean) has) (shown clean rows now))
+          (taken (early clean) has);
+      same = same_on old mid new survives same later;
+      whole = λ clean has. tt;
+      survives = survives_on old mid new before survives;
+    }

@@ -1,0 +1,108 @@
+-- The transmissions of a sender, one number after another.
+use Rattle.std.proofs.Common.{◌≡◌, ℕ, suc, pos, ◌+◌, ◌<◌, ◌≤◌, length, List, [], ◌∷◌, ◌++◌, Vec, Ok, Err, sym, ap, subst, refl, inl, inr, arith}
+use Rattle.std.specs.declared.alloc.Global.{Global}
+use Rattle.std.proofs.lemmas.Bool.{cases_lt}
+use Rattle.std.proofs.lemmas.List.{length-append}
+use Rattle.sqlite_value.specs.declared.value.Value.TheVariants.{Int, Text}
+use Rattle.sqlite_value.specs.Order.{Row}
+use Rattle.sqlite_trees.specs.Tree.{Trees}
+use Rattle.sqlite_trees.specs.declared.store.Store.{Ghosts}
+use Rattle.sqlite.specs.Effect.{Database}
+use Rattle.sqlite.specs.Held.{Held, state}
+use Rattle.sqlite.specs.State.{HasCleanDisk, IsUnchanged, Survives}
+use Rattle.sqlite.proofs.Callers.{unchanged_then}
+use Rattle.sqlite.proofs.StateLemmas.{survives_then}
+use Rattle.society_rows.specs.declared.fault.RowFault.{RowFault}
+use Rattle.society_rows.specs.Folds.{ReadsInside, HasTaken, AreFrom, IsRun}
+use Rattle.society_rows.specs.Layout.{transmissions}
+use Rattle.society_rows.specs.Reads.{Lists, Reads, has_key}
+use Rattle.society_rows.specs.Stored.{HasLayout}
+use Rattle.society_rows.proofs.RowFolds.{takes_row, taken_as}
+
+-- a reading in a transaction has gone over the transmissions below a number
+pub record HasRunTo {S : Type 0} (g : Ghosts S) {F : Type 0} (step : F → Row → F) (sender : List ℕ) (old new : Held S) (first number : ℕ) (begun now : F) : Type 0 where
+  pub start : number ≡ first → new ≡ old
+  pub survives : Survives (state g old) (state g new) (λ _. ⊥)
+  pub same : HasCleanDisk (state g new) → HasLayout (state g old).now → first < number → IsUnchanged (state g old) (state g new)
+  pub taken : HasCleanDisk (state g new) → HasLayout (state g old).now → HasTaken step (λ rows. AreFrom sender first (state g old).now.trees rows × (length rows + first ≡ number)) begun now
+
+pub runs_to_first : {S : Type 0} (g : Ghosts S) {F : Type 0} (step : F → Row → F) (sender : List ℕ) (old : Held S) (first : ℕ) (begun : F) → HasRunTo g step sender old old first first begun begun
+runs_to_first g step sender old first begun = record {
+  start = λ e. refl;
+  survives = record { clean = omega arith; shield = λ h. h; counts = omega arith; limit = refl; closes = λ clean was. inl was; crash = λ clean db h. inl h };
+  same = λ clean has more. absurd (omega arith);
+  taken = λ clean has. record { rows = []; these = (tt, omega arith); folded = refl };
+}
+
+are_from_then : (sender : List ℕ) (first number : ℕ) (db : Trees) (rows : List Row) (row : Row) → AreFrom sender first db rows → length rows + first ≡ number
+    → Lists transmissions (has_key (Text sender ∷ Int (pos number) ∷ [])) 2 db (row ∷ []) → AreFrom sender first db (rows ++ row ∷ [])
+are_from_then sender first number db [] row all is one =
+    let same : number ≡ first = omega arith in
+    (subst (λ n. Lists transmissions (has_key (Text sender ∷ Int (pos n) ∷ [])) 2 db (row ∷ [])) same one, tt)
+are_from_then sender first number db (r ∷ rows) row all is one = (all.0, are_from_then sender (suc first) number db rows row all.1 (omega arith) one)
+
+module _ {S : Type 0} (g : Ghosts S) {F : Type 0} (step : F → Row → F) (sender : List ℕ) (old mid new : Held S) (first number : ℕ) (begun now : F) (low : first ≤ number)
+    (run : HasRunTo g step sender old mid first number begun now) where
+  early : Survives (state g mid) (state g new) (λ _. ⊥) → HasCleanDisk (state g new) → HasCleanDisk (state g mid)
+  early survives clean = omega (arith, survives.clean)
+
+  on_first : {P : Type 0} → (mid ≡ old → P) → (first < number → P) → P
+  on_first here later = elim (cases_lt first number) [ inl more ↦ later more | inr none ↦ here (run.start (omega arith)) ]
+
+  seen_now : HasCleanDisk (state g mid) → HasLayout (state g old).now → (state g mid).now ≡ (state g old).now
+  seen_now clean has = on_first (λ e. ap (λ h. (state g h).now) e) (λ more. (run.same clean has more).0.now_is)
+
+  unchanged_on : HasCleanDisk (state g mid) → HasLayout (state g old).now → IsUnchanged (state g mid) (state g new) → IsUnchanged (state g old) (state g new)
+  unchanged_on clean has h = on_first (λ e. subst (λ x. IsUnchanged (state g x) (state g new)) e h) (λ more. unchanged_then (state g old) (state g mid) (state g new) (run.same clean has more) h)
+
+  survives_on : Survives (state g mid) (state g new) (λ _. ⊥) → Survives (state g old) (state g new) (λ _. ⊥)
+  survives_on = survives_then (state g old) (state g mid) (state g new) (λ _. ⊥) (λ _. ⊥) (λ _. ⊥) (λ _ db none. none) (λ _ db none. none) run.survives
+
+  abbrev Found : Trees → Vec Row Global → Type 0
+  Found db rows = Lists transmissions (has_key (Text sender ∷ Int (pos number) ∷ [])) 2 db rows.items
+
+  module _ (rows : Vec Row Global) (read : Reads (state g mid) (state g new) (Ok rows) Found) where
+    -- what was found is what stands in the first state
+    found_first : HasCleanDisk (state g new) → HasLayout (state g old).now → Found (state g old).now.trees rows
+    found_first clean has =
+        let seen = seen_now (early read.survives clean) has in
+        subst (λ (d : Database). Found d.trees rows) seen (read.found clean (subst HasLayout (sym seen) has))
+
+    pub same_first : HasCleanDisk (state g new) → HasLayout (state g old).now → IsUnchanged (state g old) (state g new)
+    same_first clean has =
+        let was = early read.survives clean in
+        unchanged_on was has (read.same clean (subst HasLayout (sym (seen_now was has)) has))
+
+    pub runs_on : (row : Row) (next : F) → rows.items ≡ row ∷ [] → next ≡ step now row → HasRunTo g step sender old new first (number + 1) begun next
+    runs_on row next one is = record {
+      start = λ e. absurd (omega arith);
+      survives = survives_on read.survives;
+      same = λ clean has more. same_first clean has;
+      taken = λ clean has.
+          takes_row step _ _ begun now next row
+          (λ given h. (
+            are_from_then sender first number (state g old).now.trees given row h.0 h.1 (subst (Lists transmissions (has_key (Text sender ∷ Int (pos number) ∷ [])) 2 (state g old).now.trees) one (found_first clean has)),
+            omega (arith, length-append given (row ∷ []), h.1),
+          )) (run.taken (early read.survives clean) has) is;
+    }
+
+    pub run_ends : rows.items ≡ [] → ReadsInside {X = Unit {0}} (state g old) (state g new) (Ok tt) (λ db _. HasTaken step (IsRun sender first db) begun now)
+    run_ends none = record {
+      found = λ clean has.
+          taken_as step _ _ begun now
+          (λ given h. record {
+            each = h.0;
+            gap = subst (λ n. Lists transmissions (has_key (Text sender ∷ Int (pos n) ∷ [])) 2 (state g old).now.trees []) (sym h.1)
+                (subst (Lists transmissions (has_key (Text sender ∷ Int (pos number) ∷ [])) 2 (state g old).now.trees) none (found_first clean has));
+          })
+          (run.taken (early read.survives clean) has);
+      same = same_first;
+      whole = λ clean has. tt;
+      survives = survives_on read.survives;
+    }
+
+-- no number is left
+pub run_overflows : {S : Type 0} (g : Ghosts S) {F : Type 0} (step : F → Row → F) (sender : List ℕ) (old new : Held S) (first number : ℕ) (begun now : F) → first < number
+    → HasRunTo g step sender old new first number begun now → (fault : RowFault) (Any : Trees → Unit {0} → Type 0) → ReadsInside (state g old) (state g new) (Err fault) Any
+run_overflows g step sender old new first number begun now more run fault Any =
+    record { found = λ clean has. tt; same = λ clean has. tt; whole = λ clean has. inl (run.same clean has more); survives = run.survives }

@@ -1,0 +1,20 @@
+use Rattle.std.proofs.Common.{◌≡◌, false}
+use Rattle.sqlite.specs.State.{HasCleanDisk, IsUnchanged, Survives}
+use Rattle.sqlite.specs.Held.{state}
+use Rattle.sqlite.specs.Given.{HasGiven}
+use Rattle.sqlite.specs.Values.{bound}
+use Rattle.society_rows.specs.Folds.{HasTaken, OfOtherLayout}
+use Rattle.society_rows.specs.Stored.{HasLayout}
+use Rattle.society_rows.proofs.folding.fold_shown.Given as goal
+
+abbrev pub invariant-rows : goal.invariant-rows
+invariant-rows g l =
+    let old = state g.S.Store l.fn.conn in
+    let now = state g.S.Store l.rows.conn.now in
+    record {
+      same_reference : l.rows.conn.ghost_name ≡ l.initial.rows.conn.ghost_name;
+      survives : Survives old now (OfOtherLayout old);
+      mode : l.fn.conn.in_transaction ≡ false → l.rows.conn.now.in_transaction ≡ false;
+      same : HasCleanDisk now → HasLayout old.now → IsUnchanged old now;
+      taken : HasCleanDisk now → HasLayout old.now → HasTaken g.F.RowFold.step (HasGiven g.S.Store l.sql (bound l.params) l.rows.conn.now) l.initial.into l.into;
+    }

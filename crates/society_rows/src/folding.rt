@@ -1,0 +1,106 @@
+//! Rows that are gone over one at a time, so that no answer is kept.
+ghost use Rattle.std.specs.Prelude.{◌≡◌, [], false, fold, pos, true, List, IsTrue, OnOk};
+ghost use Rattle.sqlite.specs.Held.{state};
+ghost use Rattle.sqlite_value.specs.Order.{Row as SqlRow};
+ghost use Rattle.sqlite_value.specs.declared.value.Value.TheVariants.{Int, Text};
+ghost use Rattle.sqlite.specs.State.{HasCleanDisk, Shown, Survives};
+ghost use Rattle.sqlite.specs.Given.{IsPlain};
+ghost use Rattle.sqlite.specs.Listing.{understood};
+ghost use Rattle.sqlite.specs.Values.{bound};
+ghost use Rattle.society_rows.specs.Folds.{ReadsAlone, ReadsInside, HasTaken, IsRun};
+ghost use Rattle.society_rows.specs.Layout.{layout, transmissions};
+ghost use Rattle.society_rows.specs.Reads.{Lists, Reads, is_above};
+ghost use Rattle.society_rows.specs.TableNames.{table_called, key_width};
+
+use crate::tables::listing;
+use crate::{RowFault, TableName, transmission_at};
+use sqlite::types::ToSql;
+use sqlite::{Alter, Connection, Row, Transaction};
+use sqlite_value::value::ValueRef;
+
+/// What goes over rows, one at a time, and keeps what it wants of them.
+pub trait RowFold {
+    /// What it is once it has taken the row.
+    ghost step: { Self → SqlRow → Self };
+
+    /// Takes a row. An error ends the reading.
+    fn take(&mut self, row: &Row) -> Result<(), RowFault>
+        ensures { OnOk result (self.new ≡ step self.old row.now) };
+}
+
+/// Goes over the rows that a query shows.
+fn fold_shown<S: Alter, F: RowFold>(
+    conn: &mut Connection<S>,
+    sql: &str,
+    params: &[ValueRef<'_>],
+    into: &mut F,
+) -> Result<(), RowFault>
+    requires { IsPlain (understood layout sql.now) }
+    ensures taken { ReadsAlone (state S.Store conn.old) (state S.Store conn.new) result
+        (λ _ _. HasTaken F.step (Shown sql.now (bound params.now) (state S.Store conn.old) (state S.Store conn.new)) into.old into.new) }
+    ensures mode { conn.old.in_transaction ≡ false → conn.new.in_transaction ≡ false }
+{
+    let mut rows = conn.query(sql, params)?;
+    'rows: for _ in 0..u64::MAX {
+        let Some(row) = rows.next()? else {
+            return Ok(());
+        };
+        into.take(row)?;
+    }
+    Err(RowFault::Unread)
+}
+
+/// Goes over all rows of a table, by its key. After an error some have been taken.
+pub fn fold_table<S: Alter, F: RowFold>(
+    conn: &mut Connection<S>,
+    table: TableName,
+    into: &mut F,
+) -> Result<(), RowFault>
+    ensures taken { ReadsAlone (state S.Store conn.old) (state S.Store conn.new) result
+        (λ db _. HasTaken F.step (Lists (table_called table) (λ _. true) (key_width table) db) into.old into.new) }
+    ensures mode { conn.old.in_transaction ≡ false → conn.new.in_transaction ≡ false }
+{
+    fold_shown(conn, listing(table), &[], into)
+}
+
+/// Goes over the transmissions of a sender above a number, by number. After an error some have been taken.
+pub fn fold_above<S: Alter, F: RowFold>(
+    conn: &mut Connection<S>,
+    sender: &[u8],
+    number: u32,
+    into: &mut F,
+) -> Result<(), RowFault>
+    ensures taken { ReadsAlone (state S.Store conn.old) (state S.Store conn.new) result
+        (λ db _. HasTaken F.step (Lists transmissions (is_above (Text sender.now) (Int (pos number))) 2 db) into.old into.new) }
+    ensures mode { conn.old.in_transaction ≡ false → conn.new.in_transaction ≡ false }
+{
+    fold_shown(
+        conn,
+        "SELECT sender, number, body FROM transmissions WHERE sender = ?1 AND number > ?2 ORDER BY sender, number",
+        &[ValueRef::Text(sender), number.to_sql()],
+        into,
+    )
+}
+
+/// Goes over the transmissions of a sender from a number upwards, up to the first number that is not there, each by its
+/// key. After an error some have been taken; `Unread` also says that a key has two rows, or that no number is free.
+pub fn fold_run<S: Alter, F: RowFold>(
+    tx: &mut Transaction<'_, S>,
+    sender: &[u8],
+    first: u32,
+    into: &mut F,
+) -> Result<(), RowFault>
+    ensures same_reference { tx.new.conn.ghost_name ≡ tx.old.conn.ghost_name }
+    ensures taken { ReadsInside (state S.Store tx.old.conn.now) (state S.Store tx.new.conn.now) result
+        (λ db _. HasTaken F.step (IsRun sender.now first db) into.old into.new) }
+{
+    for number in first..=u32::MAX {
+        let rows = transmission_at(tx, sender, number)?;
+        match rows.as_slice() {
+            [] => return Ok(()),
+            [row] => into.take(row)?,
+            _ => return Err(RowFault::Unread),
+        }
+    }
+    Err(RowFault::Unread)
+}

@@ -1,0 +1,92 @@
+//! Questions that are asked on a connection, outside a transaction.
+ghost use Rattle.std.specs.Prelude.{◌≡◌, false};
+ghost use Rattle.sqlite.specs.Held.{state};
+ghost use Rattle.society_rows.specs.Questions.{Answers, Asks};
+ghost use Rattle.society_rows.specs.Reads.{Reads};
+
+use crate::{
+    RowFault, all_offices, balance_at, credits_of, cuts_of, front_at, last_version_of, pool_at,
+    pool_return_at, recordings_of, recordings_with, return_at, returns_of_pool, transmission_at,
+    transmissions_above, verdicts_of, versions_of,
+};
+use sqlite::{Alter, Connection, Row, Transaction};
+
+/// What is asked of the tables, by a key.
+#[derive(Clone, Copy, Debug)]
+pub enum Question<'a> {
+    /// The office.
+    Office,
+    /// The front of a sender.
+    Front(&'a [u8]),
+    /// The transmission of a sender under a number.
+    Transmission(&'a [u8], u32),
+    /// The transmissions of a sender above a number.
+    TransmissionsAbove(&'a [u8], u32),
+    /// The return of a reporter under a number.
+    Return(&'a [u8], u32),
+    /// The pool of a number.
+    Pool(u32),
+    /// The cuts of a pool.
+    Cuts(u32),
+    /// The pool that pays the return of a reporter under a number.
+    Payer(&'a [u8], u32),
+    /// The returns that a pool pays.
+    PaidBy(u32),
+    /// The verdicts of the transmission of a sender under a number.
+    Verdicts(&'a [u8], u32),
+    /// The versions of a work of a sender.
+    Versions(&'a [u8], &'a [u8]),
+    /// The last version of a work of a sender.
+    LastVersion(&'a [u8], &'a [u8]),
+    /// The recordings of a work of a sender.
+    Recordings(&'a [u8], &'a [u8]),
+    /// The recordings under an ISRC.
+    RecordingsWith(&'a [u8]),
+    /// The credits of a pool.
+    Credits(u32),
+    /// The balance of an account.
+    Balance(&'a [u8]),
+}
+
+/// The rows that answer a question, each once, by the key of their table.
+pub fn answer<S: Alter>(
+    tx: &mut Transaction<'_, S>,
+    question: Question<'_>,
+) -> Result<Vec<Row>, RowFault>
+    ensures same_reference { tx.new.conn.ghost_name ≡ tx.old.conn.ghost_name }
+    ensures read { Reads (state S.Store tx.old.conn.now) (state S.Store tx.new.conn.now) result
+        (λ db rows. Answers question.entry db rows.items) }
+{
+    match question {
+        Question::Office => all_offices(tx),
+        Question::Front(sender) => front_at(tx, sender),
+        Question::Transmission(sender, number) => transmission_at(tx, sender, number),
+        Question::TransmissionsAbove(sender, number) => transmissions_above(tx, sender, number),
+        Question::Return(reporter, number) => return_at(tx, reporter, number),
+        Question::Pool(pool) => pool_at(tx, pool),
+        Question::Cuts(pool) => cuts_of(tx, pool),
+        Question::Payer(reporter, number) => pool_return_at(tx, reporter, number),
+        Question::PaidBy(pool) => returns_of_pool(tx, pool),
+        Question::Verdicts(sender, number) => verdicts_of(tx, sender, number),
+        Question::Versions(sender, work) => versions_of(tx, sender, work),
+        Question::LastVersion(sender, work) => last_version_of(tx, sender, work),
+        Question::Recordings(sender, work) => recordings_of(tx, sender, work),
+        Question::RecordingsWith(isrc) => recordings_with(tx, isrc),
+        Question::Credits(pool) => credits_of(tx, pool),
+        Question::Balance(account) => balance_at(tx, account),
+    }
+}
+
+/// The rows that answer a question. It is asked within a transaction that is rolled back, so nothing is committed
+/// whatever the schema is.
+pub fn ask<S: Alter>(conn: &mut Connection<S>, question: Question<'_>) -> Result<Vec<Row>, RowFault>
+    requires { conn.old.in_transaction ≡ false }
+    ensures asked { Asks (state S.Store conn.old) (state S.Store conn.new) result
+        (λ db rows. Answers question.entry db rows.items) }
+    ensures idle { conn.new.in_transaction ≡ false }
+{
+    let mut tx = conn.transaction();
+    let rows = answer(&mut tx, question);
+    tx.rollback();
+    rows
+}

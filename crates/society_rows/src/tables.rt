@@ -1,0 +1,76 @@
+//! The tables by name, and the query that shows all rows of each.
+ghost use Rattle.std.specs.Prelude.{◌≡◌, true};
+ghost use Rattle.sqlite.specs.Held.{state};
+ghost use Rattle.society_rows.specs.Reads.{Lists, Reads};
+ghost use Rattle.society_rows.specs.TableNames.{table_called, key_width, listing_text};
+
+use crate::RowFault;
+use crate::statement::select;
+use sqlite::{Alter, Row, Transaction};
+
+/// The tables of layout 2.
+#[derive(Clone, Copy, Debug, PartialEq, Eq)]
+pub enum TableName {
+    Office,
+    Transmissions,
+    Returns,
+    Pools,
+    PoolCuts,
+    PoolReturns,
+    Fronts,
+    Verdicts,
+    Versions,
+    Recordings,
+    Credits,
+    Balances,
+}
+
+/// The query that shows all rows of a table, by its key.
+pub(crate) fn listing(table: TableName) -> &'static str
+    ensures { result.now ≡ listing_text table }
+{
+    match table {
+        TableName::Office => {
+            "SELECT one, layout, society, territory, name FROM office ORDER BY one"
+        }
+        TableName::Transmissions => {
+            "SELECT sender, number, body FROM transmissions ORDER BY sender, number"
+        }
+        TableName::Returns => {
+            "SELECT reporter, number, body FROM returns ORDER BY reporter, number"
+        }
+        TableName::Pools => { "SELECT pool, amount FROM pools ORDER BY pool" }
+        TableName::PoolCuts => {
+            "SELECT pool, sender, number FROM pool_cuts ORDER BY pool, sender"
+        }
+        TableName::PoolReturns => {
+            "SELECT reporter, number, pool FROM pool_returns ORDER BY reporter, number"
+        }
+        TableName::Fronts => { "SELECT sender, front, works FROM fronts ORDER BY sender" }
+        TableName::Verdicts => {
+            "SELECT sender, number, place, fault, ordinal, revision FROM verdicts ORDER BY sender, number, place"
+        }
+        TableName::Versions => {
+            "SELECT sender, work, revision, number, place, ordinal FROM versions ORDER BY sender, work, revision"
+        }
+        TableName::Recordings => {
+            "SELECT sender, work, revision, isrc FROM recordings ORDER BY sender, work, revision, isrc"
+        }
+        TableName::Credits => {
+            "SELECT pool, line, isrc, account, units FROM credits ORDER BY pool, line"
+        }
+        TableName::Balances => { "SELECT account, units FROM balances ORDER BY account" }
+    }
+}
+
+/// All rows of a table, by its key.
+pub fn all_rows<S: Alter>(
+    tx: &mut Transaction<'_, S>,
+    table: TableName,
+) -> Result<Vec<Row>, RowFault>
+    ensures same_reference { tx.new.conn.ghost_name ≡ tx.old.conn.ghost_name }
+    ensures read { Reads (state S.Store tx.old.conn.now) (state S.Store tx.new.conn.now) result
+        (λ db rows. Lists (table_called table) (λ _. true) (key_width table) db rows.items) }
+{
+    select(tx, listing(table), &[])
+}
