@@ -3,3 +3,4 @@ pub mod KeptLemmas
 pub mod CutLemmas
 pub mod CleanLemmas
 mod Worked
+pub mod NextLemmas

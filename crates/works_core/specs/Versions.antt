@@ -1,7 +1,11 @@
 -- The versions of works: the accepted transactions of a line, each where it stands.
 use Rattle.std.specs.Prelude.{ℕ, ◌+◌, Bool, ◌&&◌, List, [], ◌∷◌, Option, Some, None, map, take, if◌then◌else◌}
 use Rattle.works_core.specs.Verdicts.{concerns, is_accepted, ordinal_of, versions_of}
+use Rattle.cwr_records.specs.declared.work.TransactionKind.TheVariants.{Nwr, Rev}
 use Rattle.works_core.specs.declared.judged.Judged.{Judged}
+use Rattle.works_core.specs.declared.judged.Judged.TheVariants.{Clean, Faulty}
+use Rattle.works_core.specs.declared.verdict.Verdict.{Verdict}
+use Rattle.works_core.specs.declared.verdict.Verdict.TheVariants.{Accepted, Rejected}
 use Rattle.works_core.specs.declared.version.WorkVersion.{WorkVersion}
 
 -- a transaction of a line: its transmission's number, its place there from 0 among those of types NWR and REV, and what is judged of it
@@ -49,6 +53,14 @@ version_of work past t = record {
 abbrev pub last_version : List ℕ → List Placed → Option WorkVersion
 last_version work [] = None
 last_version work (t ∷ past) = if is_version work past t then Some (version_of work past t) else last_version work past
+
+-- the verdict of a transaction at the end of a line, by the last version of its work and the number of works that are accepted so far (profile)
+abbrev pub next_verdict : Judged → Option WorkVersion → ℕ → Verdict
+next_verdict (Faulty fault) last works = Rejected fault
+next_verdict (Clean Nwr number) None works = Accepted (works + 1) 0
+next_verdict (Clean Nwr number) (Some version) works = Rejected 20
+next_verdict (Clean Rev number) None works = Rejected 21
+next_verdict (Clean Rev number) (Some version) works = Accepted version.ordinal (version.revision + 1)
 
 -- the version of a work at a cut: its last accepted transaction in the transmissions up to the cut; a cut above the front is read as the front (profile)
 unfoldable pub work_at : List (List Judged) → List ℕ → ℕ → Option WorkVersion

@@ -12,7 +12,7 @@ mod works;
 pub use judged::Judged;
 pub use recordings::isrcs;
 pub use sender_line::SenderLine;
-pub use verdict::Verdict;
+pub use verdict::{Verdict, next_verdict};
 pub use version::WorkVersion;
 
 #[cfg(test)]

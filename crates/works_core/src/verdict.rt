@@ -1,4 +1,13 @@
 //! Verdicts.
+ghost use Rattle.std.specs.Prelude.{◌≡◌, ◌<◌, ◌^◌, List, IfSome};
+ghost use Rattle.works_core.specs.Tracks.{number_in};
+ghost use Rattle.works_core.specs.Verdicts.{verdict_of, works_in};
+ghost use Rattle.works_core.specs.Versions.{Placed, judged_of, last_version, next_verdict};
+
+use crate::judged::Judged;
+use crate::version::WorkVersion;
+use cwr_records::TransactionKind;
+
 /// Fault of a registration whose work number is registered already (profile).
 pub const REGISTERED_BEFORE: u8 = 20;
 
@@ -12,4 +21,36 @@ pub enum Verdict {
     Accepted { ordinal: u64, revision: u64 },
     /// The fault for which it is refused.
     Rejected(u8),
+}
+
+/// The verdict of a transaction at the end of a sender's line, by the last version of its work there and the number of works
+/// that are accepted there. Takes no memory (profile).
+pub fn next_verdict(judged: &Judged, last: Option<WorkVersion>, works: u64) -> Verdict
+    requires counted { works < 2 ^ 63 }
+    requires revised { IfSome last (λ v. v.revision < 2 ^ 63) }
+    ensures told { result ≡ next_verdict judged.now last works }
+    ensures verdict { (past : List Placed) → last ≡ last_version (number_in judged.now) past → works ≡ works_in (judged_of past) → result ≡ verdict_of (judged_of past) judged.now }
+{
+    told_by(judged, last, works)
+}
+
+/// The verdict as the definition has it.
+fn told_by(judged: &Judged, last: Option<WorkVersion>, works: u64) -> Verdict
+    requires counted { works < 2 ^ 63 }
+    requires revised { IfSome last (λ v. v.revision < 2 ^ 63) }
+    ensures { result ≡ next_verdict judged.now last works }
+{
+    match (*judged, last) {
+        (Judged::Faulty(fault), _) => Verdict::Rejected(fault),
+        (Judged::Clean(TransactionKind::Nwr, _), None) => Verdict::Accepted {
+            ordinal: works + 1,
+            revision: 0,
+        },
+        (Judged::Clean(TransactionKind::Nwr, _), Some(_)) => Verdict::Rejected(REGISTERED_BEFORE),
+        (Judged::Clean(TransactionKind::Rev, _), None) => Verdict::Rejected(NOT_REGISTERED),
+        (Judged::Clean(TransactionKind::Rev, _), Some(version)) => Verdict::Accepted {
+            ordinal: version.ordinal,
+            revision: version.revision + 1,
+        },
+    }
 }
