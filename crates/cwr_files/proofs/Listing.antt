@@ -11,6 +11,7 @@ use Rattle.cwr_records.specs.declared.work.TransactionKind.{TransactionKind}
 use Rattle.cwr_files.specs.declared.transmission.Transaction.{Transaction}
 use Rattle.cwr_files.specs.declared.transmission.Group.{Group}
 use Rattle.cwr_files.specs.RecordTypes.{grh, grt, has_type}
+use Rattle.cwr_files.specs.Listed.{HasRecords, parts_of_group}
 use Rattle.cwr_files.specs.Contents.{transaction_of, numbered_transactions, parts, group_part, group_in, groups_in}
 
 -- what is left of a list that grows by one at a time
@@ -27,6 +28,21 @@ until-it code l ls e = take_while-cons (λ x. not (has_type code x)) l ls ∙ ap
 pub until-other : (code l : List ℕ) (ls : List (List ℕ)) → has_type code l ≡ false → take_while (λ x. not (has_type code x)) (l ∷ ls) ≡ l ∷ take_while (λ x. not (has_type code x)) ls
 until-other code l ls e = take_while-cons (λ x. not (has_type code x)) l ls ∙ ap (λ b. cond (not b) (l ∷ take_while (λ x. not (has_type code x)) ls) []) e
 
+-- parts
+
+pub parts-opens : (opens ends : List ℕ → Bool) (l : List ℕ) (ls : List (List ℕ)) → opens l ≡ true → parts opens ends (l ∷ ls) ≡ (l ∷ take_while (λ x. not (ends x)) ls) ∷ parts opens ends ls
+parts-opens opens ends l ls e = ap (λ b. cond b ((l ∷ take_while (λ x. not (ends x)) ls) ∷ parts opens ends ls) (parts opens ends ls)) e
+
+pub parts-passes : (opens ends : List ℕ → Bool) (l : List ℕ) (ls : List (List ℕ)) → opens l ≡ false → parts opens ends (l ∷ ls) ≡ parts opens ends ls
+parts-passes opens ends l ls e = ap (λ b. cond b ((l ∷ take_while (λ x. not (ends x)) ls) ∷ parts opens ends ls) (parts opens ends ls)) e
+
+-- a line that begins no transaction and ends no group is in none of the next ones
+pub parts-beside : (kind rest line more : List ℕ) → IsFirstLine rest line more → has_type grt line ≡ false → has_type kind line ≡ false → parts_of_group kind rest ≡ parts_of_group kind more
+parts-beside kind rest line more f g k =
+    ap (λ ls. parts (has_type kind) (has_type kind) (group_part ls)) f.lines_are
+    ∙ ap (parts (has_type kind) (has_type kind)) (until-other grt line (lines more) g)
+    ∙ parts-passes (has_type kind) (has_type kind) line (group_part (lines more)) k
+
 -- records
 
 -- the lines that go on a transaction
@@ -35,9 +51,15 @@ further_part kind ls = take_while (λ l. not (has_type kind l)) (group_part ls)
 
 pub record AreRecords (kind first after rest : List ℕ) (list : List Record) : Type 0 where
   pub listed : list ++ map record_of (further_part kind (lines rest)) ≡ map record_of (first ∷ further_part kind (lines after))
+  pub further : parts_of_group kind rest ≡ parts_of_group kind after
+  pub shorter : length rest ≤ length after
 
 pub records-start : (kind first after : List ℕ) (list : List Record) → list ≡ record_of first ∷ [] → AreRecords kind first after after list
-records-start kind first after list e = record { listed = ap (λ r. r ++ map record_of (further_part kind (lines after))) e }
+records-start kind first after list e = record {
+  listed = ap (λ r. r ++ map record_of (further_part kind (lines after))) e;
+  further = refl;
+  shorter = omega arith;
+}
 
 further-step : (kind line : List ℕ) (ls : List (List ℕ)) → has_type grt line ≡ false → has_type kind line ≡ false → further_part kind (line ∷ ls) ≡ line ∷ further_part kind ls
 further-step kind line ls t k = ap (take_while (λ l. not (has_type kind l))) (until-other grt line ls t) ∙ until-other kind line (group_part ls) k
@@ -52,19 +74,23 @@ pub records-step : (kind first after rest line more : List ℕ) (list grown : Li
 records-step kind first after rest line more list grown r f t k e =
     let here : further_part kind (lines rest) ≡ line ∷ further_part kind (lines more) = ap (further_part kind) f.lines_are ∙ further-step kind line (lines more) t k in
     let shown : list ++ (record_of line ∷ map record_of (further_part kind (lines more))) ≡ map record_of (first ∷ further_part kind (lines after)) = ap (λ ls. list ++ map record_of ls) (sym here) ∙ r.listed in
-    record { listed = ap (λ xs. xs ++ map record_of (further_part kind (lines more))) e ∙ pushed list _ _ (record_of line) shown }
+    record {
+      listed = ap (λ xs. xs ++ map record_of (further_part kind (lines more))) e ∙ pushed list _ _ (record_of line) shown;
+      further = sym (parts-beside kind rest line more f t k) ∙ r.further;
+      shorter = omega (arith, f.shorter, r.shorter);
+    }
 
-records-stop : (kind first after rest : List ℕ) (list : List Record) → AreRecords kind first after rest list → further_part kind (lines rest) ≡ [] → list ≡ map record_of (first ∷ further_part kind (lines after))
-records-stop kind first after rest list r e = ended list _ _ r.listed (ap (map record_of) e)
+records-stop : (kind first after rest : List ℕ) (list made : List Record) → made ≡ list → AreRecords kind first after rest list → further_part kind (lines rest) ≡ [] → HasRecords kind first after made rest
+records-stop kind first after rest list made m r e = record { listed = m ∙ ended list _ _ r.listed (ap (map record_of) e); further = r.further; shorter = r.shorter }
 
-pub records-closing : (kind first after rest line more : List ℕ) (list : List Record) → AreRecords kind first after rest list → IsFirstLine rest line more → has_type grt line ≡ true → list ≡ map record_of (first ∷ further_part kind (lines after))
-records-closing kind first after rest line more list r f t = records-stop kind first after rest list r (ap (further_part kind) f.lines_are ∙ further-closing kind line (lines more) t)
+pub records-closing : (kind first after rest line more : List ℕ) (list made : List Record) → made ≡ list → AreRecords kind first after rest list → IsFirstLine rest line more → has_type grt line ≡ true → HasRecords kind first after made rest
+records-closing kind first after rest line more list made m r f t = records-stop kind first after rest list made m r (ap (further_part kind) f.lines_are ∙ further-closing kind line (lines more) t)
 
-pub records-next : (kind first after rest line more : List ℕ) (list : List Record) → AreRecords kind first after rest list → IsFirstLine rest line more → has_type grt line ≡ false → has_type kind line ≡ true → list ≡ map record_of (first ∷ further_part kind (lines after))
-records-next kind first after rest line more list r f t k = records-stop kind first after rest list r (ap (further_part kind) f.lines_are ∙ further-next kind line (lines more) t k)
+pub records-next : (kind first after rest line more : List ℕ) (list made : List Record) → made ≡ list → AreRecords kind first after rest list → IsFirstLine rest line more → has_type grt line ≡ false → has_type kind line ≡ true → HasRecords kind first after made rest
+records-next kind first after rest line more list made m r f t k = records-stop kind first after rest list made m r (ap (further_part kind) f.lines_are ∙ further-next kind line (lines more) t k)
 
-pub records-end : (kind first after rest : List ℕ) (list : List Record) → AreRecords kind first after rest list → rest ≡ [] → list ≡ map record_of (first ∷ further_part kind (lines after))
-records-end kind first after rest list r e = records-stop kind first after rest list r (ap (λ b. further_part kind (lines b)) e)
+pub records-end : (kind first after rest : List ℕ) (list made : List Record) → made ≡ list → AreRecords kind first after rest list → rest ≡ [] → HasRecords kind first after made rest
+records-end kind first after rest list made m r e = records-stop kind first after rest list made m r (ap (λ b. further_part kind (lines b)) e)
 
 -- transactions
 
@@ -85,12 +111,6 @@ transactions-start kind group after list e = record {
   few = omega (arith, ap length e);
 }
 
-pub parts-opens : (opens ends : List ℕ → Bool) (l : List ℕ) (ls : List (List ℕ)) → opens l ≡ true → parts opens ends (l ∷ ls) ≡ (l ∷ take_while (λ x. not (ends x)) ls) ∷ parts opens ends ls
-parts-opens opens ends l ls e = ap (λ b. cond b ((l ∷ take_while (λ x. not (ends x)) ls) ∷ parts opens ends ls) (parts opens ends ls)) e
-
-pub parts-passes : (opens ends : List ℕ → Bool) (l : List ℕ) (ls : List (List ℕ)) → opens l ≡ false → parts opens ends (l ∷ ls) ≡ parts opens ends ls
-parts-passes opens ends l ls e = ap (λ b. cond b ((l ∷ take_while (λ x. not (ends x)) ls) ∷ parts opens ends ls) (parts opens ends ls)) e
-
 pub transactions-step : (kind : List ℕ) (group : ℕ) (after rest line more : List ℕ) (list grown : List Transaction) (t : Transaction) → AreTransactions kind group after rest list → IsFirstLine rest line more → has_type grt line ≡ false → has_type kind line ≡ true → t ≡ transaction_of (kind_of kind) group (length list) (line ∷ further_part kind (lines more)) → grown ≡ list ++ t ∷ [] → AreTransactions kind group after more grown
 transactions-step kind group after rest line more list grown t r f g k is e =
     let K = kind_of kind in
@@ -108,6 +128,13 @@ transactions-step kind group after rest line more list grown t r f g k is e =
           ∙ pushed list _ _ t shown;
       few = omega (arith, long, r.few, f.shorter);
     }
+
+-- the listing goes on behind the records of a transaction
+pub transactions-behind : (kind : List ℕ) (group : ℕ) (after more rest first : List ℕ) (list : List Transaction) (records : List Record) → AreTransactions kind group after more list → HasRecords kind first more records rest → AreTransactions kind group after rest list
+transactions-behind kind group after more rest first list records r h = record {
+  listed = ap (λ ps. list ++ numbered (kind_of kind) group (length list) ps) h.further ∙ r.listed;
+  few = omega (arith, r.few, h.shorter);
+}
 
 pub transactions-pass : (kind : List ℕ) (group : ℕ) (after rest line more : List ℕ) (list : List Transaction) → AreTransactions kind group after rest list → IsFirstLine rest line more → has_type grt line ≡ false → has_type kind line ≡ false → AreTransactions kind group after more list
 transactions-pass kind group after rest line more list r f g k =

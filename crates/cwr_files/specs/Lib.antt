@@ -10,6 +10,7 @@ pub mod FileFault
 pub mod Chain
 pub mod Counts
 pub mod Contents
+pub mod Listed
 pub mod Transaction
 pub mod Reading
 pub mod Prefixes

@@ -3,37 +3,40 @@ ghost use Rattle.std.specs.Prelude.{◌≡◌, ◌^◌, ◌<◌, ◌∷◌, leng
 ghost use Rattle.cwr_records.specs.Lines.{lines};
 ghost use Rattle.cwr_records.specs.Records.{record_of, kind_of};
 ghost use Rattle.cwr_files.specs.RecordTypes.{grh, has_type};
-ghost use Rattle.cwr_files.specs.Contents.{group_in, groups_in, group_part, transaction_lines, transactions_in, is_headed, contents};
+ghost use Rattle.cwr_files.specs.Contents.{group_in, groups_in, group_part, transactions_in, is_headed, contents};
+ghost use Rattle.cwr_files.specs.Listed.{HasRecords};
 
 use crate::record_types::{has_type, is_read, type_of_group};
 use crate::transmission::{Group, Groups, Records, Transaction, Transactions, Transmission};
 use cwr_records::{Line, TransactionKind, read_as, read_record, split_line};
 use std::alloc::{AllocError, Global};
 
-/// The records of a transaction: its first line, and those after it up to one that begins another or ends the group.
+/// The records of a transaction: its first line, and those after it up to one that begins another or ends the group. What
+/// stands from that one on is lent back, so that no line is cut twice.
 fn records<'a>(
     alloc: Global,
     kind: &[u8; 3],
     first: Line<'a>,
     after: &'a [u8],
-) -> Result<Records<'a>, AllocError>
-    ensures { IfOk result (λ r. r ≡ map record_of (transaction_lines kind.now first.entry (lines after.now))) }
+) -> Result<(Records<'a>, &'a [u8]), AllocError>
+    ensures { IfOk result (λ r. HasRecords kind.now first.entry after.now r.0 r.1.now) }
 {
-    let mut list = Vec::new(alloc);
+    // A body may hold tens of thousands of transactions of one record: each takes the room of one.
+    let mut list = Vec::with_capacity(alloc, 1)?;
     list.push(read_record(first))?;
     let mut rest = after;
-    while !rest.is_empty() {
+    'further: while !rest.is_empty() {
         let (line, more) = split_line(rest);
         if has_type(&line, b"GRT") {
-            return Ok(Records::from_vec(list));
+            return Ok((Records::from_vec(list), rest));
         }
         if has_type(&line, kind) {
-            return Ok(Records::from_vec(list));
+            return Ok((Records::from_vec(list), rest));
         }
         list.push(read_record(line))?;
         rest = more;
     }
-    Ok(Records::from_vec(list))
+    Ok((Records::from_vec(list), rest))
 }
 
 /// The kind of the transactions of a group that is read.
@@ -59,22 +62,24 @@ fn transactions<'a>(
 {
     let mut list = Vec::new(alloc);
     let mut rest = after;
-    while !rest.is_empty() {
+    'openings: while !rest.is_empty() {
         let (line, more) = split_line(rest);
         if has_type(&line, b"GRT") {
             return Ok(Transactions::from_vec(list));
         }
         if has_type(&line, kind) {
             let sequence = list.len() as u32;
-            let records = records(alloc, kind, line, more)?;
+            let (records, behind) = records(alloc, kind, line, more)?;
             list.push(Transaction {
                 kind: kind_of(kind),
                 group,
                 sequence,
                 records,
             })?;
+            rest = behind;
+        } else {
+            rest = more;
         }
-        rest = more;
     }
     Ok(Transactions::from_vec(list))
 }

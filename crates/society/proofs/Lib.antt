@@ -1,4 +1,6 @@
 pub mod ConnectionLemmas
+pub mod OptionLemmas
+pub mod RefusalLemmas
 pub mod ReplayLemmas
 pub mod WordLemmas
-mod Worked
+pub mod Worked

@@ -1,53 +1,84 @@
--- What the program's words are.
-use Rattle.std.proofs.Common.{◌≡◌, ◌-◌, Option, bytes_eq, codes, drop, map, refl, subst, take, ℕ, ◌<◌, ◌≤◌, true, false, List, [], ◌∷◌, Some, None, length, nat_le, leb, get_or, arith}
-use Rattle.std.proofs.lemmas.Bool.Decides.{nat_tests}
-use Rattle.work_ids.specs.Digits.{number_of}
-use Rattle.cwr_records.specs.Typed.{up_to}
+-- What the options of the program give, and what its words are read as.
+use Rattle.std.proofs.Common.{◌≡◌, ◌∙◌, ◌^◌, ◌<◌, ◌&&◌, ap, ℕ, Bool, Option, List, true, false, refl, subst, [], ◌∷◌, Some, None, Result, Ok, Err, nat_lt, option_and_then, option_map}
+use Rattle.std.proofs.lemmas.Bool.{ltb-true, lt-ltb}
+use Rattle.std.specs.Char.{digit_value}
+use Rattle.std.specs.List.{list_all}
+use Rattle.std.specs.Str.Parse.{AllDigits, IsNumeral, ParsesUnsigned, digits_value, without_leading_plus}
+use Rattle.clap.proofs.WalkLemmas.{both, one_text-rows}
+use Rattle.clap.specs.Matches.{ReadsOne, one_text, subcommand_name_of}
+use Rattle.clap.specs.Simple.{subcommand_rows, subcommand_rows_of}
+use Rattle.clap.specs.declared.parser.matches.ArgMatches.{ArgMatches}
+use Rattle.clap.specs.declared.parser.matches.ArgMatches.TheViews.{out-ArgMatches, out-SubCommand}
+use Rattle.clap.specs.declared.parser.matches.SubCommand.{SubCommand}
+use Rattle.std.specs.Box.{box_value}
+use Rattle.std.specs.Prelude.{Box}
+use Rattle.clap.specs.ValueTests.{is_numeral}
+use Rattle.clap.specs.Walk.{Row, Text, rows_of}
+use Rattle.clap.specs.declared.parser.matches.Found.{Found}
 use Rattle.share_rules.specs.declared.office.Office.{Office}
-use Rattle.society.specs.Words.{Asked, AsksFor, AsksReplay, AsksServe, AsksToServe, HasBadName, HasBadWords, IsReadAs, are_options, are_place_options, asked, asked_office, asked_at, asked_serving, long_number_of, place_of, serving, short_number_of}
+use Rattle.society.specs.Words.{Asked, AsksFor, AsksHelp, AsksReplay, AsksServe, AsksToServe, HasBadName, HasBadWords, IsReadAs, IsWrong, number_given, number_of, serving}
 use Rattle.society.specs.declared.words.Place.{Place}
 use Rattle.society.specs.declared.words.Words.{Words}
 use Rattle.society.specs.declared.words.Words.TheVariants as words
-use Rattle.std.proofs.lemmas.List.{length-drop, take_all}
 
--- a number of at most four digits
-pub short : (digits : List ℕ) → length digits ≤ 4 → short_number_of digits ≡ up_to 9999 (number_of digits)
-short digits le = let test : nat_le (length digits) 4 ≡ true = grind (arith, nat_tests) in rw test
+digits_from : (ds : Text) → list_all (λ d. nat_lt (digit_value d) 10) ds ≡ true → AllDigits 10 ds
+digits_from [] e = tt
+digits_from (d ∷ ds) e = let parts = both _ _ e in (ltb-true _ _ parts.0, digits_from ds parts.1)
 
-pub too_great : (n : ℕ) → 9999 < n → up_to 9999 (Some n) ≡ None
-too_great n past = let test : leb n 9999 ≡ false = grind (arith, nat_tests) in rw test
+digits_back : (ds : Text) → AllDigits 10 ds → list_all (λ d. nat_lt (digit_value d) 10) ds ≡ true
+digits_back [] h = refl
+digits_back (d ∷ ds) h = rw (lt-ltb (digit_value d) 10 h.0) (digits_back ds h.1)
 
-pub within : (n : ℕ) → n ≤ 9999 → up_to 9999 (Some n) ≡ Some n
-within n le = let test : leb n 9999 ≡ true = grind (arith, nat_tests) in rw test
+numeral_from : (ds : Text) → is_numeral ds ≡ true → IsNumeral 10 ds
+numeral_from ds e = let parts = both _ _ e in (ltb-true _ _ parts.0, digits_from ds parts.1)
 
-pub long : (digits : List ℕ) → length digits ≤ 7 → long_number_of digits ≡ up_to 1000000 (number_of digits)
-long digits le = let test : nat_le (length digits) 7 ≡ true = grind (arith, nat_tests) in rw test
+numeral_back : (ds : Text) → IsNumeral 10 ds → is_numeral ds ≡ true
+numeral_back ds h = rw (lt-ltb _ _ h.0, digits_back ds h.1) refl
 
-pub too_great_long : (n : ℕ) → 1000000 < n → up_to 1000000 (Some n) ≡ None
-too_great_long n past = let test : leb n 1000000 ≡ false = grind (arith, nat_tests) in rw test
+not_spelled : (bits : ℕ) (text : Text) (b : Bool) → (is_numeral (without_leading_plus text) && nat_lt (digits_value 10 (without_leading_plus text)) (2 ^ bits)) ≡ b
+    → (IsNumeral 10 (without_leading_plus text) × (digits_value 10 (without_leading_plus text) < 2 ^ bits) → ⊥) → None ≡ number_of bits text
+not_spelled bits text true test not = let parts = both _ _ test in absurd (not (numeral_from _ parts.0, ltb-true _ _ parts.1))
+not_spelled bits text false test not = rw test refl
 
-pub within_long : (n : ℕ) → n ≤ 1000000 → up_to 1000000 (Some n) ≡ Some n
-within_long n le = let test : leb n 1000000 ≡ true = grind (arith, nat_tests) in rw test
+module _ {E : Type 0} (Gives : Text → Result ℕ E → Type 0) (bits : ℕ) (only : (text : Text) (x : Result ℕ E) → Gives text x → ParsesUnsigned bits 10 text x) where
+  -- a number that is read of a text is the one that it spells
+  number_read : (text : Text) (r : Option ℕ) → ReadsOne Gives text r → r ≡ number_of bits text
+  number_read text (Some n) read =
+      let parsed = only text (Ok n) read in
+      rw (parsed.1, numeral_back _ parsed.0.0, lt-ltb _ _ parsed.0.1) refl
+  number_read text None read = not_spelled bits text _ refl (only text (Err read.0) read.1)
 
--- exactly six words
-pub six : {W : Type 0} (ws : List W) (a b c d e f : W) → 6 ≤ length ws → length ws < 7 → a ≡ get_or ws 0 a → b ≡ get_or ws 1 b → c ≡ get_or ws 2 c → d ≡ get_or ws 3 d → e ≡ get_or ws 4 e → f ≡ get_or ws 5 f → ws ≡ a ∷ b ∷ c ∷ d ∷ e ∷ f ∷ []
-six [] a b c d e f low high ia ib ic id ie ih = absurd (omega arith)
-six (w1 ∷ []) a b c d e f low high ia ib ic id ie ih = absurd (omega arith)
-six (w1 ∷ w2 ∷ []) a b c d e f low high ia ib ic id ie ih = absurd (omega arith)
-six (w1 ∷ w2 ∷ w3 ∷ []) a b c d e f low high ia ib ic id ie ih = absurd (omega arith)
-six (w1 ∷ w2 ∷ w3 ∷ w4 ∷ []) a b c d e f low high ia ib ic id ie ih = absurd (omega arith)
-six (w1 ∷ w2 ∷ w3 ∷ w4 ∷ w5 ∷ []) a b c d e f low high ia ib ic id ie ih = absurd (omega arith)
-six (w1 ∷ w2 ∷ w3 ∷ w4 ∷ w5 ∷ w6 ∷ []) a b c d e f low high ia ib ic id ie ih = cc
-six (w1 ∷ w2 ∷ w3 ∷ w4 ∷ w5 ∷ w6 ∷ w7 ∷ ws) a b c d e f low high ia ib ic id ie ih = absurd (omega arith)
+  number_found : (o : Option Text) (r : Option ℕ) → (o ≡ None → r ≡ None) → ((text : Text) → o ≡ Some text → ReadsOne Gives text r) → r ≡ option_and_then (number_of bits) o
+  number_found None r none value = none refl
+  number_found (Some text) r none value = number_read text r (value text refl)
 
--- what six words ask for, where those between the values are the program's and two values are numbers
-pub asked_is : (so s te t na name : List ℕ) (n m : ℕ) → are_options so te na ≡ true → short_number_of s ≡ Some n → short_number_of t ≡ Some m → asked_office (so ∷ s ∷ te ∷ t ∷ na ∷ name ∷ []) ≡ asked_at n m name
-asked_is so s te t na name n m options society territory = rw (options, society, territory)
+  -- a number that is read of an option is the one that it gives
+  pub number_is : (f : Found) (option : Text) (r : Option ℕ) → (one_text f option ≡ None → r ≡ None) → ((text : Text) → one_text f option ≡ Some text → ReadsOne Gives text r)
+      → r ≡ number_given bits option (rows_of f)
+  number_is f option r none value = number_found (one_text f option) r none value ∙ ap (option_and_then (number_of bits)) (one_text-rows f option)
+
+entered_from : {Z : Type 0} (o : Option (Box SubCommand Z)) (name : Text) (rows : List Row) → option_map (λ b. (out-SubCommand (box_value b)).name.now) o ≡ Some name
+    → option_map (λ p. p.1) (subcommand_rows o) ≡ Some rows → subcommand_rows o ≡ Some (name, rows)
+entered_from None name rows named given = cc
+entered_from (Some b) name rows named given = cc
+
+none_from : {Z : Type 0} (o : Option (Box SubCommand Z)) → option_map (λ b. (out-SubCommand (box_value b)).name.now) o ≡ None → subcommand_rows o ≡ None
+none_from None named = refl
+none_from (Some b) named = cc
+
+-- the command that the words name, and what they give to its options
+pub entered_is : (m : ArgMatches) (name : Text) (rows : List Row) → subcommand_name_of m ≡ Some name → option_map (λ p. p.1) (subcommand_rows_of m) ≡ Some rows → subcommand_rows_of m ≡ Some (name, rows)
+entered_is m name rows named given = entered_from (out-ArgMatches m).subcommand name rows named given
+
+-- and where they name none
+pub not_entered : (m : ArgMatches) → subcommand_name_of m ≡ None → subcommand_rows_of m ≡ None
+not_entered m named = none_from (out-ArgMatches m).subcommand named
 
 -- words that are read as a replay ask for one
 pub asks_for : (a : Asked) (office : Office) → IsReadAs a (words.Replay office) → AsksFor a office
 asks_for (AsksReplay society territory name) office reads = reads
 asks_for (AsksServe place society territory name) office reads = absurd reads
+asks_for AsksHelp office reads = absurd reads
 asks_for HasBadName office reads = absurd reads
 asks_for HasBadWords office reads = absurd reads
 
@@ -55,85 +86,74 @@ asks_for HasBadWords office reads = absurd reads
 pub asks_to_serve : (a : Asked) (place : Place) (office : Office) → IsReadAs a (words.Serve place office) → AsksToServe a place office
 asks_to_serve (AsksReplay society territory name) place office reads = absurd reads
 asks_to_serve (AsksServe asked society territory name) place office reads = reads
+asks_to_serve AsksHelp place office reads = absurd reads
 asks_to_serve HasBadName place office reads = absurd reads
 asks_to_serve HasBadWords place office reads = absurd reads
 
--- too few words
-pub few_serving : {W : Type 0} (f : W → List ℕ) (ws : List W) → length ws < 4 → asked_serving (map f ws) ≡ HasBadWords
-few_serving f [] less = refl
-few_serving f (a ∷ []) less = refl
-few_serving f (a ∷ b ∷ []) less = refl
-few_serving f (a ∷ b ∷ c ∷ []) less = refl
-few_serving f (a ∷ b ∷ c ∷ d ∷ ws) less = absurd (omega arith)
+-- words that are read so as to be done are not wrong, and ask for no help
+pub replay_not_wrong : (a : Asked) (office : Office) → IsReadAs a (words.Replay office) → IsWrong a → ⊥
+replay_not_wrong (AsksReplay society territory name) office reads wrong = wrong
+replay_not_wrong (AsksServe place society territory name) office reads wrong = wrong
+replay_not_wrong AsksHelp office reads wrong = wrong
+replay_not_wrong HasBadName office reads wrong = reads
+replay_not_wrong HasBadWords office reads wrong = reads
 
-pub few : {W : Type 0} (f : W → List ℕ) (ws : List W) → length ws < 2 → asked (map f ws) ≡ HasBadWords
-few f [] less = refl
-few f (a ∷ []) less = refl
-few f (a ∷ b ∷ ws) less = absurd (omega arith)
+pub serve_not_wrong : (a : Asked) (place : Place) (office : Office) → IsReadAs a (words.Serve place office) → IsWrong a → ⊥
+serve_not_wrong (AsksReplay society territory name) place office reads wrong = wrong
+serve_not_wrong (AsksServe asked society territory name) place office reads wrong = wrong
+serve_not_wrong AsksHelp place office reads wrong = wrong
+serve_not_wrong HasBadName place office reads wrong = reads
+serve_not_wrong HasBadWords place office reads wrong = reads
 
--- words behind four
-pub behind_four : {W : Type 0} (ws : List W) (a b c d : W) → 4 ≤ length ws → a ≡ get_or ws 0 a → b ≡ get_or ws 1 b → c ≡ get_or ws 2 c → d ≡ get_or ws 3 d → ws ≡ a ∷ b ∷ c ∷ d ∷ drop 4 ws
-behind_four [] a b c d low ia ib ic id = absurd (omega arith)
-behind_four (w1 ∷ []) a b c d low ia ib ic id = absurd (omega arith)
-behind_four (w1 ∷ w2 ∷ []) a b c d low ia ib ic id = absurd (omega arith)
-behind_four (w1 ∷ w2 ∷ w3 ∷ []) a b c d low ia ib ic id = absurd (omega arith)
-behind_four (w1 ∷ w2 ∷ w3 ∷ w4 ∷ ws) a b c d low ia ib ic id = cc
+pub read_no_help : (a : Asked) (read : Words) → IsReadAs a read → a ≡ AsksHelp → ⊥
+read_no_help a read reads help = no_help read (subst (λ (b : Asked). IsReadAs b read) help reads)
+  where
+    no_help : (read : Words) → IsReadAs AsksHelp read → ⊥
+    no_help (words.Replay office) reads = reads
+    no_help (words.Serve place office) reads = reads
+    no_help words.BadName reads = reads
+    no_help words.BadWords reads = reads
 
--- words behind two
-pub behind_two : {W : Type 0} (ws : List W) (b : W) → 2 ≤ length ws → b ≡ get_or ws 1 b → (a : W) × (ws ≡ a ∷ b ∷ drop 2 ws)
-behind_two [] b low ib = absurd (omega arith)
-behind_two (w1 ∷ []) b low ib = absurd (omega arith)
-behind_two (w1 ∷ w2 ∷ ws) b low ib = (w1, cc)
+-- words with a name that is none, and words that are none, are wrong
+pub name_is_wrong : (a : Asked) → IsReadAs a words.BadName → IsWrong a
+name_is_wrong (AsksReplay society territory name) reads = absurd reads
+name_is_wrong (AsksServe place society territory name) reads = absurd reads
+name_is_wrong AsksHelp reads = absurd reads
+name_is_wrong HasBadName reads = reads
+name_is_wrong HasBadWords reads = absurd reads
 
--- what is left behind so many words is left whole
-whole_rest : {W : Type 0} (n : ℕ) (ws : List W) → take (length ws - n) (drop n ws) ≡ drop n ws
-whole_rest n ws = take_all (length ws - n) (drop n ws) (let e : length (drop n ws) ≡ length ws - n = length-drop n ws in omega (arith, e))
-
-module _ {W : Type 0} (f : W → List ℕ) (n : ℕ) (ws : List W) (read : Words) where
-  pub read_office : IsReadAs (asked_office (map f (take (length ws - n) (drop n ws)))) read → IsReadAs (asked_office (map f (drop n ws))) read
-  read_office is = subst (λ (o : List W). IsReadAs (asked_office (map f o)) read) (whole_rest n ws) is
-
-  pub read_serving : IsReadAs (asked_serving (map f (take (length ws - n) (drop n ws)))) read → IsReadAs (asked_serving (map f (drop n ws))) read
-  read_serving is = subst (λ (o : List W). IsReadAs (asked_serving (map f o)) read) (whole_rest n ws) is
-
--- what words ask for that name a place
-pub serving_is : (a b c d : List ℕ) (rest : List (List ℕ)) (p : Option Place) → are_place_options a c ≡ true → place_of (long_number_of b) (long_number_of d) ≡ p → asked_serving (a ∷ b ∷ c ∷ d ∷ rest) ≡ serving p (asked_office rest)
-serving_is a b c d rest p options place = rw (options, place)
-
-pub serving_not : (a b c d : List ℕ) (rest : List (List ℕ)) → are_place_options a c ≡ false → asked_serving (a ∷ b ∷ c ∷ d ∷ rest) ≡ HasBadWords
-serving_not a b c d rest options = rw options
-
--- what words ask for, by their command
-pub asked_replay : (a b : List ℕ) (rest : List (List ℕ)) → bytes_eq b (codes "replay") ≡ true → asked (a ∷ b ∷ rest) ≡ asked_office rest
-asked_replay a b rest is = rw is
-
-pub asked_serve : (a b : List ℕ) (rest : List (List ℕ)) → bytes_eq b (codes "replay") ≡ false → bytes_eq b (codes "serve") ≡ true → asked (a ∷ b ∷ rest) ≡ asked_serving rest
-asked_serve a b rest other is = rw (other, is)
-
-pub asked_neither : (a b : List ℕ) (rest : List (List ℕ)) → bytes_eq b (codes "replay") ≡ false → bytes_eq b (codes "serve") ≡ false → asked (a ∷ b ∷ rest) ≡ HasBadWords
-asked_neither a b rest other none = rw (other, none)
+pub words_are_wrong : (a : Asked) → IsReadAs a words.BadWords → IsWrong a
+words_are_wrong (AsksReplay society territory name) reads = absurd reads
+words_are_wrong (AsksServe place society territory name) reads = absurd reads
+words_are_wrong AsksHelp reads = absurd reads
+words_are_wrong HasBadName reads = absurd reads
+words_are_wrong HasBadWords reads = reads
 
 -- words of a replay, at a place
 pub replay_served : (place : Place) (office : Office) (a : Asked) → IsReadAs a (words.Replay office) → IsReadAs (serving (Some place) a) (words.Serve place office)
 replay_served place office (AsksReplay society territory name) reads = (refl, reads)
 replay_served place office (AsksServe other society territory name) reads = absurd reads
+replay_served place office AsksHelp reads = absurd reads
 replay_served place office HasBadName reads = absurd reads
 replay_served place office HasBadWords reads = absurd reads
 
 pub serve_served : (place other : Place) (office : Office) (a : Asked) → IsReadAs a (words.Serve other office) → IsReadAs (serving (Some place) a) (words.Serve other office)
 serve_served place other office (AsksReplay society territory name) reads = absurd reads
 serve_served place other office (AsksServe asked society territory name) reads = reads
+serve_served place other office AsksHelp reads = absurd reads
 serve_served place other office HasBadName reads = absurd reads
 serve_served place other office HasBadWords reads = absurd reads
 
 pub name_served : (place : Place) (a : Asked) → IsReadAs a words.BadName → IsReadAs (serving (Some place) a) words.BadName
 name_served place (AsksReplay society territory name) reads = absurd reads
 name_served place (AsksServe asked society territory name) reads = absurd reads
+name_served place AsksHelp reads = absurd reads
 name_served place HasBadName reads = reads
 name_served place HasBadWords reads = absurd reads
 
 pub words_served : (place : Place) (a : Asked) → IsReadAs a words.BadWords → IsReadAs (serving (Some place) a) words.BadWords
 words_served place (AsksReplay society territory name) reads = absurd reads
 words_served place (AsksServe asked society territory name) reads = absurd reads
+words_served place AsksHelp reads = absurd reads
 words_served place HasBadName reads = absurd reads
 words_served place HasBadWords reads = reads

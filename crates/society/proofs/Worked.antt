@@ -1,81 +1,134 @@
--- Worked values of what the program's words ask for.
-use Rattle.std.specs.Prelude.{◌≡◌, ℕ, List, [], ◌∷◌, refl, codes}
-use Rattle.work_ids.specs.Digits.{number_of}
-use Rattle.society.specs.Words.{AsksReplay, AsksServe, HasBadName, HasBadWords, asked}
+-- Worked values of what the program's words ask for, and that `clap`'s words on simple command lines hold of it.
+use Rattle.std.specs.Prelude.{◌≡◌, [], ◌∷◌, refl, codes, true}
+use Rattle.clap.proofs.OnLiterals.{clap_on_literals}
+use Rattle.clap.specs.Faults.{is_simple_and_free}
+use Rattle.clap.specs.Simple.{is_simple}
+use Rattle.society.specs.CommandLine.{command_line}
+use Rattle.society.specs.Words.{AsksHelp, AsksReplay, AsksServe, HasBadName, HasBadWords, asked}
 
--- the words for these values
-abbrev words : List ℕ → List ℕ → List ℕ → List (List ℕ)
-words society territory name =
-    codes "society" ∷ codes "replay" ∷ codes "--society" ∷ society ∷ codes "--territory" ∷ territory ∷ codes "--name" ∷ name ∷ []
+pub simple : is_simple command_line ≡ true
+unfolding clap_on_literals
+simple = refl
 
-replay : asked (words (codes "900") (codes "40") (codes "EXAMPLE SOCIETY")) ≡ AsksReplay 900 40 (codes "EXAMPLE SOCIETY")
-unfolding number_of
+pub simple_and_free : is_simple_and_free command_line ≡ true
+unfolding clap_on_literals
+simple_and_free = refl
+
+replay : asked (codes "society" ∷ codes "replay" ∷ codes "--society" ∷ codes "900" ∷ codes "--territory" ∷ codes "40" ∷ codes "--name" ∷ codes "EXAMPLE SOCIETY" ∷ []) ≡ AsksReplay 900 40 (codes "EXAMPLE SOCIETY")
+unfolding clap_on_literals
 replay = refl
 
-zeros_in_front : asked (words (codes "0900") (codes "0040") (codes "X")) ≡ AsksReplay 900 40 (codes "X")
-unfolding number_of
+zeros_in_front : asked (codes "society" ∷ codes "replay" ∷ codes "--society" ∷ codes "00900" ∷ codes "--territory" ∷ codes "0040" ∷ codes "--name" ∷ codes "X" ∷ []) ≡ AsksReplay 900 40 (codes "X")
+unfolding clap_on_literals
 zeros_in_front = refl
 
-five_digits : asked (words (codes "00900") (codes "40") (codes "X")) ≡ HasBadWords
-unfolding number_of
-five_digits = refl
+plus_in_front : asked (codes "society" ∷ codes "replay" ∷ codes "--society" ∷ codes "+900" ∷ codes "--territory" ∷ codes "40" ∷ codes "--name" ∷ codes "X" ∷ []) ≡ AsksReplay 900 40 (codes "X")
+unfolding clap_on_literals
+plus_in_front = refl
 
-no_digits : asked (words [] (codes "40") (codes "X")) ≡ HasBadWords
-unfolding number_of
-no_digits = refl
+-- the options stand in any order
+turned : asked (codes "society" ∷ codes "replay" ∷ codes "--name" ∷ codes "X" ∷ codes "--territory" ∷ codes "40" ∷ codes "--society" ∷ codes "900" ∷ []) ≡ AsksReplay 900 40 (codes "X")
+unfolding clap_on_literals
+turned = refl
 
-no_society : asked (words (codes "0") (codes "40") (codes "X")) ≡ HasBadWords
-unfolding number_of
-no_society = refl
+-- a name that begins with a dash stands behind an equals sign
+after_equals : asked (codes "society" ∷ codes "replay" ∷ codes "--society=900" ∷ codes "--territory=40" ∷ codes "--name=-X" ∷ []) ≡ AsksReplay 900 40 (codes "-X")
+unfolding clap_on_literals
+after_equals = refl
 
-past_the_societies : asked (words (codes "1000") (codes "40") (codes "X")) ≡ HasBadWords
-unfolding number_of
-past_the_societies = refl
-
-greatest : asked (words (codes "999") (codes "9999") (codes "X")) ≡ AsksReplay 999 9999 (codes "X")
-unfolding number_of
+greatest : asked (codes "society" ∷ codes "replay" ∷ codes "--society" ∷ codes "999" ∷ codes "--territory" ∷ codes "9999" ∷ codes "--name" ∷ codes "X" ∷ []) ≡ AsksReplay 999 9999 (codes "X")
+unfolding clap_on_literals
 greatest = refl
 
-no_name : asked (words (codes "900") (codes "40") []) ≡ HasBadName
-unfolding number_of
+no_digits : asked (codes "society" ∷ codes "replay" ∷ codes "--society" ∷ [] ∷ codes "--territory" ∷ codes "40" ∷ codes "--name" ∷ codes "X" ∷ []) ≡ HasBadWords
+unfolding clap_on_literals
+no_digits = refl
+
+no_society : asked (codes "society" ∷ codes "replay" ∷ codes "--society" ∷ codes "0" ∷ codes "--territory" ∷ codes "40" ∷ codes "--name" ∷ codes "X" ∷ []) ≡ HasBadWords
+unfolding clap_on_literals
+no_society = refl
+
+past_the_societies : asked (codes "society" ∷ codes "replay" ∷ codes "--society" ∷ codes "1000" ∷ codes "--territory" ∷ codes "40" ∷ codes "--name" ∷ codes "X" ∷ []) ≡ HasBadWords
+unfolding clap_on_literals
+past_the_societies = refl
+
+past_the_territories : asked (codes "society" ∷ codes "replay" ∷ codes "--society" ∷ codes "900" ∷ codes "--territory" ∷ codes "10000" ∷ codes "--name" ∷ codes "X" ∷ []) ≡ HasBadWords
+unfolding clap_on_literals
+past_the_territories = refl
+
+no_name : asked (codes "society" ∷ codes "replay" ∷ codes "--society" ∷ codes "900" ∷ codes "--territory" ∷ codes "40" ∷ codes "--name" ∷ [] ∷ []) ≡ HasBadName
+unfolding clap_on_literals
 no_name = refl
 
 -- words are looked at before the name
-no_name_and_bad_words : asked (words (codes "x") (codes "40") []) ≡ HasBadWords
-unfolding number_of
+no_name_and_bad_words : asked (codes "society" ∷ codes "replay" ∷ codes "--society" ∷ codes "x" ∷ codes "--territory" ∷ codes "40" ∷ codes "--name" ∷ [] ∷ []) ≡ HasBadWords
+unfolding clap_on_literals
 no_name_and_bad_words = refl
 
--- the words stand in one order
-turned : asked (codes "society" ∷ codes "replay" ∷ codes "--territory" ∷ codes "40" ∷ codes "--society" ∷ codes "900" ∷ codes "--name" ∷ codes "X" ∷ []) ≡ HasBadWords
-turned = refl
+society_missing : asked (codes "society" ∷ codes "replay" ∷ codes "--territory" ∷ codes "40" ∷ codes "--name" ∷ codes "X" ∷ []) ≡ HasBadWords
+unfolding clap_on_literals
+society_missing = refl
+
+name_missing : asked (codes "society" ∷ codes "replay" ∷ codes "--society" ∷ codes "900" ∷ codes "--territory" ∷ codes "40" ∷ []) ≡ HasBadWords
+unfolding clap_on_literals
+name_missing = refl
+
+society_twice : asked (codes "society" ∷ codes "replay" ∷ codes "--society" ∷ codes "900" ∷ codes "--society" ∷ codes "900" ∷ codes "--territory" ∷ codes "40" ∷ codes "--name" ∷ codes "X" ∷ []) ≡ HasBadWords
+unfolding clap_on_literals
+society_twice = refl
 
 one_more : asked (codes "society" ∷ codes "replay" ∷ codes "--society" ∷ codes "900" ∷ codes "--territory" ∷ codes "40" ∷ codes "--name" ∷ codes "X" ∷ codes "Y" ∷ []) ≡ HasBadWords
+unfolding clap_on_literals
 one_more = refl
 
+other_command : asked (codes "society" ∷ codes "report" ∷ codes "--society" ∷ codes "900" ∷ codes "--territory" ∷ codes "40" ∷ codes "--name" ∷ codes "X" ∷ []) ≡ HasBadWords
+unfolding clap_on_literals
+other_command = refl
+
 nothing : asked (codes "society" ∷ []) ≡ HasBadWords
+unfolding clap_on_literals
 nothing = refl
 
--- the words for these values, to serve
-abbrev serve_words : List ℕ → List ℕ → List (List ℕ)
-serve_words port connections =
-    codes "society" ∷ codes "serve" ∷ codes "--port" ∷ port ∷ codes "--connections" ∷ connections ∷ codes "--society" ∷ codes "900" ∷ codes "--territory" ∷ codes "40" ∷ codes "--name" ∷ codes "X" ∷ []
+help : asked (codes "society" ∷ codes "--help" ∷ []) ≡ AsksHelp
+unfolding clap_on_literals
+help = refl
 
-serve : asked (serve_words (codes "8080") (codes "1000000")) ≡ AsksServe (record { port = 8080; connections = 1000000 }) 900 40 (codes "X")
-unfolding number_of
+help_of_a_command : asked (codes "society" ∷ codes "serve" ∷ codes "-h" ∷ []) ≡ AsksHelp
+unfolding clap_on_literals
+help_of_a_command = refl
+
+no_help_command : asked (codes "society" ∷ codes "help" ∷ []) ≡ HasBadWords
+unfolding clap_on_literals
+no_help_command = refl
+
+serve : asked (codes "society" ∷ codes "serve" ∷ codes "--port" ∷ codes "8080" ∷ codes "--connections" ∷ codes "1000000" ∷ codes "--society" ∷ codes "900" ∷ codes "--territory" ∷ codes "40" ∷ codes "--name" ∷ codes "X" ∷ []) ≡ AsksServe (record { port = 8080; connections = 1000000 }) 900 40 (codes "X")
+unfolding clap_on_literals
 serve = refl
 
-no_port : asked (serve_words (codes "0") (codes "1")) ≡ HasBadWords
-unfolding number_of
+serve_turned : asked (codes "society" ∷ codes "serve" ∷ codes "--name" ∷ codes "X" ∷ codes "--connections" ∷ codes "7" ∷ codes "--society" ∷ codes "900" ∷ codes "--port" ∷ codes "65535" ∷ codes "--territory" ∷ codes "40" ∷ []) ≡ AsksServe (record { port = 65535; connections = 7 }) 900 40 (codes "X")
+unfolding clap_on_literals
+serve_turned = refl
+
+no_port : asked (codes "society" ∷ codes "serve" ∷ codes "--port" ∷ codes "0" ∷ codes "--connections" ∷ codes "1" ∷ codes "--society" ∷ codes "900" ∷ codes "--territory" ∷ codes "40" ∷ codes "--name" ∷ codes "X" ∷ []) ≡ HasBadWords
+unfolding clap_on_literals
 no_port = refl
 
-past_the_ports : asked (serve_words (codes "65536") (codes "1")) ≡ HasBadWords
-unfolding number_of
+past_the_ports : asked (codes "society" ∷ codes "serve" ∷ codes "--port" ∷ codes "65536" ∷ codes "--connections" ∷ codes "1" ∷ codes "--society" ∷ codes "900" ∷ codes "--territory" ∷ codes "40" ∷ codes "--name" ∷ codes "X" ∷ []) ≡ HasBadWords
+unfolding clap_on_literals
 past_the_ports = refl
 
-no_connections : asked (serve_words (codes "8080") (codes "0")) ≡ HasBadWords
-unfolding number_of
+no_connections : asked (codes "society" ∷ codes "serve" ∷ codes "--port" ∷ codes "8080" ∷ codes "--connections" ∷ codes "0" ∷ codes "--society" ∷ codes "900" ∷ codes "--territory" ∷ codes "40" ∷ codes "--name" ∷ codes "X" ∷ []) ≡ HasBadWords
+unfolding clap_on_literals
 no_connections = refl
 
-too_many_connections : asked (serve_words (codes "8080") (codes "1000001")) ≡ HasBadWords
-unfolding number_of
+too_many_connections : asked (codes "society" ∷ codes "serve" ∷ codes "--port" ∷ codes "8080" ∷ codes "--connections" ∷ codes "1000001" ∷ codes "--society" ∷ codes "900" ∷ codes "--territory" ∷ codes "40" ∷ codes "--name" ∷ codes "X" ∷ []) ≡ HasBadWords
+unfolding clap_on_literals
 too_many_connections = refl
+
+serve_without_a_port : asked (codes "society" ∷ codes "serve" ∷ codes "--connections" ∷ codes "1" ∷ codes "--society" ∷ codes "900" ∷ codes "--territory" ∷ codes "40" ∷ codes "--name" ∷ codes "X" ∷ []) ≡ HasBadWords
+unfolding clap_on_literals
+serve_without_a_port = refl
+
+replay_at_a_port : asked (codes "society" ∷ codes "replay" ∷ codes "--port" ∷ codes "8080" ∷ codes "--society" ∷ codes "900" ∷ codes "--territory" ∷ codes "40" ∷ codes "--name" ∷ codes "X" ∷ []) ≡ HasBadWords
+unfolding clap_on_literals
+replay_at_a_port = refl

@@ -1,3 +1,4 @@
+pub mod CommandLine
 pub mod Connections
 pub mod Replays
 pub mod Words

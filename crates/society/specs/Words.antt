@@ -1,126 +1,115 @@
 -- What the program's words ask for.
-use Rattle.std.specs.Prelude.{◌≡◌, ℕ, Bool, ◌&&◌, List, [], ◌∷◌, Option, Some, None, bytes_eq, codes, if◌then◌else◌, length, nat_le}
-use Rattle.work_ids.specs.Digits.{number_of}
-use Rattle.cwr_records.specs.Typed.{up_to}
+use Rattle.std.specs.Prelude.{◌≡◌, ◌≢◌, ◌⊎◌, ◌^◌, ℕ, Bool, ◌&&◌, List, [], ◌∷◌, Option, Some, None, bytes_eq, codes, if◌then◌else◌, nat_lt, option_and_then, true, false}
+use Rattle.std.specs.List.{list_any}
+use Rattle.std.specs.Str.Parse.{digits_value, without_leading_plus}
+use Rattle.clap.specs.Faults.{fault_of}
+use Rattle.clap.specs.Kinds.{Kinds}
+use Rattle.clap.specs.Simple.{subcommand_of}
+use Rattle.clap.specs.ValueTests.{is_numeral}
+use Rattle.clap.specs.Walk.{Row, Text, first_of, one_of}
+use Rattle.clap.specs.declared.error.kind.ErrorKind.{ErrorKind}
+use Rattle.clap.specs.declared.error.kind.ErrorKind.TheVariants.{DisplayHelp, OutOfMemory}
 use Rattle.share_rules.specs.Office.{IsOfficeOf, is_office}
 use Rattle.share_rules.specs.declared.office.Office.{Office}
+use Rattle.society.specs.CommandLine.{command_line}
 use Rattle.society.specs.declared.words.Place.{Place}
 use Rattle.society.specs.declared.words.Words.{Words}
 use Rattle.society.specs.declared.words.Words.TheVariants as words
 use Rattle.society.specs.declared.starting.NoWords.{NoWords}
 use Rattle.society.specs.declared.starting.NoWords.TheVariants as without
 
--- a number of one to four decimal digits
-abbrev pub short_number_of : List ℕ → Option ℕ
-short_number_of digits = if nat_le (length digits) 4 then up_to 9999 (number_of digits) else None
+-- the number of so many bits that a text spells in decimal digits, a plus before them or not
+abbrev pub number_of : ℕ → Text → Option ℕ
+number_of bits text =
+    let digits = without_leading_plus text in
+    if is_numeral digits && nat_lt (digits_value 10 digits) (2 ^ bits) then Some (digits_value 10 digits) else None
 
--- a number of one to seven decimal digits, at most a million
-abbrev pub long_number_of : List ℕ → Option ℕ
-long_number_of digits = if nat_le (length digits) 7 then up_to 1000000 (number_of digits) else None
+-- the number that an option gives
+abbrev pub number_given : ℕ → Text → List Row → Option ℕ
+number_given bits option rows = option_and_then (number_of bits) (one_of option rows)
 
--- what words ask for: to replay at the office with this society, territory and name, or to serve connections there at a place; else the name is none, or the words are none that the program knows
+-- what words ask for: to replay at the office with this society, territory and name, or to serve connections there at a place; to be told of the words; else the name is none, or the words are none that the program knows
 pub data Asked : Type 0 where
-  AsksReplay : ℕ → ℕ → List ℕ → Asked
-  AsksServe : Place → ℕ → ℕ → List ℕ → Asked
+  AsksReplay : ℕ → ℕ → Text → Asked
+  AsksServe : Place → ℕ → ℕ → Text → Asked
+  AsksHelp : Asked
   HasBadName : Asked
   HasBadWords : Asked
 
--- the numbers are those of a society, 1 to 999, and of a territory, 1 to 9,999 (profile)
-abbrev pub are_office_numbers : ℕ → ℕ → Bool
-are_office_numbers society territory =
-    nat_le 1 society && nat_le society 999 && (nat_le 1 territory && nat_le territory 9999)
+-- by the society, the territory and the name that are given: to replay there, or the name is at fault
+abbrev pub asked_at : Option ℕ → Option ℕ → Option Text → Asked
+asked_at (Some society) (Some territory) (Some name) = if is_office society territory name then AsksReplay society territory name else HasBadName
+asked_at (Some society) (Some territory) None = HasBadWords
+asked_at (Some society) None name = HasBadWords
+asked_at None territory name = HasBadWords
 
--- by the society, the territory and the name: those of an office, else the name is at fault where the numbers are not
-abbrev pub asked_at : ℕ → ℕ → List ℕ → Asked
-asked_at society territory name =
-    if is_office society territory name then AsksReplay society territory name
-    else (if are_office_numbers society territory then HasBadName else HasBadWords)
+-- what options ask for that name an office
+abbrev pub asked_office : List Row → Asked
+asked_office rows = asked_at (number_given 16 (codes "society") rows) (number_given 16 (codes "territory") rows) (first_of (codes "name") rows)
 
--- by what the values of the society and the territory are, where they are numbers
-abbrev pub asked_by : Option ℕ → Option ℕ → List ℕ → Asked
-asked_by (Some society) (Some territory) name = asked_at society territory name
-asked_by (Some society) None name = HasBadWords
-asked_by None territory name = HasBadWords
+-- the place with a port and a count of connections
+abbrev pub place_at : Option ℕ → Option ℕ → Option Place
+place_at (Some port) (Some connections) = Some (record { port = port; connections = connections })
+place_at (Some port) None = None
+place_at None connections = None
 
--- whether the words between the values of an office are the program's
-abbrev pub are_options : List ℕ → List ℕ → List ℕ → Bool
-are_options society territory name =
-    bytes_eq society (codes "--society") && bytes_eq territory (codes "--territory") && bytes_eq name (codes "--name")
-
--- what words ask for that name an office: exactly --society N --territory N --name TEXT, in this order
-abbrev pub asked_office : List (List ℕ) → Asked
-asked_office (society_word ∷ society ∷ territory_word ∷ territory ∷ name_word ∷ name ∷ []) =
-    if are_options society_word territory_word name_word then asked_by (short_number_of society) (short_number_of territory) name else HasBadWords
-asked_office _ = HasBadWords
-
--- the place with a port of 1 to 65,535 and a count of connections from 1
-abbrev pub place_at : ℕ → ℕ → Option Place
-place_at port connections =
-    if nat_le 1 port && nat_le port 65535 && nat_le 1 connections then Some (record { port = port; connections = connections }) else None
-
--- by what the values of the port and the count are, where they are numbers
-abbrev pub place_of : Option ℕ → Option ℕ → Option Place
-place_of (Some port) (Some connections) = place_at port connections
-place_of (Some port) None = None
-place_of None connections = None
+-- the place that options name
+abbrev pub place_of : List Row → Option Place
+place_of rows = place_at (number_given 16 (codes "port") rows) (number_given 32 (codes "connections") rows)
 
 -- to serve at a place, where the rest asks for a replay
 abbrev pub serving : Option Place → Asked → Asked
 serving (Some place) (AsksReplay society territory name) = AsksServe place society territory name
 serving (Some place) (AsksServe other society territory name) = AsksServe other society territory name
+serving (Some place) AsksHelp = AsksHelp
 serving (Some place) HasBadName = HasBadName
 serving (Some place) HasBadWords = HasBadWords
 serving None asked = HasBadWords
 
--- whether the words between the values of a place are the program's
-abbrev pub are_place_options : List ℕ → List ℕ → Bool
-are_place_options port connections = bytes_eq port (codes "--port") && bytes_eq connections (codes "--connections")
+-- what a command asks for with its options
+abbrev pub asked_command : Text → List Row → Asked
+asked_command command rows = if bytes_eq command (codes "serve") then serving (place_of rows) (asked_office rows) else asked_office rows
 
--- what words ask for that name a place and an office: exactly --port N --connections N, and then the office's
-abbrev pub asked_serving : List (List ℕ) → Asked
-asked_serving (port_word ∷ port ∷ connections_word ∷ connections ∷ office) =
-    if are_place_options port_word connections_word then serving (place_of (long_number_of port) (long_number_of connections)) (asked_office office) else HasBadWords
-asked_serving _ = HasBadWords
+-- what words ask for that the command line takes, by the command in them
+abbrev pub asked_in : Option (Text × List Row) → Asked
+asked_in (Some command) = asked_command command.0 command.1
+asked_in None = HasBadWords
 
--- what the words after the program's name ask for: replay or serve, and then exactly its options
-abbrev pub asked : List (List ℕ) → Asked
-asked (program ∷ command ∷ options) =
-    if bytes_eq command (codes "replay") then asked_office options
-    else (if bytes_eq command (codes "serve") then asked_serving options else HasBadWords)
-asked _ = HasBadWords
+-- whether this is the request for help
+abbrev pub is_help : ErrorKind → Bool
+is_help DisplayHelp = true
+is_help _ = false
+
+-- what words ask for, by what the command line says against them and the command in them
+abbrev pub asked_by : Kinds → Option (Text × List Row) → Asked
+asked_by [] command = asked_in command
+asked_by (kind ∷ kinds) command = if list_any is_help (kind ∷ kinds) then AsksHelp else HasBadWords
+
+-- what the words ask for, the program's name the first of them: what they give to the options of the command line
+abbrev pub asked : List Text → Asked
+asked words = asked_by (fault_of command_line words) (subcommand_of command_line words)
 
 -- the program's reading of the words is what they ask for
 abbrev pub IsReadAs : Asked → Words → Type 0
 IsReadAs (AsksReplay society territory name) (words.Replay office) = IsOfficeOf society territory name office
-IsReadAs (AsksReplay society territory name) (words.Serve place office) = ⊥
-IsReadAs (AsksReplay society territory name) words.BadName = ⊥
-IsReadAs (AsksReplay society territory name) words.BadWords = ⊥
 IsReadAs (AsksServe place society territory name) (words.Serve read office) = (read ≡ place) × IsOfficeOf society territory name office
-IsReadAs (AsksServe place society territory name) (words.Replay office) = ⊥
-IsReadAs (AsksServe place society territory name) words.BadName = ⊥
-IsReadAs (AsksServe place society territory name) words.BadWords = ⊥
 IsReadAs HasBadName words.BadName = Unit {0}
-IsReadAs HasBadName (words.Replay office) = ⊥
-IsReadAs HasBadName (words.Serve place office) = ⊥
-IsReadAs HasBadName words.BadWords = ⊥
 IsReadAs HasBadWords words.BadWords = Unit {0}
-IsReadAs HasBadWords (words.Replay office) = ⊥
-IsReadAs HasBadWords (words.Serve place office) = ⊥
-IsReadAs HasBadWords words.BadName = ⊥
+IsReadAs _ _ = ⊥
+
+-- the words are refused for this: memory was, or they ask for help, or are wrong
+abbrev pub IsRefusedAs : Asked → ErrorKind → Type 0
+IsRefusedAs asked kind = (kind ≡ OutOfMemory) ⊎ (((kind ≡ DisplayHelp) × (asked ≡ AsksHelp)) ⊎ ((kind ≢ DisplayHelp) × (asked ≡ HasBadWords)))
 
 -- the words ask for a replay at this office
 abbrev pub AsksFor : Asked → Office → Type 0
 AsksFor (AsksReplay society territory name) office = IsOfficeOf society territory name office
-AsksFor (AsksServe place society territory name) office = ⊥
-AsksFor HasBadName office = ⊥
-AsksFor HasBadWords office = ⊥
+AsksFor _ office = ⊥
 
 -- the words ask to serve at this place and this office
 abbrev pub AsksToServe : Asked → Place → Office → Type 0
 AsksToServe (AsksServe asked society territory name) place office = (place ≡ asked) × IsOfficeOf society territory name office
-AsksToServe (AsksReplay society territory name) place office = ⊥
-AsksToServe HasBadName place office = ⊥
-AsksToServe HasBadWords place office = ⊥
+AsksToServe _ place office = ⊥
 
 -- the words ask for a replay at an office of which this holds
 abbrev pub StartsReplay : Asked → (Office → Type 0) → Type 0
@@ -132,10 +121,9 @@ StartsServing asked Holds = (place : Place) × (office : Office) × AsksToServe 
 
 -- the words are wrong, or the name is
 abbrev pub IsWrong : Asked → Type 0
-IsWrong (AsksReplay society territory name) = ⊥
-IsWrong (AsksServe place society territory name) = ⊥
 IsWrong HasBadName = Unit {0}
 IsWrong HasBadWords = Unit {0}
+IsWrong _ = ⊥
 
 -- the status where the words could not be had: 2 where one is no text, 1 where memory was refused (profile)
 abbrev pub status_without : NoWords → ℕ

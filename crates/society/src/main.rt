@@ -1,10 +1,15 @@
-//! The program: `society replay --society N --territory N --name TEXT` serves standard input to standard
-//! output over a book in memory; `society serve --port N --connections N` and the same serves connections on this machine.
+//! The program: `society replay --society N --territory N --name TEXT` serves standard input to standard output over a book
+//! in memory; `society serve --port N --connections N` and the same serves connections on this machine; `--help` tells both.
 #![tactic(auto)]
 
 #[cfg(test)]
 mod ample_tests;
+mod command_line;
+#[cfg(test)]
+mod connection_tests;
 mod connections;
+#[cfg(test)]
+mod day_tests;
 #[cfg(test)]
 mod desk_tests;
 #[cfg(test)]
@@ -20,6 +25,8 @@ mod starting;
 mod streams;
 #[cfg(test)]
 mod tests;
+#[cfg(test)]
+mod word_tests;
 mod words;
 
 use http_desk::Counted;

@@ -1,11 +1,17 @@
-ghost use Rattle.std.specs.Prelude.{◌≡◌, ◌⊎◌, map, string_bytes};
+//! What the program does, by its words.
+ghost use Rattle.std.specs.Prelude.{◌≡◌, ◌≢◌, ◌⊎◌, map, string_bytes};
+ghost use Rattle.clap.specs.Words.{kind_of};
+ghost use Rattle.clap.specs.declared.error.kind.ErrorKind.TheVariants.{DisplayHelp, OutOfMemory};
 ghost use Rattle.society.specs.Connections.{ServesOffice, StopsServing};
 ghost use Rattle.society.specs.Replays.{Replays, BreaksOff};
-ghost use Rattle.society.specs.Words.{IsWrong, StartsReplay, StartsServing, asked, status_without};
+ghost use Rattle.society.specs.Words.{IsWrong, StartsReplay, StartsServing, AsksHelp, asked, status_without};
 
-use crate::replay::{BROKEN_OFF, replay, report};
+use crate::connections::print;
+use crate::replay::{BROKEN_OFF, SERVED, replay, report};
 use crate::serving::serve_office;
 use crate::words::{Words, words_in};
+use clap::Error;
+use clap::error::ErrorKind as ClapKind;
 use http_desk::{Counted, DeskFault, FaultKind};
 use std::alloc::Global;
 use std::io::{self, ErrorKind, Read, Write};
@@ -23,9 +29,9 @@ pub enum NoWords {
     Memory,
 }
 
-/// Does what the program's words ask for: replays the reader at the office that they name, or serves connections there, or,
-/// where they are wrong, writes one line on `err` and reads and writes nothing else. Answers the exit status: that of
-/// `replay` or of `serve_office`, or 2.
+/// Does what the program's words ask for: replays the reader at the office that they name, or serves connections there, or
+/// tells of the words on `out`; where they are wrong, says so on `err` and reads and writes nothing else. Answers the exit
+/// status: that of `replay` or of `serve_office`, 0 for help, 2 for wrong words, 1 where memory was refused for them.
 pub fn start<N: Net<Listener = TcpListener, Stream = TcpStream>, R: Read, W: Write, E: Write>(
     net: &N,
     alloc: Global,
@@ -35,24 +41,57 @@ pub fn start<N: Net<Listener = TcpListener, Stream = TcpStream>, R: Read, W: Wri
     err: &mut E,
 ) -> u8
     ensures wrong { IsWrong (asked (map string_bytes words.now))
-        → (result ≡ 2) × (reader.new ≡ reader.old) × (out.new ≡ out.old) }
+        → ((result ≡ 2) ⊎ (result ≡ 1)) × (reader.new ≡ reader.old) × (out.new ≡ out.old) }
+    ensures help { asked (map string_bytes words.now) ≡ AsksHelp
+        → ((result ≡ 0) ⊎ (result ≡ 1)) × (reader.new ≡ reader.old) }
     ensures status { (result ≡ 0) ⊎ ((result ≡ 1) ⊎ ((result ≡ 2) × IsWrong (asked (map string_bytes words.now)))) }
-    ensures served { result ≡ 0
-        → StartsReplay (asked (map string_bytes words.now)) (λ office.
+    ensures served { result ≡ 0 → (asked (map string_bytes words.now) ≡ AsksHelp)
+        ⊎ (StartsReplay (asked (map string_bytes words.now)) (λ office.
         Replays office R.remaining W.contents reader.old out.old out.new)
         ⊎ StartsServing (asked (map string_bytes words.now)) (λ place office.
-        ServesOffice office W.contents out.old out.new place.connections) }
+        ServesOffice office W.contents out.old out.new place.connections)) }
+    // Nothing was read or written where memory was refused for the words.
     ensures broken_off { result ≡ 1
-        → StartsReplay (asked (map string_bytes words.now)) (λ office.
+        → ((reader.new ≡ reader.old) × (out.new ≡ out.old))
+        ⊎ (StartsReplay (asked (map string_bytes words.now)) (λ office.
         BreaksOff office R.remaining W.contents reader.old reader.new out.old out.new)
         ⊎ StartsServing (asked (map string_bytes words.now)) (λ place office.
-        StopsServing office W.contents out.old out.new place.connections) }
+        StopsServing office W.contents out.old out.new place.connections)) }
 {
-    match words_in(words) {
-        Words::Replay(office) => replay(alloc, &office, reader, out, err),
-        Words::Serve(place, office) => serve_office(net, alloc, &office, place, out, err),
-        Words::BadName => refuse(err, "bad name"),
-        Words::BadWords => refuse(err, "bad words"),
+    match words_in(alloc, words) {
+        Ok(Words::Replay(office)) => replay(alloc, &office, reader, out, err),
+        Ok(Words::Serve(place, office)) => serve_office(net, alloc, &office, place, out, err),
+        Ok(Words::BadName) => refuse(err, "bad name"),
+        Ok(Words::BadWords) => refuse(err, "bad words"),
+        Err(error) => explain(alloc, &error, out, err),
+    }
+}
+
+// Writes what `clap` says of the words, help on `out`; text that is not taken is passed over. Answers the status.
+fn explain<W: Write, E: Write>(
+    alloc: Global,
+    error: &Error,
+    out: &mut Counted<W>,
+    err: &mut E,
+) -> u8
+    ensures help { kind_of error.now ≡ DisplayHelp → (result ≡ 0) ⊎ ((result ≡ 1) × (out.new ≡ out.old)) }
+    ensures memory { kind_of error.now ≡ OutOfMemory → (result ≡ 1) × (out.new ≡ out.old) }
+    ensures wrong { kind_of error.now ≢ DisplayHelp → kind_of error.now ≢ OutOfMemory
+        → (result ≡ 2) × (out.new ≡ out.old) }
+{
+    match error.kind() {
+        ClapKind::DisplayHelp => {
+            let Ok(text) = format!(in alloc; "{error}") else {
+                return without_words(NoWords::Memory, err);
+            };
+            print(out, text.as_bytes());
+            SERVED
+        }
+        ClapKind::OutOfMemory => without_words(NoWords::Memory, err),
+        _ => {
+            let _ = write!(err, "{error}");
+            WRONG_WORDS
+        }
     }
 }
 

@@ -10,6 +10,7 @@ pub mod CreditTable
 pub mod Effects
 pub mod FrontTable
 pub mod Inserts
+pub mod KeyEquality
 pub mod ListWrites
 pub mod Listings
 pub mod NewBooks
@@ -28,6 +29,7 @@ pub mod RunFolds
 pub mod Rowids
 pub mod Texts
 pub mod TransmissionTable
+pub mod UnitLemmas
 pub mod UpsertParts
 pub mod Upserts
 pub mod VerdictTable

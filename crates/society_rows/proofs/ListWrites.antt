@@ -1,5 +1,5 @@
 -- A list of rows, written one at a time.
-use Rattle.std.proofs.Common.{ℕ, ◌+◌, ◌<◌, List, [], ◌∷◌, ◌++◌, length, map, take, get_or, Result, Ok, Err, sym, ap, subst, ◌∙◌, not, IsPermutation}
+use Rattle.std.proofs.Common.{arith, inr, inl, ℕ, ◌+◌, ◌<◌, List, [], ◌∷◌, ◌++◌, length, map, take, get_or, Result, Ok, Err, sym, ap, subst, ◌∙◌, not, IsPermutation}
 use Rattle.std.proofs.lemmas.List.{map-append, take_more}
 use Rattle.std.specs.Result.{IsErr}
 use Rattle.std.proofs.lemmas.List.Sums.{fold_push}
@@ -8,9 +8,9 @@ use Rattle.sqlite_value.specs.Order.{Row, column}
 use Rattle.sqlite_keyed.proofs.ListLemmas.{IsPermutation-filter}
 use Rattle.sqlite.specs.Effect.{Database}
 use Rattle.sqlite_schema.specs.declared.schema.Table.{Table}
-use Rattle.sqlite.specs.State.{State}
+use Rattle.sqlite.specs.State.{State, HasCleanDisk, Survives}
 use Rattle.society_rows.specs.declared.fault.RowFault.{RowFault}
-use Rattle.society_rows.specs.Effects.{Writes}
+use Rattle.society_rows.specs.Effects.{Writes, IsWhole, LeavesFirst}
 use Rattle.society_rows.specs.Stored.{rows_in, HasLayout, has_first, put_over, Adds, Puts, PutsAll}
 use Rattle.society_rows.proofs.Adds.{others_then, others_same, adds_none, adds_then}
 use Rattle.society_rows.proofs.Effects.{writes_none, writes_then}
@@ -61,3 +61,20 @@ module _ {R : Type 0} (table : Table) (values : R → Row) (rows : List R) (i : 
       → Writes a c result (PutsAll table all)
   puts_fails fault all result is more =
       fails_after a b c (PutsAll table (map values (take i rows))) (Puts table (values (get_or rows i d))) (PutsAll table all) (λ e f h. h.layout) fault result is before more
+
+-- a write failed after so many
+pub leaves_first : (a b c : State) (First : ℕ → Database → Database → Type 0) (count : ℕ) (fault : RowFault) (result : Result (Unit {0}) RowFault) → Writes {X = Unit {0}} a b (Ok tt) (First count)
+    → Survives b c (λ _. ⊥) → IsWhole {X = Unit {0}} b c (Err fault) → LeavesFirst a c result First
+leaves_first a b c First count fault (Ok x) before survives whole clean inside has = tt
+leaves_first a b c First count fault (Err e) before survives whole clean inside has =
+    let was : HasCleanDisk b = omega (arith, survives.clean) in
+    elim (whole clean (before.inside was inside)) [
+      | inl still ↦ inl (count, subst (λ d. First count a.now d) (sym still.0.now_is) (before.change was inside has))
+      | inr undone ↦ inr (record {
+        ended = undone.autocommit;
+        back = λ opened.
+            let now = undone.undone opened in
+            let kept = (before.kept was inside).committed (undone.was_open opened) in
+            (now.0 ∙ kept, now.1 ∙ kept);
+      })
+    ]

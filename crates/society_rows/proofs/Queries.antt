@@ -108,6 +108,14 @@ shown_keeps : (text : List ℕ) (params : Row) (old new : State) (rows : List Ro
 unfolding Shown
 shown_keeps text params old new rows inside h = keeps_by old new text _ rows h.0 h.0.returning inside h.2
 
+mode_by : (old new : State) (text : List ℕ) (params : Row) (rows : List Row) (c : _) (returning : Option _) → ShowsRows old new text c params rows returning → new.in_transaction ≡ old.in_transaction
+mode_by old new text params rows c None h = h.3.0.mode
+mode_by old new text params rows c (Some what) h = h.1.shown.mode
+
+shown_inside : (text : List ℕ) (params : Row) (old new : State) (rows : List Row) → Shown text params old new rows → new.in_transaction ≡ old.in_transaction
+unfolding Shown
+shown_inside text params old new rows h = mode_by old new text _ rows h.0 h.0.returning h.2
+
 failed_keeps : (old new : State) → IsUnchanged old new ⊎ IsRolledBack old new → KeepsCommit old new
 failed_keeps old new (inl h) = record { was_open = λ _. h.0.was_open; committed = λ _. h.0.committed_is }
 failed_keeps old new (inr h) = record { was_open = h.was_open; committed = λ opened. (h.undone opened).1 }
@@ -121,6 +129,7 @@ reads_by text params old new result Found plain selected survives finds = record
   same = λ clean has. on_same result has (selected clean);
   whole = λ clean. on_failed result (selected clean);
   was_open = λ clean. on_open result (selected clean);
+  inside = λ clean inside. on_inside result inside (selected clean);
   kept = λ clean inside. on_kept result inside (selected clean);
   survives = survives;
 }
@@ -144,3 +153,7 @@ reads_by text params old new result Found plain selected survives finds = record
     on_kept : (r : Result (Vec Row Global) RowFault) → old.in_transaction ≡ true → Selected text params old new r → KeepsCommit old new
     on_kept (Ok rows) inside h = shown_keeps text params old new rows.items inside h
     on_kept (Err fault) inside h = failed_keeps old new (elim h.2 [ inl failed ↦ failed_query text params old new h.0 failed | inr late ↦ inl late.5 ])
+
+    on_inside : (r : Result (Vec Row Global) RowFault) → old.in_transaction ≡ true → Selected text params old new r → OnOk r (new.in_transaction ≡ true)
+    on_inside (Ok rows) inside h = shown_inside text params old new rows.items h ∙ inside
+    on_inside (Err fault) inside h = tt

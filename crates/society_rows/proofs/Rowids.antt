@@ -18,7 +18,7 @@ use Rattle.sqlite_rules.specs.Edit.{id_in, is_taken, are_fresh}
 use Rattle.sqlite_rules.proofs.ListLemmas.{some_from}
 use Rattle.sqlite_rules.proofs.TableLemmas.{int_is, has_put}
 
-truth_of : (b : Bool) → is_true (from_truth (Some b)) ≡ b
+pub truth_of : (b : Bool) → is_true (from_truth (Some b)) ≡ b
 truth_of true = refl
 truth_of false = refl
 
@@ -35,7 +35,7 @@ pub differ_rowid : (v : Value) (id : ℤ) → is_int v ≡ true → differ v (In
 unfolding binary
 differ_rowid v id h = rw (int_is v h) (truth_of (is_ne (value_cmp (Int (id_in v)) (Int id))) ∙ ne_is (value_cmp (Int (id_in v)) (Int id)))
 
-eq_only : (o : Ordering) → is_eq o ≡ true → o ≡ Equal
+pub eq_only : (o : Ordering) → is_eq o ≡ true → o ≡ Equal
 eq_only Less h = cc
 eq_only Equal h = refl
 eq_only Greater h = cc

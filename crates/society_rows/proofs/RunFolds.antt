@@ -1,5 +1,5 @@
 -- The transmissions of a sender, one number after another.
-use Rattle.std.proofs.Common.{◌≡◌, ℕ, suc, pos, ◌+◌, ◌<◌, ◌≤◌, length, List, [], ◌∷◌, ◌++◌, Vec, Ok, Err, sym, ap, subst, refl, inl, inr, arith}
+use Rattle.std.proofs.Common.{IsTrue, ◌≡◌, ℕ, suc, pos, ◌+◌, ◌<◌, ◌≤◌, length, List, [], ◌∷◌, ◌++◌, get_or, Vec, Ok, Err, sym, ap, subst, refl, inl, inr, arith}
 use Rattle.std.specs.declared.alloc.Global.{Global}
 use Rattle.std.proofs.lemmas.Bool.{cases_lt}
 use Rattle.std.proofs.lemmas.List.{length-append}
@@ -9,8 +9,9 @@ use Rattle.sqlite_trees.specs.Tree.{Trees}
 use Rattle.sqlite_trees.specs.declared.store.Store.{Ghosts}
 use Rattle.sqlite.specs.Effect.{Database}
 use Rattle.sqlite.specs.Held.{Held, state}
-use Rattle.sqlite.specs.State.{HasCleanDisk, IsUnchanged, Survives}
+use Rattle.sqlite.specs.State.{KeepsCommit, HasCleanDisk, IsUnchanged, Survives}
 use Rattle.sqlite.proofs.Callers.{unchanged_then}
+use Rattle.sqlite.proofs.InsideLemmas.{keeps_then}
 use Rattle.sqlite.proofs.StateLemmas.{survives_then}
 use Rattle.society_rows.specs.declared.fault.RowFault.{RowFault}
 use Rattle.society_rows.specs.Folds.{ReadsInside, HasTaken, AreFrom, IsRun}
@@ -23,6 +24,8 @@ use Rattle.society_rows.proofs.RowFolds.{takes_row, taken_as}
 pub record HasRunTo {S : Type 0} (g : Ghosts S) {F : Type 0} (step : F → Row → F) (sender : List ℕ) (old new : Held S) (first number : ℕ) (begun now : F) : Type 0 where
   pub start : number ≡ first → new ≡ old
   pub survives : Survives (state g old) (state g new) (λ _. ⊥)
+  pub inside : HasCleanDisk (state g new) → IsTrue (state g old).in_transaction → IsTrue (state g new).in_transaction
+  pub kept : HasCleanDisk (state g new) → IsTrue (state g old).in_transaction → KeepsCommit (state g old) (state g new)
   pub same : HasCleanDisk (state g new) → HasLayout (state g old).now → first < number → IsUnchanged (state g old) (state g new)
   pub taken : HasCleanDisk (state g new) → HasLayout (state g old).now → HasTaken step (λ rows. AreFrom sender first (state g old).now.trees rows × (length rows + first ≡ number)) begun now
 
@@ -30,6 +33,8 @@ pub runs_to_first : {S : Type 0} (g : Ghosts S) {F : Type 0} (step : F → Row �
 runs_to_first g step sender old first begun = record {
   start = λ e. refl;
   survives = record { clean = omega arith; shield = λ h. h; counts = omega arith; limit = refl; closes = λ clean was. inl was; crash = λ clean db h. inl h };
+  inside = λ clean inside. inside;
+  kept = λ clean inside. record { was_open = λ h. h; committed = λ h. refl };
   same = λ clean has more. absurd (omega arith);
   taken = λ clean has. record { rows = []; these = (tt, omega arith); folded = refl };
 }
@@ -73,10 +78,20 @@ module _ {S : Type 0} (g : Ghosts S) {F : Type 0} (step : F → Row → F) (send
         let was = early read.survives clean in
         unchanged_on was has (read.same clean (subst HasLayout (sym (seen_now was has)) has))
 
+    inside_on : HasCleanDisk (state g new) → IsTrue (state g old).in_transaction → IsTrue (state g new).in_transaction
+    inside_on clean inside = read.inside clean (run.inside (early read.survives clean) inside)
+
+    kept_on : HasCleanDisk (state g new) → IsTrue (state g old).in_transaction → KeepsCommit (state g old) (state g new)
+    kept_on clean inside =
+        let was = early read.survives clean in
+        keeps_then (state g old) (state g mid) (state g new) (run.kept was inside) (read.kept clean (run.inside was inside))
+
     pub runs_on : (row : Row) (next : F) → rows.items ≡ row ∷ [] → next ≡ step now row → HasRunTo g step sender old new first (number + 1) begun next
     runs_on row next one is = record {
       start = λ e. absurd (omega arith);
       survives = survives_on read.survives;
+      inside = inside_on;
+      kept = kept_on;
       same = λ clean has more. same_first clean has;
       taken = λ clean has.
           takes_row step _ _ begun now next row
@@ -98,11 +113,30 @@ module _ {S : Type 0} (g : Ghosts S) {F : Type 0} (step : F → Row → F) (send
           (run.taken (early read.survives clean) has);
       same = same_first;
       whole = λ clean has. tt;
+      inside = inside_on;
+      kept = kept_on;
       survives = survives_on read.survives;
     }
 
 -- no number is left
 pub run_overflows : {S : Type 0} (g : Ghosts S) {F : Type 0} (step : F → Row → F) (sender : List ℕ) (old new : Held S) (first number : ℕ) (begun now : F) → first < number
     → HasRunTo g step sender old new first number begun now → (fault : RowFault) (Any : Trees → Unit {0} → Type 0) → ReadsInside (state g old) (state g new) (Err fault) Any
-run_overflows g step sender old new first number begun now more run fault Any =
-    record { found = λ clean has. tt; same = λ clean has. tt; whole = λ clean has. inl (run.same clean has more); survives = run.survives }
+run_overflows g step sender old new first number begun now more run fault Any = record {
+  found = λ clean has. tt;
+  same = λ clean has. tt;
+  whole = λ clean has. inl (run.same clean has more);
+  inside = λ clean inside. tt;
+  kept = run.kept;
+  survives = run.survives;
+}
+
+-- no row, and one
+
+pub none_there : (rows : List Row) → length rows < 1 → rows ≡ []
+none_there [] short = refl
+none_there (r ∷ rows) short = absurd (omega arith)
+
+pub one_there : (rows : List Row) (r : Row) → 1 ≤ length rows → length rows < 2 → r ≡ get_or rows 0 r → rows ≡ r ∷ []
+one_there [] r long short is = absurd (omega arith)
+one_there (x ∷ []) r long short is = ap (λ z. z ∷ []) (sym is)
+one_there (x ∷ y ∷ rows) r long short is = absurd (omega arith)

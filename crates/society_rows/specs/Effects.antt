@@ -1,5 +1,5 @@
 -- What a call within a transaction does, whatever table it is on.
-use Rattle.std.specs.Prelude.{◌≡◌, ◌⊎◌, ℕ, List, Result, Ok, Err, IsTrue, OnOk, MatchResult}
+use Rattle.std.specs.Prelude.{◌≡◌, ◌⊎◌, ℕ, List, Result, Ok, Err, IsTrue, false, OnOk, OnErr, MatchResult}
 use Rattle.sqlite_value.specs.Order.{Row}
 use Rattle.sqlite.specs.declared.error.Error.{Error}
 use Rattle.sqlite.specs.Effect.{Database}
@@ -28,3 +28,12 @@ Writes = WritesOver HasLayout
 -- one statement: it went through on an open connection, or it changed nothing, or the whole transaction is undone
 abbrev pub IsWhole : {X : Type 0} → State → State → Result X RowFault → Type 0
 IsWhole old new result = HasCleanDisk new → IsTrue old.in_transaction → MatchResult result (λ _. IsTrue old.is_open) (λ _. IsUnchanged old new ⊎ IsRolledBack old new)
+
+-- the transaction is over, and the last commit is what it was
+pub record IsUndone (old new : State) : Type 0 where
+  pub ended : new.in_transaction ≡ false
+  pub back : IsTrue new.is_open → (new.now ≡ old.committed) × (new.committed ≡ old.committed)
+
+-- after an error of several statements: so many of the first went through and nothing else did, or the whole transaction is undone
+abbrev pub LeavesFirst : {X : Type 0} → State → State → Result X RowFault → (ℕ → Database → Database → Type 0) → Type 0
+LeavesFirst old new result First = HasCleanDisk new → IsTrue old.in_transaction → HasLayout old.now → OnErr result (((count : ℕ) × First count old.now new.now) ⊎ IsUndone old new)

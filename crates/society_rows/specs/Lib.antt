@@ -1,6 +1,8 @@
+pub mod Balances
 pub mod Effects
 pub mod Faults
 pub mod Folds
+pub mod KeyLaws
 pub mod Layout
 pub mod NewBook
 pub mod Questions

@@ -69,5 +69,6 @@ pub record Reads {X : Type 0} (old new : State) (result : Result X RowFault) (Fo
   pub same : HasCleanDisk new → HasLayout old.now → OnOk result (IsUnchanged old new)
   pub whole : HasCleanDisk new → OnErr result (IsUnchanged old new ⊎ IsRolledBack old new)
   pub was_open : HasCleanDisk new → OnOk result (IsTrue old.is_open)
+  pub inside : HasCleanDisk new → IsTrue old.in_transaction → OnOk result (IsTrue new.in_transaction)
   pub kept : HasCleanDisk new → IsTrue old.in_transaction → KeepsCommit old new
   pub survives : Survives old new (λ _. ⊥)

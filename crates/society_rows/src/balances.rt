@@ -1,13 +1,16 @@
 //! The table of balances.
-ghost use Rattle.std.specs.Prelude.{◌≡◌, map, true, [], ◌∷◌, IfOk, IfErr};
+ghost use Rattle.std.specs.Prelude.{◌≡◌, map, take, true, [], ◌∷◌, IfOk, IfErr, FitsSigned};
+ghost use Rattle.std.specs.Int.{w64};
 ghost use Rattle.sqlite_value.specs.declared.value.Value.TheVariants.{Text};
 ghost use Rattle.sqlite.specs.Held.{state};
 ghost use Rattle.society_rows.specs.declared.fault.RowFault.TheVariants.{Unread};
-ghost use Rattle.society_rows.specs.Effects.{Writes, IsWhole};
+ghost use Rattle.society_rows.specs.Balances.{HasUnits, AddsUnits};
+ghost use Rattle.society_rows.specs.Effects.{Writes, IsWhole, LeavesFirst};
+ghost use Rattle.society_rows.specs.Folds.{ReadsInside};
 ghost use Rattle.society_rows.specs.Layout.{balances};
 ghost use Rattle.society_rows.specs.Reads.{Lists, Reads, has_key};
 ghost use Rattle.society_rows.specs.Rows.{balance_values};
-ghost use Rattle.society_rows.specs.Stored.{Puts, PutsAll};
+ghost use Rattle.society_rows.specs.Stored.{HasLayout, Puts, PutsAll};
 
 use crate::reading::{integer, text};
 use crate::statement::{run, select};
@@ -27,6 +30,7 @@ impl<'a> BalanceRow<'a> {
     /// The row that these values are, in the order of the columns; else `Unread`.
     pub fn from_row(row: &'a Row) -> Result<BalanceRow<'a>, RowFault>
         ensures value { IfOk result (λ x. balance_values x ≡ row.now) }
+        ensures range { IfOk result (λ x. FitsSigned w64 x.units) }
         ensures fault { IfErr result (λ e. e ≡ Unread) }
     {
         if row.column_count() != 2 {
@@ -56,8 +60,8 @@ pub fn put_balance<S: Alter>(
     )
 }
 
-/// Puts balances, each in place of the one that is there under its key. After an error some may be in the
-/// transaction.
+/// Puts balances, each in place of the one that is there under its key. After an error the first of them may be
+/// in the transaction.
 pub fn put_balances<S: Alter>(
     tx: &mut Transaction<'_, S>,
     rows: &[BalanceRow<'_>],
@@ -65,6 +69,8 @@ pub fn put_balances<S: Alter>(
     ensures same_reference { tx.new.conn.ghost_name ≡ tx.old.conn.ghost_name }
     ensures written { Writes (state S.Store tx.old.conn.now) (state S.Store tx.new.conn.now) result
         (PutsAll balances (map balance_values rows.now)) }
+    ensures left { LeavesFirst (state S.Store tx.old.conn.now) (state S.Store tx.new.conn.now) result
+        (λ count. PutsAll balances (map balance_values (take count rows.now))) }
 {
     for row in rows {
         put_balance(tx, row)?;
@@ -94,5 +100,45 @@ pub fn balance_at<S: Alter>(
         tx,
         "SELECT account, units FROM balances WHERE account = ?1 ORDER BY account",
         &[ValueRef::Text(account)],
+    )
+}
+
+/// The units of an account, 0 where it has no balance; `Unread` where it has two.
+pub fn units_of<S: Alter>(tx: &mut Transaction<'_, S>, account: &[u8]) -> Result<i64, RowFault>
+    ensures same_reference { tx.new.conn.ghost_name ≡ tx.old.conn.ghost_name }
+    ensures read { ReadsInside (state S.Store tx.old.conn.now) (state S.Store tx.new.conn.now) result
+        (HasUnits account.now) }
+    ensures range { IfOk result (λ n. FitsSigned w64 n) }
+{
+    let rows = balance_at(tx, account)?;
+    match rows.as_slice() {
+        [] => Ok(0),
+        [row] => Ok(BalanceRow::from_row(row)?.units),
+        _ => Err(RowFault::Unread),
+    }
+}
+
+/// Adds units to the balance of an account; `Overflow` where the sum doesn't fit.
+pub fn add_units<S: Alter>(
+    tx: &mut Transaction<'_, S>,
+    account: &[u8],
+    units: i64,
+) -> Result<(), RowFault>
+    ensures same_reference { tx.new.conn.ghost_name ≡ tx.old.conn.ghost_name }
+    ensures written { Writes (state S.Store tx.old.conn.now) (state S.Store tx.new.conn.now) result
+        (AddsUnits account.now units) }
+    ensures whole { HasLayout (state S.Store tx.old.conn.now).now
+        → IsWhole (state S.Store tx.old.conn.now) (state S.Store tx.new.conn.now) result }
+{
+    let before = units_of(tx, account)?;
+    let Some(sum) = before.checked_add(units) else {
+        return Err(RowFault::Overflow);
+    };
+    put_balance(
+        tx,
+        &BalanceRow {
+            account,
+            units: sum,
+        },
     )
 }

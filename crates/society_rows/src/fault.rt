@@ -18,6 +18,9 @@ pub enum RowFault {
     /// A value has another form than its column's.
     #[error("a value of another form")]
     Unread,
+    /// A sum of units doesn't fit 64 bits.
+    #[error("more units than 64 bits hold")]
+    Overflow,
     /// SQLite refused the statement, or the store failed: as it said.
     #[error("the database refused")]
     Refused(Error),

@@ -47,6 +47,7 @@ fn fold_shown<S: Alter, F: RowFold>(
         };
         into.take(row)?;
     }
+    // No answer has so many rows.
     Err(RowFault::Unread)
 }
 

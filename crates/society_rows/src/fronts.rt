@@ -1,9 +1,9 @@
 //! The table of fronts.
-ghost use Rattle.std.specs.Prelude.{◌≡◌, map, true, [], ◌∷◌, IfOk, IfErr};
+ghost use Rattle.std.specs.Prelude.{◌≡◌, map, take, true, [], ◌∷◌, IfOk, IfErr};
 ghost use Rattle.sqlite_value.specs.declared.value.Value.TheVariants.{Text};
 ghost use Rattle.sqlite.specs.Held.{state};
 ghost use Rattle.society_rows.specs.declared.fault.RowFault.TheVariants.{Unread};
-ghost use Rattle.society_rows.specs.Effects.{Writes, IsWhole};
+ghost use Rattle.society_rows.specs.Effects.{Writes, IsWhole, LeavesFirst};
 ghost use Rattle.society_rows.specs.Layout.{fronts};
 ghost use Rattle.society_rows.specs.Reads.{Lists, Reads, has_key};
 ghost use Rattle.society_rows.specs.Rows.{front_values};
@@ -60,8 +60,8 @@ pub fn put_front<S: Alter>(tx: &mut Transaction<'_, S>, row: &FrontRow<'_>) -> R
     )
 }
 
-/// Puts fronts, each in place of the one that is there under its key. After an error some may be in the
-/// transaction.
+/// Puts fronts, each in place of the one that is there under its key. After an error the first of them may be
+/// in the transaction.
 pub fn put_fronts<S: Alter>(
     tx: &mut Transaction<'_, S>,
     rows: &[FrontRow<'_>],
@@ -69,6 +69,8 @@ pub fn put_fronts<S: Alter>(
     ensures same_reference { tx.new.conn.ghost_name ≡ tx.old.conn.ghost_name }
     ensures written { Writes (state S.Store tx.old.conn.now) (state S.Store tx.new.conn.now) result
         (PutsAll fronts (map front_values rows.now)) }
+    ensures left { LeavesFirst (state S.Store tx.old.conn.now) (state S.Store tx.new.conn.now) result
+        (λ count. PutsAll fronts (map front_values (take count rows.now))) }
 {
     for row in rows {
         put_front(tx, row)?;

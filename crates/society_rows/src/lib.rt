@@ -9,6 +9,7 @@ mod credits;
 mod fault;
 mod folding;
 mod fronts;
+mod keys;
 mod layout;
 mod office;
 mod pool_cuts;
@@ -24,11 +25,14 @@ mod transmissions;
 mod verdicts;
 mod versions;
 
-pub use balances::{BalanceRow, all_balances, balance_at, put_balance, put_balances};
+pub use balances::{
+    BalanceRow, add_units, all_balances, balance_at, put_balance, put_balances, units_of,
+};
 pub use credits::{CreditRow, add_credit, add_credits, all_credits, credits_of};
 pub use fault::RowFault;
 pub use folding::{RowFold, fold_above, fold_run, fold_table};
 pub use fronts::{FrontRow, all_fronts, front_at, put_front, put_fronts};
+pub use keys::keys_are_values;
 pub use layout::create;
 pub use office::{LAYOUT, OfficeRow, all_offices};
 pub use pool_cuts::{PoolCutRow, add_pool_cut, add_pool_cuts, all_pool_cuts, cuts_of};

@@ -1,9 +1,9 @@
 //! The table of the returns that pools pay.
-ghost use Rattle.std.specs.Prelude.{◌≡◌, map, [], ◌∷◌, true, pos, IfOk, IfErr};
+ghost use Rattle.std.specs.Prelude.{◌≡◌, map, take, [], ◌∷◌, true, pos, IfOk, IfErr};
 ghost use Rattle.sqlite_value.specs.declared.value.Value.TheVariants.{Int, Text};
 ghost use Rattle.sqlite.specs.Held.{state};
 ghost use Rattle.society_rows.specs.declared.fault.RowFault.TheVariants.{Unread};
-ghost use Rattle.society_rows.specs.Effects.{Writes, IsWhole};
+ghost use Rattle.society_rows.specs.Effects.{Writes, IsWhole, LeavesFirst};
 ghost use Rattle.society_rows.specs.Layout.{pool_returns};
 ghost use Rattle.society_rows.specs.Reads.{Lists, Reads, has_key, has_at};
 ghost use Rattle.society_rows.specs.Rows.{pool_return_values};
@@ -62,7 +62,7 @@ pub fn add_pool_return<S: Alter>(
     )
 }
 
-/// Adds the returns that pools pay, whose keys have to be free. After an error some may be in the transaction.
+/// Adds the returns that pools pay, whose keys have to be free. After an error the first of them may be in the transaction.
 pub fn add_pool_returns<S: Alter>(
     tx: &mut Transaction<'_, S>,
     rows: &[PoolReturnRow<'_>],
@@ -70,6 +70,8 @@ pub fn add_pool_returns<S: Alter>(
     ensures same_reference { tx.new.conn.ghost_name ≡ tx.old.conn.ghost_name }
     ensures written { Writes (state S.Store tx.old.conn.now) (state S.Store tx.new.conn.now) result
         (Adds pool_returns (map pool_return_values rows.now)) }
+    ensures left { LeavesFirst (state S.Store tx.old.conn.now) (state S.Store tx.new.conn.now) result
+        (λ count. Adds pool_returns (map pool_return_values (take count rows.now))) }
 {
     for row in rows {
         add_pool_return(tx, row)?;

@@ -1,9 +1,9 @@
 //! The table of pools.
-ghost use Rattle.std.specs.Prelude.{◌≡◌, map, [], ◌∷◌, true, pos, IfOk, IfErr};
+ghost use Rattle.std.specs.Prelude.{◌≡◌, map, take, [], ◌∷◌, true, pos, IfOk, IfErr};
 ghost use Rattle.sqlite_value.specs.declared.value.Value.TheVariants.{Int};
 ghost use Rattle.sqlite.specs.Held.{state};
 ghost use Rattle.society_rows.specs.declared.fault.RowFault.TheVariants.{Unread};
-ghost use Rattle.society_rows.specs.Effects.{Writes, IsWhole};
+ghost use Rattle.society_rows.specs.Effects.{Writes, IsWhole, LeavesFirst};
 ghost use Rattle.society_rows.specs.Layout.{pools};
 ghost use Rattle.society_rows.specs.Reads.{Lists, Reads, has_key};
 ghost use Rattle.society_rows.specs.Rows.{pool_values};
@@ -53,11 +53,13 @@ pub fn add_pool<S: Alter>(tx: &mut Transaction<'_, S>, row: &PoolRow) -> Result<
     )
 }
 
-/// Adds pools, whose keys have to be free. After an error some may be in the transaction.
+/// Adds pools, whose keys have to be free. After an error the first of them may be in the transaction.
 pub fn add_pools<S: Alter>(tx: &mut Transaction<'_, S>, rows: &[PoolRow]) -> Result<(), RowFault>
     ensures same_reference { tx.new.conn.ghost_name ≡ tx.old.conn.ghost_name }
     ensures written { Writes (state S.Store tx.old.conn.now) (state S.Store tx.new.conn.now) result
         (Adds pools (map pool_values rows.now)) }
+    ensures left { LeavesFirst (state S.Store tx.old.conn.now) (state S.Store tx.new.conn.now) result
+        (λ count. Adds pools (map pool_values (take count rows.now))) }
 {
     for row in rows {
         add_pool(tx, row)?;

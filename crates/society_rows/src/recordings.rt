@@ -1,9 +1,9 @@
 //! The table of recordings of versions.
-ghost use Rattle.std.specs.Prelude.{◌≡◌, map, [], ◌∷◌, true, IfOk, IfErr};
+ghost use Rattle.std.specs.Prelude.{◌≡◌, map, take, [], ◌∷◌, true, IfOk, IfErr};
 ghost use Rattle.sqlite_value.specs.declared.value.Value.TheVariants.{Text};
 ghost use Rattle.sqlite.specs.Held.{state};
 ghost use Rattle.society_rows.specs.declared.fault.RowFault.TheVariants.{Unread};
-ghost use Rattle.society_rows.specs.Effects.{Writes, IsWhole};
+ghost use Rattle.society_rows.specs.Effects.{Writes, IsWhole, LeavesFirst};
 ghost use Rattle.society_rows.specs.Layout.{recordings};
 ghost use Rattle.society_rows.specs.Reads.{Lists, Reads, has_key, has_at};
 ghost use Rattle.society_rows.specs.Rows.{recording_values};
@@ -65,7 +65,7 @@ pub fn add_recording<S: Alter>(
     )
 }
 
-/// Adds recordings of versions, whose keys have to be free. After an error some may be in the transaction.
+/// Adds recordings of versions, whose keys have to be free. After an error the first of them may be in the transaction.
 pub fn add_recordings<S: Alter>(
     tx: &mut Transaction<'_, S>,
     rows: &[RecordingRow<'_>],
@@ -73,6 +73,8 @@ pub fn add_recordings<S: Alter>(
     ensures same_reference { tx.new.conn.ghost_name ≡ tx.old.conn.ghost_name }
     ensures written { Writes (state S.Store tx.old.conn.now) (state S.Store tx.new.conn.now) result
         (Adds recordings (map recording_values rows.now)) }
+    ensures left { LeavesFirst (state S.Store tx.old.conn.now) (state S.Store tx.new.conn.now) result
+        (λ count. Adds recordings (map recording_values (take count rows.now))) }
 {
     for row in rows {
         add_recording(tx, row)?;

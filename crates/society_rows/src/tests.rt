@@ -1,11 +1,14 @@
-//! The rows of each table are read back as they were written, over memory.
-ghost use Rattle.std.specs.Prelude.{◌≡◌, false, IfOk};
+//! The rows of each table are read back as they were written, over memory and over a file.
+ghost use Rattle.std.specs.Prelude.{◌≡◌, false, IfOk, OnOk};
 
 use super::*;
-use sqlite::{Connection, MemStore, Row, Transaction};
+use sqlite::{Alter, Connection, MemStore, Row, Transaction};
 use sqlite_value::value::ValueRef;
 use std::alloc::{AllocError, Global};
 use std::test::Fail;
+
+mod asked;
+mod in_file;
 
 const SENDER: &[u8] = b"PB000000012";
 
@@ -14,18 +17,25 @@ fn book(alloc: Global) -> Result<Connection<MemStore>, RowFault>
     ensures { IfOk result (λ conn. conn.in_transaction ≡ false) }
 {
     let mut conn = Connection::open_in_memory(alloc)?;
+    begin(&mut conn)?;
+    Ok(conn)
+}
+
+/// Makes a new book of the example society.
+fn begin<S: Alter>(conn: &mut Connection<S>) -> Result<(), RowFault>
+    ensures { OnOk result (conn.new.in_transaction ≡ false) }
+{
     if !conn.is_autocommit() {
         return Err(RowFault::Unread);
     }
     create(
-        &mut conn,
+        conn,
         &OfficeRow {
             society: 900,
             territory: 40,
             name: b"EXAMPLE SOCIETY",
         },
-    )?;
-    Ok(conn)
+    )
 }
 
 fn tell(text: &mut String, alloc: Global, value: ValueRef<'_>) -> Result<(), AllocError> {
@@ -61,7 +71,7 @@ fn told(alloc: Global, rows: Vec<Row>) -> Result<String, AllocError> {
 
 // These have no clause, so that the proof of a test does not carry the state of each call.
 
-fn write_book(tx: &mut Transaction<'_, MemStore>) -> Result<(), RowFault> {
+fn write_book<S: Alter>(tx: &mut Transaction<'_, S>) -> Result<(), RowFault> {
     let two = TransmissionRow {
         sender: SENDER,
         number: 2,
@@ -83,7 +93,7 @@ fn write_book(tx: &mut Transaction<'_, MemStore>) -> Result<(), RowFault> {
     )
 }
 
-fn write_pools(tx: &mut Transaction<'_, MemStore>) -> Result<(), RowFault> {
+fn write_pools<S: Alter>(tx: &mut Transaction<'_, S>) -> Result<(), RowFault> {
     add_pools(
         tx,
         &[PoolRow {
@@ -109,7 +119,7 @@ fn write_pools(tx: &mut Transaction<'_, MemStore>) -> Result<(), RowFault> {
     )
 }
 
-fn write_works(tx: &mut Transaction<'_, MemStore>) -> Result<(), RowFault> {
+fn write_works<S: Alter>(tx: &mut Transaction<'_, S>) -> Result<(), RowFault> {
     let first = VersionRow {
         sender: SENDER,
         work: b"W1",
@@ -138,7 +148,7 @@ fn write_works(tx: &mut Transaction<'_, MemStore>) -> Result<(), RowFault> {
     )
 }
 
-fn write_verdicts(tx: &mut Transaction<'_, MemStore>) -> Result<(), RowFault> {
+fn write_verdicts<S: Alter>(tx: &mut Transaction<'_, S>) -> Result<(), RowFault> {
     add_verdicts(
         tx,
         &[VerdictRow {
@@ -162,7 +172,7 @@ fn write_verdicts(tx: &mut Transaction<'_, MemStore>) -> Result<(), RowFault> {
     )
 }
 
-fn write_fronts(tx: &mut Transaction<'_, MemStore>) -> Result<(), RowFault> {
+fn write_fronts<S: Alter>(tx: &mut Transaction<'_, S>) -> Result<(), RowFault> {
     let early = FrontRow {
         sender: SENDER,
         front: 0,
@@ -181,7 +191,7 @@ fn write_fronts(tx: &mut Transaction<'_, MemStore>) -> Result<(), RowFault> {
     put_fronts(tx, &[early, other, late])
 }
 
-fn write_balances(tx: &mut Transaction<'_, MemStore>) -> Result<(), RowFault> {
+fn write_balances<S: Alter>(tx: &mut Transaction<'_, S>) -> Result<(), RowFault> {
     let before = BalanceRow {
         account: b"UNCLAIMED",
         units: 5,
@@ -193,38 +203,38 @@ fn write_balances(tx: &mut Transaction<'_, MemStore>) -> Result<(), RowFault> {
     put_balances(tx, &[before, after])
 }
 
-fn read_book(tx: &mut Transaction<'_, MemStore>, alloc: Global) -> Result<String, RowFault> {
+fn read_book<S: Alter>(tx: &mut Transaction<'_, S>, alloc: Global) -> Result<String, RowFault> {
     let mut text = told(alloc, all_transmissions(tx)?)?;
     text.push_str(told(alloc, all_returns(tx)?)?.as_str())?;
     Ok(text)
 }
 
-fn read_pools(tx: &mut Transaction<'_, MemStore>, alloc: Global) -> Result<String, RowFault> {
+fn read_pools<S: Alter>(tx: &mut Transaction<'_, S>, alloc: Global) -> Result<String, RowFault> {
     let mut text = told(alloc, all_pools(tx)?)?;
     text.push_str(told(alloc, all_pool_cuts(tx)?)?.as_str())?;
     text.push_str(told(alloc, all_pool_returns(tx)?)?.as_str())?;
     Ok(text)
 }
 
-fn read_works(tx: &mut Transaction<'_, MemStore>, alloc: Global) -> Result<String, RowFault> {
+fn read_works<S: Alter>(tx: &mut Transaction<'_, S>, alloc: Global) -> Result<String, RowFault> {
     let mut text = told(alloc, all_versions(tx)?)?;
     text.push_str(told(alloc, all_recordings(tx)?)?.as_str())?;
     Ok(text)
 }
 
-fn read_verdicts(tx: &mut Transaction<'_, MemStore>, alloc: Global) -> Result<String, RowFault> {
+fn read_verdicts<S: Alter>(tx: &mut Transaction<'_, S>, alloc: Global) -> Result<String, RowFault> {
     let mut text = told(alloc, all_verdicts(tx)?)?;
     text.push_str(told(alloc, all_credits(tx)?)?.as_str())?;
     Ok(text)
 }
 
-fn read_fronts(tx: &mut Transaction<'_, MemStore>, alloc: Global) -> Result<String, RowFault> {
+fn read_fronts<S: Alter>(tx: &mut Transaction<'_, S>, alloc: Global) -> Result<String, RowFault> {
     let mut text = told(alloc, all_fronts(tx)?)?;
     text.push_str(told(alloc, all_balances(tx)?)?.as_str())?;
     Ok(text)
 }
 
-fn read_by_key(tx: &mut Transaction<'_, MemStore>, alloc: Global) -> Result<String, RowFault> {
+fn read_by_key<S: Alter>(tx: &mut Transaction<'_, S>, alloc: Global) -> Result<String, RowFault> {
     let mut text = told(alloc, transmission_at(tx, SENDER, 2)?)?;
     text.push_str(told(alloc, transmissions_above(tx, SENDER, 1)?)?.as_str())?;
     text.push_str(told(alloc, transmissions_above(tx, SENDER, 2)?)?.as_str())?;
@@ -232,7 +242,7 @@ fn read_by_key(tx: &mut Transaction<'_, MemStore>, alloc: Global) -> Result<Stri
     Ok(text)
 }
 
-fn read_pool(tx: &mut Transaction<'_, MemStore>, alloc: Global) -> Result<String, RowFault> {
+fn read_pool<S: Alter>(tx: &mut Transaction<'_, S>, alloc: Global) -> Result<String, RowFault> {
     let mut text = told(alloc, pool_at(tx, 7)?)?;
     text.push_str(told(alloc, cuts_of(tx, 7)?)?.as_str())?;
     text.push_str(told(alloc, pool_return_at(tx, b"RADIO1", 3)?)?.as_str())?;
@@ -240,7 +250,7 @@ fn read_pool(tx: &mut Transaction<'_, MemStore>, alloc: Global) -> Result<String
     Ok(text)
 }
 
-fn read_work(tx: &mut Transaction<'_, MemStore>, alloc: Global) -> Result<String, RowFault> {
+fn read_work<S: Alter>(tx: &mut Transaction<'_, S>, alloc: Global) -> Result<String, RowFault> {
     let mut text = told(alloc, versions_of(tx, SENDER, b"W1")?)?;
     text.push_str(told(alloc, recordings_of(tx, SENDER, b"W2")?)?.as_str())?;
     text.push_str(told(alloc, recordings_with(tx, b"ATABC2600001")?)?.as_str())?;
@@ -248,7 +258,7 @@ fn read_work(tx: &mut Transaction<'_, MemStore>, alloc: Global) -> Result<String
     Ok(text)
 }
 
-fn read_money(tx: &mut Transaction<'_, MemStore>, alloc: Global) -> Result<String, RowFault> {
+fn read_money<S: Alter>(tx: &mut Transaction<'_, S>, alloc: Global) -> Result<String, RowFault> {
     let mut text = told(alloc, credits_of(tx, 7)?)?;
     text.push_str(told(alloc, front_at(tx, SENDER)?)?.as_str())?;
     text.push_str(told(alloc, balance_at(tx, b"UNCLAIMED")?)?.as_str())?;
@@ -347,22 +357,22 @@ fn is_balance(row: &Row) -> bool {
     }
 }
 
-fn office_is_there(tx: &mut Transaction<'_, MemStore>) -> Result<bool, RowFault> {
+fn office_is_there<S: Alter>(tx: &mut Transaction<'_, S>) -> Result<bool, RowFault> {
     let rows = all_offices(tx)?;
     Ok(rows.len() == 1 && is_office(&rows[0]) && !is_second(&rows[0]))
 }
 
-fn second_is_there(tx: &mut Transaction<'_, MemStore>) -> Result<bool, RowFault> {
+fn second_is_there<S: Alter>(tx: &mut Transaction<'_, S>) -> Result<bool, RowFault> {
     let rows = transmission_at(tx, SENDER, 2)?;
     Ok(rows.len() == 1 && is_second(&rows[0]))
 }
 
-fn front_is_there(tx: &mut Transaction<'_, MemStore>) -> Result<bool, RowFault> {
+fn front_is_there<S: Alter>(tx: &mut Transaction<'_, S>) -> Result<bool, RowFault> {
     let rows = front_at(tx, SENDER)?;
     Ok(rows.len() == 1 && is_late_front(&rows[0]))
 }
 
-fn balance_is_there(tx: &mut Transaction<'_, MemStore>) -> Result<bool, RowFault> {
+fn balance_is_there<S: Alter>(tx: &mut Transaction<'_, S>) -> Result<bool, RowFault> {
     let rows = balance_at(tx, b"UNCLAIMED")?;
     Ok(rows.len() == 1 && is_balance(&rows[0]))
 }
@@ -378,5 +388,36 @@ fn rows_are_read_typed(rt: HostRuntime) -> Result<(), Fail> {
     assert!(rt; second_is_there(&mut tx)?);
     assert!(rt; front_is_there(&mut tx)?);
     assert!(rt; balance_is_there(&mut tx)?);
+    Ok(())
+}
+
+fn more(tx: &mut Transaction<'_, MemStore>, account: &[u8], units: i64) -> Result<(), RowFault> {
+    add_units(tx, account, units)
+}
+
+fn sums(tx: &mut Transaction<'_, MemStore>) -> Result<(), RowFault> {
+    more(tx, b"UNCLAIMED", 5)?;
+    more(tx, b"UNCLAIMED", -2)?;
+    more(tx, b"I00000000199", i64::MAX)
+}
+
+fn one_more(tx: &mut Transaction<'_, MemStore>) -> Result<(), RowFault> {
+    more(tx, b"I00000000199", 1)
+}
+
+fn read_balances(tx: &mut Transaction<'_, MemStore>, alloc: Global) -> Result<String, RowFault> {
+    Ok(told(alloc, all_balances(tx)?)?)
+}
+
+#[test]
+fn units_are_added_unless_they_overflow(rt: HostRuntime) -> Result<(), Fail> {
+    let mut conn = book(rt.alloc())?;
+    let mut tx = conn.transaction();
+    sums(&mut tx)?;
+    assert!(rt; matches!(one_more(&mut tx), Err(RowFault::Overflow)));
+    assert_eq!(rt;
+        read_balances(&mut tx, rt.alloc())?.as_str(),
+        "I00000000199|9223372036854775807|;UNCLAIMED|3|;"
+    );
     Ok(())
 }

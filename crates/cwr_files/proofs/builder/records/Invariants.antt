@@ -2,8 +2,8 @@ use Rattle.std.proofs.Common.{length}
 use Rattle.cwr_files.proofs.Listing.{AreRecords}
 use Rattle.cwr_files.proofs.builder.records.Given as goal
 
-abbrev pub invariant-loop-rest : goal.invariant-loop-rest
-invariant-loop-rest l = AreRecords l.kind l.fn.first l.after l.rest l.list.items
+abbrev pub invariant-further : goal.invariant-further
+invariant-further l = AreRecords l.kind l.fn.first l.after l.rest l.list.items
 
-abbrev pub decreases-loop-rest : goal.decreases-loop-rest
-decreases-loop-rest l = length l.rest
+abbrev pub decreases-further : goal.decreases-further
+decreases-further l = length l.rest

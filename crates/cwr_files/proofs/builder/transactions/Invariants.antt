@@ -2,8 +2,8 @@ use Rattle.std.proofs.Common.{length}
 use Rattle.cwr_files.proofs.Listing.{AreTransactions}
 use Rattle.cwr_files.proofs.builder.transactions.Given as goal
 
-abbrev pub invariant-loop-rest : goal.invariant-loop-rest
-invariant-loop-rest l = AreTransactions l.kind l.group l.after l.rest l.list.items
+abbrev pub invariant-openings : goal.invariant-openings
+invariant-openings l = AreTransactions l.kind l.group l.after l.rest l.list.items
 
-abbrev pub decreases-loop-rest : goal.decreases-loop-rest
-decreases-loop-rest l = length l.rest
+abbrev pub decreases-openings : goal.decreases-openings
+decreases-openings l = length l.rest

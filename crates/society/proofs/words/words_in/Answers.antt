@@ -1,34 +1,33 @@
-use Rattle.std.proofs.Common.{◌≡◌, Global, true, false, ap, bytes_eq, codes, drop, map, string_bytes, sym, subst, ◌∙◌}
-use Rattle.society.specs.Words.{Asked, IsReadAs, asked}
-use Rattle.society.specs.declared.words.Words.TheVariants as words
-use Rattle.society.proofs.WordLemmas.{asked_neither, asked_replay, asked_serve, behind_two, few, read_office, read_serving}
+use Rattle.std.proofs.Common.{◌≡◌, ◌∙◌, ap, ap₂, refl, subst, sym, Global, [], Some, map, string_bytes, option_map}
+use Rattle.clap.proofs.TakesLemmas.{passed_up}
+use Rattle.clap.specs.Faults.{fault_of, is_simple_and_free}
+use Rattle.clap.specs.Kinds.{HasKind}
+use Rattle.clap.specs.Matches.{found_of, subcommand_name_of}
+use Rattle.clap.specs.Simple.{App, app_of, is_simple, subcommand_of, subcommand_rows_of}
+use Rattle.clap.specs.Walk.{rows_of}
+use Rattle.society.specs.CommandLine.{command_line}
+use Rattle.society.specs.Words.{Asked, IsReadAs, asked_by}
+use Rattle.society.proofs.RefusalLemmas.{refused}
+use Rattle.society.proofs.WordLemmas.{entered_is}
+use Rattle.society.proofs.Worked.{simple, simple_and_free}
 use Rattle.society.proofs.words.words_in.Goals as goal
 
-pub returns-in_default : goal.returns-in_default
-returns-in_default c = subst (λ (a : Asked). IsReadAs a words.BadWords) (sym (few (string_bytes {Z = Global}) c.args.words.now c.in_default.len_below)) tt
+pub returns-in_err-matches-clause-err : goal.returns-in_err-matches-clause-err
+returns-in_err-matches-clause-err c =
+    let words = map (string_bytes {Z = Global}) c.args.words.now in
+    let command_is : app_of c.in_ok-command_line.field-0 ≡ command_line = c.in_ok-command_line.ensures in
+    let kinds = c.in_err-matches.ensures.kinds (ap is_simple_and_free command_is ∙ simple_and_free) in
+    let has : HasKind (fault_of command_line words) c.in_err-matches.field-0.0 = subst (λ (a : App). HasKind (fault_of a words) c.in_err-matches.field-0.0) command_is kinds in
+    passed_up c.from_residual-in_err-matches.result c.in_err-matches.field-0.0 _ c.from_residual-in_err-matches.ensures.1 (refused words c.in_err-matches.field-0.0 has)
 
-pub returns-then-eq : goal.returns-then-eq
-returns-then-eq c =
-    let ws = behind_two c.args.words.now c.command-item.result c.in-len2-up.len_at_least c.command-item.is in
-    let rest = map (string_bytes {Z = Global}) (drop 2 c.args.words.now) in
-    let this : bytes_eq (string_bytes c.command-item.result) (codes "replay") ≡ true = cc (c.eq.ensures, c.as_str.ensures.value, c.if-eq.true) in
-    let is = ap asked (ap (map (string_bytes {Z = Global})) ws.1) ∙ asked_replay (string_bytes ws.0) (string_bytes c.command-item.result) rest this in
-    subst (λ (a : Asked). IsReadAs a c.office_in.result) (sym is) (read_office (string_bytes {Z = Global}) 2 c.args.words.now c.office_in.result c.office_in.ensures)
-
-pub returns-then-eq-2 : goal.returns-then-eq-2
-returns-then-eq-2 c =
-    let ws = behind_two c.args.words.now c.command-item.result c.in-len2-up.len_at_least c.command-item.is in
-    let rest = map (string_bytes {Z = Global}) (drop 2 c.args.words.now) in
-    let other : bytes_eq (string_bytes c.command-item.result) (codes "replay") ≡ false = cc (c.eq.ensures, c.as_str.ensures.value, c.if-eq.false) in
-    let this : bytes_eq (string_bytes c.command-item.result) (codes "serve") ≡ true = cc (c.eq-2.ensures, c.as_str-2.ensures.value, c.if-eq-2.true) in
-    let is = ap asked (ap (map (string_bytes {Z = Global})) ws.1) ∙ asked_serve (string_bytes ws.0) (string_bytes c.command-item.result) rest other this in
-    subst (λ (a : Asked). IsReadAs a c.serving_in.result) (sym is) (read_serving (string_bytes {Z = Global}) 2 c.args.words.now c.serving_in.result c.serving_in.ensures)
-
-pub returns : goal.returns
-returns c =
-    let ws = behind_two c.args.words.now c.command-item.result c.in-len2-up.len_at_least c.command-item.is in
-    let rest = map (string_bytes {Z = Global}) (drop 2 c.args.words.now) in
-    let other : bytes_eq (string_bytes c.command-item.result) (codes "replay") ≡ false = cc (c.eq.ensures, c.as_str.ensures.value, c.if-eq.false) in
-    let none : bytes_eq (string_bytes c.command-item.result) (codes "serve") ≡ false = cc (c.eq-2.ensures, c.as_str-2.ensures.value, c.if-eq-2.false) in
-    let is = ap asked (ap (map (string_bytes {Z = Global})) ws.1) ∙ asked_neither (string_bytes ws.0) (string_bytes c.command-item.result) rest other none in
-    subst (λ (a : Asked). IsReadAs a words.BadWords) (sym is) tt
+pub returns-in-Some-clause-ok : goal.returns-in-Some-clause-ok
+returns-in-Some-clause-ok c =
+    let words = map (string_bytes {Z = Global}) c.args.words.now in
+    let matches = c.in_ok-matches.matches in
+    let command_is : app_of c.in_ok-command_line.field-0 ≡ command_line = c.in_ok-command_line.ensures in
+    let taken : fault_of command_line words ≡ [] = subst (λ (a : App). fault_of a words ≡ []) command_is (c.in_ok-matches.ensures.kinds (ap is_simple_and_free command_is ∙ simple_and_free)) in
+    let there : subcommand_rows_of matches ≡ subcommand_of command_line words = (c.in_ok-matches.ensures.matches (ap is_simple command_is ∙ simple)).1 ∙ ap (λ a. subcommand_of a words) command_is in
+    let name : subcommand_name_of matches ≡ Some c.in-Some.command.now = sym c.subcommand.ensures.name ∙ rw c.in-Some.is refl in
+    let rows : option_map (λ p. p.1) (subcommand_rows_of matches) ≡ Some (rows_of (found_of c.in-Some.options.now)) = sym c.subcommand.ensures.rows ∙ rw c.in-Some.is refl in
+    let entered = sym there ∙ entered_is matches c.in-Some.command.now (rows_of (found_of c.in-Some.options.now)) name rows in
+    subst (λ (a : Asked). IsReadAs a c.command_in.result) (sym (ap₂ asked_by taken entered)) c.command_in.ensures

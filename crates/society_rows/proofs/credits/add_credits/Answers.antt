@@ -1,8 +1,9 @@
-use Rattle.std.proofs.Common.{◌∙◌, map, refl}
+use Rattle.std.proofs.Common.{◌∙◌, map, take, refl}
 use Rattle.sqlite.specs.Held.{state}
 use Rattle.society_rows.specs.Layout.{credits}
+use Rattle.society_rows.specs.Stored.{Adds}
 use Rattle.society_rows.specs.Rows.{credit_values}
-use Rattle.society_rows.proofs.ListWrites.{adds_first, adds_next, adds_fails}
+use Rattle.society_rows.proofs.ListWrites.{adds_first, adds_next, adds_fails, leaves_first}
 use Rattle.society_rows.proofs.credits.add_credits.Goals as goal
 
 pub loop-row-init : goal.loop-row-init
@@ -20,4 +21,9 @@ returns-in_err-add_credit g c =
     let written = adds_fails credits credit_values c.args.rows.now c.loop-row.row-index _ (state g.S.Store c.args.tx.now.conn.now) (state g.S.Store c.loop-row.tx.conn.now)
     (state g.S.Store c.add_credit.new.tx.conn.now) c.loop-row.invariant.written c.in_err-add_credit.field-0.0 (map credit_values c.args.rows.now) c.from_residual.result
     c.from_residual.ensures.0 c.in_err-add_credit.ensures.written in
-    record { same_reference = c.add_credit.ensures.same_reference ∙ c.loop-row.invariant.same_reference; written = written }
+    record {
+      same_reference = c.add_credit.ensures.same_reference ∙ c.loop-row.invariant.same_reference;
+      written = written;
+      left = leaves_first (state g.S.Store c.args.tx.now.conn.now) (state g.S.Store c.loop-row.tx.conn.now) (state g.S.Store c.add_credit.new.tx.conn.now) (λ count. Adds credits (map credit_values (take count c.args.rows.now))) c.loop-row.row-index
+          c.in_err-add_credit.field-0.0 c.from_residual.result c.loop-row.invariant.written c.in_err-add_credit.ensures.written.survives c.in_err-add_credit.ensures.whole;
+    }

@@ -1,25 +1,15 @@
-use Rattle.std.proofs.Common.{◌≡◌, ◌∙◌, ◌<◌, ◌≤◌, ◌∷◌, [], length, get_or, List, refl, sym, ap, arith}
-use Rattle.sqlite_value.specs.Order.{Row}
+use Rattle.std.proofs.Common.{◌∙◌, refl, sym, arith}
 use Rattle.society_rows.specs.declared.fault.RowFault.TheVariants.{Unread}
-use Rattle.society_rows.proofs.RunFolds.{runs_to_first, runs_on, run_ends, run_overflows}
+use Rattle.society_rows.proofs.RunFolds.{none_there, one_there, runs_to_first, runs_on, run_ends, run_overflows}
 use Rattle.society_rows.proofs.folding.fold_run.Goals as goal
 
 pub loop-number-init : goal.loop-number-init
 loop-number-init g c = record { same_reference = refl; taken = runs_to_first g.S.Store g.F.RowFold.step c.args.sender.now c.args.tx.now.conn.now c.args.first c.args.into.now }
 
-none_there : (rows : List Row) → length rows < 1 → rows ≡ []
-none_there [] short = refl
-none_there (r ∷ rows) short = absurd (omega arith)
-
 pub returns-in-empty-clause-taken : goal.returns-in-empty-clause-taken
 returns-in-empty-clause-taken g c =
     run_ends g.S.Store g.F.RowFold.step c.args.sender.now c.args.tx.now.conn.now c.loop-number.tx.conn.now c.transmission_at.new.tx.conn.now c.args.first c.loop-number.number c.args.into.now c.loop-number.into
     c.loop-number.auto.number c.loop-number.invariant.taken c.in_ok-rows.rows c.in_ok-rows.ensures.read (sym c.as_slice.ensures.value ∙ none_there _ c.in-empty.len_below)
-
-one_there : (rows : List Row) (r : Row) → 1 ≤ length rows → length rows < 2 → r ≡ get_or rows 0 r → rows ≡ r ∷ []
-one_there [] r long short is = absurd (omega arith)
-one_there (x ∷ []) r long short is = ap (λ z. z ∷ []) (sym is)
-one_there (x ∷ y ∷ rows) r long short is = absurd (omega arith)
 
 pub loop-number-preserved : goal.loop-number-preserved
 loop-number-preserved g c = record {

@@ -1,8 +1,9 @@
-use Rattle.std.proofs.Common.{◌∙◌, map, refl}
+use Rattle.std.proofs.Common.{◌∙◌, map, take, refl}
 use Rattle.sqlite.specs.Held.{state}
 use Rattle.society_rows.specs.Layout.{fronts}
+use Rattle.society_rows.specs.Stored.{PutsAll}
 use Rattle.society_rows.specs.Rows.{front_values}
-use Rattle.society_rows.proofs.ListWrites.{puts_first, puts_next, puts_fails}
+use Rattle.society_rows.proofs.ListWrites.{puts_first, puts_next, puts_fails, leaves_first}
 use Rattle.society_rows.proofs.fronts.put_fronts.Goals as goal
 
 pub loop-row-init : goal.loop-row-init
@@ -20,4 +21,9 @@ returns-in_err-put_front g c =
     let written = puts_fails fronts front_values c.args.rows.now c.loop-row.row-index _ (state g.S.Store c.args.tx.now.conn.now) (state g.S.Store c.loop-row.tx.conn.now)
     (state g.S.Store c.put_front.new.tx.conn.now) c.loop-row.invariant.written c.in_err-put_front.field-0.0 (map front_values c.args.rows.now) c.from_residual.result
     c.from_residual.ensures.0 c.in_err-put_front.ensures.written in
-    record { same_reference = c.put_front.ensures.same_reference ∙ c.loop-row.invariant.same_reference; written = written }
+    record {
+      same_reference = c.put_front.ensures.same_reference ∙ c.loop-row.invariant.same_reference;
+      written = written;
+      left = leaves_first (state g.S.Store c.args.tx.now.conn.now) (state g.S.Store c.loop-row.tx.conn.now) (state g.S.Store c.put_front.new.tx.conn.now) (λ count. PutsAll fronts (map front_values (take count c.args.rows.now))) c.loop-row.row-index
+          c.in_err-put_front.field-0.0 c.from_residual.result c.loop-row.invariant.written c.in_err-put_front.ensures.written.survives c.in_err-put_front.ensures.whole;
+    }

@@ -1,8 +1,9 @@
-use Rattle.std.proofs.Common.{◌∙◌, map, refl}
+use Rattle.std.proofs.Common.{◌∙◌, map, take, refl}
 use Rattle.sqlite.specs.Held.{state}
 use Rattle.society_rows.specs.Layout.{pool_returns}
+use Rattle.society_rows.specs.Stored.{Adds}
 use Rattle.society_rows.specs.Rows.{pool_return_values}
-use Rattle.society_rows.proofs.ListWrites.{adds_first, adds_next, adds_fails}
+use Rattle.society_rows.proofs.ListWrites.{adds_first, adds_next, adds_fails, leaves_first}
 use Rattle.society_rows.proofs.pool_returns.add_pool_returns.Goals as goal
 
 pub loop-row-init : goal.loop-row-init
@@ -20,4 +21,9 @@ returns-in_err-add_pool_return g c =
     let written = adds_fails pool_returns pool_return_values c.args.rows.now c.loop-row.row-index _ (state g.S.Store c.args.tx.now.conn.now) (state g.S.Store c.loop-row.tx.conn.now)
     (state g.S.Store c.add_pool_return.new.tx.conn.now) c.loop-row.invariant.written c.in_err-add_pool_return.field-0.0 (map pool_return_values c.args.rows.now) c.from_residual.result
     c.from_residual.ensures.0 c.in_err-add_pool_return.ensures.written in
-    record { same_reference = c.add_pool_return.ensures.same_reference ∙ c.loop-row.invariant.same_reference; written = written }
+    record {
+      same_reference = c.add_pool_return.ensures.same_reference ∙ c.loop-row.invariant.same_reference;
+      written = written;
+      left = leaves_first (state g.S.Store c.args.tx.now.conn.now) (state g.S.Store c.loop-row.tx.conn.now) (state g.S.Store c.add_pool_return.new.tx.conn.now) (λ count. Adds pool_returns (map pool_return_values (take count c.args.rows.now))) c.loop-row.row-index
+          c.in_err-add_pool_return.field-0.0 c.from_residual.result c.loop-row.invariant.written c.in_err-add_pool_return.ensures.written.survives c.in_err-add_pool_return.ensures.whole;
+    }

@@ -1,0 +1,13 @@
+use Rattle.std.proofs.Common.{w64, FitsSigned, sym, subst}
+use Rattle.std.proofs.lemmas.Int.{to_z-of_z}
+use Rattle.sqlite.specs.Held.{state}
+use Rattle.society_rows.proofs.UnitLemmas.{sums_units}
+use Rattle.society_rows.proofs.balances.add_units.Goals as goal
+
+pub returns-clause-written : goal.returns-clause-written
+returns-clause-written g c =
+    let before = c.in_ok-before.before in
+    let sum = rw (to_z-of_z w64 before c.in_ok-before.ensures.range, to_z-of_z w64 c.args.units c.ranges.units) at c.in-Some.ensures in
+    let small : FitsSigned w64 c.in-Some.sum = subst (FitsSigned w64) (sym sum.1) sum.0 in
+    sums_units (state g.S.Store c.args.tx.now.conn.now) (state g.S.Store c.units_of.new.tx.conn.now) (state g.S.Store c.put_balance.new.tx.conn.now) c.args.account.now before c.args.units c.in-Some.sum c.put_balance.result
+    c.in_ok-before.ensures.read sum.0 sum.1 (rw (to_z-of_z w64 c.in-Some.sum small) at c.put_balance.ensures.written)

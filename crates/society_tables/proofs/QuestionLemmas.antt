@@ -1,0 +1,166 @@
+-- What every question of a store promises, by what became of its connection.
+use Rattle.std.proofs.Common.{◌≡◌, ⊎_elim, ◌≤◌, ◌<◌, ◌-◌, ◌^◌, inl, ℕ, ◌&&◌, IsTrue, Result, Ok, Err, IfOk, IfErr, OnOk, refl, subst, sym, arith, ◌∙◌}
+use Rattle.std.specs.Coded.{Coded, Coded-set, code_by, coded×, coded_ℕ, coded_list}
+use Rattle.std.specs.FinMap as finite
+use Rattle.std.proofs.Math.Logic.{∥∥₁_elim, ∥∥₁_map}
+use Rattle.std.proofs.lemmas.Bool.{cases_lt}
+use Rattle.share_rules.specs.declared.office.Office.{Office}
+use Rattle.society_core.specs.Book.{Book}
+use Rattle.society_core.specs.Keys.{coded_return_key, coded_transmission_key}
+use Rattle.society_core.specs.Orders.{coded_order}
+use Rattle.society_core.specs.State.{HasCause, Question}
+use Rattle.society_core.specs.contracts.store.Known as known
+use Rattle.society_core.specs.contracts.store.KnownTransmission as known_transmission
+use Rattle.society_core.specs.declared.store.Known.{Known}
+use Rattle.society_core.specs.declared.store.KnownTransmission.{KnownTransmission}
+use Rattle.society_core.specs.declared.store.StoreFault.{StoreFault}
+use Rattle.society_rows.specs.declared.fault.RowFault.{RowFault}
+use Rattle.society_rows.specs.declared.fault.RowFault.TheVariants.{Memory, Overflow, Refused, Schema, Unread}
+use Rattle.society_tables.specs.BookRows.{book_of}
+use Rattle.society_tables.specs.Faults.{Told, counted, store_fault}
+use Rattle.society_rows.specs.Questions as Rows
+use Rattle.sqlite_trees.specs.Tree.{Trees}
+use Rattle.society_tables.specs.Shown.{ByBook}
+use Rattle.society_tables.specs.Kept.{AsksOf, HoldsBook, IsKept, Rests, tables_state}
+use Rattle.society_tables.proofs.AskLemmas.{asks, clean_before, clean_is, first_true, goes, rests_on}
+use Rattle.sqlite.specs.Effect.{Database}
+use Rattle.sqlite.specs.State.{HasCleanDisk, State}
+use Rattle.sqlite.proofs.StateLemmas.{survives_then}
+use Rattle.society_rows.specs.Stored.{HasLayout}
+
+-- a book as three lists of entries
+pub coded_book : Coded Book
+coded_book =
+    code_by (_ × (_ × _)) (coded× (finite.code coded_transmission_key (coded_list coded_ℕ)) (coded× (finite.code coded_return_key (coded_list coded_ℕ)) (finite.code coded_ℕ coded_order)))
+    (λ b. (b.transmissions, (b.returns, b.pools))) (λ p. record { transmissions = p.0; returns = p.1.0; pools = p.1.1 }) (λ _. refl)
+
+abbrev pub IsAlone : Type 0 → Type 0
+IsAlone P = (x y : P) → x ≡ y
+
+ok_alone : {T E : Type 0} (r : Result T E) (P : T → Type 0) → ((x : T) → IsAlone (P x)) → IsAlone (IfOk r P)
+ok_alone (Ok x) P alone = alone x
+ok_alone (Err e) P alone = λ x y. refl
+
+-- counts of failures
+counts_on : (fault : RowFault) (f g : ℕ) → g ≡ counted fault f → f ≤ g
+counts_on Memory f g e = omega (e, arith)
+counts_on Schema f g e = omega (e, arith)
+counts_on Unread f g e = omega (e, arith)
+counts_on Overflow f g e = omega (e, arith)
+counts_on (Refused error) f g e = omega (e, arith)
+
+pub told_on : {T : Type 0} (answer : Result T RowFault) (result : Result T StoreFault) (f g : ℕ) → Told answer result f g → f ≤ g
+told_on (Ok x) result f g told = (let e = told.1 in omega (e, arith))
+told_on (Err fault) result f g told = counts_on fault f g told.1
+
+fault_cause : (o : Office) (old new : State) (fault : RowFault) (f g : ℕ) → g ≡ counted fault f → HasCause (tables_state o old f) (tables_state o new g) (store_fault fault)
+fault_cause o old new Memory f g e = tt
+fault_cause o old new Schema f g e = inl (omega (e, arith))
+fault_cause o old new Unread f g e = inl (omega (e, arith))
+fault_cause o old new Overflow f g e = inl (omega (e, arith))
+fault_cause o old new (Refused error) f g e = inl (omega (e, arith))
+
+pub told_cause : {T : Type 0} (o : Office) (old new : State) (answer : Result T RowFault) (result : Result T StoreFault) (f g : ℕ) → Told answer result f g → IfErr result (HasCause (tables_state o old f) (tables_state o new g))
+told_cause o old new (Ok x) result f g told = subst (λ r. IfErr r (HasCause (tables_state o old f) (tables_state o new g))) (sym told.0) tt
+told_cause o old new (Err fault) result f g told = subst (λ r. IfErr r (HasCause (tables_state o old f) (tables_state o new g))) (sym told.0) (fault_cause o old new fault f g told.1)
+
+told_answer : {T : Type 0} (answer : Result T RowFault) (result : Result T StoreFault) (f g : ℕ) (P : T → Type 0) → Told answer result f g → IfOk answer P → IfOk result P
+told_answer (Ok x) result f g P told h = subst (λ r. IfOk r P) (sym told.0) h
+told_answer (Err fault) result f g P told h = subst (λ r. IfOk r P) (sym told.0) tt
+
+module _ (o : Office) (old new : State) (f g : ℕ) (rests : ∥ Rests o old ∥₁) (asks_of : AsksOf old new) where
+  book_stays : IsTrue (new.is_clean && new.is_open) → f ≤ g → (tables_state o new g).book ≡ (tables_state o old f).book
+  book_stays clean more = ∥∥₁_elim rests (Coded-set coded_book _ _) (λ r. (asks o old new asks_of f g more r).same clean)
+
+  -- a question of a store over a connection: what it answers where the tables hold a book
+  pub question : {T : Type 0} (answer : Result T RowFault) (result : Result T StoreFault) (IsAnswer : T → Type 0) → ((x : T) → IsAlone (IsAnswer x)) → f < 2 ^ 64 - 1 → Told answer result f g → (IsTrue (new.is_clean && new.is_open) → IsKept o old.now → IfOk answer IsAnswer) → Question (tables_state o old f) (tables_state o new g) result IsAnswer
+  question answer result IsAnswer alone below told answers =
+      let more : f ≤ g = told_on answer result f g told in
+      record {
+        answer = λ clean. told_answer answer result f g IsAnswer told (∥∥₁_elim rests (ok_alone answer IsAnswer alone) (λ r. answers clean (r (clean_before o old new asks_of clean)).kept));
+        asks = record { goes = goes o old new asks_of f g more; same = λ clean. book_stays clean more };
+        cause = told_cause o old new answer result f g told;
+        refuses = λ full. absurd (let e = full in omega (e, below, arith));
+      }
+
+-- what follows of every book that the tables hold, of an answer that may be an error
+pub by_book : {T : Type 0} (IsAnswer : Office → Book → T → Type 0) (db : Trees) (r : Result T RowFault) → ((o : Office) (b : Book) → HoldsBook o b db → IfOk r (IsAnswer o b)) → IfOk r (ByBook IsAnswer db)
+by_book IsAnswer db (Ok x) h = h
+by_book IsAnswer db (Err fault) h = tt
+
+-- an answer that is worked out of rows that were asked
+pub then_asked : {X Y : Type 0} (old new : State) (x : X) (r : Result Y RowFault) (Found : Trees → X → Type 0) (IsFound : Trees → Y → Type 0) → Rows.Asks old new (Ok x) Found → (Found old.now.trees x → IfOk r (IsFound old.now.trees)) → Rows.Asks old new r IsFound
+then_asked {X} {Y} old new x r Found IsFound asked finds = record {
+  found = λ clean has. finds (asked.found clean has);
+  answered = λ clean. on_ok r (asked.answered clean);
+  was_open = asked.was_open;
+  undone = asked.undone;
+  survives = asked.survives;
+}
+  where
+    on_ok : (z : Result Y RowFault) → IsTrue old.is_open → OnOk z (IsTrue old.is_open)
+    on_ok (Ok y) h = h
+    on_ok (Err fault) h = tt
+
+-- a question of the tables is one of a store
+pub asks_of : {X : Type 0} (old new : State) (r : Result X RowFault) (Found : Trees → X → Type 0) → Rows.Asks old new r Found → AsksOf old new
+asks_of old new r Found asked = record { was_open = asked.was_open; undone = asked.undone; survives = asked.survives }
+
+of_book : {T : Type 0} (IsAnswer : Office → Book → T → Type 0) (o : Office) (b : Book) (db : Trees) (r : Result T RowFault) → HoldsBook o b db → IfOk r (ByBook IsAnswer db) → IfOk r (IsAnswer o b)
+of_book IsAnswer o b db (Ok x) holds h = h o b holds
+of_book IsAnswer o b db (Err fault) holds h = tt
+
+-- a question of the tables, answered by their book, is a question of the store
+pub question_by : {T : Type 0} (IsAnswer : Office → Book → T → Type 0) (o : Office) (old new : State) (f g : ℕ) (answer : Result T RowFault) (result : Result T StoreFault) → ∥ Rests o old ∥₁ → Rows.Asks old new answer (ByBook IsAnswer) → ((b : Book) (x : T) → IsAlone (IsAnswer o b x)) → f < 2 ^ 64 - 1 → Told answer result f g → Question (tables_state o old f) (tables_state o new g) result (IsAnswer o (book_of old.now.trees))
+question_by IsAnswer o old new f g answer result rests asked alone below told =
+    question o old new f g rests (asks_of old new answer (ByBook IsAnswer) asked) answer result (IsAnswer o (book_of old.now.trees)) (alone (book_of old.now.trees)) below told
+    (λ clean kept. of_book IsAnswer o (book_of old.now.trees) old.now.trees answer kept.holds (asked.found (clean_is new.is_clean (first_true new.is_clean new.is_open clean)) kept.layout))
+
+-- and the store rests on
+pub still_rests : {X : Type 0} (o : Office) (old new : State) (r : Result X RowFault) (Found : Trees → X → Type 0) → ∥ Rests o old ∥₁ → Rows.Asks old new r Found → ∥ Rests o new ∥₁
+still_rests o old new r Found rests asked = ∥∥₁_map rests (rests_on o old new (asks_of old new r Found asked))
+
+-- one equation has one proof
+pub one_known : (x y : Known) → IsAlone (x ≡ y)
+one_known x y = Coded-set known.the_row.coded x y
+
+pub one_known_transmission : (x y : KnownTransmission) → IsAlone (x ≡ y)
+one_known_transmission x y = Coded-set known_transmission.the_row.coded x y
+
+pub one_number : (n m : ℕ) → IsAlone (n ≡ m)
+one_number n m = Coded-set coded_ℕ n m
+
+-- a count that is not at its greatest is below it
+pub below_greatest : (f : ℕ) → f < 2 ^ 64 → (f ≡ 18446744073709551615 → ⊥) → f < 2 ^ 64 - 1
+below_greatest f small h =
+    ⊎_elim (λ (below : f < 2 ^ 64 - 1). below) (λ (reached : 2 ^ 64 - 1 ≤ f). absurd (h (omega (arith, small, reached)))) (cases_lt f (2 ^ 64 - 1))
+
+-- one question after another, the second of what the first left
+pub asked_then : {X Y : Type 0} (old mid new : State) (x : X) (r : Result Y RowFault) (Found : Trees → X → Type 0) (IsFound : Trees → Y → Type 0) (Then : Trees → Y → Type 0) → (IsTrue old.is_open → old.now ≡ old.committed) → Rows.Asks old mid (Ok x) Found → Rows.Asks mid new r IsFound → ((y : Y) → Found old.now.trees x → IsFound old.now.trees y → Then old.now.trees y) → Rows.Asks old new r Then
+asked_then {X} {Y} old mid new x r Found IsFound Then settled first second finds = record {
+  found = λ clean has. on_found r clean has (second.answered clean) (second.found clean);
+  answered = λ clean. on_answered r clean (second.answered clean);
+  was_open = λ clean is_open. first.was_open (clean_mid clean) (second.was_open clean is_open);
+  undone = λ clean is_open.
+      let then_open = second.was_open clean is_open in
+      let before = first.undone (clean_mid clean) then_open in
+      let after = second.undone clean is_open in
+      (after.0 ∙ before.1, after.1 ∙ before.1);
+  survives = survives_then old mid new (λ _. ⊥) (λ _. ⊥) (λ _. ⊥) (λ clean db never. never) (λ clean db never. never) first.survives second.survives;
+}
+  where
+    clean_mid : HasCleanDisk new → HasCleanDisk mid
+    clean_mid clean = (let fell = second.survives.clean in omega (clean, fell, arith))
+
+    same_db : HasCleanDisk new → IsTrue mid.is_open → mid.now ≡ old.now
+    same_db clean is_open = (first.undone (clean_mid clean) is_open).0 ∙ sym (settled (first.was_open (clean_mid clean) is_open))
+
+    on_found : (z : Result Y RowFault) → HasCleanDisk new → HasLayout old.now → OnOk z (IsTrue mid.is_open) → (HasLayout mid.now → IfOk z (IsFound mid.now.trees)) → IfOk z (Then old.now.trees)
+    on_found (Ok y) clean has is_open found =
+        let same = same_db clean is_open in
+        finds y (first.found (clean_mid clean) has) (subst (λ (db : Database). IsFound db.trees y) same (found (subst HasLayout (sym same) has)))
+    on_found (Err fault) clean has is_open found = tt
+
+    on_answered : (z : Result Y RowFault) → HasCleanDisk new → OnOk z (IsTrue mid.is_open) → OnOk z (IsTrue old.is_open)
+    on_answered (Ok y) clean is_open = first.was_open (clean_mid clean) is_open
+    on_answered (Err fault) clean h = tt

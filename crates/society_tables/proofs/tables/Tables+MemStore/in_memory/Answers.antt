@@ -1,0 +1,14 @@
+use Rattle.std.proofs.Common.{refl}
+use Rattle.society_tables.proofs.AskLemmas.{clean_is}
+use Rattle.society_tables.proofs.EmptyTables.{begun_book, begun_rests}
+use Rattle.society_tables.proofs.tables.Tables+MemStore.in_memory.Goals as goal
+
+pub invariant_of-result-clause-rests : goal.invariant_of-result-clause-rests
+invariant_of-result-clause-rests c =
+    let made = c.in_ok-create.ensures.created (clean_is _ refl) c.in_ok-conn.ensures.empty.2 in
+    ∣ (λ live. begun_rests c.args.office.now _ _ (rw (c.from.ensures, c.from-2.ensures, c.name.ensures) refl) made.0 made.1) ∣₁
+
+pub returns-clause-empty : goal.returns-clause-empty
+returns-clause-empty c =
+    let made = c.in_ok-create.ensures.created (clean_is _ refl) c.in_ok-conn.ensures.empty.2 in
+    begun_book c.args.office.now _ _ (rw (c.from.ensures, c.from-2.ensures, c.name.ensures) refl) made.0

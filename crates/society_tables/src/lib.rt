@@ -1,0 +1,12 @@
+//! The office's book in SQLite, with all that is derived from it.
+#![tactic(auto)]
+
+mod fault;
+mod returns;
+mod senders;
+mod tables;
+
+pub use tables::Tables;
+
+#[cfg(test)]
+mod tests;

@@ -1,0 +1,71 @@
+//! What is asked of a return.
+ghost use Rattle.std.specs.Prelude.{◌≡◌, ◌∷◌, [], List, ℕ, Option, false, IfOk, IsTrue, OnOk, OnErr};
+ghost use Rattle.sqlite.specs.Held.{state};
+ghost use Rattle.society_core.specs.Answers.{known_by, return_known_as};
+ghost use Rattle.sqlite.specs.State.{HasCleanDisk, Survives};
+ghost use Rattle.society_rows.specs.Layout.{returns};
+ghost use Rattle.society_rows.specs.Questions.{Asks};
+ghost use Rattle.society_rows.specs.Rows.{return_values};
+ghost use Rattle.society_rows.specs.Stored.{HasLayout};
+ghost use Rattle.society_tables.specs.Shown.{ByBook, Comes, ShowBody};
+
+use society_core::{Known, ReturnKey};
+use society_rows::{Question, ReturnRow, RowFault, add_return, ask};
+use sqlite::{Alter, Connection, Row};
+
+/// Whether the rows of a return show these bytes, others, or none; `Unread` where they are more than one.
+fn compared(rows: &[Row], body: &[u8]) -> Result<Known, RowFault>
+    ensures { (kept : Option (List ℕ)) → ShowBody kept rows.now → IfOk result (λ known. known ≡ known_by body.now kept) }
+{
+    match rows {
+        [] => Ok(Known::Absent),
+        [row] => {
+            if ReturnRow::from_row(row)?.body == body {
+                Ok(Known::Same)
+            } else {
+                Ok(Known::Other)
+            }
+        }
+        _ => Err(RowFault::Unread),
+    }
+}
+
+/// Whether the book has a return, another one under its key, or none.
+pub(crate) fn known_return_of<S: Alter>(
+    conn: &mut Connection<S>,
+    key: &ReturnKey,
+    body: &[u8],
+) -> Result<Known, RowFault>
+    requires { conn.old.in_transaction ≡ false }
+    ensures asked { Asks (state S.Store conn.old) (state S.Store conn.new) result
+        (ByBook (λ _ book known. known ≡ return_known_as book key.now body.now)) }
+    ensures idle { conn.new.in_transaction ≡ false }
+{
+    let rows = ask(
+        conn,
+        Question::Return(key.reporter.as_bytes(), key.number.value()),
+    )?;
+    compared(rows.as_slice(), body)
+}
+
+/// Adds a return in a transaction of its own.
+pub(crate) fn write_return<S: Alter>(
+    conn: &mut Connection<S>,
+    row: &ReturnRow<'_>,
+) -> Result<(), RowFault>
+    requires { conn.old.in_transaction ≡ false }
+    ensures changed { HasCleanDisk (state S.Store conn.new) → HasLayout (state S.Store conn.old).now
+        → OnOk result (Comes returns (return_values row.now ∷ []) (state S.Store conn.old).now.trees (state S.Store conn.new).now.trees × HasLayout (state S.Store conn.new).now) }
+    ensures settled { HasCleanDisk (state S.Store conn.new) → OnOk result (IsTrue (state S.Store conn.old).is_open × ((state S.Store conn.new).now ≡ (state S.Store conn.new).committed)) }
+    ensures was_open { HasCleanDisk (state S.Store conn.new) → IsTrue (state S.Store conn.new).is_open → IsTrue (state S.Store conn.old).is_open }
+    ensures neither { HasCleanDisk (state S.Store conn.new) → IsTrue (state S.Store conn.new).is_open
+        → OnErr result (((state S.Store conn.new).now ≡ (state S.Store conn.old).committed) × ((state S.Store conn.new).committed ≡ (state S.Store conn.old).committed)) }
+    ensures survives { Survives (state S.Store conn.old) (state S.Store conn.new)
+        (λ db. IsTrue (state S.Store conn.old).is_open × (HasLayout (state S.Store conn.old).now → Comes returns (return_values row.now ∷ []) (state S.Store conn.old).now.trees db)) }
+    ensures idle { conn.new.in_transaction ≡ false }
+{
+    let mut tx = conn.transaction();
+    add_return(&mut tx, row)?;
+    tx.commit()?;
+    Ok(())
+}
