@@ -1,5 +1,5 @@
 -- A reader that takes a body in pieces, as its callers see it, and what it does with a piece.
-use Rattle.std.specs.Prelude.{◌≡◌, ℕ, List, ◌++◌, Result, Ok, Err}
+use Rattle.std.specs.Prelude.{◌≡◌, ◌⊎◌, [], ℕ, List, ◌++◌, Result, Ok, Err}
 use Rattle.cwr_files.specs.declared.fault.FileFault.{FileFault}
 use Rattle.cwr_files.specs.declared.fault.ReadFault.{ReadFault}
 use Rattle.cwr_files.specs.declared.fault.ReadFault.TheVariants as read_faults
@@ -9,6 +9,16 @@ use Rattle.cwr_files.specs.Prefixes.{IsSettled, IsUnsettled}
 pub record Fed : Type 0 where
   pub sender : List ℕ
   pub body : List ℕ
+
+-- a reader knows a fault of what it was fed, whatever follows
+abbrev pub KnowsFault : Fed → Type 0
+KnowsFault reader = (fault : FileFault) × IsSettled reader.sender reader.body fault
+
+-- bytes that a reader may have been fed: those that it keeps, and behind a fault that it knows any others
+pub record WasFed (reader : Fed) (bytes : List ℕ) : Type 0 where
+  pub dropped : List ℕ
+  pub joined : bytes ≡ reader.body ++ dropped
+  pub whole : (dropped ≡ []) ⊎ KnowsFault reader
 
 -- a reader kept a piece, or a front of it, and from the bytes that it keeps this fault is known, whatever follows
 pub record Stops (old : Fed) (piece : List ℕ) (new : Fed) (fault : FileFault) : Type 0 where

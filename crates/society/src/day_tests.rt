@@ -41,7 +41,8 @@ fn a_day_is_answered(rt: HostRuntime) -> Result<(), Fail> {
         &mut reader,
         &mut out,
         &mut err,
-    );
+    )
+    .map_err(|_| "memory")?;
     assert_eq!(rt; out.into_inner().as_slice(), ANSWERS);
     assert_eq!(rt; status, 0);
     assert!(rt; err.is_empty());

@@ -48,12 +48,16 @@ fn main(rt: HostRuntime) -> ExitCode {
     };
     let mut reader = Counted::new(rt.stdin());
     let mut out = Counted::new(rt.stdout());
-    ExitCode::from(start(
+    let told = start(
         &rt,
         alloc,
         words.as_slice(),
         &mut reader,
         &mut out,
         &mut rt.stderr(),
-    ))
+    );
+    match told {
+        Ok(status) => ExitCode::from(status),
+        Err(why) => ExitCode::from(without_words(why, &mut rt.stderr())),
+    }
 }

@@ -1,5 +1,5 @@
 //! What the program does, by its words.
-ghost use Rattle.std.specs.Prelude.{◌≡◌, ◌≢◌, ◌⊎◌, map, string_bytes};
+ghost use Rattle.std.specs.Prelude.{◌≡◌, ◌≢◌, ◌⊎◌, IfOk, IsErr, OnErr, map, string_bytes};
 ghost use Rattle.clap.specs.Words.{kind_of};
 ghost use Rattle.clap.specs.declared.error.kind.ErrorKind.TheVariants.{DisplayHelp, OutOfMemory};
 ghost use Rattle.society.specs.Connections.{ServesOffice, StopsServing};
@@ -31,7 +31,7 @@ pub enum NoWords {
 
 /// Does what the program's words ask for: replays the reader at the office that they name, or serves connections there, or
 /// tells of the words on `out`; where they are wrong, says so on `err` and reads and writes nothing else. Answers the exit
-/// status: that of `replay` or of `serve_office`, 0 for help, 2 for wrong words, 1 where memory was refused for them.
+/// status: that of `replay` or of `serve_office`, 0 for help, 2 for wrong words; else memory was refused for the words.
 pub fn start<N: Net<Listener = TcpListener, Stream = TcpStream>, R: Read, W: Write, E: Write>(
     net: &N,
     alloc: Global,
@@ -39,30 +39,30 @@ pub fn start<N: Net<Listener = TcpListener, Stream = TcpStream>, R: Read, W: Wri
     reader: &mut Counted<R>,
     out: &mut Counted<W>,
     err: &mut E,
-) -> u8
+) -> Result<u8, NoWords>
+    ensures err { OnErr result ((reader.new ≡ reader.old) × (out.new ≡ out.old)) }
     ensures wrong { IsWrong (asked (map string_bytes words.now))
-        → ((result ≡ 2) ⊎ (result ≡ 1)) × (reader.new ≡ reader.old) × (out.new ≡ out.old) }
+        → IfOk result (λ status. (status ≡ 2) × (reader.new ≡ reader.old) × (out.new ≡ out.old)) }
     ensures help { asked (map string_bytes words.now) ≡ AsksHelp
-        → ((result ≡ 0) ⊎ (result ≡ 1)) × (reader.new ≡ reader.old) }
-    ensures status { (result ≡ 0) ⊎ ((result ≡ 1) ⊎ ((result ≡ 2) × IsWrong (asked (map string_bytes words.now)))) }
-    ensures served { result ≡ 0 → (asked (map string_bytes words.now) ≡ AsksHelp)
+        → IfOk result (λ status. (status ≡ 0) × (reader.new ≡ reader.old)) }
+    ensures status { IfOk result (λ status.
+        (status ≡ 0) ⊎ ((status ≡ 1) ⊎ ((status ≡ 2) × IsWrong (asked (map string_bytes words.now))))) }
+    ensures served { IfOk result (λ status. status ≡ 0 → (asked (map string_bytes words.now) ≡ AsksHelp)
         ⊎ (StartsReplay (asked (map string_bytes words.now)) (λ office.
         Replays office R.remaining W.contents reader.old out.old out.new)
         ⊎ StartsServing (asked (map string_bytes words.now)) (λ place office.
-        ServesOffice office W.contents out.old out.new place.connections)) }
-    // Nothing was read or written where memory was refused for the words.
-    ensures broken_off { result ≡ 1
-        → ((reader.new ≡ reader.old) × (out.new ≡ out.old))
-        ⊎ (StartsReplay (asked (map string_bytes words.now)) (λ office.
+        ServesOffice office W.contents out.old out.new place.connections))) }
+    ensures broken_off { IfOk result (λ status. status ≡ 1
+        → StartsReplay (asked (map string_bytes words.now)) (λ office.
         BreaksOff office R.remaining W.contents reader.old reader.new out.old out.new)
         ⊎ StartsServing (asked (map string_bytes words.now)) (λ place office.
         StopsServing office W.contents out.old out.new place.connections)) }
 {
     match words_in(alloc, words) {
-        Ok(Words::Replay(office)) => replay(alloc, &office, reader, out, err),
-        Ok(Words::Serve(place, office)) => serve_office(net, alloc, &office, place, out, err),
-        Ok(Words::BadName) => refuse(err, "bad name"),
-        Ok(Words::BadWords) => refuse(err, "bad words"),
+        Ok(Words::Replay(office)) => Ok(replay(alloc, &office, reader, out, err)),
+        Ok(Words::Serve(place, office)) => Ok(serve_office(net, alloc, &office, place, out, err)),
+        Ok(Words::BadName) => Ok(refuse(err, "bad name")),
+        Ok(Words::BadWords) => Ok(refuse(err, "bad words")),
         Err(error) => explain(alloc, &error, out, err),
     }
 }
@@ -73,24 +73,25 @@ fn explain<W: Write, E: Write>(
     error: &Error,
     out: &mut Counted<W>,
     err: &mut E,
-) -> u8
-    ensures help { kind_of error.now ≡ DisplayHelp → (result ≡ 0) ⊎ ((result ≡ 1) × (out.new ≡ out.old)) }
-    ensures memory { kind_of error.now ≡ OutOfMemory → (result ≡ 1) × (out.new ≡ out.old) }
-    ensures wrong { kind_of error.now ≢ DisplayHelp → kind_of error.now ≢ OutOfMemory
-        → (result ≡ 2) × (out.new ≡ out.old) }
+) -> Result<u8, NoWords>
+    ensures err { OnErr result (out.new ≡ out.old) }
+    ensures memory { kind_of error.now ≡ OutOfMemory → IsErr result }
+    ensures help { kind_of error.now ≡ DisplayHelp → IfOk result (λ status. status ≡ 0) }
+    ensures wrong { kind_of error.now ≢ DisplayHelp
+        → IfOk result (λ status. (status ≡ 2) × (out.new ≡ out.old)) }
 {
     match error.kind() {
         ClapKind::DisplayHelp => {
             let Ok(text) = format!(in alloc; "{error}") else {
-                return without_words(NoWords::Memory, err);
+                return Err(NoWords::Memory);
             };
             print(out, text.as_bytes());
-            SERVED
+            Ok(SERVED)
         }
-        ClapKind::OutOfMemory => without_words(NoWords::Memory, err),
+        ClapKind::OutOfMemory => Err(NoWords::Memory),
         _ => {
             let _ = write!(err, "{error}");
-            WRONG_WORDS
+            Ok(WRONG_WORDS)
         }
     }
 }

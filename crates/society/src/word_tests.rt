@@ -213,7 +213,9 @@ fn started(rt: &HostRuntime, words: &str) -> Result<(Vec<u8>, Vec<u8>, u8), Fail
     let mut reader = Counted::new(input.as_slice());
     let mut out = Counted::new(Vec::<u8>::new(alloc));
     let mut err = Vec::<u8>::new(alloc);
-    let status = start(rt, alloc, list.as_slice(), &mut reader, &mut out, &mut err);
+    let status = start(rt, alloc, list.as_slice(), &mut reader, &mut out, &mut err).map_err(
+        |_| "memory",
+    )?;
     Ok((out.into_inner(), err, status))
 }
 

@@ -24,4 +24,5 @@ pub mod HeldLemmas
 pub mod SoundRuns
 pub mod Lines
 pub mod Numbers
+pub mod FedLemmas
 mod Worked

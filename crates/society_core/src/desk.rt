@@ -1,5 +1,6 @@
 //! The desk of the office.
-ghost use Rattle.std.specs.Prelude.{◌≡◌, IsTrue};
+ghost use Rattle.std.specs.Prelude.{◌≡◌, ℕ, List, IsTrue};
+ghost use Rattle.cwr_files.specs.Fed.{WasFed};
 ghost use Rattle.society_core.specs.Answers.{arrival_at, cut_refusal, first_refusal, return_refusal};
 ghost use Rattle.society_core.specs.Requests.{told, Puts, PutsReturn, Closes, AsksAck, AsksSender, AsksVerdicts, AsksWork, AsksCredits, AsksBalance, Arrived, Stored, Closed, Acknowledged, Judged, Credited, Owed, Shows, shown_of, standing_of};
 ghost use Rattle.society_core.specs.Runs.{Inquires, Proceeds, RefusesBy};
@@ -11,7 +12,7 @@ use crate::refusal::Refusal;
 use crate::return_key::ReturnKey;
 use crate::store::{Known, KnownTransmission, Payment, Store};
 use crate::transmission_key::TransmissionKey;
-use cwr_files::read_transmission;
+use cwr_files::{FileReader, read_transmission};
 use perf_returns::read_return;
 use pool_split::Credit;
 use std::alloc::Global;
@@ -85,6 +86,45 @@ impl<S: Store> Desk<S> {
                     .add_transmission(alloc, sender, number, body, &transmission)?;
                 Ok(arrival(false, number, front))
             }
+        }
+    }
+
+    /// Puts what a reader was fed, as `put_transmission` does all these bytes; none that follow a fault that the reader
+    /// knows makes a difference. The reader was made for this sender, and is given up.
+    pub fn put_fed(
+        &mut self,
+        alloc: Global,
+        sender: &SenderKey,
+        number: TransmissionNumber,
+        reader: FileReader,
+    ) -> Result<Arrival, Refusal>
+        requires { reader.sender ≡ sender.now }
+        ensures { (bytes : List ℕ) → WasFed reader bytes → Proceeds (S.state self.old) (S.state self.new) (Puts sender.now number bytes) (told Arrived result) }
+    {
+        self.put_kept(alloc, sender, number, &reader)
+    }
+
+    // Puts the bytes that a reader keeps.
+    fn put_kept(
+        &mut self,
+        alloc: Global,
+        sender: &SenderKey,
+        number: TransmissionNumber,
+        reader: &FileReader,
+    ) -> Result<Arrival, Refusal>
+        requires { reader.now.sender ≡ sender.now }
+        ensures { Proceeds (S.state self.old) (S.state self.new) (Puts sender.now number reader.now.body) (told Arrived result) }
+    {
+        match self.store.known(sender, number, reader.body())? {
+            KnownTransmission::Same(reached) => Ok(arrival(true, number, reached)),
+            KnownTransmission::Absent => {
+                let transmission = reader.finish(alloc)?;
+                let reached = self
+                    .store
+                    .add_transmission(alloc, sender, number, reader.body(), &transmission)?;
+                Ok(arrival(false, number, reached))
+            }
+            _ => Err(Refusal::Reused),
         }
     }
 

@@ -14,7 +14,7 @@ returns-in-Ok-Replay-clause-served g c = λ zero.
 
 pub returns-in-Ok-Replay-clause-broken_off : goal.returns-in-Ok-Replay-clause-broken_off
 returns-in-Ok-Replay-clause-broken_off g c = λ one.
-    inr (inl (c.in-Ok-Replay.office, asks_for _ c.in-Ok-Replay.office (rw c.in-Ok-Replay.field-0-is at c.in-Ok-Replay.ensures.ok), c.replay.ensures.broken_off one))
+    inl (c.in-Ok-Replay.office, asks_for _ c.in-Ok-Replay.office (rw c.in-Ok-Replay.field-0-is at c.in-Ok-Replay.ensures.ok), c.replay.ensures.broken_off one)
 
 pub returns-in-Ok-Serve-clause-wrong : goal.returns-in-Ok-Serve-clause-wrong
 returns-in-Ok-Serve-clause-wrong g c = λ wrong. absurd (serve_not_wrong _ c.in-Ok-Serve.place c.in-Ok-Serve.office (rw c.in-Ok-Serve.field-0-is at c.in-Ok-Serve.ensures.ok) wrong)
@@ -28,7 +28,7 @@ returns-in-Ok-Serve-clause-served g c = λ zero.
 
 pub returns-in-Ok-Serve-clause-broken_off : goal.returns-in-Ok-Serve-clause-broken_off
 returns-in-Ok-Serve-clause-broken_off g c = λ one.
-    inr (inr (c.in-Ok-Serve.place, c.in-Ok-Serve.office, asks_to_serve _ c.in-Ok-Serve.place c.in-Ok-Serve.office (rw c.in-Ok-Serve.field-0-is at c.in-Ok-Serve.ensures.ok), c.serve_office.ensures.broken_off one))
+    inr (c.in-Ok-Serve.place, c.in-Ok-Serve.office, asks_to_serve _ c.in-Ok-Serve.place c.in-Ok-Serve.office (rw c.in-Ok-Serve.field-0-is at c.in-Ok-Serve.ensures.ok), c.serve_office.ensures.broken_off one)
 
 pub returns-in-Ok-BadName-clause-help : goal.returns-in-Ok-BadName-clause-help
 returns-in-Ok-BadName-clause-help g c = λ help. absurd (read_no_help _ _ c.in-Ok-BadName.ensures.ok help)
