@@ -9,4 +9,5 @@ loop-rest-preserved g c =
       split_on _ kept.0 c.loop-rest.rest.now c.in-Ok.taken kept.1,
       Appends-join _ _ _ _ _ kept.2 c.in-Ok.ensures.bytes,
       kept.3,
+      kept.4,
     )

@@ -7,6 +7,7 @@ invariant-loop-rest g l =
     (done : List ℕ) × (l.bytes ≡ done ++ l.rest)
     × Appends (g.W.Write.contents l.initial.self.inner) (g.W.Write.contents l.self.inner) done
     × (l.self.failures ≡ l.initial.self.failures)
+    × (l.self.reads ≡ l.initial.self.reads)
 
 abbrev pub decreases-loop-rest : goal.decreases-loop-rest
 decreases-loop-rest g l = length l.rest
