@@ -3,6 +3,7 @@ pub mod BookLemmas
 pub mod Growth
 pub mod AskLemmas
 pub mod QuestionLemmas
+mod Worked
 pub mod Equals
 pub mod NamedRows
 pub mod FrontRows
