@@ -55,6 +55,7 @@ impl FileReader {
     pub fn feed(&mut self, piece: &[u8]) -> Result<(), ReadFault>
         ensures feeds { Feeds self.old piece.now self.new result }
         ensures stays { StaysSettled self.old self.new result }
+        ensures sender { self.new.sender ≡ self.old.sender }
     {
         if let Some(fault) = self.fault {
             return Err(ReadFault::File(fault));
@@ -84,22 +85,25 @@ impl FileReader {
         ensures reads { IfOk result (λ t. t ≡ transmission_in self.now.body) }
         ensures fault { TellsFault (file_fault self.now.sender self.now.body) result }
     {
-        told(
-            alloc,
-            self.body.as_slice(),
-            &self.sender,
-            self.known_fault(),
-        )
+        told(alloc, self.body.as_slice(), &self.sender, self.fault())
     }
 
-    // The fault of the bytes that were fed, as a whole body.
-    fn known_fault(&self) -> Option<FileFault>
+    /// The file fault of the bytes that were fed, as a whole body; `None` where they are a transmission of the sender. Takes
+    /// no memory.
+    pub fn fault(&self) -> Option<FileFault>
         ensures { result ≡ file_fault self.now.sender self.now.body }
     {
         match self.fault {
             Some(fault) => Some(fault),
             None => last_fault(&self.sender, self.body.as_slice(), &self.at),
         }
+    }
+
+    /// The sender that the body is read for.
+    pub fn sender(&self) -> &SenderKey
+        ensures { result.now ≡ self.now.sender }
+    {
+        &self.sender
     }
 
     /// The bytes that are kept: all that were fed, up to a fault that is known. Takes no memory.

@@ -18,7 +18,7 @@ mod transmission;
 pub use fault::{FileFault, ReadFault};
 pub use fault_finder::find_fault;
 pub use file_reader::FileReader;
-pub use reader::{one_or_the_other, read_transmission};
+pub use reader::{known_transmission, one_or_the_other, read_transmission};
 pub use transmission::{Group, Groups, Records, Transaction, Transactions, Transmission};
 
 #[cfg(test)]

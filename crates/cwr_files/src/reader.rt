@@ -1,5 +1,5 @@
 //! The reader of whole transmissions.
-ghost use Rattle.std.specs.Prelude.{◌≡◌, ℕ, List, IfOk};
+ghost use Rattle.std.specs.Prelude.{◌≡◌, ℕ, List, IfOk, None};
 ghost use Rattle.cwr_files.specs.declared.transmission.Transmission.{Transmission};
 ghost use Rattle.cwr_files.specs.FileFault.{file_fault};
 ghost use Rattle.cwr_files.specs.Contents.{transmission_in};
@@ -9,7 +9,7 @@ use crate::builder::contents;
 use crate::fault::{FileFault, ReadFault};
 use crate::fault_finder::find_fault;
 use crate::transmission::Transmission;
-use std::alloc::Global;
+use std::alloc::{AllocError, Global};
 use work_ids::SenderKey;
 
 /// The transmission of a sender that a body is, lent out of the body; else the file fault, which takes no memory to
@@ -46,6 +46,19 @@ pub fn told<'a>(
     }
     let transmission = contents(alloc, body)?;
     Ok(transmission)
+}
+
+/// The transmission that a body is of which it is known that it is one of this sender: it is not judged again. Lent out of
+/// the body.
+pub fn known_transmission<'a>(
+    alloc: Global,
+    body: &'a [u8],
+    _sender: &SenderKey,
+) -> Result<Transmission<'a>, AllocError>
+    requires right { file_fault _sender.now body.now ≡ None }
+    ensures reads { IfOk result (λ t. t ≡ transmission_in body.now) }
+{
+    contents(alloc, body)
 }
 
 /// A body without a file fault is exactly one transmission of the sender; a body with one is none.

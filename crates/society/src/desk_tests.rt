@@ -1,5 +1,6 @@
 //! The rows on the desk: what is answered about works, verdicts and acknowledgements, whatever the order of arrival.
 use crate::samples::{F1, F1_ACK, F3, F3_ACK, F4, changed, f2, f8, with_writer_share};
+use cwr_files::{FileFault, FileReader};
 use share_rules::{Holder, Office};
 use society_core::{Answer, Arrival, Desk, PlainStore, Refusal, Request, Standing, Work, run};
 use std::alloc::Global;
@@ -13,6 +14,8 @@ use works_core::{Verdict, WorkVersion};
 enum Row<'a> {
     /// This transmission is put under this number, with this outcome.
     Put(u32, &'a [u8], Result<Arrival, Refusal>),
+    /// These bytes are fed in two pieces, the second from this byte on, and put under this number, with this outcome.
+    Fed(u32, &'a [u8], usize, Result<Arrival, Refusal>),
     /// The sender has this front and these held numbers.
     Sender(u32, &'a [u32]),
     /// The transmission's verdicts are these.
@@ -139,6 +142,23 @@ fn check_work(
     Ok(())
 }
 
+/// Puts what a reader was fed in two pieces.
+fn put_fed(
+    alloc: Global,
+    desk: &mut Desk<PlainStore>,
+    number: u32,
+    bytes: &[u8],
+    second: usize,
+) -> Result<Result<Arrival, Refusal>, Fail> {
+    let sender = sender()?;
+    let second = second.min(bytes.len());
+    let mut reader = FileReader::new(alloc, &sender);
+    // A fault that is known is told again by the put.
+    let _ = reader.feed(&bytes[..second]);
+    let _ = reader.feed(&bytes[second..]);
+    Ok(desk.put_fed(alloc, &sender, numbered(number)?, reader))
+}
+
 /// Checks one row.
 fn check(
     rt: &impl Abort,
@@ -150,6 +170,11 @@ fn check(
     match row {
         Row::Put(number, body, wanted) => {
             let answer = desk.put_transmission(alloc, &sender, numbered(*number)?, body);
+            assert!(rt; answer == *wanted);
+            Ok(())
+        }
+        Row::Fed(number, bytes, second, wanted) => {
+            let answer = put_fed(alloc, desk, *number, bytes, *second)?;
             assert!(rt; answer == *wanted);
             Ok(())
         }
@@ -223,6 +248,30 @@ fn gap_filled(rt: HostRuntime) -> Result<(), Fail> {
             Row::Verdicts(2, &[REVISED_ONCE]),
             Row::Verdicts(3, &[]),
             Row::Work(2, 1, [0, 10_000, 0]),
+        ],
+    )?;
+    Ok(())
+}
+
+#[test]
+fn put_in_pieces(rt: HostRuntime) -> Result<(), Fail> {
+    // One record fewer than the group says, which the tenth line tells.
+    let f7 = changed(rt.alloc(), F1, 1_019, b"8")?;
+    let f7 = f7.as_slice();
+    let fault = FileFault {
+        number: 8,
+        line: 10,
+    };
+    check_rows(
+        &rt,
+        rt.alloc(),
+        &[
+            Row::Fed(1, f7, 7, Err(Refusal::File(fault))),
+            Row::Fed(1, f7, 1_022, Err(Refusal::File(fault))),
+            Row::Sender(0, &[]),
+            Row::Fed(1, F1, 7, applied(1)),
+            Row::Fed(1, F1, 1_048, arrived(true, 1, Standing::Applied)),
+            Row::Fed(1, f7, 1_022, Err(Refusal::Reused)),
         ],
     )?;
     Ok(())

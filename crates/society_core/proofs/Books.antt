@@ -177,6 +177,14 @@ pub no_fault : (b : Book) (s : List ℕ) (n : ℕ) (body : List ℕ) (f : FileFa
 no_fault b s n body f sound there fault =
     false≢true (ap is_none (sym fault) ∙ second_holds (is_sender_key s && is_transmission_number n) (is_none (file_fault s body)) (sound.transmissions s n body there))
 
+none_is : {A : Type 0} (o : Option A) → is_none o ≡ true → o ≡ None
+none_is None e = refl
+none_is (Some x) e = absurd (false≢true e)
+
+-- a kept body is a transmission of its sender
+pub right_body : (b : Book) (s : List ℕ) (n : ℕ) (body : List ℕ) → IsSound b → body_at b s n ≡ Some body → file_fault s body ≡ None
+right_body b s n body sound there = none_is (file_fault s body) (second_holds (is_sender_key s && is_transmission_number n) (is_none (file_fault s body)) (sound.transmissions s n body there))
+
 -- up to the front each transmission is there
 pub there_to_front : (b : Book) (s : List ℕ) (n : ℕ) → 0 < n → n ≤ front b s → is_there b s n ≡ true
 there_to_front b s n low high = there_at b s (front b s) n (all_there b s) low high

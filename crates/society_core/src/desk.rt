@@ -1,5 +1,5 @@
 //! The desk of the office.
-ghost use Rattle.std.specs.Prelude.{◌≡◌, ℕ, List, IsTrue};
+ghost use Rattle.std.specs.Prelude.{◌≡◌, ℕ, List, IfOk, IsTrue};
 ghost use Rattle.cwr_files.specs.Fed.{WasFed};
 ghost use Rattle.society_core.specs.Answers.{arrival_at, cut_refusal, first_refusal, return_refusal};
 ghost use Rattle.society_core.specs.Requests.{told, Puts, PutsReturn, Closes, AsksAck, AsksSender, AsksVerdicts, AsksWork, AsksCredits, AsksBalance, Arrived, Stored, Closed, Acknowledged, Judged, Credited, Owed, Shows, shown_of, standing_of};
@@ -12,10 +12,10 @@ use crate::refusal::Refusal;
 use crate::return_key::ReturnKey;
 use crate::store::{Known, KnownTransmission, Payment, Store};
 use crate::transmission_key::TransmissionKey;
-use cwr_files::{FileReader, read_transmission};
+use cwr_files::{FileReader, ReadFault};
 use perf_returns::read_return;
 use pool_split::Credit;
-use std::alloc::Global;
+use std::alloc::{AllocError, Global};
 use std::marker::Model;
 use work_ids::{Account, PoolNumber, SenderKey, TransmissionNumber, WorkNumber};
 use works_core::Verdict;
@@ -49,6 +49,18 @@ fn arrival(known: bool, number: TransmissionNumber, front: u32) -> Arrival
     }
 }
 
+/// A reader that was fed a whole body.
+fn fed(alloc: Global, sender: &SenderKey, body: &[u8]) -> Result<FileReader, AllocError>
+    ensures { IfOk result (λ reader. (reader.sender ≡ sender.now) × WasFed reader body.now) }
+{
+    let mut reader = FileReader::new(alloc, sender);
+    match reader.feed(body) {
+        Ok(()) => Ok(reader),
+        Err(ReadFault::File(_)) => Ok(reader),
+        Err(ReadFault::Memory) => Err(AllocError),
+    }
+}
+
 impl<S: Store> Desk<S> {
     /// The desk over a store.
     pub fn new(store: S) -> Desk<S>
@@ -76,17 +88,8 @@ impl<S: Store> Desk<S> {
     ) -> Result<Arrival, Refusal>
         ensures { Proceeds (S.state self.old) (S.state self.new) (Puts sender.now number body.now) (told Arrived result) }
     {
-        match self.store.known(sender, number, body)? {
-            KnownTransmission::Same(front) => Ok(arrival(true, number, front)),
-            KnownTransmission::Other => Err(Refusal::Reused),
-            KnownTransmission::Absent => {
-                let transmission = read_transmission(alloc, body, sender)?;
-                let front = self
-                    .store
-                    .add_transmission(alloc, sender, number, body, &transmission)?;
-                Ok(arrival(false, number, front))
-            }
-        }
+        let reader = fed(alloc, sender, body)?;
+        self.put_fed(alloc, sender, number, reader)
     }
 
     /// Puts what a reader was fed, as `put_transmission` does all these bytes; none that follow a fault that the reader
@@ -101,7 +104,7 @@ impl<S: Store> Desk<S> {
         requires { reader.sender ≡ sender.now }
         ensures { (bytes : List ℕ) → WasFed reader bytes → Proceeds (S.state self.old) (S.state self.new) (Puts sender.now number bytes) (told Arrived result) }
     {
-        self.put_kept(alloc, sender, number, &reader)
+        self.put_kept(alloc, sender, number, reader)
     }
 
     // Puts the bytes that a reader keeps.
@@ -110,21 +113,21 @@ impl<S: Store> Desk<S> {
         alloc: Global,
         sender: &SenderKey,
         number: TransmissionNumber,
-        reader: &FileReader,
+        reader: FileReader,
     ) -> Result<Arrival, Refusal>
-        requires { reader.now.sender ≡ sender.now }
-        ensures { Proceeds (S.state self.old) (S.state self.new) (Puts sender.now number reader.now.body) (told Arrived result) }
+        requires { reader.sender ≡ sender.now }
+        ensures { Proceeds (S.state self.old) (S.state self.new) (Puts sender.now number reader.body) (told Arrived result) }
     {
         match self.store.known(sender, number, reader.body())? {
-            KnownTransmission::Same(reached) => Ok(arrival(true, number, reached)),
+            KnownTransmission::Same(front) => Ok(arrival(true, number, front)),
+            KnownTransmission::Other => Err(Refusal::Reused),
             KnownTransmission::Absent => {
-                let transmission = reader.finish(alloc)?;
-                let reached = self
-                    .store
-                    .add_transmission(alloc, sender, number, reader.body(), &transmission)?;
-                Ok(arrival(false, number, reached))
+                if let Some(fault) = reader.fault() {
+                    return Err(Refusal::File(fault));
+                }
+                let front = self.store.add_transmission(alloc, number, reader)?;
+                Ok(arrival(false, number, front))
             }
-            _ => Err(Refusal::Reused),
         }
     }
 

@@ -217,27 +217,25 @@ impl PlainBook {
         payer_in(&self.pools, key)
     }
 
-    /// Keeps a copy of a body as that of a sender's transmission, and tells the sender's front then; unchanged for want of
-    /// memory.
+    /// Keeps a body, as it lies, as that of a sender's transmission, and tells the sender's front then; unchanged for want
+    /// of memory.
     pub fn insert_transmission(
         &mut self,
-        alloc: Global,
         sender: &SenderKey,
         number: TransmissionNumber,
-        body: &[u8],
+        body: Vec<u8>,
     ) -> Result<u32, AllocError>
         requires sound { IsSound self.old }
         requires free { body_at self.old sender.now number ≡ None }
-        ensures ok { OnOk result (self.new ≡ with_transmission self.old sender.now number body.now) }
+        ensures ok { OnOk result (self.new ≡ with_transmission self.old sender.now number body.items) }
         ensures front { IfOk result (λ n. n ≡ front self.new sender.now) }
         ensures err { OnErr result (self.new ≡ self.old) }
     {
-        let copy = Vec::from_slice(alloc, body)?;
         let key = TransmissionKey {
             sender: *sender,
             number,
         };
-        insert_with_front(&mut self.transmissions, &mut self.fronts, key, copy)
+        insert_with_front(&mut self.transmissions, &mut self.fronts, key, body)
     }
 
     /// Keeps a copy of a body as that of a return; unchanged for want of memory.

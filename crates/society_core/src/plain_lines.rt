@@ -11,7 +11,7 @@ use crate::plain_book::PlainBook;
 use crate::store::KnownTransmission;
 use crate::work::show;
 use ack_files::write_ack;
-use cwr_files::{ReadFault, Transmission, read_transmission};
+use cwr_files::{Transmission, known_transmission};
 use share_rules::Office;
 use std::alloc::{AllocError, Global};
 use work_ids::{SenderKey, TransmissionNumber, WorkNumber};
@@ -31,11 +31,7 @@ pub(crate) fn transmission_of<'a>(
     let Some(body) = book.transmission(sender, number) else {
         unreachable!();
     };
-    match read_transmission(alloc, body, sender) {
-        Ok(transmission) => Ok(transmission),
-        Err(ReadFault::Memory) => Err(AllocError),
-        Err(ReadFault::File(_)) => unreachable!(),
-    }
+    known_transmission(alloc, body, sender)
 }
 
 /// A sender's line up to a number that is at most its front.

@@ -12,7 +12,7 @@ use crate::plain_lines::{ack_of, known_in, verdicts_of, work_of};
 use crate::plain_pools::{balance_of, credits_of_pool, known_pool_in, known_return_in, payment_of};
 use crate::return_key::ReturnKey;
 use crate::store::{Known, KnownTransmission, Payment, Store, StoreFault};
-use cwr_files::Transmission;
+use cwr_files::FileReader;
 use pool_split::Credit;
 use share_rules::Office;
 use std::alloc::Global;
@@ -133,15 +133,15 @@ impl Store for PlainStore {
 
     fn add_transmission(
         &mut self,
-        alloc: Global,
-        sender: &SenderKey,
+        _alloc: Global,
         number: TransmissionNumber,
-        body: &[u8],
-        _transmission: &Transmission<'_>,
+        reader: FileReader,
     ) -> Result<u32, StoreFault> {
+        let sender = *reader.sender();
         // What these two say of themselves is part of what a sound book says.
         let (_key, _number) = (sender.as_bytes(), number.value());
-        Ok(self.book.insert_transmission(alloc, sender, number, body)?)
+        let body = reader.into_body();
+        Ok(self.book.insert_transmission(&sender, number, body)?)
     }
 
     fn add_return(

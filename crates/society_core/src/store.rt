@@ -1,6 +1,5 @@
 //! What keeps the office's book.
 ghost use Rattle.std.specs.Prelude.{◌≡◌, IsTrue, None, option_map, ⊤};
-ghost use Rattle.cwr_files.specs.Contents.{transmission_in};
 ghost use Rattle.cwr_files.specs.FileFault.{file_fault};
 ghost use Rattle.perf_returns.specs.Returns.{return_fault};
 ghost use Rattle.society_core.specs.Answers.{close_refusal, known_as, known_with_front, payment_in, pool_known_as, return_known_as, shown_in};
@@ -12,7 +11,7 @@ ghost use Rattle.society_core.specs.State.{Addition, IsState, Question, State};
 use crate::answers::{SenderStatus, Work};
 use crate::order::PoolOrder;
 use crate::return_key::ReturnKey;
-use cwr_files::Transmission;
+use cwr_files::FileReader;
 use pool_split::Credit;
 use share_rules::Office;
 use std::alloc::{AllocError, AllocFailed, Global};
@@ -162,20 +161,17 @@ pub trait Store {
     fn balance(&mut self, alloc: Global, account: &Account) -> Result<u64, StoreFault>
         ensures { Question (state self.old) (state self.new) result (λ units. units ≡ balance (state self.old).office (state self.old).book account.now) };
 
-    /// Adds a sender's transmission under a number that is free, and tells the sender's front then. After an
-    /// error the book is as before.
+    /// Adds what a reader was fed, a transmission of its sender, under a number that is free, and tells the sender's front
+    /// then. The store may keep the bytes as they lie. After an error the book is as before.
     fn add_transmission(
         &mut self,
         alloc: Global,
-        sender: &SenderKey,
         number: TransmissionNumber,
-        body: &[u8],
-        transmission: &Transmission<'_>,
+        reader: FileReader,
     ) -> Result<u32, StoreFault>
-        requires free { IsTrue (state self.old).is_clean → body_at (state self.old).book sender.now number ≡ None }
-        requires right { file_fault sender.now body.now ≡ None }
-        requires read { transmission.now ≡ transmission_in body.now }
-        ensures { Addition (state self.old) (state self.new) (with_transmission (state self.old).book sender.now number body.now) result (λ n. n ≡ front (with_transmission (state self.old).book sender.now number body.now) sender.now) };
+        requires free { IsTrue (state self.old).is_clean → body_at (state self.old).book reader.sender number ≡ None }
+        requires right { file_fault reader.sender reader.body ≡ None }
+        ensures { Addition (state self.old) (state self.new) (with_transmission (state self.old).book reader.sender number reader.body) result (λ n. n ≡ front (with_transmission (state self.old).book reader.sender number reader.body) reader.sender) };
 
     /// Adds a return under a key that is free. After an error the book is as before.
     fn add_return(&mut self, alloc: Global, key: &ReturnKey, body: &[u8]) -> Result<(), StoreFault>

@@ -4,3 +4,4 @@ pub mod CutLemmas
 pub mod CleanLemmas
 mod Worked
 pub mod NextLemmas
+pub mod EndLemmas

@@ -1,8 +1,8 @@
 -- The verdict of the next transaction by what is known of its work.
-use Rattle.std.proofs.Common.{◌≡◌, ℕ, ◌+◌, Bool, true, false, cond, List, [], ◌∷◌, Option, Some, None, is_some, refl, ap, sym, ◌∙◌, ⊎_elim}
+use Rattle.std.proofs.Common.{◌≡◌, ℕ, ◌+◌, Bool, true, false, cond, List, [], ◌∷◌, Option, Some, None, is_some, refl, ap, sym, ◌∙◌, ⊎_elim, IfSome, ◌<◌, ◌≤◌, arith}
 use Rattle.std.proofs.lemmas.Bool.{cases_Bool}
 use Rattle.cwr_records.specs.declared.work.TransactionKind.TheVariants.{Nwr, Rev}
-use Rattle.works_core.proofs.TrackLemmas.{last_registered, none_is_none}
+use Rattle.works_core.proofs.TrackLemmas.{last_registered, none_is_none, versions_of-le}
 use Rattle.works_core.specs.Tracks.{accepted_in, last_index, number_in}
 use Rattle.works_core.specs.Verdicts.{is_registered, ordinal_of, verdict_of, versions_of, works_in}
 use Rattle.works_core.specs.Versions.{Placed, is_version, judged_of, last_version, next_verdict, version_of}
@@ -44,6 +44,14 @@ version_tells w (t ∷ past) v e =
     ))
     (cases_Bool (is_version w past t))
 
+nothing : (o : Option WorkVersion) → is_some o ≡ false → o ≡ None
+nothing None e = refl
+nothing (Some v) e = absurd cc
+
+-- where none is kept there is none
+pub none_found : (w : List ℕ) (past : List Placed) → last_index w past ≡ None → last_version w past ≡ None
+none_found w past e = nothing (last_version w past) (indexed w past ∙ ap is_some e)
+
 registration : (w : List ℕ) (past : List Placed) (o : Option WorkVersion) → last_version w past ≡ o → verdict_of (judged_of past) (Clean Nwr w) ≡ next_verdict (Clean Nwr w) o (works_in (judged_of past))
 registration w past None e = ap (λ (b : Bool). cond b (Rejected 20) (Accepted (works_in (judged_of past) + 1) 0)) (sym (version_there w past) ∙ ap is_some e)
 registration w past (Some v) e = ap (λ (b : Bool). cond b (Rejected 20) (Accepted (works_in (judged_of past) + 1) 0)) (sym (version_there w past) ∙ ap is_some e)
@@ -60,3 +68,11 @@ pub next_is : (past : List Placed) (x : Judged) → verdict_of (judged_of past) 
 next_is past (Faulty fault) = refl
 next_is past (Clean Nwr w) = registration w past (last_version w past) refl
 next_is past (Clean Rev w) = revision w past (last_version w past) refl
+
+-- a last version has a revision below the number of accepted transactions
+pub revision_within : (o : Option WorkVersion) (w : List ℕ) (past : List Placed) (most : ℕ) → o ≡ last_version w past → accepted_in past ≤ most → IfSome o (λ v. v.revision < most)
+revision_within None w past most e h = tt
+revision_within (Some v) w past most e h =
+    let told = (version_tells w past v (sym e)).1 in
+    let le = versions_of-le w past in
+    omega arith

@@ -1,12 +1,13 @@
 -- What is kept of the works after one more transaction, and what is kept of a work's last version.
-use Rattle.std.proofs.Common.{◌≡◌, ℕ, ◌+◌, ◌<◌, ◌≤◌, Bool, true, false, cond, not, ◌&&◌, ◌||◌, List, [], ◌∷◌, ◌++◌, length, get_or, Option, Some, None, is_some, refl, sym, ap, subst, ◌∙◌, arith, if◌then◌else◌, nat_lt}
+use Rattle.std.proofs.Common.{◌≡◌, ℕ, ◌+◌, ◌<◌, ◌≤◌, Bool, true, false, cond, not, ◌&&◌, ◌||◌, List, [], ◌∷◌, ◌++◌, length, get_or, Option, Some, None, is_some, refl, sym, ap, subst, ◌∙◌, arith, if◌then◌else◌, nat_lt, add-zero, ⊎_elim, IfSome}
 use Rattle.std.specs.Str.{bytes_eq}
-use Rattle.std.proofs.lemmas.Bool.{false≢true}
+use Rattle.std.proofs.lemmas.Bool.{cases_Bool, false≢true}
 use Rattle.std.proofs.lemmas.List.{get_or_append_left, get_or_push, length_push}
 use Rattle.std.proofs.lemmas.Slice.Eq.{bytes_eq-Decides}
+use Rattle.cwr_records.specs.declared.work.TransactionKind.{TransactionKind}
 use Rattle.cwr_records.specs.declared.work.TransactionKind.TheVariants.{Nwr, Rev}
 use Rattle.works_core.specs.Verdicts.{registers, concerns, is_registered, is_accepted, works_in, versions_of, ordinal_of}
-use Rattle.works_core.specs.Versions.{Placed, placed_at, judged_of, is_version, version_of}
+use Rattle.works_core.specs.Versions.{Placed, judged_of, is_version, last_version, version_of}
 use Rattle.works_core.specs.Tracks.{number_in, accepted_in, last_index, linked_version, linked_versions}
 use Rattle.works_core.specs.declared.judged.Judged.{Judged}
 use Rattle.works_core.specs.declared.judged.Judged.TheVariants.{Clean, Faulty}
@@ -117,31 +118,6 @@ linked_versions-accepted past t e = ap (λ (b : Bool). if b then linked_versions
 pub works_in-begun : (past : List Judged) (u : List ℕ) → is_registered u past ≡ false → works_in (Clean Nwr u ∷ past) ≡ works_in past + 1
 works_in-begun past u free = ap (λ (z : Bool). if not z then works_in past + 1 else works_in past) free
 
-pub works_in-kept : (past : List Judged) (u : List ℕ) → is_registered u past ≡ true → works_in (Clean Nwr u ∷ past) ≡ works_in past
-works_in-kept past u there = ap (λ (z : Bool). if not z then works_in past + 1 else works_in past) there
-
--- a registration that is accepted is the first version of a new work
-pub linked_version-begun : (past : List Placed) (transmission place : ℕ) (u : List ℕ) → is_registered u (judged_of past) ≡ false → linked_version past (placed_at transmission place (Clean Nwr u)) ≡ record { version = record { transmission = transmission; place = place; ordinal = works_in (judged_of past) + 1; revision = 0 }; before = None }
-linked_version-begun past transmission place u free =
-    let none = none_from_is_some (last_index u past) (last_registered u past ∙ free) in
-    let ordinal : ordinal_of u (Clean Nwr u ∷ judged_of past) ≡ works_in (judged_of past) + 1 =
-    ap (λ (b : Bool). if b then ordinal_of u (judged_of past) else works_in (Clean Nwr u ∷ judged_of past)) free ∙ works_in-begun (judged_of past) u free in
-    let revision = no_versions u (judged_of past) free in
-    made transmission place (ordinal_of u (Clean Nwr u ∷ judged_of past)) (versions_of u (judged_of past)) (works_in (judged_of past) + 1) 0 (last_index u past) None ordinal revision none
-  where
-    made : (t p o r o2 r2 : ℕ) (b b2 : Option ℕ) → o ≡ o2 → r ≡ r2 → b ≡ b2 → ◌≡◌ {A = LinkedVersion} (record { version = record { transmission = t; place = p; ordinal = o; revision = r }; before = b }) (record { version = record { transmission = t; place = p; ordinal = o2; revision = r2 }; before = b2 })
-    made t p o r o2 r2 b b2 e1 e2 e3 = cc
-
--- a revision that is accepted is the next version of its work
-pub linked_version-revised : (past : List Placed) (transmission place : ℕ) (u : List ℕ) (i : ℕ) → is_registered u (judged_of past) ≡ true → last_index u past ≡ Some i → linked_version past (placed_at transmission place (Clean Rev u)) ≡ record { version = record { transmission = transmission; place = place; ordinal = ordinal_of u (judged_of past); revision = versions_of u (judged_of past) }; before = Some i }
-linked_version-revised past transmission place u i there last =
-    let ordinal : ordinal_of u (Clean Rev u ∷ judged_of past) ≡ ordinal_of u (judged_of past) =
-    ap (λ (b : Bool). if b then ordinal_of u (judged_of past) else works_in (judged_of past)) there in
-    made transmission place (ordinal_of u (Clean Rev u ∷ judged_of past)) (ordinal_of u (judged_of past)) (versions_of u (judged_of past)) (last_index u past) (Some i) ordinal last
-  where
-    made : (t p o o2 r : ℕ) (b b2 : Option ℕ) → o ≡ o2 → b ≡ b2 → ◌≡◌ {A = LinkedVersion} (record { version = record { transmission = t; place = p; ordinal = o; revision = r }; before = b }) (record { version = record { transmission = t; place = p; ordinal = o2; revision = r }; before = b2 })
-    made t p o o2 r b b2 e1 e2 = cc
-
 -- the last of the accepted transactions of a work with a transmission's number up to a cut, looking back
 abbrev pub last_upto : ℕ → List ℕ → List Placed → Option WorkVersion
 last_upto cut work [] = None
@@ -225,9 +201,55 @@ last_at w (t ∷ past) i e = at_case (is_version w past t) refl (last_at w past 
         let there : is_registered w (judged_of past) ≡ true = sym (last_registered w past) ∙ ap is_some further in
         last_before w t past i is there (recur further)
 
--- the version that the map says tells a work's ordinal and its last revision
-pub last_told : (w : List ℕ) (past : List Placed) (i : ℕ) (d : LinkedVersion) → last_index w past ≡ Some i → d ≡ get_or (linked_versions past) i d → (d.version.ordinal ≡ ordinal_of w (judged_of past)) × (d.version.revision + 1 ≡ versions_of w (judged_of past))
-last_told w past i d e is =
-    let at = last_at w past i e in
-    let found = is ∙ at.found d in
-    (ap (λ (l : LinkedVersion). l.version.ordinal) found ∙ sym at.ordinal, ap (λ (l : LinkedVersion). l.version.revision + 1) found ∙ sym at.versions)
+-- the version that stands where the last one is kept is the last version
+pub version_found : (w : List ℕ) (past : List Placed) (i : ℕ) (d : LinkedVersion) → last_index w past ≡ Some i → last_version w past ≡ Some (get_or (linked_versions past) i d).version
+unfolding last_here
+version_found w [] i d e = absurd (none_is_none i e)
+version_found w (t ∷ past) i d e =
+    ⊎_elim
+    (λ (here : is_version w past t ≡ true).
+    let found = (last_here w t past i here e).found d in
+    ap (λ (b : Bool). cond b (Some (version_of w past t)) (last_version w past)) here ∙ ap (λ (l : LinkedVersion). Some l.version) (sym found))
+    (λ (before : is_version w past t ≡ false).
+    let there : last_index w past ≡ Some i = sym (ap (λ (b : Bool). cond b (Some (accepted_in past)) (last_index w past)) before) ∙ e in
+    ap (λ (b : Bool). cond b (Some (version_of w past t)) (last_version w past)) before
+    ∙ version_found w past i d there
+    ∙ ap (λ (l : LinkedVersion). Some l.version) (sym (front_kept past t i d (last_at w past i there).within)))
+    (cases_Bool (is_version w past t))
+
+either_more : (b : Bool) (m n : ℕ) → m ≤ n → (if b then m + 1 else m) ≤ (if b then n + 1 else n)
+either_more true m n h = omega arith
+either_more false m n h = h
+
+same_or_more : (b : Bool) (m n : ℕ) → m ≤ n → m ≤ (if b then n + 1 else n)
+same_or_more true m n h = omega arith
+same_or_more false m n h = h
+
+-- there are at most so many works as transactions are accepted
+pub works_in-le : (past : List Placed) → works_in (judged_of past) ≤ accepted_in past
+works_in-le [] = omega arith
+works_in-le (t ∷ past) = more t.judged (works_in-le past)
+  where
+    more : (x : Judged) → works_in (judged_of past) ≤ accepted_in past → works_in (x ∷ judged_of past) ≤ (if is_accepted (judged_of past) x then accepted_in past + 1 else accepted_in past)
+    more (Faulty f) h = h
+    more (Clean Nwr u) h = either_more (not (is_registered u (judged_of past))) (works_in (judged_of past)) (accepted_in past) h
+    more (Clean Rev u) h = same_or_more (is_registered u (judged_of past)) (works_in (judged_of past)) (accepted_in past) h
+
+-- how many works there are once an accepted transaction has come
+pub works_in-taken : (past : List Judged) (kind : TransactionKind) (u : List ℕ) (last : Option ℕ) → is_accepted past (Clean kind u) ≡ true → is_some last ≡ is_registered u past → works_in past + (if is_some last then 0 else 1) ≡ works_in (Clean kind u ∷ past)
+works_in-taken past Nwr u last accepted same =
+    let free : is_registered u past ≡ false = not-true (is_registered u past) accepted in
+    ap (λ (b : Bool). works_in past + (if b then 0 else 1)) (same ∙ free) ∙ sym (works_in-begun past u free)
+  where
+    not-true : (b : Bool) → not b ≡ true → b ≡ false
+    not-true true e = sym e
+    not-true false e = refl
+works_in-taken past Rev u last accepted same = ap (λ (b : Bool). works_in past + (if b then 0 else 1)) (same ∙ accepted) ∙ add-zero (works_in past)
+
+-- where the last version of a work is kept, there is one
+pub last_within : (o : Option ℕ) (w : List ℕ) (past : List Placed) (versions : List LinkedVersion) → o ≡ last_index w past → versions ≡ linked_versions past → IfSome o (λ at. at < length versions)
+last_within None w past versions e is = tt
+last_within (Some i) w past versions e is =
+    let within = (last_at w past i (sym e)).within in
+    let count = ap (λ (xs : List LinkedVersion). length xs) is ∙ length-linked_versions past in
+    omega arith

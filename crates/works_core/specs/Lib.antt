@@ -5,4 +5,5 @@ pub mod Kept
 pub mod Tracks
 pub mod Versions
 pub mod Recordings
+pub mod Ends
 pub use Rattle.share_rules.specs.Fault

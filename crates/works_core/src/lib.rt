@@ -3,6 +3,7 @@
 
 mod judged;
 mod key;
+mod line_end;
 mod recordings;
 mod sender_line;
 mod verdict;
@@ -10,8 +11,9 @@ mod version;
 mod works;
 
 pub use judged::Judged;
+pub use line_end::{LineEnd, LineFault};
 pub use recordings::isrcs;
-pub use sender_line::SenderLine;
+pub use sender_line::{SenderLine, judge_all};
 pub use verdict::{Verdict, next_verdict};
 pub use version::WorkVersion;
 

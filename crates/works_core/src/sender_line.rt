@@ -79,6 +79,17 @@ fn judged_groups(
     Ok(list)
 }
 
+/// What an office judges of the transactions of a transmission, in the order of the file.
+pub fn judge_all(
+    alloc: Global,
+    transmission: &Transmission<'_>,
+    office: &Office,
+) -> Result<Vec<Judged>, AllocError>
+    ensures { IfOk result (λ list. list.items ≡ judged_in office.now transmission.now) }
+{
+    judged_groups(alloc, transmission.groups.as_slice(), office)
+}
+
 /// Appends the verdicts of a transmission's transactions, which are taken into the works.
 fn settle_all(
     works: &mut Works,
@@ -131,7 +142,7 @@ impl SenderLine {
     {
         prove!(number.value() as usize == self.judged.len() + 1);
         let alloc = *self.judged.allocator();
-        let judged = judged_groups(alloc, transmission.groups.as_slice(), &self.office)?;
+        let judged = judge_all(alloc, transmission, &self.office)?;
         let mut verdicts = Vec::with_capacity(alloc, judged.len())?;
         self.works.reserve(judged.len())?;
         self.judged.reserve(1)?;

@@ -1,6 +1,7 @@
 //! Each public call once: a work registered and revised twice, with its versions at each cut.
 use super::*;
 use cwr_files::read_transmission;
+use cwr_records::TransactionKind;
 use share_rules::Office;
 use std::alloc::{AllocError, Global};
 use std::test::Fail;
@@ -128,5 +129,49 @@ fn isrcs_of_a_transaction(rt: HostRuntime) -> Result<(), Fail> {
         return Err(Fail::from("one ISRC"));
     };
     assert_eq!(rt; isrc.as_bytes(), b"ATABC2600001".as_slice());
+    Ok(())
+}
+
+#[test]
+fn the_end_of_a_line_goes_on(rt: HostRuntime) -> Result<(), Fail> {
+    let (first, second) = (work(b"W1")?, work(b"W2")?);
+    let mut end = LineEnd::new(rt.alloc(), 7);
+    let last = WorkVersion {
+        transmission: number(3)?,
+        place: 0,
+        ordinal: 4,
+        revision: 2,
+    };
+    end.learn(first, Some(last))?;
+    end.learn(second, None)?;
+    let transactions = [
+        Judged::Clean(TransactionKind::Rev, first),
+        Judged::Clean(TransactionKind::Nwr, second),
+        Judged::Clean(TransactionKind::Rev, second),
+        Judged::Clean(TransactionKind::Nwr, first),
+        Judged::Faulty(9),
+    ];
+    let verdicts = end.apply(rt.alloc(), number(5)?, transactions.as_slice())?;
+    let accepted = |ordinal, revision| Verdict::Accepted { ordinal, revision };
+    let expected = [
+        accepted(4, 3),
+        accepted(8, 0),
+        accepted(8, 1),
+        Verdict::Rejected(20),
+        Verdict::Rejected(9),
+    ];
+    assert!(rt; verdicts.as_slice() == expected.as_slice());
+    assert_eq!(rt; end.works(), 8);
+    Ok(())
+}
+
+#[test]
+fn what_is_judged_of_a_transmission(rt: HostRuntime) -> Result<(), Fail> {
+    let office = Office::new(900, 40, b"EXAMPLE SOCIETY").ok_or("an office")?;
+    let body = joined(rt.alloc(), REVISION.as_slice())?;
+    let transmission = read_transmission(rt.alloc(), body.as_slice(), &sender()?)?;
+    let judged = judge_all(rt.alloc(), &transmission, &office)?;
+    let expected = [Judged::Clean(TransactionKind::Rev, work(b"W1")?)];
+    assert!(rt; judged.as_slice() == expected.as_slice());
     Ok(())
 }

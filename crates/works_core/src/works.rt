@@ -1,16 +1,15 @@
 //! The works of a line: their versions, and the last one of each.
-ghost use Rattle.std.specs.Prelude.{◌≡◌, ◌+◌, ◌∷◌, ◌++◌, [], ℕ, length, List, OnOk, is_some, if◌then◌else◌};
+ghost use Rattle.std.specs.Prelude.{◌≡◌, ◌+◌, ◌<◌, ◌∷◌, ◌++◌, [], ℕ, length, List, IfSome, OnOk, Some, is_some, if◌then◌else◌};
 ghost use Rattle.std.specs.HashMap.{get, hash_map_len};
 ghost use Rattle.std.specs.Str.{bytes_eq};
-ghost use Rattle.cwr_records.specs.declared.work.TransactionKind.TheVariants.{Nwr, Rev};
-ghost use Rattle.works_core.specs.Tracks.{HasRoom, IsTracked, key_of, same_key, Tracks};
+ghost use Rattle.works_core.specs.Tracks.{HasRoom, IsTracked, key_of, last_index, same_key, Tracks};
 ghost use Rattle.works_core.specs.Verdicts.{verdict_of};
-ghost use Rattle.works_core.specs.Versions.{judged_of, placed_at, Placed};
+ghost use Rattle.works_core.specs.Versions.{judged_of, last_version, placed_at, Placed};
 ghost use Rattle.works_core.specs.declared.judged.Judged.TheVariants.{Clean};
 
 use crate::judged::Judged;
 use crate::key::WorkKey;
-use crate::verdict::{NOT_REGISTERED, REGISTERED_BEFORE, Verdict};
+use crate::verdict::{Verdict, next_verdict};
 use crate::version::{LinkedVersion, WorkVersion};
 use cwr_records::TransactionKind;
 use std::alloc::{AllocError, Global};
@@ -61,8 +60,45 @@ impl Works {
     {
         match *judged {
             Judged::Faulty(fault) => Verdict::Rejected(fault),
-            Judged::Clean(TransactionKind::Nwr, work) => self.register(place, work),
-            Judged::Clean(TransactionKind::Rev, work) => self.revise(place, work),
+            Judged::Clean(kind, work) => self.settle_clean(place, kind, work),
+        }
+    }
+
+    /// The verdict of a clean transaction, by the last version of its work.
+    fn settle_clean(&mut self, place: Place, kind: TransactionKind, work: WorkNumber) -> Verdict
+        requires tracked { IsTracked self.old }
+        requires room { HasRoom 1 self.old }
+        ensures verdict { (past : List Placed) → Tracks self.old past → result ≡ verdict_of (judged_of past) (Clean kind work) }
+        ensures tracks { (past : List Placed) → Tracks self.old past → Tracks self.new (placed_at place.transmission place.place (Clean kind work) ∷ past) }
+        ensures room { (count : ℕ) → HasRoom (count + 1) self.old → HasRoom count self.new }
+    {
+        let before = self.last.get(&WorkKey { number: work }).copied();
+        let last = self.version_at(before);
+        let works = self.last.len() as u64;
+        let verdict = next_verdict(&Judged::Clean(kind, work), last, works);
+        match verdict {
+            Verdict::Accepted { ordinal, revision } => {
+                let version = WorkVersion {
+                    transmission: place.transmission,
+                    place: place.place,
+                    ordinal,
+                    revision,
+                };
+                self.append(work, LinkedVersion { version, before });
+            }
+            Verdict::Rejected(_) => {}
+        }
+        verdict
+    }
+
+    /// The version that stands at an index, where there is one.
+    fn version_at(&self, index: Option<usize>) -> Option<WorkVersion>
+        requires within { IfSome index (λ at. at < length self.now.versions.items) }
+        ensures { (past : List Placed) (work : List ℕ) → Tracks self.now past → index ≡ last_index work past → result ≡ last_version work past }
+    {
+        match index {
+            Some(at) => Some(self.versions[at].version),
+            None => None,
         }
     }
 
@@ -78,61 +114,5 @@ impl Works {
         let entered: Result<_, _> = self.last.insert(key, self.versions.len());
         entered.unwrap();
         self.versions.push(linked).unwrap();
-    }
-
-    /// The verdict of a clean registration.
-    fn register(&mut self, place: Place, work: WorkNumber) -> Verdict
-        requires room { HasRoom 1 self.old }
-        ensures verdict { (past : List Placed) → Tracks self.old past → result ≡ verdict_of (judged_of past) (Clean Nwr work) }
-        ensures tracks { (past : List Placed) → Tracks self.old past → Tracks self.new (placed_at place.transmission place.place (Clean Nwr work) ∷ past) }
-        ensures room { (count : ℕ) → HasRoom (count + 1) self.old → HasRoom count self.new }
-    {
-        if self.last.contains_key(&WorkKey { number: work }) {
-            return Verdict::Rejected(REGISTERED_BEFORE);
-        }
-        let ordinal = self.last.len() as u64 + 1;
-        let version = WorkVersion {
-            transmission: place.transmission,
-            place: place.place,
-            ordinal,
-            revision: 0,
-        };
-        let linked = LinkedVersion {
-            version,
-            before: None,
-        };
-        self.append(work, linked);
-        Verdict::Accepted {
-            ordinal,
-            revision: 0,
-        }
-    }
-
-    /// The verdict of a clean revision.
-    fn revise(&mut self, place: Place, work: WorkNumber) -> Verdict
-        requires tracked { IsTracked self.old }
-        requires room { HasRoom 1 self.old }
-        ensures verdict { (past : List Placed) → Tracks self.old past → result ≡ verdict_of (judged_of past) (Clean Rev work) }
-        ensures tracks { (past : List Placed) → Tracks self.old past → Tracks self.new (placed_at place.transmission place.place (Clean Rev work) ∷ past) }
-        ensures room { (count : ℕ) → HasRoom (count + 1) self.old → HasRoom count self.new }
-    {
-        let Some(last) = self.last.get(&WorkKey { number: work }).copied() else {
-            return Verdict::Rejected(NOT_REGISTERED);
-        };
-        let before = &self.versions[last].version;
-        let ordinal = before.ordinal;
-        let revision = before.revision + 1;
-        let version = WorkVersion {
-            transmission: place.transmission,
-            place: place.place,
-            ordinal,
-            revision,
-        };
-        let linked = LinkedVersion {
-            version,
-            before: Some(last),
-        };
-        self.append(work, linked);
-        Verdict::Accepted { ordinal, revision }
     }
 }

@@ -1,9 +1,8 @@
-use Rattle.std.proofs.Common.{ℕ, ◌+◌, ◌++◌, ◌∷◌, [], List, Vec, Global, arith, length, map, flat_map, sym, ap, subst, ◌∙◌}
+use Rattle.std.proofs.Common.{ℕ, ◌+◌, ◌++◌, ◌∷◌, [], List, Vec, Global, arith, length, sym, ap, subst, ◌∙◌}
 use Rattle.std.proofs.lemmas.List.{length-map, length_push, map_push}
-use Rattle.cwr_files.specs.declared.transmission.Group.{Group}
 use Rattle.share_rules.specs.declared.office.Office.{Office}
 use Rattle.works_core.specs.Kept.{lists_of, AreVerdicts}
-use Rattle.works_core.specs.Line.{judged, judged_in}
+use Rattle.works_core.specs.Line.{judged_in}
 use Rattle.works_core.specs.LineValue.{SenderLineValue}
 use Rattle.works_core.specs.Tracks.{Tracks}
 use Rattle.works_core.specs.Verdicts.{behind_all, verdicts_from}
@@ -26,12 +25,12 @@ invariant_of-self-2 c =
     let before = c.reserve.ensures.tracks (placed_line line) c.self.invariant.tracked in
     let told =
     c.settle_all.ensures.verdicts (placed_line line) before
-    ∙ ap (λ (vs : List Verdict). vs ++ verdicts_from (judged_of (placed_line line)) c.as_slice-2.result.now) c.in_ok-verdicts.ensures.items
-    ∙ ap (λ (js : List Judged). verdicts_from js c.as_slice-2.result.now) (judged_of-behind_all [] 1 line)
-    ∙ ap (verdicts_from (behind_all [] line)) c.as_slice-2.ensures.value in
+    ∙ ap (λ (vs : List Verdict). vs ++ verdicts_from (judged_of (placed_line line)) c.as_slice.result.now) c.in_ok-verdicts.ensures.items
+    ∙ ap (λ (js : List Judged). verdicts_from js c.as_slice.result.now) (judged_of-behind_all [] 1 line)
+    ∙ ap (verdicts_from (behind_all [] line)) c.as_slice.ensures.value in
     let number = c.requires.next ∙ ap (λ (v : SenderLineValue). length v.judged + 1) (sym c.self.view_is) in
     let stand =
-    ap (placed_behind (placed_line line) c.args.number 0) c.as_slice-2.ensures.value
+    ap (placed_behind (placed_line line) c.args.number 0) c.as_slice.ensures.value
     ∙ ap (λ (n : ℕ). placed_behind (placed_line line) n 0 fresh.items) number
     ∙ sym (placed_line-push line fresh.items)
     ∙ ap placed_line (sym (ap (λ (xs : List (Vec Judged Global)). lists_of xs) all_judged ∙ map_push (λ (v : Vec Judged Global). v.items) inside.judged.items fresh)) in
@@ -56,6 +55,4 @@ returns-clause-applied c =
     ∙ map_push (λ (v : Vec Judged Global). v.items) inside.judged.items fresh
     ∙ ap (λ (xs : List (List Judged)). xs ++ fresh.items ∷ []) (ap (λ (v : SenderLineValue). v.judged) c.self.view_is)
     ∙ ap (λ (xs : List Judged). c.args.self.now.judged ++ xs ∷ [])
-    (c.in_ok-judged.ensures
-    ∙ ap (λ (gs : List Group). map (judged inside.office) (flat_map (λ g. g.transactions) gs)) c.as_slice.ensures
-    ∙ ap (λ (o : Office). map (judged o) (flat_map (λ g. g.transactions) c.args.transmission.now.groups)) (ap (λ (v : SenderLineValue). v.office) c.self.view_is))
+    (c.in_ok-judged.ensures ∙ ap (λ (o : Office). judged_in o c.args.transmission.now) (ap (λ (v : SenderLineValue). v.office) c.self.view_is))

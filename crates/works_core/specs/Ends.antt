@@ -1,0 +1,48 @@
+-- What is known at the end of a sender's line.
+use Rattle.std.specs.Prelude.{ℕ, ◌+◌, ◌≡◌, Bool, IsTrue, List, Option, Some, None, ⊤, if◌then◌else◌}
+use Rattle.std.specs.List.{AllByRecursion}
+use Rattle.std.specs.HashMap.{get}
+use Rattle.std.specs.Str.{bytes_eq}
+use Rattle.cwr_records.specs.declared.work.TransactionKind.TheVariants.{Nwr, Rev}
+use Rattle.works_core.specs.Tracks.{key_of, same_key}
+use Rattle.works_core.specs.Verdicts.{works_in}
+use Rattle.works_core.specs.Versions.{Placed, judged_of, last_version}
+use Rattle.works_core.specs.declared.judged.Judged.{Judged}
+use Rattle.works_core.specs.declared.judged.Judged.TheVariants.{Clean, Faulty}
+use Rattle.works_core.specs.declared.line_end.LineEnd.{LineEnd}
+use Rattle.works_core.specs.declared.version.WorkVersion.{WorkVersion}
+
+-- the last version that is kept of a work
+abbrev pub last_in : LineEnd → List ℕ → Option WorkVersion
+last_in end work = get same_key end.last (key_of work)
+
+-- the number of works, and the last versions of the works that are known, are those at the end of some transactions; no other version is told
+pub record EndsAt (known : List ℕ → Bool) (past : List Placed) (end : LineEnd) : Type 0 where
+  pub works : end.works ≡ works_in (judged_of past)
+  pub last : (work : List ℕ) → IsTrue (known work) → last_in end work ≡ last_version work past
+  pub right : (work : List ℕ) (version : WorkVersion) → last_in end work ≡ Some version → last_version work past ≡ Some version
+
+-- the work of a transaction is known, where it is clean
+abbrev pub KnowsWork : (List ℕ → Bool) → Judged → Type 0
+KnowsWork known (Clean kind number) = IsTrue (known number)
+KnowsWork known (Faulty fault) = ⊤
+
+-- the works of all clean transactions are known
+abbrev pub KnowsWorks : (List ℕ → Bool) → List Judged → Type 0
+KnowsWorks known transactions = AllByRecursion (KnowsWork known) transactions
+
+-- how many works there are behind one more accepted transaction
+abbrev pub works_after : Judged → ℕ → ℕ
+works_after (Clean Nwr number) works = works + 1
+works_after (Clean Rev number) works = works
+works_after (Faulty fault) works = works
+
+-- the last version of each work behind one more accepted transaction, which is this version
+abbrev pub last_after : Judged → WorkVersion → (List ℕ → Option WorkVersion) → List ℕ → Option WorkVersion
+last_after (Clean kind number) version last work = if bytes_eq number work then Some version else last work
+last_after (Faulty fault) version last work = last work
+
+-- what is known of a transaction's work
+abbrev pub known_of : LineEnd → Judged → Option WorkVersion
+known_of end (Clean kind number) = last_in end number
+known_of end (Faulty fault) = None
