@@ -1,4 +1,6 @@
+pub mod AnsweringLemmas
 pub mod CuttingLemmas
+pub mod FeedingLemmas
 pub mod FieldLemmas
 pub mod HeadLemmas
 pub mod JsonLemmas

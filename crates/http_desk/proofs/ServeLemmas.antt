@@ -1,8 +1,8 @@
 -- Lemmas on a connection: what was served so far, one more request, and its end.
-use Rattle.std.proofs.Common.{◌≡◌, ◌≢◌, inl, inr, ℕ, ◌+◌, ◌*◌, ◌<◌, ◌≤◌, Bool, true, false, List, [], ◌∷◌, ◌++◌, length, map, drop, Option, Result, Ok, Err, refl, sym, ◌∙◌, ap, subst, arith, append_assoc, length-append}
+use Rattle.std.proofs.Common.{◌≡◌, ◌≢◌, inl, inr, ℕ, ◌+◌, ◌*◌, ◌<◌, ◌≤◌, Bool, true, false, List, [], ◌∷◌, ◌++◌, length, map, Option, Result, Ok, Err, refl, sym, ◌∙◌, ap, subst, arith, append_assoc, length-append}
 use Rattle.std.specs.Prelude.{IsTrue, IfSome, IfOk, IfErr, unwrap_or, ◌^◌}
 use Rattle.std.specs.List.{flat_map, AllByRecursion}
-use Rattle.std.proofs.lemmas.List.{append-nil, map-append, drop_at}
+use Rattle.std.proofs.lemmas.List.{append-nil, map-append}
 use Rattle.std.proofs.lemmas.Grind.{flat_map-append}
 use Rattle.std.specs.Io.KnownBytes.{Appends, Consumes}
 use Rattle.httparse.specs.Grammar.{print_request}
@@ -19,37 +19,36 @@ use Rattle.http_desk.specs.declared.counted.Counted.{Counted}
 use Rattle.http_desk.specs.declared.fault.DeskFault.{DeskFault}
 use Rattle.http_desk.specs.declared.fault.FaultKind.{FaultKind}
 use Rattle.http_desk.specs.declared.fault.FaultKind.TheVariants.{Read, Write, Turns, Memory}
-use Rattle.http_desk.specs.declared.head.Head.{Head}
 use Rattle.http_desk.specs.declared.input.Input.{Input}
 use Rattle.http_desk.specs.BodyLength.{closes}
 use Rattle.http_desk.specs.Counted.{AppendsFront, TakesAtLeast, TakesAtMost, counted_on, failures_of, inner_of, reads_of}
 use Rattle.http_desk.specs.Input.{unread, ReadsOn}
 use Rattle.http_desk.specs.Outbox.{Sends}
-use Rattle.http_desk.specs.Part.{Part, print_part, IsOpenPart}
+use Rattle.http_desk.specs.Part.{Part, print_part, IsOpenPart, IsPart}
 use Rattle.http_desk.specs.Path.{request_of}
 use Rattle.http_desk.specs.Reads.{Awaits, Cuts, Reads}
 use Rattle.http_desk.specs.Serves.{AreAnswered, Breaks, CausedBy, IsGivenUp, KeepsTurns, NeedsMore, Serves, Stopped, Unwritten, Written}
 use Rattle.http_desk.specs.Text.{text, texts, ending}
-use Rattle.http_desk.specs.Upcoming.{EndsSo, HasPart, StopsBy}
+use Rattle.http_desk.specs.Upcoming.{EndsSo, StopsBy}
 use Rattle.http_desk.proofs.CuttingLemmas.{none_while_awaited}
 use Rattle.http_desk.proofs.HeadLemmas.{print_request-some}
 use Rattle.http_desk.proofs.Known.{Appends-none, AppendsFront-is, Consumes-none, Consumes-join, Consumes-is, Sends-cut, Sends-flushed, Sends-front, Sends-is, Sends-more, Sends-none, Sends-then, counted_join, counted_most, counted_none, given_of}
 
--- what was served so far: requests that left the connection open, bytes that were read and not taken yet, and texts that wait
-pub record SoFar (known now_known : Option (List ℕ)) (input : Input) (turns reads now_reads : ℕ) (old now : State) (holds now_holds : Option (List ℕ)) (waiting : List ℕ) (requests : ℕ) : Type 0 where
+-- what was served so far: requests that left the connection open, bytes that were read and not answered yet, and texts that wait
+pub record SoFar (known now_known : Option (List ℕ)) (pending : List ℕ) (spare turns reads now_reads : ℕ) (old now : State) (holds now_holds : Option (List ℕ)) (waiting : List ℕ) (requests : ℕ) : Type 0 where
   pub parts : List Part
   pub replies : List Reply
   pub spent : ℕ
   pub each : AllByRecursion IsOpenPart parts
-  pub consumed : Consumes known now_known (flat_map print_part parts ++ unread input)
+  pub consumed : Consumes known now_known (flat_map print_part parts ++ pending)
   pub answers : AreAnswered parts replies old now
   pub written : Sends holds now_holds (texts parts replies) waiting
   pub count : requests ≡ length parts
-  pub turned : turns ≡ input.turns + spent
+  pub turned : turns ≡ spare + spent
   pub counts : now_reads ≡ counted_on reads spent
-  pub fits : requests + length (unread input) ≤ spent * 16384
-  pub least : spent ≤ length (flat_map print_part parts ++ unread input)
-  pub most : length (flat_map print_part parts ++ unread input) ≤ spent * 16384
+  pub fits : requests + length pending ≤ spent * 16384
+  pub least : spent ≤ length (flat_map print_part parts ++ pending)
+  pub most : length (flat_map print_part parts ++ pending) ≤ spent * 16384
 
 -- ---- one more
 
@@ -99,15 +98,15 @@ print_part-some part = omega (arith, length-append (print_request part.head) par
 
 -- ---- so far
 
-pub SoFar-start : (known : Option (List ℕ)) (input : Input) (turns reads : ℕ) (state : State) (holds : Option (List ℕ)) (waiting : List ℕ)
-    → unread input ≡ [] → input.turns ≡ turns → waiting ≡ [] → reads < 2 ^ 64
-    → SoFar known known input turns reads reads state state holds holds waiting 0
-SoFar-start known input turns reads state holds waiting e t w small = record {
+pub SoFar-start : (known : Option (List ℕ)) (pending : List ℕ) (spare : ℕ) (turns reads : ℕ) (state : State) (holds : Option (List ℕ)) (waiting : List ℕ)
+    → pending ≡ [] → spare ≡ turns → waiting ≡ [] → reads < 2 ^ 64
+    → SoFar known known pending spare turns reads reads state state holds holds waiting 0
+SoFar-start known pending spare turns reads state holds waiting e t w small = record {
   parts = [];
   replies = [];
   spent = 0;
   each = tt;
-  consumed = Consumes-is known known [] (unread input) (Consumes-none known) (sym e);
+  consumed = Consumes-is known known [] pending (Consumes-none known) (sym e);
   answers = AreAnswered-none state;
   written = Sends-is holds holds waiting [] waiting (Sends-none holds waiting) w;
   count = refl;
@@ -118,13 +117,13 @@ SoFar-start known input turns reads state holds waiting e t w small = record {
   most = omega (arith, ap length e);
 }
 
-pub SoFar-reads : (known now later : Option (List ℕ)) (input next : Input) (turns reads now_reads later_reads : ℕ) (old mid : State) (holds mid_holds : Option (List ℕ)) (waiting : List ℕ) (requests : ℕ)
-    → SoFar known now input turns reads now_reads old mid holds mid_holds waiting requests → ReadsOn input next now later now_reads later_reads
-    → SoFar known later next turns reads later_reads old mid holds mid_holds waiting requests
-SoFar-reads known now later input next turns reads now_reads later_reads old mid holds mid_holds waiting requests so r =
+pub SoFar-reads : (known now later : Option (List ℕ)) (pending next : List ℕ) (spare rest_spare : ℕ) (turns reads now_reads later_reads : ℕ) (old mid : State) (holds mid_holds : Option (List ℕ)) (waiting : List ℕ) (requests : ℕ)
+    → SoFar known now pending spare turns reads now_reads old mid holds mid_holds waiting requests → ReadsOn pending next spare rest_spare now later now_reads later_reads
+    → SoFar known later next rest_spare turns reads later_reads old mid holds mid_holds waiting requests
+SoFar-reads known now later pending next spare rest_spare turns reads now_reads later_reads old mid holds mid_holds waiting requests so r =
     let front = flat_map print_part so.parts in
-    let joined : (front ++ unread input) ++ r.more ≡ front ++ unread next = append_assoc front (unread input) r.more ∙ ap (λ (v : List ℕ). front ++ v) (sym r.grown) in
-    let longer = ap length r.grown ∙ length-append (unread input) r.more in
+    let joined : (front ++ pending) ++ r.more ≡ front ++ next = append_assoc front pending r.more ∙ ap (λ (v : List ℕ). front ++ v) (sym r.grown) in
+    let longer = ap length r.grown ∙ length-append pending r.more in
     record {
       parts = so.parts;
       replies = so.replies;
@@ -137,15 +136,15 @@ SoFar-reads known now later input next turns reads now_reads later_reads old mid
       turned = omega (arith, so.turned, r.turned);
       counts = r.counts ∙ ap (λ (v : ℕ). counted_on v r.spent) so.counts ∙ counted_join reads so.spent r.spent;
       fits = omega (arith, so.fits, r.most, longer);
-      least = omega (arith, so.least, r.least, longer, length-append front (unread input), length-append front (unread next));
-      most = omega (arith, so.most, r.most, longer, length-append front (unread input), length-append front (unread next));
+      least = omega (arith, so.least, r.least, longer, length-append front pending, length-append front (next));
+      most = omega (arith, so.most, r.most, longer, length-append front pending, length-append front (next));
     }
 
 -- texts were sent
-pub SoFar-sends : (known now : Option (List ℕ)) (input : Input) (turns reads now_reads : ℕ) (old mid : State) (holds mid_holds last : Option (List ℕ)) (waiting later : List ℕ) (requests : ℕ)
-    → SoFar known now input turns reads now_reads old mid holds mid_holds waiting requests → Sends mid_holds last waiting later
-    → SoFar known now input turns reads now_reads old mid holds last later requests
-SoFar-sends known now input turns reads now_reads old mid holds mid_holds last waiting later requests so sends = record {
+pub SoFar-sends : (known now : Option (List ℕ)) (pending : List ℕ) (spare : ℕ) (turns reads now_reads : ℕ) (old mid : State) (holds mid_holds last : Option (List ℕ)) (waiting later : List ℕ) (requests : ℕ)
+    → SoFar known now pending spare turns reads now_reads old mid holds mid_holds waiting requests → Sends mid_holds last waiting later
+    → SoFar known now pending spare turns reads now_reads old mid holds last later requests
+SoFar-sends known now pending spare turns reads now_reads old mid holds mid_holds last waiting later requests so sends = record {
   parts = so.parts;
   replies = so.replies;
   spent = so.spent;
@@ -166,12 +165,27 @@ SoFar-sends known now input turns reads now_reads old mid holds mid_holds last w
 }
 
 -- bytes were read, and texts sent before
-pub SoFar-next : (known now later : Option (List ℕ)) (input next : Input) (turns reads now_reads later_reads : ℕ) (old mid : State) (holds mid_holds last : Option (List ℕ)) (waiting rest : List ℕ) (requests : ℕ)
-    → SoFar known now input turns reads now_reads old mid holds mid_holds waiting requests → ReadsOn input next now later now_reads later_reads → Sends mid_holds last waiting rest
-    → SoFar known later next turns reads later_reads old mid holds last rest requests
-SoFar-next known now later input next turns reads now_reads later_reads old mid holds mid_holds last waiting rest requests so r sends =
-    SoFar-sends known later next turns reads later_reads old mid holds mid_holds last waiting rest requests
-    (SoFar-reads known now later input next turns reads now_reads later_reads old mid holds mid_holds waiting requests so r) sends
+pub SoFar-next : (known now later : Option (List ℕ)) (pending next : List ℕ) (spare rest_spare : ℕ) (turns reads now_reads later_reads : ℕ) (old mid : State) (holds mid_holds last : Option (List ℕ)) (waiting rest : List ℕ) (requests : ℕ)
+    → SoFar known now pending spare turns reads now_reads old mid holds mid_holds waiting requests → ReadsOn pending next spare rest_spare now later now_reads later_reads → Sends mid_holds last waiting rest
+    → SoFar known later next rest_spare turns reads later_reads old mid holds last rest requests
+SoFar-next known now later pending next spare rest_spare turns reads now_reads later_reads old mid holds mid_holds last waiting rest requests so r sends =
+    SoFar-sends known later next rest_spare turns reads later_reads old mid holds mid_holds last waiting rest requests
+    (SoFar-reads known now later pending next spare rest_spare turns reads now_reads later_reads old mid holds mid_holds waiting requests so r) sends
+
+-- the desk is the same
+pub SoFar-same : {S : Type 0} (state : S → State) (mid_desk new_desk : S) (known now : Option (List ℕ)) (pending : List ℕ) (spare turns reads now_reads : ℕ) (old : State) (holds mid_holds : Option (List ℕ)) (waiting : List ℕ) (requests : ℕ)
+    → new_desk ≡ mid_desk → SoFar known now pending spare turns reads now_reads old (state mid_desk) holds mid_holds waiting requests
+    → SoFar known now pending spare turns reads now_reads old (state new_desk) holds mid_holds waiting requests
+SoFar-same {S} state mid_desk new_desk known now pending spare turns reads now_reads old holds mid_holds waiting requests same so =
+    let P : S → Type 0 = λ d. SoFar known now pending spare turns reads now_reads old (state d) holds mid_holds waiting requests in
+    subst P (sym same) so
+
+pub SoFar-input : (known now : Option (List ℕ)) (input new_input : Input) (turns reads now_reads : ℕ) (old mid : State) (holds mid_holds : Option (List ℕ)) (waiting : List ℕ) (requests : ℕ)
+    → new_input ≡ input → SoFar known now (unread input) input.turns turns reads now_reads old mid holds mid_holds waiting requests
+    → SoFar known now (unread new_input) new_input.turns turns reads now_reads old mid holds mid_holds waiting requests
+SoFar-input known now input new_input turns reads now_reads old mid holds mid_holds waiting requests same so =
+    let P : Input → Type 0 = λ i. SoFar known now (unread i) i.turns turns reads now_reads old mid holds mid_holds waiting requests in
+    subst P (sym same) so
 
 -- ---- the end
 
@@ -254,51 +268,51 @@ ended_write requests failures new_failures before mid bytes (Err fault) p = λ i
 cut : (bytes left : List ℕ) (parts : List Part) (held : List ℕ) → AllByRecursion IsOpenPart parts → bytes ≡ (flat_map print_part parts ++ held) ++ left → Cuts bytes parts (held ++ left)
 cut bytes left parts held each e = record { whole = e ∙ append_assoc (flat_map print_part parts) held left; each = each }
 
-module _ (known now : Option (List ℕ)) (input : Input) (turns reads now_reads : ℕ) (old mid : State) (holds mid_holds : Option (List ℕ)) (waiting : List ℕ) (requests : ℕ) (so : SoFar known now input turns reads now_reads old mid holds mid_holds waiting requests) where
+module _ (known now : Option (List ℕ)) (pending : List ℕ) (spare : ℕ) (turns reads now_reads : ℕ) (old mid : State) (holds mid_holds : Option (List ℕ)) (waiting : List ℕ) (requests : ℕ) (so : SoFar known now pending spare turns reads now_reads old mid holds mid_holds waiting requests) where
   -- all bytes, as far as they are known
   abbrev all_so : List ℕ
-  all_so = (flat_map print_part so.parts ++ unread input) ++ unwrap_or now []
+  all_so = (flat_map print_part so.parts ++ pending) ++ unwrap_or now []
 
-  cut_so : Cuts all_so so.parts (unread input ++ unwrap_or now [])
-  cut_so = cut all_so (unwrap_or now []) so.parts (unread input) so.each refl
+  cut_so : Cuts all_so so.parts (pending ++ unwrap_or now [])
+  cut_so = cut all_so (unwrap_or now []) so.parts pending so.each refl
 
-  pub finishes : (end : End) → EndsSo (unread input) now end → Finishes known old mid holds mid_holds waiting requests end
+  pub finishes : (end : End) → EndsSo pending now end → Finishes known old mid holds mid_holds waiting requests end
   finishes end ends = record {
     bytes = all_so;
     given = given_of known now _ so.consumed;
     parts = so.parts;
     replies = so.replies;
-    reads = (so.parts, [], unread input ++ unwrap_or now [], sym (append-nil so.parts), cut_so, ends);
+    reads = (so.parts, [], pending ++ unwrap_or now [], sym (append-nil so.parts), cut_so, ends);
     answers = so.answers;
     written = so.written;
     count = so.count;
   }
 
-  needed_so : Awaits (unread input) → NeedsMore known now requests
+  needed_so : Awaits pending → NeedsMore known now requests
   needed_so awaits = record {
     parts = so.parts;
-    rest = unread input;
+    rest = pending;
     each = so.each;
     consumed = so.consumed;
-    none = none_while_awaited (unread input) awaits;
+    none = none_while_awaited pending awaits;
     awaits = awaits;
     count = so.count;
   }
 
-  took_so : input.turns ≡ 0 → TakesAtLeast known now turns
-  took_so e = (flat_map print_part so.parts ++ unread input, so.consumed, omega (arith, so.least, so.turned, e))
+  took_so : spare ≡ 0 → TakesAtLeast known now turns
+  took_so e = (flat_map print_part so.parts ++ pending, so.consumed, omega (arith, so.least, so.turned, e))
 
-  counted_so : input.turns ≡ 0 → now_reads ≡ counted_on reads turns
+  counted_so : spare ≡ 0 → now_reads ≡ counted_on reads turns
   counted_so e = let same : so.spent ≡ turns = omega (arith, so.turned, e) in so.counts ∙ ap (λ (n : ℕ). counted_on reads n) same
 
   pub most_reads : now_reads ≤ reads + turns
   most_reads = omega (arith, so.counts, counted_most reads so.spent, so.turned)
 
   pub most_bytes : TakesAtMost known now (turns * 16384)
-  most_bytes = (flat_map print_part so.parts ++ unread input, so.consumed, omega (arith, so.most, so.turned))
+  most_bytes = (flat_map print_part so.parts ++ pending, so.consumed, omega (arith, so.most, so.turned))
 
   stopped : (last : Option (List ℕ)) → Appends mid_holds last waiting → Stopped all_so so.parts so.replies holds last
-  stopped last appends = (unread input ++ unwrap_or now [], cut_so, Sends-flushed holds mid_holds last _ waiting so.written appends)
+  stopped last appends = (pending ++ unwrap_or now [], cut_so, Sends-flushed holds mid_holds last _ waiting so.written appends)
 
   broken : (kind : FaultKind) (last : Option (List ℕ)) → Written kind all_so so.parts so.replies holds last → Breaks (record { kind = kind; requests = requests }) known old mid holds last
   broken kind last w = record {
@@ -312,37 +326,37 @@ module _ (known now : Option (List ℕ)) (input : Input) (turns reads now_reads 
   }
 
   -- what was written where no request came
-  pub stopped_so : (kind : FaultKind) (last : Option (List ℕ)) (reader writer : ℕ × ℕ) → StopsBy kind (unread input) input.turns reader writer mid_holds last waiting
+  pub stopped_so : (kind : FaultKind) (last : Option (List ℕ)) (reader writer : ℕ × ℕ) → StopsBy kind pending spare reader writer mid_holds last waiting
       → Breaks (record { kind = kind; requests = requests }) known old mid holds last
   stopped_so Read last reader writer by = broken Read last (stopped last by.2)
   stopped_so Turns last reader writer by = broken Turns last (stopped last by.2)
   stopped_so Write last reader writer by =
-      broken Write last (inl (unread input ++ unwrap_or now [], cut_so, Sends-cut holds mid_holds last _ waiting so.written by.1))
+      broken Write last (inl (pending ++ unwrap_or now [], cut_so, Sends-cut holds mid_holds last _ waiting so.written by.1))
   stopped_so Memory last reader writer by = absurd by
 
 pub rises_from : (a b c : ℕ) → a ≡ b → Rises a c → Rises b c
 rises_from a b c same r = let P : ℕ → Type 0 = λ n. Rises n c in subst P same r
 
 -- no request came: what there was before, and why
-module _ {S R W : Type 0} (state : S → State) (remaining : R → Option (List ℕ)) (contents : W → Option (List ℕ)) (desk mid_desk : S) (reader mid_reader new_reader : Counted R) (writer mid_writer new_writer : Counted W) (input : Input) (turns requests : ℕ) (waiting : List ℕ)
-    (so : SoFar (remaining (inner_of reader)) (remaining (inner_of new_reader)) input turns (reads_of reader) (reads_of new_reader) (state desk) (state mid_desk) (contents (inner_of writer)) (contents (inner_of mid_writer)) waiting requests)
+module _ {S R W : Type 0} (state : S → State) (remaining : R → Option (List ℕ)) (contents : W → Option (List ℕ)) (desk mid_desk : S) (reader mid_reader new_reader : Counted R) (writer mid_writer new_writer : Counted W) (pending : List ℕ) (spare : ℕ) (turns requests : ℕ) (waiting : List ℕ)
+    (so : SoFar (remaining (inner_of reader)) (remaining (inner_of new_reader)) pending spare turns (reads_of reader) (reads_of new_reader) (state desk) (state mid_desk) (contents (inner_of writer)) (contents (inner_of mid_writer)) waiting requests)
     (same_reader : failures_of mid_reader ≡ failures_of reader) (same_writer : failures_of mid_writer ≡ failures_of writer) where
-  caused : (kind : FaultKind) → StopsBy kind (unread input) input.turns (failures_of mid_reader, failures_of new_reader) (failures_of mid_writer, failures_of new_writer) (contents (inner_of mid_writer)) (contents (inner_of new_writer)) waiting
+  caused : (kind : FaultKind) → StopsBy kind pending spare (failures_of mid_reader, failures_of new_reader) (failures_of mid_writer, failures_of new_writer) (contents (inner_of mid_writer)) (contents (inner_of new_writer)) waiting
       → CausedBy kind requests turns remaining reader new_reader writer new_writer
   caused Read by =
-      (rises_from _ _ _ same_reader by.1, needed_so _ _ input turns _ _ _ _ _ _ waiting requests so by.0)
+      (rises_from _ _ _ same_reader by.1, needed_so _ _ pending spare turns _ _ _ _ _ _ waiting requests so by.0)
   caused Turns by = (
-    counted_so _ _ input turns _ _ _ _ _ _ waiting requests so by.1,
-    took_so _ _ input turns _ _ _ _ _ _ waiting requests so by.1,
-    needed_so _ _ input turns _ _ _ _ _ _ waiting requests so by.0,
+    counted_so _ _ pending spare turns _ _ _ _ _ _ waiting requests so by.1,
+    took_so _ _ pending spare turns _ _ _ _ _ _ waiting requests so by.1,
+    needed_so _ _ pending spare turns _ _ _ _ _ _ waiting requests so by.0,
   )
   caused Write by = rises_from _ _ _ same_writer by.0
   caused Memory by = absurd by
 
-  pub given_up : (kind : FaultKind) → StopsBy kind (unread input) input.turns (failures_of mid_reader, failures_of new_reader) (failures_of mid_writer, failures_of new_writer) (contents (inner_of mid_writer)) (contents (inner_of new_writer)) waiting
+  pub given_up : (kind : FaultKind) → StopsBy kind pending spare (failures_of mid_reader, failures_of new_reader) (failures_of mid_writer, failures_of new_writer) (contents (inner_of mid_writer)) (contents (inner_of new_writer)) waiting
       → IsGivenUp state remaining contents desk mid_desk reader new_reader writer new_writer turns (record { kind = kind; requests = requests })
   given_up kind by = record {
-    breaks = stopped_so _ _ input turns _ _ _ _ _ _ waiting requests so kind _ _ _ by;
+    breaks = stopped_so _ _ pending spare turns _ _ _ _ _ _ waiting requests so kind _ _ _ by;
     cause = caused kind by;
   }
 
@@ -353,104 +367,95 @@ stops_not_memory Write bytes turns reader writer holds new_holds waiting by e = 
 stops_not_memory Memory bytes turns reader writer holds new_holds waiting by e = absurd by
 
 -- the turns were kept
-pub keeps_turns : {R : Type 0} (remaining : R → Option (List ℕ)) (reader new_reader : Counted R) (input : Input) (turns : ℕ) (old mid : State) (holds mid_holds : Option (List ℕ)) (waiting : List ℕ) (requests : ℕ)
-    → SoFar (remaining (inner_of reader)) (remaining (inner_of new_reader)) input turns (reads_of reader) (reads_of new_reader) old mid holds mid_holds waiting requests
+pub keeps_turns : {R : Type 0} (remaining : R → Option (List ℕ)) (reader new_reader : Counted R) (pending : List ℕ) (spare : ℕ) (turns : ℕ) (old mid : State) (holds mid_holds : Option (List ℕ)) (waiting : List ℕ) (requests : ℕ)
+    → SoFar (remaining (inner_of reader)) (remaining (inner_of new_reader)) pending spare turns (reads_of reader) (reads_of new_reader) old mid holds mid_holds waiting requests
     → KeepsTurns remaining reader new_reader turns
-keeps_turns remaining reader new_reader input turns old mid holds mid_holds waiting requests so = record {
-  reads = most_reads _ _ input turns _ _ old mid holds mid_holds waiting requests so;
-  most = most_bytes _ _ input turns _ _ old mid holds mid_holds waiting requests so;
+keeps_turns remaining reader new_reader pending spare turns old mid holds mid_holds waiting requests so = record {
+  reads = most_reads _ _ pending spare turns _ _ old mid holds mid_holds waiting requests so;
+  most = most_bytes _ _ pending spare turns _ _ old mid holds mid_holds waiting requests so;
 }
 
 -- ---- one more request
 
-module _ (known now : Option (List ℕ)) (input taken : Input) (turns reads now_reads : ℕ) (old mid new : State) (holds mid_holds last : Option (List ℕ)) (waiting later : List ℕ) (requests : ℕ) (head : Head)
-    (so : SoFar known now input turns reads now_reads old mid holds mid_holds waiting requests) (has : HasPart (unread input) head)
-    (front : unread taken ≡ drop (head.length + head.body) (unread input)) (same : taken.turns ≡ input.turns) (office : new.office ≡ mid.office)
+module _ (known now : Option (List ℕ)) (pending left : List ℕ) (spare turns reads now_reads : ℕ) (old mid new : State) (holds mid_holds last : Option (List ℕ)) (waiting later : List ℕ) (requests : ℕ)
+    (so : SoFar known now pending spare turns reads now_reads old mid holds mid_holds waiting requests) (part : Part) (is : IsPart part) (whole : pending ≡ print_part part ++ left)
+    (close : Bool) (is_last : close ≡ closes part.head) (office : new.office ≡ mid.office)
     (clean : IsTrue new.is_clean → IsTrue mid.is_clean) (reply : Reply)
-    (step : IsTrue new.is_clean → Step mid.office mid.book (request_of has.part) reply new.book) where
-  size_is : length (print_part has.part) ≡ head.length + head.body
-  size_is = omega (arith, length-append (print_request has.part.head) has.part.body, has.is_kept.size, has.size)
+    (step : IsTrue new.is_clean → Step mid.office mid.book (request_of part) reply new.book) where
+  longer : length pending ≡ length (print_part part) + length left
+  longer = ap length whole ∙ length-append (print_part part) left
 
-  rest_is : unread taken ≡ has.rest
-  rest_is = front ∙ ap (λ (v : List ℕ). drop (head.length + head.body) v) has.whole ∙ drop_at (print_part has.part) has.rest (head.length + head.body) size_is
-
-  longer : length (unread input) ≡ length (print_part has.part) + length (unread taken)
-  longer = ap length has.whole ∙ length-append (print_part has.part) has.rest ∙ ap (λ n. length (print_part has.part) + n) (ap length (sym rest_is))
-
-  joined : flat_map print_part (so.parts ++ has.part ∷ []) ++ unread taken ≡ flat_map print_part so.parts ++ unread input
+  joined : flat_map print_part (so.parts ++ part ∷ []) ++ left ≡ flat_map print_part so.parts ++ pending
   joined =
-      ap (λ (v : List ℕ). v ++ unread taken) (printed-more so.parts has.part)
-      ∙ append_assoc (flat_map print_part so.parts) (print_part has.part) (unread taken)
-      ∙ ap (λ (v : List ℕ). flat_map print_part so.parts ++ (print_part has.part ++ v)) rest_is
-      ∙ ap (λ (v : List ℕ). flat_map print_part so.parts ++ v) (sym has.whole)
+      ap (λ (v : List ℕ). v ++ left) (printed-more so.parts part)
+      ∙ append_assoc (flat_map print_part so.parts) (print_part part) left
+      ∙ ap (λ (v : List ℕ). flat_map print_part so.parts ++ v) (sym whole)
 
-  answers : AreAnswered (so.parts ++ has.part ∷ []) (so.replies ++ reply ∷ []) old new
-  answers = AreAnswered-more so.parts so.replies old mid new has.part reply so.answers office clean step
+  answers : AreAnswered (so.parts ++ part ∷ []) (so.replies ++ reply ∷ []) old new
+  answers = AreAnswered-more so.parts so.replies old mid new part reply so.answers office clean step
 
-  texts_are : texts so.parts so.replies ++ text reply head.closes ≡ texts (so.parts ++ has.part ∷ []) (so.replies ++ reply ∷ [])
+  texts_are : texts so.parts so.replies ++ text reply close ≡ texts (so.parts ++ part ∷ []) (so.replies ++ reply ∷ [])
   texts_are =
-      ap (λ b. texts so.parts so.replies ++ text reply b) has.is_kept.last
-      ∙ sym (texts-more so.parts so.replies has.part reply so.answers.each)
+      ap (λ b. texts so.parts so.replies ++ text reply b) is_last
+      ∙ sym (texts-more so.parts so.replies part reply so.answers.each)
 
-  counted : requests + 1 ≡ length (so.parts ++ has.part ∷ [])
-  counted = omega (arith, so.count, length-append so.parts (has.part ∷ []))
+  counted : requests + 1 ≡ length (so.parts ++ part ∷ [])
+  counted = omega (arith, so.count, length-append so.parts (part ∷ []))
 
-  pub fewer : length (unread taken) + taken.turns * 16384 < length (unread input) + input.turns * 16384
-  fewer = omega (arith, longer, same, print_part-some has.part)
+  pub fewer : length left < length pending
+  fewer = omega (arith, longer, print_part-some part)
 
   pub countable : requests + 1 ≤ turns * 16384
-  countable = omega (arith, so.fits, longer, so.turned, print_part-some has.part)
+  countable = omega (arith, so.fits, longer, so.turned, print_part-some part)
 
-  is_open : head.closes ≡ false → IsOpenPart has.part
-  is_open e = record { is_part = has.is_part; open_after = sym has.is_kept.last ∙ e }
+  is_open : close ≡ false → IsOpenPart part
+  is_open e = record { is_part = is; open_after = sym is_last ∙ e }
 
-  written_on : Sends mid_holds last (waiting ++ text reply head.closes) later → Sends holds last (texts (so.parts ++ has.part ∷ []) (so.replies ++ reply ∷ [])) later
+  written_on : Sends mid_holds last (waiting ++ text reply close) later → Sends holds last (texts (so.parts ++ part ∷ []) (so.replies ++ reply ∷ [])) later
   written_on sends =
       Sends-is holds last _ _ later
-      (Sends-more holds mid_holds last (texts so.parts so.replies) waiting (text reply head.closes) later so.written sends) texts_are
+      (Sends-more holds mid_holds last (texts so.parts so.replies) waiting (text reply close) later so.written sends) texts_are
 
-  pub goes_on : head.closes ≡ false → Sends mid_holds last (waiting ++ text reply head.closes) later → SoFar known now taken turns reads now_reads old new holds last later (requests + 1)
+  pub goes_on : close ≡ false → Sends mid_holds last (waiting ++ text reply close) later → SoFar known now left spare turns reads now_reads old new holds last later (requests + 1)
   goes_on e sends = record {
-    parts = so.parts ++ has.part ∷ [];
+    parts = so.parts ++ part ∷ [];
     replies = so.replies ++ reply ∷ [];
     spent = so.spent;
-    each = each-more so.parts has.part so.each (is_open e);
+    each = each-more so.parts part so.each (is_open e);
     consumed = Consumes-is known now _ _ so.consumed (sym joined);
     answers = answers;
     written = written_on sends;
     count = counted;
-    turned = omega (arith, so.turned, same);
+    turned = so.turned;
     counts = so.counts;
-    fits = omega (arith, so.fits, longer, print_part-some has.part);
+    fits = omega (arith, so.fits, longer, print_part-some part);
     least = omega (arith, so.least, ap length joined);
     most = omega (arith, so.most, ap length joined);
   }
 
   -- all bytes, as far as they are known
   abbrev every : List ℕ
-  every = (flat_map print_part so.parts ++ unread input) ++ unwrap_or now []
+  every = (flat_map print_part so.parts ++ pending) ++ unwrap_or now []
 
   -- the rest of the bytes begins with the request
-  begun : (left : List ℕ) → unread input ++ left ≡ print_part has.part ++ (unread taken ++ left)
-  begun left =
-      ap (λ (v : List ℕ). v ++ left) (has.whole ∙ ap (λ (v : List ℕ). print_part has.part ++ v) (sym rest_is))
-      ∙ append_assoc (print_part has.part) (unread taken) left
+  begun : (rest : List ℕ) → pending ++ rest ≡ print_part part ++ (left ++ rest)
+  begun rest = ap (λ (v : List ℕ). v ++ rest) whole ∙ append_assoc (print_part part) left rest
 
-  reads_closed : head.closes ≡ true → Reads every (so.parts ++ has.part ∷ []) Closed
+  reads_closed : close ≡ true → Reads every (so.parts ++ part ∷ []) Closed
   reads_closed e = (
     so.parts,
-    has.part ∷ [],
-    unread input ++ unwrap_or now [],
+    part ∷ [],
+    pending ++ unwrap_or now [],
     refl,
-    cut every (unwrap_or now []) so.parts (unread input) so.each refl,
-    (unread taken ++ unwrap_or now [], has.is_part, sym has.is_kept.last ∙ e, begun (unwrap_or now [])),
+    cut every (unwrap_or now []) so.parts pending so.each refl,
+    (left ++ unwrap_or now [], is, sym is_last ∙ e, begun (unwrap_or now [])),
   )
 
-  pub closes_on : head.closes ≡ true → Sends mid_holds last (waiting ++ text reply head.closes) later → Finishes known old new holds last later (requests + 1) Closed
+  pub closes_on : close ≡ true → Sends mid_holds last (waiting ++ text reply close) later → Finishes known old new holds last later (requests + 1) Closed
   closes_on e sends = record {
     bytes = every;
     given = given_of known now _ so.consumed;
-    parts = so.parts ++ has.part ∷ [];
+    parts = so.parts ++ part ∷ [];
     replies = so.replies ++ reply ∷ [];
     reads = reads_closed e;
     answers = answers;
@@ -458,39 +463,37 @@ module _ (known now : Option (List ℕ)) (input taken : Input) (turns reads now_
     count = counted;
   }
 
-  front_written : AppendsFront mid_holds last (waiting ++ text reply head.closes) → AppendsFront holds last (texts (so.parts ++ has.part ∷ []) (so.replies ++ reply ∷ []))
+  front_written : AppendsFront mid_holds last (waiting ++ text reply close) → AppendsFront holds last (texts (so.parts ++ part ∷ []) (so.replies ++ reply ∷ []))
   front_written f =
-      AppendsFront-is holds last _ _ (Sends-front holds mid_holds last (texts so.parts so.replies) waiting (text reply head.closes) so.written f) texts_are
+      AppendsFront-is holds last _ _ (Sends-front holds mid_holds last (texts so.parts so.replies) waiting (text reply close) so.written f) texts_are
 
-  unwritten_by : (close : Bool) → head.closes ≡ close → AppendsFront holds last (texts (so.parts ++ has.part ∷ []) (so.replies ++ reply ∷ []))
-      → Unwritten every (so.parts ++ has.part ∷ []) (so.replies ++ reply ∷ []) holds last
+  unwritten_by : (shut : Bool) → close ≡ shut → AppendsFront holds last (texts (so.parts ++ part ∷ []) (so.replies ++ reply ∷ []))
+      → Unwritten every (so.parts ++ part ∷ []) (so.replies ++ reply ∷ []) holds last
   unwritten_by false e f =
       inl (
-        unread taken ++ unwrap_or now [],
-        cut every (unwrap_or now []) (so.parts ++ has.part ∷ []) (unread taken) (each-more so.parts has.part so.each (is_open e)) (ap (λ (v : List ℕ). v ++ unwrap_or now []) (sym joined)),
+        left ++ unwrap_or now [],
+        cut every (unwrap_or now []) (so.parts ++ part ∷ []) left (each-more so.parts part so.each (is_open e)) (ap (λ (v : List ℕ). v ++ unwrap_or now []) (sym joined)),
         f,
       )
   unwritten_by true e f =
-      inr (Closed, reads_closed e, AppendsFront-is holds last _ _ f (sym (append-nil (texts (so.parts ++ has.part ∷ []) (so.replies ++ reply ∷ [])))))
+      inr (Closed, reads_closed e, AppendsFront-is holds last _ _ f (sym (append-nil (texts (so.parts ++ part ∷ []) (so.replies ++ reply ∷ [])))))
 
-  pub failed : AppendsFront mid_holds last (waiting ++ text reply head.closes) → Breaks (record { kind = Write; requests = requests + 1 }) known old new holds last
+  pub failed : AppendsFront mid_holds last (waiting ++ text reply close) → Breaks (record { kind = Write; requests = requests + 1 }) known old new holds last
   failed f = record {
     bytes = every;
     given = given_of known now _ so.consumed;
-    parts = so.parts ++ has.part ∷ [];
+    parts = so.parts ++ part ∷ [];
     replies = so.replies ++ reply ∷ [];
     answers = answers;
-    written = unwritten_by head.closes refl (front_written f);
+    written = unwritten_by close refl (front_written f);
     count = counted;
   }
 
 -- what is left to do falls
-pub smaller : (input next taken sent : Input) (known later : Option (List ℕ)) (reads later_reads : ℕ) → ReadsOn input next known later reads later_reads
-    → length (unread taken) + taken.turns * 16384 < length (unread next) + next.turns * 16384 → sent ≡ taken
-    → length (unread sent) + sent.turns * 16384 < length (unread input) + input.turns * 16384
-smaller input next taken sent known later reads later_reads r less same =
-    let P : Input → Type 0 = λ i. length (unread i) + i.turns * 16384 < length (unread input) + input.turns * 16384 in
-    subst P (sym same) (omega (arith, less, r.most, r.turned, ap length r.grown, length-append (unread input) r.more))
+pub smaller : (old pending left : List ℕ) (turns spare : ℕ) (known later : Option (List ℕ)) (reads later_reads : ℕ) → ReadsOn old pending turns spare known later reads later_reads
+    → length left < length pending → length left + spare * 16384 < length old + turns * 16384
+smaller old pending left turns spare known later reads later_reads r less =
+    omega (arith, less, r.most, r.turned, ap length r.grown, length-append old r.more)
 
 -- nothing was read
 pub nothing_read : (known : Option (List ℕ)) (state : State) (holds : Option (List ℕ)) → Breaks (record { kind = Memory; requests = 0 }) known state state holds holds

@@ -8,11 +8,13 @@ use Rattle.http_desk.specs.declared.connection_end.End.{End}
 use Rattle.http_desk.specs.declared.connection_end.End.TheVariants.{Quiet, Bad, TooLarge, Busy}
 use Rattle.http_desk.specs.declared.body_length.BodyLength.TheVariants.{Sized}
 use Rattle.http_desk.specs.declared.head.Head.{Head}
-use Rattle.http_desk.specs.declared.input.Input.{Input}
+use Rattle.http_desk.specs.declared.upcoming.Upcoming.{Upcoming}
+use Rattle.http_desk.specs.declared.upcoming.Upcoming.TheVariants.{Request, Ended}
 use Rattle.http_desk.specs.Head.{HasHead, IsKept}
-use Rattle.http_desk.specs.Input.{unread, ReadsOn}
-use Rattle.http_desk.specs.Upcoming.{EndsSo, HasPart, ended_with}
+use Rattle.http_desk.specs.Input.{ReadsOn}
+use Rattle.http_desk.specs.Upcoming.{EndsSo, HasPart, IsUpcoming, IsUpcomingHead, ended_with}
 use Rattle.http_desk.specs.Part.{Begins}
+use Rattle.http_desk.specs.Path.{PutsTransmission}
 use Rattle.http_desk.specs.Reads.{Awaits, AwaitsHead, Ends, IsBad, IsTooLarge, small_request}
 use Rattle.http_desk.specs.Counted.{counted_on}
 use Rattle.http_desk.proofs.Known.{Consumes-none, Consumes-join, counted_none, counted_join}
@@ -20,30 +22,50 @@ use Rattle.http_desk.proofs.HeadLemmas.{Begins-append, none_partial}
 
 -- ---- reading on
 
-pub ReadsOn-same : (old new : Input) (known : Option (List ℕ)) (reads : ℕ) → unread new ≡ unread old → new.turns ≡ old.turns → reads < 2 ^ 64
-    → ReadsOn old new known known reads reads
-ReadsOn-same old new known reads same turns fits = record {
+pub ReadsOn-same : (old new : List ℕ) (turns new_turns : ℕ) (known : Option (List ℕ)) (reads : ℕ) → new ≡ old → new_turns ≡ turns → reads < 2 ^ 64
+    → ReadsOn old new turns new_turns known known reads reads
+ReadsOn-same old new turns new_turns known reads same kept fits = record {
   more = [];
   spent = 0;
-  grown = same ∙ sym (append-nil (unread old));
+  grown = same ∙ sym (append-nil old);
   consumed = Consumes-none known;
-  turned = omega (arith, turns);
+  turned = omega (arith, kept);
   counts = counted_none reads fits;
   most = omega arith;
   least = omega arith;
 }
 
-pub ReadsOn-join : (a b c : Input) (k m n : Option (List ℕ)) (r s t : ℕ) → ReadsOn a b k m r s → ReadsOn b c m n s t → ReadsOn a c k n r t
-ReadsOn-join a b c k m n r s t p q = record {
+pub ReadsOn-join : (a b c : List ℕ) (x y z : ℕ) (k m n : Option (List ℕ)) (r s t : ℕ) → ReadsOn a b x y k m r s → ReadsOn b c y z m n s t
+    → ReadsOn a c x z k n r t
+ReadsOn-join a b c x y z k m n r s t p q = record {
   more = p.more ++ q.more;
   spent = p.spent + q.spent;
-  grown = q.grown ∙ ap (λ (v : List ℕ). v ++ q.more) p.grown ∙ append_assoc (unread a) p.more q.more;
+  grown = q.grown ∙ ap (λ (v : List ℕ). v ++ q.more) p.grown ∙ append_assoc a p.more q.more;
   consumed = Consumes-join k m n p.more q.more p.consumed q.consumed;
   turned = omega (arith, p.turned, q.turned);
   counts = q.counts ∙ ap (λ (v : ℕ). counted_on v q.spent) p.counts ∙ counted_join r p.spent q.spent;
   most = omega (arith, p.most, q.most, length-append p.more q.more);
   least = omega (arith, p.least, q.least, length-append p.more q.more);
 }
+
+-- the same behind other bytes
+pub ReadsOn-behind : (front a b : List ℕ) (x y : ℕ) (k m : Option (List ℕ)) (r s : ℕ) → ReadsOn a b x y k m r s → ReadsOn (front ++ a) (front ++ b) x y k m r s
+ReadsOn-behind front a b x y k m r s p = record {
+  more = p.more;
+  spent = p.spent;
+  grown = ap (λ (v : List ℕ). front ++ v) p.grown ∙ sym (append_assoc front a p.more);
+  consumed = p.consumed;
+  turned = p.turned;
+  counts = p.counts;
+  most = p.most;
+  least = p.least;
+}
+
+pub ReadsOn-is : (a b c : List ℕ) (x y : ℕ) (k m : Option (List ℕ)) (r s : ℕ) → ReadsOn a b x y k m r s → c ≡ b → ReadsOn a c x y k m r s
+ReadsOn-is a b c x y k m r s p e = let P : List ℕ → Type 0 = λ v. ReadsOn a v x y k m r s in subst P (sym e) p
+
+pub ReadsOn-spare : (a b : List ℕ) (x y z : ℕ) (k m : Option (List ℕ)) (r s : ℕ) → ReadsOn a b x y k m r s → z ≡ y → ReadsOn a b x z k m r s
+ReadsOn-spare a b x y z k m r s p e = let P : ℕ → Type 0 = λ n. ReadsOn a b x n k m r s in subst P (sym e) p
 
 -- ---- heads stay
 
@@ -96,7 +118,14 @@ pub ended_busy : (bytes : List ℕ) (known : Option (List ℕ)) (kept : Head) �
     → small_request < kept.length + kept.body → EndsSo bytes known Busy
 ended_busy bytes known kept h large =
     so bytes known Busy
-    (λ left. (h.0, h.1 ++ left, Begins-append bytes left h.1 h.0 h.2, (kept.body, h.3.body, omega (arith, h.3.size, large))))
+    (λ left. (h.0, h.1 ++ left, Begins-append bytes left h.1 h.0 h.2, (kept.body, h.3.body, inl (omega (arith, h.3.size, large)))))
+
+-- memory was refused for the body of a transmission
+pub ended_refused : (bytes : List ℕ) (known : Option (List ℕ)) (kept : Head) → (h : HasHead bytes kept) → PutsTransmission h.0
+    → 1 ≤ kept.body → EndsSo bytes known Busy
+ended_refused bytes known kept h puts some =
+    so bytes known Busy
+    (λ rest. (h.0, h.1 ++ rest, Begins-append bytes rest h.1 h.0 h.2, (kept.body, h.3.body, inr (puts, some))))
 
 pub awaits_body : (bytes : List ℕ) (kept : Head) → HasHead bytes kept → length bytes < kept.length + kept.body → Awaits bytes
 awaits_body bytes kept h short =
@@ -134,3 +163,20 @@ whole_part bytes kept h enough =
 
 pub head_small : (bytes : List ℕ) (kept : Head) → HasHead bytes kept → kept.length ≤ 8192
 head_small bytes kept h = omega (arith, h.2.short, h.3.size)
+
+-- a whole request begins with its head
+pub part_head : (bytes : List ℕ) (kept : Head) → HasPart bytes kept → HasHead bytes kept
+part_head bytes kept has = (
+  has.part.head,
+  has.part.body ++ has.rest,
+  record {
+    reads = (has.is_part.valid, has.whole ∙ append_assoc (print_request has.part.head) has.part.body has.rest);
+    short = has.is_part.short;
+    few = has.is_part.few;
+  },
+  has.is_kept,
+)
+
+pub upcoming_head : (next : Upcoming) (bytes : List ℕ) (known : Option (List ℕ)) → IsUpcoming next bytes known → IsUpcomingHead next bytes known
+upcoming_head (Request kept) bytes known is = part_head bytes kept is
+upcoming_head (Ended end) bytes known is = is

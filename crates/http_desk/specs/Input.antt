@@ -16,21 +16,21 @@ unread input = drop input.start input.bytes.items
 abbrev pub max_piece : ℕ
 max_piece = 16384
 
--- bytes that the reader gave went to the end of those not taken yet; each turn that was spent is a read that gave 1 to 16,384 of them
-pub record ReadsOn (old new : Input) (known new_known : Option (List ℕ)) (reads new_reads : ℕ) : Type 0 where
+-- bytes that the reader gave went to the end of those not answered yet; each turn that was spent is a read that gave 1 to 16,384 of them
+pub record ReadsOn (old new : List ℕ) (turns new_turns : ℕ) (known new_known : Option (List ℕ)) (reads new_reads : ℕ) : Type 0 where
   pub more : List ℕ
   pub spent : ℕ
-  pub grown : unread new ≡ unread old ++ more
+  pub grown : new ≡ old ++ more
   pub consumed : Consumes known new_known more
-  pub turned : old.turns ≡ new.turns + spent
+  pub turned : turns ≡ new_turns + spent
   pub counts : new_reads ≡ counted_on reads spent
   pub most : length more ≤ spent * max_piece
   pub least : spent ≤ length more
 
--- the same of a reader, from one state of it to another
+-- the same of a reader and an input that keeps all that it gives, from one state to another
 abbrev pub ReadsFrom : {R : Type 0} → (R → Option (List ℕ)) → Counted R → Counted R → Input → Input → Type 0
 ReadsFrom remaining reader new_reader input new_input =
-    ReadsOn input new_input (remaining (inner_of reader)) (remaining (inner_of new_reader)) (reads_of reader) (reads_of new_reader)
+    ReadsOn (unread input) (unread new_input) input.turns new_input.turns (remaining (inner_of reader)) (remaining (inner_of new_reader)) (reads_of reader) (reads_of new_reader)
 
 -- why reading failed: the reader did, or no turn was left
 abbrev pub FailsBy : FaultKind → ℕ → ℕ → ℕ → Type 0

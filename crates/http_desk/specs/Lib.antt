@@ -1,5 +1,7 @@
+pub mod Answering
 pub mod BodyLength
 pub mod Counted
+pub mod Feeding
 pub mod Fields
 pub mod Head
 pub mod Input

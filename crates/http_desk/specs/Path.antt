@@ -1,8 +1,9 @@
 -- The routes of the office, and the request that a method, a target and a body make.
-use Rattle.std.specs.Prelude.{ℕ, Bool, true, false, List, [], ◌==◌, ◌&&◌, ◌||◌, not, nat_lt, codes, if◌then◌else◌, Option, Some, None, Result, Ok, Err, option_and_then}
+use Rattle.std.specs.Prelude.{◌≡◌, ℕ, Bool, true, false, List, [], ◌==◌, ◌&&◌, ◌||◌, not, nat_lt, codes, if◌then◌else◌, Option, Some, None, Result, Ok, Err, option_and_then}
 use Rattle.std.specs.List.{list_all}
 use Rattle.std.specs.Option.{option_map}
 use Rattle.std.specs.Result.{result_ok}
+use Rattle.httparse.specs.Grammar.{RequestHead}
 use Rattle.matchit.specs.Rows.{RowsOf}
 use Rattle.matchit.specs.Route.{Scan, parse_route}
 use Rattle.matchit.specs.Router.{RouteOf, route_from}
@@ -137,3 +138,8 @@ query_for put target body = if is_path target then asked_by put target (first of
 -- what a request as bytes asks
 abbrev pub request_of : Part → Query
 request_of part = query_for (is_put part.head.method) part.head.target part.body
+
+-- a head asks to put a transmission, whatever the body behind it
+abbrev pub PutsTransmission : RequestHead → Type 0
+PutsTransmission head =
+    (sender : List ℕ) × (number : ℕ) × ((body : List ℕ) → query_for (is_put head.method) head.target body ≡ Puts sender number body)

@@ -1,5 +1,5 @@
 -- How the bytes of a connection are cut into requests, and how it ends.
-use Rattle.std.specs.Prelude.{◌≡◌, ◌≢◌, ◌⊎◌, ℕ, ◌+◌, ◌<◌, true, List, [], ◌∷◌, ◌++◌, length}
+use Rattle.std.specs.Prelude.{◌≡◌, ◌≢◌, ◌⊎◌, ℕ, ◌+◌, ◌<◌, ◌≤◌, true, List, [], ◌∷◌, ◌++◌, length}
 use Rattle.std.specs.List.{flat_map, AllByRecursion}
 use Rattle.httparse.specs.Grammar.{RequestHead, print_request, HasNoRequest, MayBecomeRequest}
 use Rattle.http_desk.specs.declared.body_length.BodyLength.TheVariants.{Sized, Faulty, Large}
@@ -7,6 +7,7 @@ use Rattle.http_desk.specs.declared.connection_end.End.{End}
 use Rattle.http_desk.specs.declared.connection_end.End.TheVariants.{Quiet, Closed, Bad, TooLarge, Busy}
 use Rattle.http_desk.specs.BodyLength.{body_length, closes}
 use Rattle.http_desk.specs.Part.{Part, print_part, Begins, IsPart, IsOpenPart, max_head}
+use Rattle.http_desk.specs.Path.{PutsTransmission}
 
 -- the bytes are these requests, each of which leaves the connection open, and then rest
 pub record Cuts (bytes : List ℕ) (parts : List Part) (rest : List ℕ) : Type 0 where
@@ -54,15 +55,19 @@ IsBad bytes =
 abbrev pub IsTooLarge : List ℕ → Type 0
 IsTooLarge bytes = (head : RequestHead) × (rest : List ℕ) × Begins bytes head rest × (body_length head ≡ Large)
 
--- the longest request, in bytes of head and body, for which no memory is asked while it is read (profile)
+-- the longest request, in bytes of head and body, for which no memory is asked while it is read, where its body is not kept (profile)
 abbrev pub small_request : ℕ
 small_request = 65536
 
--- a head without fault that announces a request above that: memory can be refused there (profile)
+-- memory is asked while a request with this head and so large a body is read: it is above that, or puts a transmission, whose body is kept from its first byte on (profile)
+abbrev pub AsksMemory : RequestHead → ℕ → Type 0
+AsksMemory head size = (small_request < length (print_request head) + size) ⊎ (PutsTransmission head × (1 ≤ size))
+
+-- a head without fault after which memory can be refused
 abbrev pub MayBeBusy : List ℕ → Type 0
 MayBeBusy bytes =
     (head : RequestHead) × (rest : List ℕ) × Begins bytes head rest
-    × ((size : ℕ) × (body_length head ≡ Sized size) × (small_request < length (print_request head) + size))
+    × ((size : ℕ) × (body_length head ≡ Sized size) × AsksMemory head size)
 
 -- the bytes are a request that ends the connection, and what is not read
 abbrev pub IsLast : List ℕ → Part → Type 0

@@ -1,6 +1,6 @@
 -- Representation, not meaning: what a connection takes before its first read.
 use Rattle.std.specs.Prelude.{◌≡◌, ◌≤◌, vec_capacity}
-use Rattle.http_desk.specs.declared.connection.Room.{Room}
+use Rattle.http_desk.specs.declared.room.Room.{Room}
 use Rattle.http_desk.specs.Path.{office_routes}
 
 -- the routes of the office, and room for a parameter, and for the body of an answer

@@ -1,112 +1,31 @@
 //! A connection is served: requests are read, answered in turn, and their answers written.
-ghost use Rattle.std.specs.Prelude.{◌≡◌, ◌≢◌, ◌≤◌, ◌<◌, ◌+◌, ◌++◌, ◌^◌, [], drop, IfOk, IfErr, OnOk, OnErr, IsTrue, vec_capacity};
-ghost use Rattle.society_core.specs.Requests.{reply_of};
+ghost use Rattle.std.specs.Prelude.{◌≡◌, ◌≢◌, ◌<◌, ◌++◌, ◌^◌, [], IfOk, IfErr, OnOk, OnErr, IsTrue};
 ghost use Rattle.society_core.specs.State.{Rises};
 ghost use Rattle.http_desk.specs.Counted.{failures_of};
 ghost use Rattle.http_desk.specs.Input.{unread};
 ghost use Rattle.http_desk.specs.Outbox.{waiting, Puts};
-ghost use Rattle.http_desk.specs.Path.{office_routes};
 ghost use Rattle.http_desk.specs.Room.{IsReady};
-ghost use Rattle.http_desk.specs.Serves.{ClosesBy, FailsToClose, IsAnswered, IsServed, IsGivenUp, KeepsTurns};
+ghost use Rattle.http_desk.specs.Serves.{ClosesBy, FailsToClose, IsServed, IsGivenUp, KeepsTurns};
 ghost use Rattle.http_desk.specs.Text.{text, ending};
 ghost use Rattle.http_desk.specs.Told.{IsReadyToSend, told_reply};
-ghost use Rattle.http_desk.specs.Upcoming.{HasPart};
 
+use crate::answering::{Next, answer_upcoming};
 use crate::connection_end::End;
 use crate::counted::{Counted, NotWritten};
 use crate::fault::{DeskFault, FaultKind};
-use crate::head::{Head, MAX_HEAD};
-use crate::input::Input;
 use crate::outbox::Outbox;
 use crate::reply::{put_reply, write_end};
-use crate::requests::request_for;
-use crate::routes::{Route, routes};
-use crate::told::{Told, tell};
-use crate::upcoming::{Upcoming, next_answered};
-use matchit::Router;
-use society_core::{Answer, Desk, Refusal, Store, answer};
-use std::alloc::{AllocError, Global};
+use crate::room::{Room, make_room};
+use crate::told::Told;
+use society_core::{Desk, Store};
+use std::alloc::Global;
 use std::io::{Read, Write};
-
-/// Room for the body of an answer that is made here, in bytes.
-const BODY_ROOM: usize = 512;
 
 /// A connection that was served to its end.
 #[derive(Clone, Copy, Debug, PartialEq, Eq)]
 pub struct Served {
     /// Requests that were answered.
     pub requests: u128,
-}
-
-// What a connection takes before its first read, and no more after but for bodies.
-#[derive(Drop)]
-pub(crate) struct Room {
-    router: Router<Route>,
-    input: Input,
-    parameter: Vec<u8>,
-    body: Vec<u8>,
-    outbox: Outbox,
-}
-
-fn make_room(alloc: Global, turns: u64) -> Result<Room, AllocError>
-    ensures ready { IfOk result IsReady }
-    ensures unread { IfOk result (λ room. unread room.input ≡ []) }
-    ensures waiting { IfOk result (λ room. waiting room.outbox ≡ []) }
-    ensures turns { IfOk result (λ room. room.input.turns ≡ turns) }
-{
-    Ok(Room {
-        router: routes(alloc)?,
-        input: Input::new(alloc, turns)?,
-        parameter: Vec::with_capacity(alloc, MAX_HEAD)?,
-        body: Vec::with_capacity(alloc, BODY_ROOM)?,
-        outbox: Outbox::new(alloc)?,
-    })
-}
-
-// Answers the request at the front of these bytes.
-fn answer_front<S: Store>(
-    alloc: Global,
-    desk: &mut Desk<S>,
-    router: &Router<Route>,
-    scratch: &mut Vec<u8>,
-    bytes: &[u8],
-    head: &Head,
-) -> Answer
-    requires routes { router.now ≡ office_routes }
-    requires room { 8192 ≤ vec_capacity scratch.old }
-    requires part { HasPart bytes.now head.now }
-    ensures step { IsAnswered S.state desk.old desk.new bytes.now head.now (reply_of result) }
-    ensures office { (S.state desk.new).office ≡ (S.state desk.old).office }
-    ensures clean { IsTrue (S.state desk.new).is_clean → IsTrue (S.state desk.old).is_clean }
-    ensures room { vec_capacity scratch.old ≤ vec_capacity scratch.new }
-{
-    let target = head.target.of(bytes);
-    let body = &bytes[head.length..head.length + head.body as usize];
-    let Ok(request) = request_for(alloc, router, scratch, head.put, target, body) else {
-        return Answer::Refused(Refusal::Unavailable);
-    };
-    answer(alloc, desk, &request)
-}
-
-// Answers the request at the front of the bytes and takes it.
-fn answer_next<S: Store>(alloc: Global, desk: &mut Desk<S>, room: &mut Room, head: &Head) -> Told
-    requires ready { IsReady room.old }
-    requires part { HasPart (unread room.old.input) head.now }
-    ensures step { IsAnswered S.state desk.old desk.new (unread room.old.input) head.now
-        (told_reply result) }
-    ensures told { IsReadyToSend result }
-    ensures office { (S.state desk.new).office ≡ (S.state desk.old).office }
-    ensures clean { IsTrue (S.state desk.new).is_clean → IsTrue (S.state desk.old).is_clean }
-    ensures taken { unread room.new.input
-        ≡ drop (head.now.length + head.now.body) (unread room.old.input) }
-    ensures turns { room.new.input.turns ≡ room.old.input.turns }
-    ensures outbox { room.new.outbox ≡ room.old.outbox }
-    ensures ready { IsReady room.new }
-{
-    let bytes = room.input.unread();
-    let answer = answer_front(alloc, desk, &room.router, &mut room.parameter, bytes, head);
-    room.input.take(head.length + head.body as usize);
-    tell(alloc, answer)
 }
 
 // Puts an answer behind the texts that wait.
@@ -207,20 +126,19 @@ fn serve_in<S: Store, R: Read, W: Write>(
 {
     let mut requests = 0u128;
     loop {
-        let head = match next_answered(reader, writer, &mut room.input, &mut room.outbox) {
-            Ok(Upcoming::Request(head)) => head,
-            Ok(Upcoming::Ended(end)) => return close_with(writer, &mut room.outbox, end, requests),
+        let answered = match answer_upcoming(alloc, desk, reader, writer, room) {
+            Ok(Next::Request(answered)) => answered,
+            Ok(Next::Ended(end)) => return close_with(writer, &mut room.outbox, end, requests),
             Err(kind) => return Err(DeskFault { kind, requests }),
         };
-        let told = answer_next(alloc, desk, room, &head);
         requests += 1;
-        let Ok(()) = send(writer, room, &told, head.closes) else {
+        let Ok(()) = send(writer, room, &answered.told, answered.closes) else {
             return Err(DeskFault {
                 kind: FaultKind::Write,
                 requests,
             });
         };
-        if head.closes {
+        if answered.closes {
             return close_with(writer, &mut room.outbox, End::Closed, requests);
         }
     }

@@ -91,6 +91,23 @@ impl Input {
         Ok(())
     }
 
+    /// Reads where no byte is left here: whether there is one now. An error changes none of the bytes.
+    pub(crate) fn fill<R: Read>(&mut self, reader: &mut Counted<R>) -> Result<bool, FaultKind>
+        ensures reads { ReadsFrom R.remaining reader.old reader.new self.old self.new }
+        ensures some { IfOk result (λ gave. gave ≡ true → 1 ≤ length (unread self.new)) }
+        ensures end { IfOk result (λ gave. gave ≡ false
+            → (unread self.new ≡ []) × IsAtEnd (R.remaining (inner_of reader.new))) }
+        ensures stays { OnErr result (unread self.new ≡ []) }
+        ensures kept { OnOk result (failures_of reader.new ≡ failures_of reader.old) }
+        ensures fault { IfErr result (λ kind.
+            FailsBy kind self.new.turns (failures_of reader.old) (failures_of reader.new)) }
+    {
+        if !self.unread().is_empty() {
+            return Ok(true);
+        }
+        self.read_more(reader)
+    }
+
     /// One read: whether it gave bytes. An error changes none of the bytes.
     pub(crate) fn read_more<R: Read>(&mut self, reader: &mut Counted<R>) -> Result<bool, FaultKind>
         requires { length (unread self.old) + max_piece ≤ vec_capacity self.old.bytes }

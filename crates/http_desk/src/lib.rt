@@ -1,11 +1,13 @@
 //! The office's desk as bytes: requests are read from any reader, and their answers written to any writer.
 #![tactic(auto)]
 
+mod answering;
 mod body_length;
 mod connection;
 mod connection_end;
 mod counted;
 mod fault;
+mod feeding;
 mod head;
 mod input;
 mod json;
@@ -15,6 +17,7 @@ mod outbox;
 mod parameters;
 mod reply;
 mod requests;
+mod room;
 mod routes;
 mod status;
 mod table;
@@ -28,5 +31,7 @@ pub use counted::{Counted, NotWritten};
 pub use fault::{DeskFault, FaultKind};
 pub use laws::one_cutting;
 
+#[cfg(test)]
+mod feeding_tests;
 #[cfg(test)]
 mod tests;

@@ -1,7 +1,7 @@
 //! The requests of the office, by method, target and body.
-ghost use Rattle.std.specs.Prelude.{◌≡◌, ◌≤◌, length, vec_capacity, IfOk};
+ghost use Rattle.std.specs.Prelude.{◌≡◌, ◌≤◌, ℕ, List, length, vec_capacity, IfOk, IfSome};
 ghost use Rattle.matchit.specs.Params.{AllText};
-ghost use Rattle.society_core.specs.Requests.{query_of};
+ghost use Rattle.society_core.specs.Requests.{query_of, Puts};
 ghost use Rattle.http_desk.specs.declared.routes.Route.TheVariants as route;
 ghost use Rattle.http_desk.specs.Parameters.{parts_of};
 ghost use Rattle.http_desk.specs.Path.{office_routes, is_path_byte, is_path, asked_by_put, asked_by_get, query_for};
@@ -13,7 +13,7 @@ use crate::parameters::{
 };
 use crate::routes::Route;
 use matchit::{Params, Router};
-use society_core::{Request, ReturnKey};
+use society_core::{Request, ReturnKey, TransmissionKey};
 use std::alloc::{AllocError, Global};
 use std::str;
 
@@ -248,5 +248,50 @@ pub(crate) fn request_for<'b>(
         put_of(alloc, *found.value, scratch, &found.params, body)
     } else {
         Ok(get_of(*found.value, scratch, &found.params))
+    }
+}
+
+// The transmission in the parameters of a route.
+fn transmission_in_path(scratch: &mut Vec<u8>, params: &Params<'_, '_>) -> Option<TransmissionKey>
+    requires text { AllText (parts_of params.now) }
+    requires room { length params.now.path.now ≤ vec_capacity scratch.old }
+    ensures asks { IfSome result (λ key. (body : List ℕ)
+        → asked_by_put route.Transmission (parts_of params.now) body ≡ Puts key.sender key.number body) }
+    ensures room { vec_capacity scratch.old ≤ vec_capacity scratch.new }
+{
+    let sender = sender_in_path(scratch, params)?;
+    let number = number_in_path(scratch, params)?;
+    Some(TransmissionKey { sender, number })
+}
+
+/// The transmission that a method and a target put, whatever body comes with them; a parameter is decoded in the scratch.
+/// None where they ask anything else.
+pub(crate) fn put_transmission(
+    router: &Router<Route>,
+    scratch: &mut Vec<u8>,
+    put: bool,
+    target: &[u8],
+) -> Option<TransmissionKey>
+    requires routes { router.now ≡ office_routes }
+    requires room { length target.now ≤ vec_capacity scratch.old }
+    ensures asks { IfSome result (λ key. (body : List ℕ)
+        → query_for put target.now body ≡ Puts key.sender key.number body) }
+    ensures room { vec_capacity scratch.old ≤ vec_capacity scratch.new }
+{
+    if !put {
+        return None;
+    }
+    if !is_path(target) {
+        return None;
+    }
+    let Ok(path) = str::from_utf8(target) else {
+        return None;
+    };
+    let Ok(found) = router.at(path) else {
+        return None;
+    };
+    match *found.value {
+        Route::Transmission => transmission_in_path(scratch, &found.params),
+        _ => None,
     }
 }

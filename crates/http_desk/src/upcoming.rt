@@ -1,5 +1,5 @@
 //! What comes next on a connection: a request, or the end.
-ghost use Rattle.std.specs.Prelude.{◌≡◌, ℕ, List, Option, IfOk, IfErr, IfSome, OnErr, OnOk};
+ghost use Rattle.std.specs.Prelude.{◌≡◌, ◌⊎◌, [], ℕ, List, Option, IfOk, IfErr, IfSome, OnErr, OnOk};
 ghost use Rattle.http_desk.specs.Counted.{inner_of, failures_of};
 ghost use Rattle.http_desk.specs.Head.{HasHead};
 ghost use Rattle.http_desk.specs.Input.{unread, ReadsFrom, FailsBy};
@@ -41,7 +41,8 @@ fn settled(bytes: &[u8]) -> Option<Upcoming>
     }
 }
 
-/// What comes next. Before more bytes are read for it, the answers that wait are written.
+/// What comes next: a head, or the end. Before more bytes are read for it, the answers that wait are written, and so they
+/// are where a request is not whole yet.
 pub(crate) fn next_answered<R: Read, W: Write>(
     reader: &mut Counted<R>,
     writer: &mut Counted<W>,
@@ -50,7 +51,9 @@ pub(crate) fn next_answered<R: Read, W: Write>(
 ) -> Result<Upcoming, FaultKind>
     ensures reads { ReadsFrom R.remaining reader.old reader.new input.old input.new }
     ensures next { IfOk result (λ next.
-        IsUpcoming next (unread input.new) (R.remaining (inner_of reader.new))) }
+        IsUpcomingHead next (unread input.new) (R.remaining (inner_of reader.new))) }
+    ensures written { IfOk result (λ next. (waiting outbox.new ≡ [])
+        ⊎ IsUpcoming next (unread input.new) (R.remaining (inner_of reader.new))) }
     ensures sends { OnOk result (SendsTo W.contents writer.old writer.new outbox.old outbox.new) }
     ensures kept { OnOk result (failures_of reader.new ≡ failures_of reader.old) }
     ensures kept_writer { OnOk result (failures_of writer.new ≡ failures_of writer.old) }
@@ -63,23 +66,7 @@ pub(crate) fn next_answered<R: Read, W: Write>(
     let Ok(()) = outbox.flush(writer) else {
         return Err(FaultKind::Write);
     };
-    next_request(reader, input)
-}
-
-// Reads on until a whole request stands at the front, or the connection ends. Its head is read once.
-fn next_request<R: Read>(reader: &mut Counted<R>, input: &mut Input) -> Result<Upcoming, FaultKind>
-    ensures reads { ReadsFrom R.remaining reader.old reader.new input.old input.new }
-    ensures next { IfOk result (λ next.
-        IsUpcoming next (unread input.new) (R.remaining (inner_of reader.new))) }
-    ensures awaits { OnErr result (Awaits (unread input.new)) }
-    ensures kept { OnOk result (failures_of reader.new ≡ failures_of reader.old) }
-    ensures fault { IfErr result (λ kind.
-        FailsBy kind input.new.turns (failures_of reader.old) (failures_of reader.new)) }
-{
-    match next_head(reader, input)? {
-        Upcoming::Request(head) => whole_request(reader, input, head),
-        Upcoming::Ended(end) => Ok(Upcoming::Ended(end)),
-    }
+    next_head(reader, input)
 }
 
 // Reads on until a head stands at the front.
@@ -116,8 +103,8 @@ fn end_of(bytes: &[u8]) -> End
     }
 }
 
-// Reads on until the body of the head at the front is whole.
-fn whole_request<R: Read>(
+/// Reads on until the body of the head at the front is whole.
+pub(crate) fn whole_request<R: Read>(
     reader: &mut Counted<R>,
     input: &mut Input,
     head: Head,

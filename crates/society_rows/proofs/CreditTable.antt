@@ -1,5 +1,5 @@
 -- The statements over the table of credits.
-use Rattle.std.proofs.Common.{◌≡◌, ℕ, ℤ, true, List, [], ◌∷◌, codes, Ok, refl}
+use Rattle.std.proofs.Common.{◌≡◌, ℕ, ℤ, true, List, [], ◌∷◌, codes, Ok, refl, ◌++◌, pos}
 use Rattle.sqlite_value.specs.declared.value.Value.TheVariants.{Null, Int, Text}
 use Rattle.sqlite_value.specs.declared.keys.Collation.TheVariants.{Binary}
 use Rattle.sqlite_value.specs.declared.keys.Key.{Key}
@@ -16,6 +16,8 @@ use Rattle.sqlite.specs.State.{State, ExecutesInside, Shown}
 use Rattle.sqlite.proofs.Callers.{IsPlain, command_of}
 use Rattle.society_rows.specs.Layout.{written_out, layout, credits}
 use Rattle.society_rows.specs.Reads.{Lists, has_key}
+use Rattle.society_rows.specs.Rows.{credit_values}
+use Rattle.society_rows.specs.declared.credits.CreditRow.{CreditRow}
 use Rattle.society_rows.specs.Stored.{HasLayout, Adds}
 use Rattle.society_rows.proofs.Answers.{picked}
 use Rattle.society_rows.proofs.Casts.{cast_null, cast_int}
@@ -46,6 +48,21 @@ stores pool line isrc account units rows = rw (cast_null, cast_int pool, cast_in
 pub adds_row : (pool : ℤ) (line : ℤ) (isrc : List ℕ) (account : List ℕ) (units : ℤ) (old new : State) (count : ℕ) → HasLayout old.now → ExecutesInside 0 insert_text (row_of pool line isrc account units) old new (Ok count) → Adds credits (row_of pool line isrc account units ∷ []) old.now new.now
 adds_row pool line isrc account units old new count has h =
     inserts credits 10 settled old new insert_text (row_of pool line isrc account units) terms 6 ((Null ∷ Int pool ∷ Int line ∷ Text isrc ∷ Text account ∷ Int units ∷ []) ∷ []) (row_of pool line isrc account units ∷ []) (Ok count) insert_is.0 insert_is.1 refl (stores pool line isrc account units, tt) has h
+
+abbrev pair_terms : List Term
+pair_terms = lit Null ∷ col 0 0 ∷ col 0 1 ∷ col 0 2 ∷ col 0 3 ∷ col 0 4 ∷ lit Null ∷ col 0 5 ∷ col 0 6 ∷ col 0 7 ∷ col 0 8 ∷ col 0 9 ∷ []
+
+abbrev pub pair_text : List ℕ
+pair_text = codes "INSERT INTO credits (pool, line, isrc, account, units) VALUES (?1, ?2, ?3, ?4, ?5), (?6, ?7, ?8, ?9, ?10)"
+
+pair_is : (command_of (understood layout pair_text) ≡ Insert 10 (Values pair_terms 6)) × IsPlain (understood layout pair_text)
+unfolding understood everything written_out
+pair_is = (refl, (refl, refl))
+
+pub adds_pair : (r s : CreditRow) (old new : State) (count : ℕ) → HasLayout old.now → ExecutesInside 0 pair_text (credit_values r ++ credit_values s) old new (Ok count) → Adds credits (credit_values r ∷ credit_values s ∷ []) old.now new.now
+adds_pair r s old new count has h =
+    inserts credits 10 settled old new pair_text (credit_values r ++ credit_values s) pair_terms 6 ((Null ∷ credit_values r) ∷ (Null ∷ credit_values s) ∷ []) (credit_values r ∷ credit_values s ∷ []) (Ok count) pair_is.0 pair_is.1 refl
+    (stores (pos r.pool) (pos r.line) r.isrc.now r.account.now r.units, (stores (pos s.pool) (pos s.line) s.isrc.now s.account.now s.units, tt)) has h
 
 abbrev project : List Term
 project = col 1 1 ∷ col 1 2 ∷ col 1 3 ∷ col 1 4 ∷ col 1 5 ∷ []

@@ -1,5 +1,5 @@
 -- Writes in a transaction, one and several.
-use Rattle.std.proofs.Common.{ℕ, List, Result, Ok, Err, IsTrue, OnOk, IsErr, refl, arith, false, inl}
+use Rattle.std.proofs.Common.{◌≡◌, ℕ, List, Result, Ok, Err, IsTrue, IfErr, IsErrAnd, OnOk, IsErr, refl, sym, subst, arith, false, inl}
 use Rattle.sqlite_value.specs.Order.{Row}
 use Rattle.sqlite.specs.Effect.{Database}
 use Rattle.sqlite.specs.State.{State, HasCleanDisk, KeepsCommit, Survives, ExecutesInside}
@@ -76,3 +76,8 @@ writes_fail Was Is a b c x P Q holds text params fault (Err e) is one ran surviv
     let two : WritesOver {X = Unit {0}} Is b c (Err fault) (λ _ _. Unit {0}) = record { change = λ clean inside has. tt; inside = λ clean inside. tt; kept = λ clean inside. keeps b c text params (Err fault) (ran clean inside); survives = survives } in
     let both = writes_then Was Is a b c x (Err fault) P (λ _ _. Unit {0}) (λ _ _. Unit {0}) holds (λ d e f p q. tt) one two in
     record { change = λ clean inside has. tt; inside = λ clean inside. tt; kept = both.kept; survives = both.survives }
+
+-- a fault that is handed on
+pub handed_on : {X : Type 0} (fault : RowFault) (result : Result X RowFault) (P : RowFault → Type 0) → IsErrAnd result (λ e. e ≡ fault) → P fault → IfErr result P
+handed_on fault (Ok x) P is h = tt
+handed_on fault (Err e) P is h = subst P (sym is) h

@@ -34,3 +34,4 @@ pub mod UpsertParts
 pub mod Upserts
 pub mod VerdictTable
 pub mod VersionTable
+pub mod Worked

@@ -1,6 +1,7 @@
 -- A list of rows, written one at a time.
-use Rattle.std.proofs.Common.{arith, inr, inl, ℕ, ◌+◌, ◌<◌, List, [], ◌∷◌, ◌++◌, length, map, take, get_or, Result, Ok, Err, sym, ap, subst, ◌∙◌, not, IsPermutation}
-use Rattle.std.proofs.lemmas.List.{map-append, take_more}
+use Rattle.std.proofs.Common.{arith, inr, inl, refl, ◌≡◌, ℕ, ◌+◌, ◌<◌, List, [], ◌∷◌, ◌++◌, length, map, take, get_or, Result, Ok, Err, sym, ap, subst, ◌∙◌, not, append-nil, append_assoc, IsPermutation}
+use Rattle.std.proofs.Math.Seq.{take-append_seam}
+use Rattle.std.proofs.lemmas.List.{map-append, nil_from_length, take_more}
 use Rattle.std.specs.Result.{IsErr}
 use Rattle.std.proofs.lemmas.List.Sums.{fold_push}
 use Rattle.std.proofs.lemmas.List.Sorted.{IsPermutation-refl, IsPermutation-trans, IsPermutation-cons}
@@ -78,3 +79,42 @@ leaves_first a b c First count fault (Err e) before survives whole clean inside 
             (now.0 ∙ kept, now.1 ∙ kept);
       })
     ]
+
+-- some first rows of a list are written, and these are left
+pub record AddsSome {R : Type 0} (table : Table) (values : R → Row) (rows left : List R) (a b : State) : Type 0 where
+  pub done : List R
+  pub cut : rows ≡ done ++ left
+  pub written : Writes {X = Unit {0}} a b (Ok tt) (Adds table (map values done))
+
+pub some_first : {R : Type 0} (table : Table) (values : R → Row) (rows left : List R) (a : State) → rows ≡ left → AddsSome table values rows left a a
+some_first table values rows left a is = record { done = []; cut = is; written = adds_first table a }
+
+pub some_all : {R : Type 0} (table : Table) (values : R → Row) (rows left : List R) (a b : State) → length left ≡ 0 → AddsSome table values rows left a b
+    → Writes {X = Unit {0}} a b (Ok tt) (Adds table (map values rows))
+some_all table values rows left a b none h =
+    subst (λ l. Writes {X = Unit {0}} a b (Ok tt) (Adds table (map values l))) (sym (h.cut ∙ ap (λ l. h.done ++ l) (nil_from_length left none) ∙ append-nil h.done)) h.written
+
+pub adds_empty : {R : Type 0} (table : Table) (values : R → Row) (rows : List R) (a : State) → length rows ≡ 0 → Writes {X = Unit {0}} a a (Ok tt) (Adds table (map values rows))
+adds_empty table values rows a none = some_all table values rows rows a a none (some_first table values rows rows a refl)
+
+module _ {R : Type 0} (table : Table) (values : R → Row) (rows left : List R) (a b c : State) (before : AddsSome table values rows left a b) where
+  -- the next part goes through
+  pub some_next : (part rest : List R) (x : Unit {0}) → left ≡ part ++ rest → Writes b c (Ok x) (Adds table (map values part)) → AddsSome table values rows rest a c
+  some_next part rest x parts more = record {
+    done = before.done ++ part;
+    cut = before.cut ∙ ap (λ l. before.done ++ l) parts ∙ sym (append_assoc before.done part rest);
+    written = subst (λ l. Writes {X = Unit {0}} a c (Ok tt) (Adds table l)) (sym (map-append values before.done part))
+        (writes_then HasLayout HasLayout a b c tt (Ok tt) (Adds table (map values before.done)) (Adds table (map values part)) (Adds table (map values before.done ++ map values part))
+        (λ e f h. h.layout) (λ e f k. adds_then table (map values before.done) (map values part) e f k) before.written more);
+  }
+
+  -- the next part fails
+  pub some_fails : (fault : RowFault) (part all : List Row) (result : Result (Unit {0}) RowFault) → IsErr result → Writes {X = Unit {0}} b c (Err fault) (Adds table part) → Writes a c result (Adds table all)
+  some_fails fault part all result is more =
+      fails_after a b c (Adds table (map values before.done)) (Adds table part) (Adds table all) (λ e f h. h.layout) fault result is before.written more
+
+  pub some_left : (fault : RowFault) (result : Result (Unit {0}) RowFault) → Survives b c (λ _. ⊥) → IsWhole {X = Unit {0}} b c (Err fault)
+      → LeavesFirst a c result (λ count. Adds table (map values (take count rows)))
+  some_left fault result survives whole =
+      leaves_first a b c (λ count. Adds table (map values (take count rows))) (length before.done) fault result
+      (subst (λ l. Writes {X = Unit {0}} a b (Ok tt) (Adds table (map values l))) (sym (ap (take (length before.done)) before.cut ∙ take-append_seam before.done left)) before.written) survives whole

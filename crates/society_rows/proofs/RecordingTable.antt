@@ -1,5 +1,5 @@
 -- The statements over the table of recordings of versions.
-use Rattle.std.proofs.Common.{◌≡◌, ℕ, ℤ, true, List, [], ◌∷◌, codes, Ok, refl, sym}
+use Rattle.std.proofs.Common.{◌≡◌, ℕ, ℤ, true, List, [], ◌∷◌, codes, Ok, refl, sym, ◌++◌}
 use Rattle.sqlite_value.specs.declared.value.Value.TheVariants.{Null, Int, Text}
 use Rattle.sqlite_value.specs.declared.keys.Collation.TheVariants.{Binary}
 use Rattle.sqlite_value.specs.declared.keys.Key.{Key}
@@ -17,6 +17,8 @@ use Rattle.sqlite.specs.State.{State, ExecutesInside, Shown}
 use Rattle.sqlite.proofs.Callers.{IsPlain, command_of}
 use Rattle.society_rows.specs.Layout.{written_out, layout, recordings}
 use Rattle.society_rows.specs.Reads.{Lists, has_key, has_at}
+use Rattle.society_rows.specs.Rows.{recording_values}
+use Rattle.society_rows.specs.declared.recordings.RecordingRow.{RecordingRow}
 use Rattle.society_rows.specs.Stored.{HasLayout, Adds}
 use Rattle.society_rows.proofs.Answers.{picked}
 use Rattle.society_rows.proofs.Booleans.{and_true}
@@ -48,6 +50,21 @@ stores sender work revision isrc rows = rw (cast_null, cast_int revision)
 pub adds_row : (sender : List ℕ) (work : List ℕ) (revision : ℤ) (isrc : List ℕ) (old new : State) (count : ℕ) → HasLayout old.now → ExecutesInside 0 insert_text (row_of sender work revision isrc) old new (Ok count) → Adds recordings (row_of sender work revision isrc ∷ []) old.now new.now
 adds_row sender work revision isrc old new count has h =
     inserts recordings 9 settled old new insert_text (row_of sender work revision isrc) terms 5 ((Null ∷ Text sender ∷ Text work ∷ Int revision ∷ Text isrc ∷ []) ∷ []) (row_of sender work revision isrc ∷ []) (Ok count) insert_is.0 insert_is.1 refl (stores sender work revision isrc, tt) has h
+
+abbrev pair_terms : List Term
+pair_terms = lit Null ∷ col 0 0 ∷ col 0 1 ∷ col 0 2 ∷ col 0 3 ∷ lit Null ∷ col 0 4 ∷ col 0 5 ∷ col 0 6 ∷ col 0 7 ∷ []
+
+abbrev pub pair_text : List ℕ
+pair_text = codes "INSERT INTO recordings (sender, work, revision, isrc) VALUES (?1, ?2, ?3, ?4), (?5, ?6, ?7, ?8)"
+
+pair_is : (command_of (understood layout pair_text) ≡ Insert 9 (Values pair_terms 5)) × IsPlain (understood layout pair_text)
+unfolding understood everything written_out
+pair_is = (refl, (refl, refl))
+
+pub adds_pair : (r s : RecordingRow) (old new : State) (count : ℕ) → HasLayout old.now → ExecutesInside 0 pair_text (recording_values r ++ recording_values s) old new (Ok count) → Adds recordings (recording_values r ∷ recording_values s ∷ []) old.now new.now
+adds_pair r s old new count has h =
+    inserts recordings 9 settled old new pair_text (recording_values r ++ recording_values s) pair_terms 5 ((Null ∷ recording_values r) ∷ (Null ∷ recording_values s) ∷ []) (recording_values r ∷ recording_values s ∷ []) (Ok count) pair_is.0 pair_is.1 refl
+    (stores r.sender.now r.work.now r.revision r.isrc.now, (stores s.sender.now s.work.now s.revision s.isrc.now, tt)) has h
 
 abbrev project : List Term
 project = col 1 1 ∷ col 1 2 ∷ col 1 3 ∷ col 1 4 ∷ []

@@ -1,5 +1,5 @@
 -- The units of an account, and more of them.
-use Rattle.std.proofs.Common.{◌≡◌, ℕ, ℤ, pos, ◌+ℤ◌, true, List, [], ◌∷◌, filter, Result, Ok, Err, IfOk, OnOk, OnErr, FitsSigned, refl, sym, ap, subst, ◌∙◌, inl, inr, arith, IsPermutation}
+use Rattle.std.proofs.Common.{◌≡◌, ◌⊎◌, ◌≤◌, ℕ, ℤ, pos, ◌+ℤ◌, true, List, [], ◌∷◌, filter, length, Result, Ok, Err, IfOk, IfErr, OnOk, OnErr, FitsSigned, refl, sym, ap, subst, ◌∙◌, inl, inr, arith, IsPermutation}
 use Rattle.std.specs.Int.{w64}
 use Rattle.std.proofs.lemmas.List.Sorted.{IsPermutation-sym, length_permutation}
 use Rattle.sqlite_value.specs.declared.value.Value.TheVariants.{Int, Text}
@@ -13,9 +13,11 @@ use Rattle.sqlite.proofs.Callers.{one_permutation}
 use Rattle.sqlite.proofs.InsideLemmas.{keeps_then}
 use Rattle.sqlite.proofs.StateLemmas.{survives_then}
 use Rattle.society_rows.specs.declared.fault.RowFault.{RowFault}
-use Rattle.society_rows.specs.Balances.{HasUnits, AddsUnits}
+use Rattle.society_rows.specs.Balances.{HasUnits, AddsUnits, HasNoUnits, RefusesUnits}
 use Rattle.society_rows.specs.Effects.{Writes}
+use Rattle.society_rows.specs.Faults.{IsTold}
 use Rattle.society_rows.specs.Folds.{ReadsInside}
+use Rattle.society_rows.specs.Forms.{IsOfForms, balance_forms}
 use Rattle.society_rows.specs.Layout.{balances}
 use Rattle.society_rows.specs.Reads.{Lists, Reads, has_key}
 use Rattle.society_rows.specs.Stored.{rows_in, HasLayout, Puts}
@@ -37,6 +39,29 @@ one_balance account named units db rows row one is h =
     let tested : passes row ≡ true = (has_filtered passes (rows_in balances db) row here).1 in
     let same : named ≡ account = (text_key named account (Int units ∷ [])).0 (ap passes is ∙ tested) in
     record { rows = inr (found ∙ ap (λ r. r ∷ []) (sym is ∙ ap (λ t. Text t ∷ Int units ∷ []) same)) }
+
+-- an account that has units has them in its one row, or has none
+found_units : (account : List ℕ) (db : Trees) (rows : List Row) (units : ℤ) → Lists balances (has_key (Text account ∷ [])) 1 db rows → HasUnits account db units
+    → (rows ≡ []) ⊎ (rows ≡ (Text account ∷ Int units ∷ []) ∷ [])
+found_units account db rows units h has = elim has.rows [
+  | inl none ↦ inl (nothing_in rows (IsPermutation-sym _ _ (subst (λ l. IsPermutation l rows) none.0 h.rows)))
+  | inr one ↦ inr (one_permutation (Text account ∷ Int units ∷ []) rows (subst (λ l. IsPermutation l rows) one h.rows))
+]
+
+pub two_rows : (account : List ℕ) (db : Trees) (rows : List Row) → 2 ≤ length rows → Lists balances (has_key (Text account ∷ [])) 1 db rows → HasNoUnits account db
+two_rows account db rows long h units fits has = elim (found_units account db rows units h has) [
+  | inl none ↦ let short = ap length none in absurd (omega (arith, short))
+  | inr one ↦ let short = ap length one in absurd (omega (arith, short))
+]
+
+pub unread_row : (account : List ℕ) (db : Trees) (rows : List Row) (row : Row) → rows ≡ row ∷ [] → ¬ IsOfForms balance_forms row → Lists balances (has_key (Text account ∷ [])) 1 db rows
+    → HasNoUnits account db
+unread_row account db rows row one unread h units fits has = elim (found_units account db rows units h has) [
+  | inl none ↦ let short = ap length (sym one ∙ none) in absurd (omega (arith, short))
+  | inr found ↦
+      let same : row ≡ Text account ∷ Int units ∷ [] = cc (one, found) in
+      absurd (unread (subst (IsOfForms balance_forms) (sym same) (refl, ((account, refl), ((units, refl, fits), tt)))))
+]
 
 -- a reading of one query, and what follows from its rows
 pub reads_inside : {X Y : Type 0} (old new : State) (x : X) (result : Result Y RowFault) (P : Trees → X → Type 0) (Q : Trees → Y → Type 0) → Reads old new (Ok x) P
@@ -82,3 +107,8 @@ pub sums_units : (a b c : State) (account : List ℕ) (before units sum : ℤ) (
 sums_units a b c account before units sum result read fits is write =
     writes_after a b c before result (HasUnits account) (Puts balances (Text account ∷ Int sum ∷ [])) (AddsUnits account units) read write
     (λ d e had put. record { before = before; had = had; fits = fits; put = subst (λ n. Puts balances (Text account ∷ Int n ∷ []) d e) is put })
+
+-- a write whose faults SQLite tells adds units, or it has that cause
+pub told_refuses : (account : List ℕ) (units : ℤ) (db : Trees) (result : Result (Unit {0}) RowFault) → IfErr result IsTold → IfErr result (RefusesUnits account units db)
+told_refuses account units db (Ok x) h = tt
+told_refuses account units db (Err e) h = inl (inl h)

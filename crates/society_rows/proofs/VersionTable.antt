@@ -1,5 +1,5 @@
 -- The statements over the table of versions of works.
-use Rattle.std.proofs.Common.{◌≡◌, ℕ, ℤ, true, List, [], ◌∷◌, codes, Ok, refl}
+use Rattle.std.proofs.Common.{◌≡◌, ℕ, ℤ, true, List, [], ◌∷◌, codes, Ok, refl, ◌++◌, pos}
 use Rattle.sqlite_value.specs.declared.value.Value.TheVariants.{Null, Int, Text}
 use Rattle.sqlite_value.specs.declared.keys.Collation.TheVariants.{Binary}
 use Rattle.sqlite_value.specs.declared.keys.Key.{Key}
@@ -16,6 +16,8 @@ use Rattle.sqlite.specs.State.{State, ExecutesInside, Shown}
 use Rattle.sqlite.proofs.Callers.{IsPlain, command_of}
 use Rattle.society_rows.specs.Layout.{written_out, layout, versions}
 use Rattle.society_rows.specs.Reads.{Lists, IsFirstOf, falling, has_key}
+use Rattle.society_rows.specs.Rows.{version_values}
+use Rattle.society_rows.specs.declared.versions.VersionRow.{VersionRow}
 use Rattle.society_rows.specs.Stored.{HasLayout, Adds}
 use Rattle.society_rows.proofs.Answers.{picked, picked_first}
 use Rattle.society_rows.proofs.Casts.{cast_null, cast_int}
@@ -46,6 +48,21 @@ stores sender work revision number place ordinal rows = rw (cast_null, cast_int 
 pub adds_row : (sender : List ℕ) (work : List ℕ) (revision : ℤ) (number : ℤ) (place : ℤ) (ordinal : ℤ) (old new : State) (count : ℕ) → HasLayout old.now → ExecutesInside 0 insert_text (row_of sender work revision number place ordinal) old new (Ok count) → Adds versions (row_of sender work revision number place ordinal ∷ []) old.now new.now
 adds_row sender work revision number place ordinal old new count has h =
     inserts versions 8 settled old new insert_text (row_of sender work revision number place ordinal) terms 7 ((Null ∷ Text sender ∷ Text work ∷ Int revision ∷ Int number ∷ Int place ∷ Int ordinal ∷ []) ∷ []) (row_of sender work revision number place ordinal ∷ []) (Ok count) insert_is.0 insert_is.1 refl (stores sender work revision number place ordinal, tt) has h
+
+abbrev pair_terms : List Term
+pair_terms = lit Null ∷ col 0 0 ∷ col 0 1 ∷ col 0 2 ∷ col 0 3 ∷ col 0 4 ∷ col 0 5 ∷ lit Null ∷ col 0 6 ∷ col 0 7 ∷ col 0 8 ∷ col 0 9 ∷ col 0 10 ∷ col 0 11 ∷ []
+
+abbrev pub pair_text : List ℕ
+pair_text = codes "INSERT INTO versions (sender, work, revision, number, place, ordinal) VALUES (?1, ?2, ?3, ?4, ?5, ?6), (?7, ?8, ?9, ?10, ?11, ?12)"
+
+pair_is : (command_of (understood layout pair_text) ≡ Insert 8 (Values pair_terms 7)) × IsPlain (understood layout pair_text)
+unfolding understood everything written_out
+pair_is = (refl, (refl, refl))
+
+pub adds_pair : (r s : VersionRow) (old new : State) (count : ℕ) → HasLayout old.now → ExecutesInside 0 pair_text (version_values r ++ version_values s) old new (Ok count) → Adds versions (version_values r ∷ version_values s ∷ []) old.now new.now
+adds_pair r s old new count has h =
+    inserts versions 8 settled old new pair_text (version_values r ++ version_values s) pair_terms 7 ((Null ∷ version_values r) ∷ (Null ∷ version_values s) ∷ []) (version_values r ∷ version_values s ∷ []) (Ok count) pair_is.0 pair_is.1 refl
+    (stores r.sender.now r.work.now r.revision (pos r.number) (pos r.place) r.ordinal, (stores s.sender.now s.work.now s.revision (pos s.number) (pos s.place) s.ordinal, tt)) has h
 
 abbrev project : List Term
 project = col 1 1 ∷ col 1 2 ∷ col 1 3 ∷ col 1 4 ∷ col 1 5 ∷ col 1 6 ∷ []

@@ -2,6 +2,7 @@ pub mod Balances
 pub mod Effects
 pub mod Faults
 pub mod Folds
+pub mod Forms
 pub mod KeyLaws
 pub mod Layout
 pub mod NewBook

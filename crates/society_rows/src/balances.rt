@@ -3,10 +3,13 @@ ghost use Rattle.std.specs.Prelude.{◌≡◌, map, take, true, [], ◌∷◌, I
 ghost use Rattle.std.specs.Int.{w64};
 ghost use Rattle.sqlite_value.specs.declared.value.Value.TheVariants.{Text};
 ghost use Rattle.sqlite.specs.Held.{state};
+ghost use Rattle.sqlite.specs.State.{HasCleanDisk};
 ghost use Rattle.society_rows.specs.declared.fault.RowFault.TheVariants.{Unread};
-ghost use Rattle.society_rows.specs.Balances.{HasUnits, AddsUnits};
+ghost use Rattle.society_rows.specs.Balances.{HasUnits, AddsUnits, HidesUnits, RefusesUnits};
 ghost use Rattle.society_rows.specs.Effects.{Writes, IsWhole, LeavesFirst};
+ghost use Rattle.society_rows.specs.Faults.{IsTold};
 ghost use Rattle.society_rows.specs.Folds.{ReadsInside};
+ghost use Rattle.society_rows.specs.Forms.{IsRead, balance_forms};
 ghost use Rattle.society_rows.specs.Layout.{balances};
 ghost use Rattle.society_rows.specs.Reads.{Lists, Reads, has_key};
 ghost use Rattle.society_rows.specs.Rows.{balance_values};
@@ -30,6 +33,7 @@ impl<'a> BalanceRow<'a> {
     /// The row that these values are, in the order of the columns; else `Unread`.
     pub fn from_row(row: &'a Row) -> Result<BalanceRow<'a>, RowFault>
         ensures value { IfOk result (λ x. balance_values x ≡ row.now) }
+        ensures read { IsRead balance_forms row.now result }
         ensures range { IfOk result (λ x. FitsSigned w64 x.units) }
         ensures fault { IfErr result (λ e. e ≡ Unread) }
     {
@@ -52,6 +56,7 @@ pub fn put_balance<S: Alter>(
     ensures written { Writes (state S.Store tx.old.conn.now) (state S.Store tx.new.conn.now) result
         (Puts balances (balance_values row.now)) }
     ensures whole { IsWhole (state S.Store tx.old.conn.now) (state S.Store tx.new.conn.now) result }
+    ensures told { IfErr result IsTold }
 {
     run(
         tx,
@@ -71,6 +76,7 @@ pub fn put_balances<S: Alter>(
         (PutsAll balances (map balance_values rows.now)) }
     ensures left { LeavesFirst (state S.Store tx.old.conn.now) (state S.Store tx.new.conn.now) result
         (λ count. PutsAll balances (map balance_values (take count rows.now))) }
+    ensures told { IfErr result IsTold }
 {
     for row in rows {
         put_balance(tx, row)?;
@@ -83,6 +89,7 @@ pub fn all_balances<S: Alter>(tx: &mut Transaction<'_, S>) -> Result<Vec<Row>, R
     ensures same_reference { tx.new.conn.ghost_name ≡ tx.old.conn.ghost_name }
     ensures read { Reads (state S.Store tx.old.conn.now) (state S.Store tx.new.conn.now) result
         (λ db rows. Lists balances (λ _. true) 1 db rows.items) }
+    ensures told { IfErr result IsTold }
 {
     all_rows(tx, TableName::Balances)
 }
@@ -95,6 +102,7 @@ pub fn balance_at<S: Alter>(
     ensures same_reference { tx.new.conn.ghost_name ≡ tx.old.conn.ghost_name }
     ensures read { Reads (state S.Store tx.old.conn.now) (state S.Store tx.new.conn.now) result
         (λ db rows. Lists balances (has_key (Text account.now ∷ [])) 1 db rows.items) }
+    ensures told { IfErr result IsTold }
 {
     select(
         tx,
@@ -108,6 +116,8 @@ pub fn units_of<S: Alter>(tx: &mut Transaction<'_, S>, account: &[u8]) -> Result
     ensures same_reference { tx.new.conn.ghost_name ≡ tx.old.conn.ghost_name }
     ensures read { ReadsInside (state S.Store tx.old.conn.now) (state S.Store tx.new.conn.now) result
         (HasUnits account.now) }
+    ensures cause { HasCleanDisk (state S.Store tx.new.conn.now) → HasLayout (state S.Store tx.old.conn.now).now
+        → IfErr result (HidesUnits account.now (state S.Store tx.old.conn.now).now.trees) }
     ensures range { IfOk result (λ n. FitsSigned w64 n) }
 {
     let rows = balance_at(tx, account)?;
@@ -129,6 +139,8 @@ pub fn add_units<S: Alter>(
         (AddsUnits account.now units) }
     ensures whole { HasLayout (state S.Store tx.old.conn.now).now
         → IsWhole (state S.Store tx.old.conn.now) (state S.Store tx.new.conn.now) result }
+    ensures cause { HasCleanDisk (state S.Store tx.new.conn.now) → HasLayout (state S.Store tx.old.conn.now).now
+        → IfErr result (RefusesUnits account.now units (state S.Store tx.old.conn.now).now.trees) }
 {
     let before = units_of(tx, account)?;
     let Some(sum) = before.checked_add(units) else {

@@ -4,6 +4,8 @@ ghost use Rattle.sqlite_value.specs.declared.value.Value.TheVariants.{Text};
 ghost use Rattle.sqlite.specs.Held.{state};
 ghost use Rattle.society_rows.specs.declared.fault.RowFault.TheVariants.{Unread};
 ghost use Rattle.society_rows.specs.Effects.{Writes, IsWhole, LeavesFirst};
+ghost use Rattle.society_rows.specs.Faults.{IsTold};
+ghost use Rattle.society_rows.specs.Forms.{IsRead, front_forms};
 ghost use Rattle.society_rows.specs.Layout.{fronts};
 ghost use Rattle.society_rows.specs.Reads.{Lists, Reads, has_key};
 ghost use Rattle.society_rows.specs.Rows.{front_values};
@@ -29,6 +31,7 @@ impl<'a> FrontRow<'a> {
     /// The row that these values are, in the order of the columns; else `Unread`.
     pub fn from_row(row: &'a Row) -> Result<FrontRow<'a>, RowFault>
         ensures value { IfOk result (λ x. front_values x ≡ row.now) }
+        ensures read { IsRead front_forms row.now result }
         ensures fault { IfErr result (λ e. e ≡ Unread) }
     {
         if row.column_count() != 3 {
@@ -48,6 +51,7 @@ pub fn put_front<S: Alter>(tx: &mut Transaction<'_, S>, row: &FrontRow<'_>) -> R
     ensures written { Writes (state S.Store tx.old.conn.now) (state S.Store tx.new.conn.now) result
         (Puts fronts (front_values row.now)) }
     ensures whole { IsWhole (state S.Store tx.old.conn.now) (state S.Store tx.new.conn.now) result }
+    ensures told { IfErr result IsTold }
 {
     run(
         tx,
@@ -71,6 +75,7 @@ pub fn put_fronts<S: Alter>(
         (PutsAll fronts (map front_values rows.now)) }
     ensures left { LeavesFirst (state S.Store tx.old.conn.now) (state S.Store tx.new.conn.now) result
         (λ count. PutsAll fronts (map front_values (take count rows.now))) }
+    ensures told { IfErr result IsTold }
 {
     for row in rows {
         put_front(tx, row)?;
@@ -83,6 +88,7 @@ pub fn all_fronts<S: Alter>(tx: &mut Transaction<'_, S>) -> Result<Vec<Row>, Row
     ensures same_reference { tx.new.conn.ghost_name ≡ tx.old.conn.ghost_name }
     ensures read { Reads (state S.Store tx.old.conn.now) (state S.Store tx.new.conn.now) result
         (λ db rows. Lists fronts (λ _. true) 1 db rows.items) }
+    ensures told { IfErr result IsTold }
 {
     all_rows(tx, TableName::Fronts)
 }
@@ -92,6 +98,7 @@ pub fn front_at<S: Alter>(tx: &mut Transaction<'_, S>, sender: &[u8]) -> Result<
     ensures same_reference { tx.new.conn.ghost_name ≡ tx.old.conn.ghost_name }
     ensures read { Reads (state S.Store tx.old.conn.now) (state S.Store tx.new.conn.now) result
         (λ db rows. Lists fronts (has_key (Text sender.now ∷ [])) 1 db rows.items) }
+    ensures told { IfErr result IsTold }
 {
     select(
         tx,

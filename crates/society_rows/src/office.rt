@@ -3,6 +3,8 @@ ghost use Rattle.std.specs.Prelude.{◌≡◌, [], ◌∷◌, true, IfOk, IfErr}
 ghost use Rattle.sqlite.specs.Held.{state};
 ghost use Rattle.society_rows.specs.declared.fault.RowFault.TheVariants.{Unread};
 ghost use Rattle.society_rows.specs.Effects.{Writes};
+ghost use Rattle.society_rows.specs.Faults.{IsTold};
+ghost use Rattle.society_rows.specs.Forms.{IsRead, office_forms};
 ghost use Rattle.society_rows.specs.Layout.{office};
 ghost use Rattle.society_rows.specs.Reads.{Lists, Reads};
 ghost use Rattle.society_rows.specs.Rows.{office_values};
@@ -30,6 +32,7 @@ impl<'a> OfficeRow<'a> {
     /// The row that these values are, in the order of the columns; else `Unread`, also where the layout is not 2.
     pub fn from_row(row: &'a Row) -> Result<OfficeRow<'a>, RowFault>
         ensures value { IfOk result (λ x. office_values x ≡ row.now) }
+        ensures read { IsRead office_forms row.now result }
         ensures fault { IfErr result (λ e. e ≡ Unread) }
     {
         if row.column_count() != 5 {
@@ -56,6 +59,7 @@ pub(crate) fn add_office<S: Alter>(
     ensures same_reference { tx.new.conn.ghost_name ≡ tx.old.conn.ghost_name }
     ensures written { Writes (state S.Store tx.old.conn.now) (state S.Store tx.new.conn.now) result
         (Adds office (office_values row.now ∷ [])) }
+    ensures told { IfErr result IsTold }
 {
     run(
         tx,
@@ -73,6 +77,7 @@ pub fn all_offices<S: Alter>(tx: &mut Transaction<'_, S>) -> Result<Vec<Row>, Ro
     ensures same_reference { tx.new.conn.ghost_name ≡ tx.old.conn.ghost_name }
     ensures read { Reads (state S.Store tx.old.conn.now) (state S.Store tx.new.conn.now) result
         (λ db rows. Lists office (λ _. true) 1 db rows.items) }
+    ensures told { IfErr result IsTold }
 {
     all_rows(tx, TableName::Office)
 }

@@ -4,6 +4,8 @@ ghost use Rattle.sqlite_value.specs.declared.value.Value.TheVariants.{Int, Text}
 ghost use Rattle.sqlite.specs.Held.{state};
 ghost use Rattle.society_rows.specs.declared.fault.RowFault.TheVariants.{Unread};
 ghost use Rattle.society_rows.specs.Effects.{Writes, IsWhole, LeavesFirst};
+ghost use Rattle.society_rows.specs.Faults.{IsTold};
+ghost use Rattle.society_rows.specs.Forms.{IsRead, pool_return_forms};
 ghost use Rattle.society_rows.specs.Layout.{pool_returns};
 ghost use Rattle.society_rows.specs.Reads.{Lists, Reads, has_key, has_at};
 ghost use Rattle.society_rows.specs.Rows.{pool_return_values};
@@ -28,6 +30,7 @@ impl<'a> PoolReturnRow<'a> {
     /// The row that these values are, in the order of the columns; else `Unread`.
     pub fn from_row(row: &'a Row) -> Result<PoolReturnRow<'a>, RowFault>
         ensures value { IfOk result (λ x. pool_return_values x ≡ row.now) }
+        ensures read { IsRead pool_return_forms row.now result }
         ensures fault { IfErr result (λ e. e ≡ Unread) }
     {
         if row.column_count() != 3 {
@@ -50,6 +53,7 @@ pub fn add_pool_return<S: Alter>(
     ensures written { Writes (state S.Store tx.old.conn.now) (state S.Store tx.new.conn.now) result
         (Adds pool_returns (pool_return_values row.now ∷ [])) }
     ensures whole { IsWhole (state S.Store tx.old.conn.now) (state S.Store tx.new.conn.now) result }
+    ensures told { IfErr result IsTold }
 {
     run(
         tx,
@@ -72,6 +76,7 @@ pub fn add_pool_returns<S: Alter>(
         (Adds pool_returns (map pool_return_values rows.now)) }
     ensures left { LeavesFirst (state S.Store tx.old.conn.now) (state S.Store tx.new.conn.now) result
         (λ count. Adds pool_returns (map pool_return_values (take count rows.now))) }
+    ensures told { IfErr result IsTold }
 {
     for row in rows {
         add_pool_return(tx, row)?;
@@ -84,6 +89,7 @@ pub fn all_pool_returns<S: Alter>(tx: &mut Transaction<'_, S>) -> Result<Vec<Row
     ensures same_reference { tx.new.conn.ghost_name ≡ tx.old.conn.ghost_name }
     ensures read { Reads (state S.Store tx.old.conn.now) (state S.Store tx.new.conn.now) result
         (λ db rows. Lists pool_returns (λ _. true) 2 db rows.items) }
+    ensures told { IfErr result IsTold }
 {
     all_rows(tx, TableName::PoolReturns)
 }
@@ -97,6 +103,7 @@ pub fn pool_return_at<S: Alter>(
     ensures same_reference { tx.new.conn.ghost_name ≡ tx.old.conn.ghost_name }
     ensures read { Reads (state S.Store tx.old.conn.now) (state S.Store tx.new.conn.now) result
         (λ db rows. Lists pool_returns (has_key (Text reporter.now ∷ Int (pos number) ∷ [])) 2 db rows.items) }
+    ensures told { IfErr result IsTold }
 {
     select(
         tx,
@@ -113,6 +120,7 @@ pub fn returns_of_pool<S: Alter>(
     ensures same_reference { tx.new.conn.ghost_name ≡ tx.old.conn.ghost_name }
     ensures read { Reads (state S.Store tx.old.conn.now) (state S.Store tx.new.conn.now) result
         (λ db rows. Lists pool_returns (has_at 2 (Int (pos pool))) 2 db rows.items) }
+    ensures told { IfErr result IsTold }
 {
     select(
         tx,

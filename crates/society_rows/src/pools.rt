@@ -4,6 +4,8 @@ ghost use Rattle.sqlite_value.specs.declared.value.Value.TheVariants.{Int};
 ghost use Rattle.sqlite.specs.Held.{state};
 ghost use Rattle.society_rows.specs.declared.fault.RowFault.TheVariants.{Unread};
 ghost use Rattle.society_rows.specs.Effects.{Writes, IsWhole, LeavesFirst};
+ghost use Rattle.society_rows.specs.Faults.{IsTold};
+ghost use Rattle.society_rows.specs.Forms.{IsRead, pool_forms};
 ghost use Rattle.society_rows.specs.Layout.{pools};
 ghost use Rattle.society_rows.specs.Reads.{Lists, Reads, has_key};
 ghost use Rattle.society_rows.specs.Rows.{pool_values};
@@ -27,6 +29,7 @@ impl PoolRow {
     /// The row that these values are, in the order of the columns; else `Unread`.
     pub fn from_row(row: &Row) -> Result<PoolRow, RowFault>
         ensures value { IfOk result (λ x. pool_values x ≡ row.now) }
+        ensures read { IsRead pool_forms row.now result }
         ensures fault { IfErr result (λ e. e ≡ Unread) }
     {
         if row.column_count() != 2 {
@@ -45,6 +48,7 @@ pub fn add_pool<S: Alter>(tx: &mut Transaction<'_, S>, row: &PoolRow) -> Result<
     ensures written { Writes (state S.Store tx.old.conn.now) (state S.Store tx.new.conn.now) result
         (Adds pools (pool_values row.now ∷ [])) }
     ensures whole { IsWhole (state S.Store tx.old.conn.now) (state S.Store tx.new.conn.now) result }
+    ensures told { IfErr result IsTold }
 {
     run(
         tx,
@@ -60,6 +64,7 @@ pub fn add_pools<S: Alter>(tx: &mut Transaction<'_, S>, rows: &[PoolRow]) -> Res
         (Adds pools (map pool_values rows.now)) }
     ensures left { LeavesFirst (state S.Store tx.old.conn.now) (state S.Store tx.new.conn.now) result
         (λ count. Adds pools (map pool_values (take count rows.now))) }
+    ensures told { IfErr result IsTold }
 {
     for row in rows {
         add_pool(tx, row)?;
@@ -72,6 +77,7 @@ pub fn all_pools<S: Alter>(tx: &mut Transaction<'_, S>) -> Result<Vec<Row>, RowF
     ensures same_reference { tx.new.conn.ghost_name ≡ tx.old.conn.ghost_name }
     ensures read { Reads (state S.Store tx.old.conn.now) (state S.Store tx.new.conn.now) result
         (λ db rows. Lists pools (λ _. true) 1 db rows.items) }
+    ensures told { IfErr result IsTold }
 {
     all_rows(tx, TableName::Pools)
 }
@@ -81,6 +87,7 @@ pub fn pool_at<S: Alter>(tx: &mut Transaction<'_, S>, pool: u32) -> Result<Vec<R
     ensures same_reference { tx.new.conn.ghost_name ≡ tx.old.conn.ghost_name }
     ensures read { Reads (state S.Store tx.old.conn.now) (state S.Store tx.new.conn.now) result
         (λ db rows. Lists pools (has_key (Int (pos pool) ∷ [])) 1 db rows.items) }
+    ensures told { IfErr result IsTold }
 {
     select(
         tx,

@@ -1,6 +1,7 @@
 //! Questions that are asked on a connection, outside a transaction.
-ghost use Rattle.std.specs.Prelude.{◌≡◌, false};
+ghost use Rattle.std.specs.Prelude.{◌≡◌, false, IfErr};
 ghost use Rattle.sqlite.specs.Held.{state};
+ghost use Rattle.society_rows.specs.Faults.{IsTold};
 ghost use Rattle.society_rows.specs.Questions.{Answers, Asks};
 ghost use Rattle.society_rows.specs.Reads.{Reads};
 
@@ -56,6 +57,7 @@ pub fn answer<S: Alter>(
     ensures same_reference { tx.new.conn.ghost_name ≡ tx.old.conn.ghost_name }
     ensures read { Reads (state S.Store tx.old.conn.now) (state S.Store tx.new.conn.now) result
         (λ db rows. Answers question.entry db rows.items) }
+    ensures told { IfErr result IsTold }
 {
     match question {
         Question::Office => all_offices(tx),
@@ -84,6 +86,7 @@ pub fn ask<S: Alter>(conn: &mut Connection<S>, question: Question<'_>) -> Result
     ensures asked { Asks (state S.Store conn.old) (state S.Store conn.new) result
         (λ db rows. Answers question.entry db rows.items) }
     ensures idle { conn.new.in_transaction ≡ false }
+    ensures told { IfErr result IsTold }
 {
     let mut tx = conn.transaction();
     let rows = answer(&mut tx, question);

@@ -1,9 +1,10 @@
 //! The values of a row, as their columns have them.
-ghost use Rattle.std.specs.Prelude.{◌≡◌, pos, IfOk, IfErr, FitsSigned};
+ghost use Rattle.std.specs.Prelude.{◌≡◌, pos, IfOk, IfErr, IsOk, FitsSigned};
 ghost use Rattle.std.specs.Int.{w64};
 ghost use Rattle.sqlite_value.specs.Order.{column};
 ghost use Rattle.sqlite_value.specs.declared.value.Value.TheVariants.{Int, Text, Blob};
 ghost use Rattle.society_rows.specs.declared.fault.RowFault.TheVariants.{Unread};
+ghost use Rattle.society_rows.specs.Forms.{HasForm, Words, Bytes, Count, Amount};
 
 use crate::RowFault;
 use sqlite::Row;
@@ -12,6 +13,7 @@ use sqlite_value::value::ValueRef;
 /// The text in a column, as bytes; else `Unread`.
 pub(crate) fn text(row: &Row, at: usize) -> Result<&[u8], RowFault>
     ensures value { IfOk result (λ t. column row.now at ≡ Text t.now) }
+    ensures read { HasForm Words (column row.now at) → IsOk result }
     ensures fault { IfErr result (λ e. e ≡ Unread) }
 {
     match row.get_ref(at) {
@@ -23,6 +25,7 @@ pub(crate) fn text(row: &Row, at: usize) -> Result<&[u8], RowFault>
 /// The bytes in a column; else `Unread`.
 pub(crate) fn bytes(row: &Row, at: usize) -> Result<&[u8], RowFault>
     ensures value { IfOk result (λ b. column row.now at ≡ Blob b.now) }
+    ensures read { HasForm Bytes (column row.now at) → IsOk result }
     ensures fault { IfErr result (λ e. e ≡ Unread) }
 {
     match row.get_ref(at) {
@@ -34,6 +37,7 @@ pub(crate) fn bytes(row: &Row, at: usize) -> Result<&[u8], RowFault>
 /// The whole number in a column, which is at least 0 and fits 32 bits; else `Unread`.
 pub(crate) fn whole(row: &Row, at: usize) -> Result<u32, RowFault>
     ensures value { IfOk result (λ n. column row.now at ≡ Int (pos n)) }
+    ensures read { HasForm Count (column row.now at) → IsOk result }
     ensures fault { IfErr result (λ e. e ≡ Unread) }
 {
     match row.get_ref(at) {
@@ -45,6 +49,7 @@ pub(crate) fn whole(row: &Row, at: usize) -> Result<u32, RowFault>
 /// The whole number in a column; else `Unread`.
 pub(crate) fn integer(row: &Row, at: usize) -> Result<i64, RowFault>
     ensures value { IfOk result (λ n. column row.now at ≡ Int n) }
+    ensures read { HasForm Amount (column row.now at) → IsOk result }
     ensures range { IfOk result (λ n. FitsSigned w64 n) }
     ensures fault { IfErr result (λ e. e ≡ Unread) }
 {

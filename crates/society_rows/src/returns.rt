@@ -4,6 +4,8 @@ ghost use Rattle.sqlite_value.specs.declared.value.Value.TheVariants.{Int, Text}
 ghost use Rattle.sqlite.specs.Held.{state};
 ghost use Rattle.society_rows.specs.declared.fault.RowFault.TheVariants.{Unread};
 ghost use Rattle.society_rows.specs.Effects.{Writes, IsWhole, LeavesFirst};
+ghost use Rattle.society_rows.specs.Faults.{IsTold};
+ghost use Rattle.society_rows.specs.Forms.{IsRead, return_forms};
 ghost use Rattle.society_rows.specs.Layout.{returns};
 ghost use Rattle.society_rows.specs.Reads.{Lists, Reads, has_key};
 ghost use Rattle.society_rows.specs.Rows.{return_values};
@@ -28,6 +30,7 @@ impl<'a> ReturnRow<'a> {
     /// The row that these values are, in the order of the columns; else `Unread`.
     pub fn from_row(row: &'a Row) -> Result<ReturnRow<'a>, RowFault>
         ensures value { IfOk result (λ x. return_values x ≡ row.now) }
+        ensures read { IsRead return_forms row.now result }
         ensures fault { IfErr result (λ e. e ≡ Unread) }
     {
         if row.column_count() != 3 {
@@ -50,6 +53,7 @@ pub fn add_return<S: Alter>(
     ensures written { Writes (state S.Store tx.old.conn.now) (state S.Store tx.new.conn.now) result
         (Adds returns (return_values row.now ∷ [])) }
     ensures whole { IsWhole (state S.Store tx.old.conn.now) (state S.Store tx.new.conn.now) result }
+    ensures told { IfErr result IsTold }
 {
     run(
         tx,
@@ -72,6 +76,7 @@ pub fn add_returns<S: Alter>(
         (Adds returns (map return_values rows.now)) }
     ensures left { LeavesFirst (state S.Store tx.old.conn.now) (state S.Store tx.new.conn.now) result
         (λ count. Adds returns (map return_values (take count rows.now))) }
+    ensures told { IfErr result IsTold }
 {
     for row in rows {
         add_return(tx, row)?;
@@ -84,6 +89,7 @@ pub fn all_returns<S: Alter>(tx: &mut Transaction<'_, S>) -> Result<Vec<Row>, Ro
     ensures same_reference { tx.new.conn.ghost_name ≡ tx.old.conn.ghost_name }
     ensures read { Reads (state S.Store tx.old.conn.now) (state S.Store tx.new.conn.now) result
         (λ db rows. Lists returns (λ _. true) 2 db rows.items) }
+    ensures told { IfErr result IsTold }
 {
     all_rows(tx, TableName::Returns)
 }
@@ -97,6 +103,7 @@ pub fn return_at<S: Alter>(
     ensures same_reference { tx.new.conn.ghost_name ≡ tx.old.conn.ghost_name }
     ensures read { Reads (state S.Store tx.old.conn.now) (state S.Store tx.new.conn.now) result
         (λ db rows. Lists returns (has_key (Text reporter.now ∷ Int (pos number) ∷ [])) 2 db rows.items) }
+    ensures told { IfErr result IsTold }
 {
     select(
         tx,

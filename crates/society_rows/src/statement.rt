@@ -1,9 +1,10 @@
 //! One statement in a transaction.
-ghost use Rattle.std.specs.Prelude.{◌≡◌, IsTrue};
+ghost use Rattle.std.specs.Prelude.{◌≡◌, IsTrue, IfErr};
 ghost use Rattle.sqlite.specs.Held.{state};
 ghost use Rattle.sqlite.specs.State.{HasCleanDisk, Survives};
 ghost use Rattle.sqlite.specs.Values.{bound};
 ghost use Rattle.society_rows.specs.Effects.{RanAs};
+ghost use Rattle.society_rows.specs.Faults.{IsTold};
 ghost use Rattle.society_rows.specs.Reads.{Selected};
 
 use crate::RowFault;
@@ -20,6 +21,7 @@ pub(crate) fn run<S: Alter>(
     ensures ran { HasCleanDisk (state S.Store tx.new.conn.now) → IsTrue (state S.Store tx.old.conn.now).in_transaction
         → RanAs sql.now (bound params.now) (state S.Store tx.old.conn.now) (state S.Store tx.new.conn.now) result }
     ensures survives { Survives (state S.Store tx.old.conn.now) (state S.Store tx.new.conn.now) (λ _. ⊥) }
+    ensures told { IfErr result IsTold }
 {
     tx.execute(sql, params)?;
     Ok(())
@@ -35,6 +37,7 @@ pub(crate) fn select<S: Alter>(
     ensures selected { HasCleanDisk (state S.Store tx.new.conn.now) → Selected sql.now (bound params.now) (state S.Store tx.old.conn.now)
         (state S.Store tx.new.conn.now) result }
     ensures survives { Survives (state S.Store tx.old.conn.now) (state S.Store tx.new.conn.now) (λ _. ⊥) }
+    ensures told { IfErr result IsTold }
 {
     Ok(tx.query_all(sql, params)?)
 }

@@ -55,14 +55,14 @@ marked {K} R q (key ∷ keys) =
     [ true ↦ refl | false ↦ marked R q keys ]
 
 -- keys in order are the same, whatever their order was
-one_ascent : {K : Type 0} {R : K → K → Ordering} → IsTotalOrder R → finite.IsAntisymmetric R → (xs ys : List K) → IsPermutation xs ys → ascending R ys ≡ ascending R xs
+pub one_ascent : {K : Type 0} {R : K → K → Ordering} → IsTotalOrder R → finite.IsAntisymmetric R → (xs ys : List K) → IsPermutation xs ys → ascending R ys ≡ ascending R xs
 one_ascent {R = R} total exact xs ys p =
     ap finite.keys
     (same_map total exact (from_entries {R = R} (map (λ key. (key, true)) ys)) (from_entries {R = R} (map (λ key. (key, true)) xs))
     (λ q. get-from_entries total (map (λ key. (key, true)) ys) q ∙ marked R q ys ∙ ap (λ b. cond b (Some true) None) (sym (list_any-IsPermutation (eq_by_cmp R q) xs ys p))
     ∙ sym (marked R q xs) ∙ sym (get-from_entries total (map (λ key. (key, true)) xs) q)))
 
-cuts_back : (pool : ℕ) (keys : List TransmissionKey) → map cut_key_of (map (cut_row pool) keys) ≡ keys
+pub cuts_back : (pool : ℕ) (keys : List TransmissionKey) → map cut_key_of (map (cut_row pool) keys) ≡ keys
 cuts_back pool [] = refl
 cuts_back pool (key ∷ keys) = ap (λ l. key ∷ l) (cuts_back pool keys)
 
@@ -70,7 +70,7 @@ cuts_back pool (key ∷ keys) = ap (λ l. key ∷ l) (cuts_back pool keys)
 abbrev pub IsRefilled : ReturnKey → Type 0
 IsRefilled key = fill 20 (without_trailing_blanks key.reporter) ≡ key.reporter
 
-paid_back : (pool : ℕ) (keys : List ReturnKey) → AllByRecursion IsRefilled keys → map return_key_of (map (paid_row pool) keys) ≡ keys
+pub paid_back : (pool : ℕ) (keys : List ReturnKey) → AllByRecursion IsRefilled keys → map return_key_of (map (paid_row pool) keys) ≡ keys
 paid_back pool [] h = refl
 paid_back pool (key ∷ keys) h = ap₂ (λ r l. record { reporter = r; number = key.number } ∷ l) h.0 (paid_back pool keys h.1)
 
@@ -92,14 +92,14 @@ refilled book rows has key there = kept (return_at book key) there (only (return
         let passes : is_return_row key (return_row key body) ≡ true = (subst (AllByRecursion (λ r. is_return_row key r ≡ true)) e (filter_true (is_return_row key) rows)).0 in
         ap (λ (k : ReturnKey). k.reporter) (sym (same_return_is key (return_key_of (return_row key body)) passes))
 
-all_refilled : (book : Book) (rows : List Row) → HasRows is_return_row (return_rows book) rows → (keys : List ReturnKey) → list_all (λ key. is_some (return_at book key)) keys ≡ true → AllByRecursion IsRefilled keys
+pub all_refilled : (book : Book) (rows : List Row) → HasRows is_return_row (return_rows book) rows → (keys : List ReturnKey) → list_all (λ key. is_some (return_at book key)) keys ≡ true → AllByRecursion IsRefilled keys
 all_refilled book rows has [] h = tt
 all_refilled book rows has (key ∷ keys) h = (
   refilled book rows has key (first_holds (is_some (return_at book key)) (list_all (λ k. is_some (return_at book k)) keys) h),
   all_refilled book rows has keys (second_holds (is_some (return_at book key)) (list_all (λ k. is_some (return_at book k)) keys) h),
 )
 
-third_holds : (a b c : Bool) → (a && b && c) ≡ true → c ≡ true
+pub third_holds : (a b c : Bool) → (a && b && c) ≡ true → c ≡ true
 third_holds a b c h = second_holds (a && b) c h
 
 -- the order that the rows of a pool's cut and returns make
@@ -114,6 +114,10 @@ order_back pool order o is kept refills cuts paid of_cut of_paid =
     one_ascent returns_total exact_returns (map return_key_of (map (paid_row pool) order.returns)) (map return_key_of (filter (is_of_pool 2 pool) paid)) (IsPermutation-map return_key_of (map (paid_row pool) order.returns) (filter (is_of_pool 2 pool) paid) paid_rows)
     ∙ ap (ascending return_cmp) (paid_back pool order.returns refills) ∙ kept.returns in
     λ i. record { amount = order.amount; cut = cut i; returns = returns i }
+
+-- the reporters of the returns that a pool pays are read back from their texts
+pub named_refilled : (book : Book) (rows : List Row) → HasRows is_return_row (return_rows book) rows → IsSound book → (pool : ℕ) (order : Order) → order_at book pool ≡ Some order → AllByRecursion IsRefilled order.returns
+named_refilled book rows has sound pool order there = all_refilled book rows has order.returns (third_holds (is_pool_number pool) (list_all (λ key. nat_le key.number (front book key.sender)) order.cut) (list_all (λ key. is_some (return_at book key)) order.returns) (sound.pools pool order there))
 
 -- tables that have the rows of a sound book stand for it
 pub the_book : (book : Book) (db : Trees) → IsSound book → AreOfBook book db → book_of db ≡ book

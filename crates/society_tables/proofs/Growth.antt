@@ -28,7 +28,8 @@ each_alike f g from zero same = refl
 each_alike f g from (suc len) same =
     ap₂ ◌++◌ (same from (omega arith) (omega arith)) (each_alike f g (from + 1) len (λ k above below. same k (omega arith) (omega arith)))
 
-range_split : (from a b : ℕ) → range_with_len from (a + b) ≡ range_with_len from a ++ range_with_len (from + a) b
+-- numbers from one on, cut in two
+pub range_split : (from a b : ℕ) → range_with_len from (a + b) ≡ range_with_len from a ++ range_with_len (from + a) b
 range_split from zero b = ap₂ range_with_len (let e : from ≡ from + 0 = omega arith in e) (let e : 0 + b ≡ b = omega arith in e)
 range_split from (suc a) b =
     ap (range_with_len from) (let e : suc a + b ≡ suc (a + b) = omega arith in e)

@@ -35,7 +35,7 @@ use Rattle.share_rules.specs.declared.office.Office.{Office}
 abbrev pub HasKeyForm : Row → Type 0
 HasKeyForm row = (column row 0 ≡ Text (text_at 0 row)) × (column row 1 ≡ Int (pos (number_at 1 row)))
 
-either_way : (a b : List ℕ) → bytes_eq a b ≡ bytes_eq b a
+pub either_way : (a b : List ℕ) → bytes_eq a b ≡ bytes_eq b a
 either_way a b = by_case (bytes_eq a b) (bytes_eq b a) refl refl
   where
     by_case : (x y : Bool) → bytes_eq a b ≡ x → bytes_eq b a ≡ y → x ≡ y
@@ -44,10 +44,10 @@ either_way a b = by_case (bytes_eq a b) (bytes_eq b a) refl refl
     by_case true false p q = sym (sym q ∙ (bytes_eq-Decides b a).1 (sym ((bytes_eq-Decides a b).0 p)))
     by_case false true p q = sym p ∙ (bytes_eq-Decides a b).1 (sym ((bytes_eq-Decides b a).0 q))
 
-numbers_either_way : (a b : ℕ) → (a == b) ≡ (b == a)
+pub numbers_either_way : (a b : ℕ) → (a == b) ≡ (b == a)
 numbers_either_way a b = grind (arith, nat_tests)
 
-last_truth : (b : Bool) → (b && true) ≡ b
+pub last_truth : (b : Bool) → (b && true) ≡ b
 last_truth true = refl
 last_truth false = refl
 
@@ -64,7 +64,7 @@ module _ {K : Type 0} (P : Row → Type 0) (is_of : K → Row → Bool) (key_of 
       IsPermutation-trans (expected key) (filter (is_of key) (rows_in table db)) found (has key) (subst (λ l. IsPermutation l found) same lists.rows)
 
 -- what SQL tests of a row with a text and a number in front
-keyed : (s : List ℕ) (n : ℕ) (r : Row) → HasKeyForm r → has_key (Text s ∷ Int (pos n) ∷ []) r ≡ (bytes_eq s (text_at 0 r) && n == number_at 1 r)
+pub keyed : (s : List ℕ) (n : ℕ) (r : Row) → HasKeyForm r → has_key (Text s ∷ Int (pos n) ∷ []) r ≡ (bytes_eq s (text_at 0 r) && n == number_at 1 r)
 keyed s n r h =
     ap₂ (λ x y. x && y)
     (ap (λ v. equal Binary v (Text s)) h.0 ∙ texts_equal (text_at 0 r) s ∙ either_way (text_at 0 r) s)
@@ -74,26 +74,26 @@ keyed s n r h =
 abbrev pub IsReturnForm : Row → Type 0
 IsReturnForm row = HasKeyForm row × (without_trailing_blanks (fill 20 (text_at 0 row)) ≡ text_at 0 row)
 
-same_truth : (a b : Bool) → (a ≡ true → b ≡ true) → (b ≡ true → a ≡ true) → a ≡ b
+pub same_truth : (a b : Bool) → (a ≡ true → b ≡ true) → (b ≡ true → a ≡ true) → a ≡ b
 same_truth true true f g = refl
 same_truth false false f g = refl
 same_truth true false f g = sym (f refl)
 same_truth false true f g = g refl
 
-filled_same : (reporter text : List ℕ) → fill 20 (without_trailing_blanks reporter) ≡ reporter → without_trailing_blanks (fill 20 text) ≡ text → bytes_eq (without_trailing_blanks reporter) text ≡ bytes_eq reporter (fill 20 text)
+pub filled_same : (reporter text : List ℕ) → fill 20 (without_trailing_blanks reporter) ≡ reporter → without_trailing_blanks (fill 20 text) ≡ text → bytes_eq (without_trailing_blanks reporter) text ≡ bytes_eq reporter (fill 20 text)
 filled_same reporter text whole short =
     same_truth (bytes_eq (without_trailing_blanks reporter) text) (bytes_eq reporter (fill 20 text))
     (λ e. (bytes_eq-Decides reporter (fill 20 text)).1 (sym whole ∙ ap (fill 20) ((bytes_eq-Decides (without_trailing_blanks reporter) text).0 e)))
     (λ e. (bytes_eq-Decides (without_trailing_blanks reporter) text).1 (ap without_trailing_blanks ((bytes_eq-Decides reporter (fill 20 text)).0 e) ∙ short))
 
-both_same : (s : List ℕ) (n : ℕ) → (bytes_eq s s && n == n) ≡ true
+pub both_same : (s : List ℕ) (n : ℕ) → (bytes_eq s s && n == n) ≡ true
 both_same s n = ap₂ (λ x y. x && y) ((bytes_eq-Decides s s).1 refl) (let e : (n == n) ≡ true = grind (arith, nat_tests) in e)
 
 returns_formed : (key : ReturnKey) (o : Option (List ℕ)) → (is_some o ≡ true → IsRefilled key) → AllByRecursion IsReturnForm (row_of_some (return_row key) o)
 returns_formed key None whole = tt
 returns_formed key (Some body) whole = (((refl, refl), ap without_trailing_blanks (whole refl)), tt)
 
-transmissions_formed : (key : TransmissionKey) (o : Option (List ℕ)) → AllByRecursion HasKeyForm (row_of_some (transmission_row key) o)
+pub transmissions_formed : (key : TransmissionKey) (o : Option (List ℕ)) → AllByRecursion HasKeyForm (row_of_some (transmission_row key) o)
 transmissions_formed key None = tt
 transmissions_formed key (Some body) = ((refl, refl), tt)
 

@@ -1,6 +1,7 @@
 pub mod RowLemmas
 pub mod BookLemmas
 pub mod Growth
+pub mod LineRows
 pub mod AskLemmas
 pub mod QuestionLemmas
 mod Worked
@@ -8,6 +9,15 @@ pub mod Equals
 pub mod NamedRows
 pub mod FrontRows
 pub mod KeyRows
+pub mod AccountTexts
+pub mod AccountRows
+pub mod PaidRows
+pub mod SortedRows
+pub mod VerdictRows
+pub mod HeldRows
+pub mod CreditParts
+pub mod CreditRows
+pub mod OrderRows
 pub mod PoolsAlike
 pub mod ReturnAdds
 pub mod AddLemmas

@@ -8,11 +8,20 @@ use Rattle.share_rules.specs.declared.office.Office.{Office}
 use Rattle.society_core.specs.Book.{Book}
 use Rattle.society_core.specs.Keys.{coded_return_key, coded_transmission_key}
 use Rattle.society_core.specs.Orders.{coded_order}
+use Rattle.society_core.specs.State as store
 use Rattle.society_core.specs.State.{HasCause, Question}
+use Rattle.pool_split.specs.contracts.claim.Credit as credit
+use Rattle.pool_split.specs.declared.claim.Credit.{Credit}
+use Rattle.works_core.specs.contracts.verdict.Verdict as verdict
+use Rattle.works_core.specs.declared.verdict.Verdict.{Verdict}
+use Rattle.std.specs.Coded.{coded_option}
+use Rattle.std.proofs.Common.{List, Option}
 use Rattle.society_core.specs.contracts.store.Known as known
 use Rattle.society_core.specs.contracts.store.KnownTransmission as known_transmission
+use Rattle.society_core.specs.contracts.store.Payment as payment
 use Rattle.society_core.specs.declared.store.Known.{Known}
 use Rattle.society_core.specs.declared.store.KnownTransmission.{KnownTransmission}
+use Rattle.society_core.specs.declared.store.Payment.{Payment}
 use Rattle.society_core.specs.declared.store.StoreFault.{StoreFault}
 use Rattle.society_rows.specs.declared.fault.RowFault.{RowFault}
 use Rattle.society_rows.specs.declared.fault.RowFault.TheVariants.{Memory, Overflow, Refused, Schema, Unread}
@@ -164,3 +173,47 @@ asked_then {X} {Y} old mid new x r Found IsFound Then settled first second finds
     on_answered : (z : Result Y RowFault) → HasCleanDisk new → OnOk z (IsTrue mid.is_open) → OnOk z (IsTrue old.is_open)
     on_answered (Ok y) clean is_open = first.was_open (clean_mid clean) is_open
     on_answered (Err fault) clean h = tt
+
+-- what is asked finds also what follows from it
+pub as_asked : {X : Type 0} (old new : State) (r : Result X RowFault) (Found IsFound : Trees → X → Type 0) → Rows.Asks old new r Found → ((x : X) → Found old.now.trees x → IsFound old.now.trees x) → Rows.Asks old new r IsFound
+as_asked old new (Ok x) Found IsFound asked finds = then_asked old new x (Ok x) Found IsFound asked (finds x)
+as_asked old new (Err fault) Found IsFound asked finds = record {
+  found = λ clean has. tt;
+  answered = asked.answered;
+  was_open = asked.was_open;
+  undone = asked.undone;
+  survives = asked.survives;
+}
+
+-- a connection of which nothing was asked, for want of what to ask
+pub not_asked : {X : Type 0} (s : State) (fault : RowFault) (Found : Trees → X → Type 0) → (IsTrue s.is_open → s.now ≡ s.committed) → Rows.Asks {X = X} s s (Err fault) Found
+not_asked s fault Found settled = record {
+  found = λ clean has. tt;
+  answered = λ clean. tt;
+  was_open = λ clean is_open. is_open;
+  undone = λ clean is_open. (settled is_open, refl);
+  survives = record { clean = omega arith; shield = λ h. h; counts = omega arith; limit = refl; closes = λ clean is. inl is; crash = λ clean db h. inl h };
+}
+
+pub one_payment : (x y : Payment) → IsAlone (x ≡ y)
+one_payment x y = Coded-set payment.the_row.coded x y
+
+pub one_judgment : (x y : Option (List Verdict)) → IsAlone (x ≡ y)
+one_judgment x y = Coded-set (coded_option (coded_list verdict.the_row.coded)) x y
+
+pub one_list : (x y : List ℕ) → IsAlone (x ≡ y)
+one_list x y = Coded-set (coded_list coded_ℕ) x y
+
+pub pairs_alone : {P Q : Type 0} → IsAlone P → IsAlone Q → IsAlone (P × Q)
+pairs_alone p q x y = λ i. (p x.0 y.0 i, q x.1 y.1 i)
+
+-- what follows of an answer is answered
+pub question_as : {T : Type 0} (old new : store.State) (result : Result T StoreFault) (P Q : T → Type 0) → ((x : T) → P x → Q x) → Question old new result P → Question old new result Q
+question_as {T} old new result P Q follows q = record { answer = λ clean. weaker result (q.answer clean); asks = q.asks; cause = q.cause; refuses = q.refuses }
+  where
+    weaker : (r : Result T StoreFault) → IfOk r P → IfOk r Q
+    weaker (Ok x) h = follows x h
+    weaker (Err fault) h = tt
+
+pub one_payout : (x y : Option (List Credit)) → IsAlone (x ≡ y)
+one_payout x y = Coded-set (coded_option (coded_list credit.the_row.coded)) x y

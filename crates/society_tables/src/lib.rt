@@ -2,6 +2,8 @@
 #![tactic(auto)]
 
 mod fault;
+mod orders;
+mod pools;
 mod returns;
 mod senders;
 mod tables;

@@ -1,17 +1,20 @@
 //! What is asked of a return.
-ghost use Rattle.std.specs.Prelude.{◌≡◌, ◌∷◌, [], List, ℕ, Option, false, IfOk, IsTrue, OnOk, OnErr};
+ghost use Rattle.std.specs.Prelude.{◌≡◌, ◌∷◌, [], List, ℕ, Option, false, if◌then◌else◌, is_some, IfOk, IsTrue, OnOk, OnErr};
 ghost use Rattle.sqlite.specs.Held.{state};
-ghost use Rattle.society_core.specs.Answers.{known_by, return_known_as};
+ghost use Rattle.society_core.specs.Answers.{known_by, paid_by, payer, payment_in, return_known_as};
+ghost use Rattle.society_core.specs.Book.{return_at};
+ghost use Rattle.society_core.specs.declared.store.Payment.TheVariants.{Unknown};
 ghost use Rattle.sqlite.specs.State.{HasCleanDisk, Survives};
 ghost use Rattle.society_rows.specs.Layout.{returns};
 ghost use Rattle.society_rows.specs.Questions.{Asks};
 ghost use Rattle.society_rows.specs.Rows.{return_values};
 ghost use Rattle.society_rows.specs.Stored.{HasLayout};
-ghost use Rattle.society_tables.specs.Shown.{ByBook, Comes, ShowBody};
+ghost use Rattle.society_tables.specs.Shown.{ByBook, Comes, ShowBody, ShowPayer};
 
-use society_core::{Known, ReturnKey};
-use society_rows::{Question, ReturnRow, RowFault, add_return, ask};
+use society_core::{Known, Payment, ReturnKey};
+use society_rows::{PoolReturnRow, Question, ReturnRow, RowFault, add_return, ask};
 use sqlite::{Alter, Connection, Row};
+use work_ids::PoolNumber;
 
 /// Whether the rows of a return show these bytes, others, or none; `Unread` where they are more than one.
 fn compared(rows: &[Row], body: &[u8]) -> Result<Known, RowFault>
@@ -46,6 +49,95 @@ pub(crate) fn known_return_of<S: Alter>(
         Question::Return(key.reporter.as_bytes(), key.number.value()),
     )?;
     compared(rows.as_slice(), body)
+}
+
+/// Whether the rows of a return show one; `Unread` where they are more than one.
+fn shown_there(rows: &[Row]) -> Result<bool, RowFault>
+    ensures { (kept : Option (List ℕ)) → ShowBody kept rows.now → IfOk result (λ there. there ≡ is_some kept) }
+{
+    match rows {
+        [] => Ok(false),
+        [_] => Ok(true),
+        _ => Err(RowFault::Unread),
+    }
+}
+
+/// Whether the book has a return.
+fn is_there<S: Alter>(conn: &mut Connection<S>, key: &ReturnKey) -> Result<bool, RowFault>
+    requires { conn.old.in_transaction ≡ false }
+    ensures asked { Asks (state S.Store conn.old) (state S.Store conn.new) result
+        (ByBook (λ _ book there. there ≡ is_some (return_at book key.now))) }
+    ensures idle { conn.new.in_transaction ≡ false }
+{
+    let rows = ask(
+        conn,
+        Question::Return(key.reporter.as_bytes(), key.number.value()),
+    )?;
+    shown_there(rows.as_slice())
+}
+
+/// The pool that the rows of a return that is paid show; `Unread` where that is no pool's number.
+fn shown_payer(rows: &[Row]) -> Result<Option<PoolNumber>, RowFault>
+    ensures { (payer : Option ℕ) → ShowPayer payer rows.now → IfOk result (λ pool. pool ≡ payer) }
+{
+    match rows {
+        [] => Ok(None),
+        [row, ..] => match PoolNumber::from_u32(PoolReturnRow::from_row(row)?.pool) {
+            Some(pool) => Ok(Some(pool)),
+            None => Err(RowFault::Unread),
+        },
+    }
+}
+
+/// The pool that pays a return.
+fn payer_of<S: Alter>(
+    conn: &mut Connection<S>,
+    key: &ReturnKey,
+) -> Result<Option<PoolNumber>, RowFault>
+    requires { conn.old.in_transaction ≡ false }
+    ensures asked { Asks (state S.Store conn.old) (state S.Store conn.new) result
+        (ByBook (λ _ book pool. pool ≡ payer book key.now)) }
+    ensures idle { conn.new.in_transaction ≡ false }
+{
+    let rows = ask(
+        conn,
+        Question::Payer(key.reporter.as_bytes(), key.number.value()),
+    )?;
+    shown_payer(rows.as_slice())
+}
+
+/// Whether a return is paid, by whether it is there.
+fn payment_with<S: Alter>(
+    conn: &mut Connection<S>,
+    key: &ReturnKey,
+    there: bool,
+) -> Result<Payment, RowFault>
+    requires { conn.old.in_transaction ≡ false }
+    ensures asked { Asks (state S.Store conn.old) (state S.Store conn.new) result
+        (ByBook (λ _ book payment. payment ≡ (if there then paid_by (payer book key.now) else Unknown))) }
+    ensures idle { conn.new.in_transaction ≡ false }
+{
+    let payer = payer_of(conn, key)?;
+    Ok(match (there, payer) {
+        (false, _) => Payment::Unknown,
+        (true, None) => Payment::Unpaid,
+        (true, Some(pool)) => Payment::Paid(pool),
+    })
+}
+
+/// Whether a return is there, and which pool pays it.
+pub(crate) fn payment_of<S: Alter>(
+    conn: &mut Connection<S>,
+    key: &ReturnKey,
+) -> Result<Payment, RowFault>
+    requires { conn.old.in_transaction ≡ false }
+    ensures asked { Asks (state S.Store conn.old) (state S.Store conn.new) result
+        (ByBook (λ _ book payment. payment ≡ payment_in book key.now)) }
+    ensures idle { conn.new.in_transaction ≡ false }
+{
+    let _settled = conn.is_autocommit();
+    let there = is_there(conn, key)?;
+    payment_with(conn, key, there)
 }
 
 /// Adds a return in a transaction of its own.

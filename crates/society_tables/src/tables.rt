@@ -1,23 +1,31 @@
 //! The store over a database.
-ghost use Rattle.std.specs.Prelude.{◌≡◌, ◌<◌, ◌^◌, ◌&&◌, IfOk, IsTrue, None, ⊤, false};
+ghost use Rattle.std.specs.Prelude.{◌≡◌, ◌<◌, ◌^◌, ◌&&◌, IfOk, IsTrue, None, ⊤, false, option_map};
 ghost use Rattle.sqlite.specs.Held.{state};
 ghost use Rattle.sqlite.specs.Steps.{over_memory};
-ghost use Rattle.society_core.specs.Answers.{known_as, known_with_front, return_known_as};
+ghost use Rattle.society_core.specs.Answers.{known_as, known_with_front, payment_in, pool_known_as, return_known_as};
 ghost use Rattle.perf_returns.specs.Returns.{return_fault};
-ghost use Rattle.society_core.specs.Book.{empty_book, front, return_at, with_return};
+ghost use Rattle.society_core.specs.Book.{empty_book, front, held, order_at, return_at, shown_verdicts, with_return};
+ghost use Rattle.society_core.specs.Pools.{balance, credits_of};
+ghost use Rattle.society_core.specs.Requests.{Stands, standing_of};
 ghost use Rattle.society_core.specs.State.{Addition, Question};
 ghost use Rattle.society_tables.specs.BookRows.{book_of};
 ghost use Rattle.society_tables.specs.Kept.{Rests, tables_state};
 
 use crate::fault::told;
-use crate::returns::{known_return_of, write_return};
-use crate::senders::{front_of, known_of};
+use crate::orders::known_pool_of;
+use crate::pools::{balance_of, pool_credits};
+use crate::returns::{known_return_of, payment_of, write_return};
+use crate::senders::{front_of, known_of, status_of, verdicts_of};
+use pool_split::Credit;
 use share_rules::Office;
-use society_core::{Known, KnownTransmission, ReturnKey, StoreFault};
+use society_core::{
+    Known, KnownTransmission, Payment, PoolOrder, ReturnKey, SenderStatus, StoreFault,
+};
 use society_rows::{OfficeRow, ReturnRow, RowFault, create};
 use sqlite::{Alter, Connection, MemStore};
 use std::alloc::Global;
-use work_ids::{SenderKey, TransmissionNumber};
+use work_ids::{Account, PoolNumber, SenderKey, TransmissionNumber};
+use works_core::Verdict;
 
 /// An office's book in the tables of a database, with all that is derived from it. Each question is answered from the derived
 /// rows; each addition is one transaction.
@@ -70,6 +78,91 @@ impl<S: Alter> Tables<S> {
             return Err(StoreFault::Refused);
         }
         let answer = known_of(&mut self.conn, sender.as_bytes(), number.value(), body);
+        told(&mut self.failures, answer)
+    }
+
+    /// The balance of an account, in units of money.
+    pub fn balance(&mut self, alloc: Global, account: &Account) -> Result<u64, StoreFault>
+        ensures { Question (tables_state self.old.office (state S.Store self.old.conn) self.old.failures) (tables_state self.new.office (state S.Store self.new.conn) self.new.failures)
+            result (λ units. units ≡ balance self.old.office (book_of (state S.Store self.old.conn).now.trees) account.now) }
+    {
+        if self.failures == u64::MAX {
+            return Err(StoreFault::Refused);
+        }
+        let answer = balance_of(alloc, &mut self.conn, account);
+        told(&mut self.failures, answer)
+    }
+
+    /// Whether a return is there and paid.
+    pub fn payment(&mut self, key: &ReturnKey) -> Result<Payment, StoreFault>
+        ensures { Question (tables_state self.old.office (state S.Store self.old.conn) self.old.failures) (tables_state self.new.office (state S.Store self.new.conn) self.new.failures)
+            result (λ payment. payment ≡ payment_in (book_of (state S.Store self.old.conn).now.trees) key.now) }
+    {
+        if self.failures == u64::MAX {
+            return Err(StoreFault::Refused);
+        }
+        let answer = payment_of(&mut self.conn, key);
+        told(&mut self.failures, answer)
+    }
+
+    /// The verdicts of a sender's transmission, none where its number is above the front.
+    pub fn verdicts(
+        &mut self,
+        alloc: Global,
+        sender: &SenderKey,
+        number: TransmissionNumber,
+    ) -> Result<Option<Vec<Verdict>>, StoreFault>
+        ensures { Question (tables_state self.old.office (state S.Store self.old.conn) self.old.failures) (tables_state self.new.office (state S.Store self.new.conn) self.new.failures)
+            result (λ verdicts. option_map (λ list. list.items) verdicts ≡ shown_verdicts self.old.office (book_of (state S.Store self.old.conn).now.trees) sender.now number) }
+    {
+        if self.failures == u64::MAX {
+            return Err(StoreFault::Refused);
+        }
+        let answer = verdicts_of(alloc, &mut self.conn, sender.as_bytes(), number.value());
+        told(&mut self.failures, answer)
+    }
+
+    /// How a sender stands: its front, and the numbers of its held transmissions, ascending.
+    pub fn standing(
+        &mut self,
+        alloc: Global,
+        sender: &SenderKey,
+    ) -> Result<SenderStatus, StoreFault>
+        ensures { Question (tables_state self.old.office (state S.Store self.old.conn) self.old.failures) (tables_state self.new.office (state S.Store self.new.conn) self.new.failures)
+            result (λ status. standing_of status ≡ Stands (front (book_of (state S.Store self.old.conn).now.trees) sender.now) (held (book_of (state S.Store self.old.conn).now.trees) sender.now)) }
+    {
+        if self.failures == u64::MAX {
+            return Err(StoreFault::Refused);
+        }
+        let answer = status_of(alloc, &mut self.conn, sender.as_bytes());
+        told(&mut self.failures, answer)
+    }
+
+    /// Whether the book has an order, another one under its pool, or none.
+    pub fn known_pool(&mut self, pool: PoolNumber, order: &PoolOrder) -> Result<Known, StoreFault>
+        ensures { Question (tables_state self.old.office (state S.Store self.old.conn) self.old.failures) (tables_state self.new.office (state S.Store self.new.conn) self.new.failures)
+            result (λ known. known ≡ pool_known_as (book_of (state S.Store self.old.conn).now.trees) pool order.now) }
+    {
+        if self.failures == u64::MAX {
+            return Err(StoreFault::Refused);
+        }
+        let answer = known_pool_of(&mut self.conn, pool.value(), order);
+        told(&mut self.failures, answer)
+    }
+
+    /// The credits of a pool, none where it is not closed.
+    pub fn credits(
+        &mut self,
+        alloc: Global,
+        pool: PoolNumber,
+    ) -> Result<Option<Vec<Credit>>, StoreFault>
+        ensures { Question (tables_state self.old.office (state S.Store self.old.conn) self.old.failures) (tables_state self.new.office (state S.Store self.new.conn) self.new.failures)
+            result (λ credits. option_map (λ list. list.items) credits ≡ option_map (credits_of self.old.office (book_of (state S.Store self.old.conn).now.trees)) (order_at (book_of (state S.Store self.old.conn).now.trees) pool)) }
+    {
+        if self.failures == u64::MAX {
+            return Err(StoreFault::Refused);
+        }
+        let answer = pool_credits(alloc, &mut self.conn, pool.value());
         told(&mut self.failures, answer)
     }
 

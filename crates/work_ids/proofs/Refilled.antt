@@ -32,7 +32,7 @@ uncut xs last =
     take_all (length xs - suffix_len is_blank_byte xs) xs whole
 
 -- what is left ends with no blank
-left_last : (bytes : List ℕ) → 0 < length (without_trailing_blanks bytes) → is_blank_byte (get_or (without_trailing_blanks bytes) (length (without_trailing_blanks bytes) - 1) 0) ≡ false
+pub left_last : (bytes : List ℕ) → 0 < length (without_trailing_blanks bytes) → is_blank_byte (get_or (without_trailing_blanks bytes) (length (without_trailing_blanks bytes) - 1) 0) ≡ false
 left_last bytes some =
     let n : length (without_trailing_blanks bytes) - 1 ≡ left bytes - 1 = ap (λ (m : ℕ). m - 1) (length-left bytes) in
     let any : 0 < left bytes = omega (arith, length-left bytes) in

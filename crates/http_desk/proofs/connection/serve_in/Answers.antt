@@ -1,124 +1,128 @@
-use Rattle.std.proofs.Common.{◌∙◌, refl, ap, arith}
-use Rattle.http_desk.specs.declared.input.Input.{Input}
+use Rattle.std.proofs.Common.{◌+◌, ◌*◌, ◌<◌, ◌∙◌, length, refl, sym, subst, arith}
 use Rattle.http_desk.specs.declared.connection_end.End.TheVariants.{Closed}
+use Rattle.http_desk.specs.declared.input.Input.{Input}
 use Rattle.http_desk.specs.Input.{unread}
 use Rattle.http_desk.specs.Outbox.{waiting}
 use Rattle.http_desk.specs.Told.{told_reply}
-use Rattle.http_desk.proofs.ServeLemmas.{SoFar-start, SoFar-next, SoFar-reads, finishes, ended_served, ended_fault, ended_cause, given_up, keeps_turns, countable, goes_on, closes_on, failed, fewer, smaller, rises_from}
+use Rattle.http_desk.proofs.ServeLemmas.{SoFar-start, SoFar-next, SoFar-reads, SoFar-same, SoFar-input, finishes, ended_served, ended_fault, ended_cause, given_up, keeps_turns, countable, goes_on, closes_on, failed, fewer, smaller, rises_from}
 use Rattle.http_desk.proofs.connection.serve_in.Goals as goal
 
-pub loop-head-init : goal.loop-head-init
-loop-head-init g c =
-    (SoFar-start _ c.args.room.now.input _ _ _ _ _ c.requires.unread refl c.requires.waiting c.args.reader.now.reads_fit, c.requires.ready, refl, refl, λ clean. clean)
+pub loop-answered-init : goal.loop-answered-init
+loop-answered-init g c =
+    (SoFar-start _ (unread c.args.room.now.input) _ _ _ _ _ _ c.requires.unread refl c.requires.waiting c.args.reader.now.reads_fit, c.requires.ready, refl, refl, λ clean. clean)
 
 -- ---- the end
 
 pub returns-in-Ok-Ended-clause-served : goal.returns-in-Ok-Ended-clause-served
 returns-in-Ok-Ended-clause-served g c =
-    let so = SoFar-next _ _ _ _ c.next_answered.new.input _ _ _ _ _ _ _ _ (g.W.Write.contents c.next_answered.new.writer.inner) _ (waiting c.next_answered.new.outbox) _ c.loop-head.invariant.0 c.next_answered.ensures.reads c.in-Ok-Ended.ensures.sends in
-    let ends = rw c.in-Ok-Ended.field-0-is at c.in-Ok-Ended.ensures.next in
+    let n = rw c.in-Ok-Ended.field-0-is at c.in-Ok-Ended.ensures.comes in
+    let before = SoFar-next _ _ _ _ n.bytes _ _ _ _ _ _ _ _ _ _ (g.W.Write.contents c.answer_upcoming.new.writer.inner) _ (waiting c.answer_upcoming.new.room.outbox) _ c.loop-answered.invariant.0 n.reads c.in-Ok-Ended.ensures.sends in
+    let so = SoFar-same g.S.Store.state c.loop-answered.desk c.answer_upcoming.new.desk _ _ n.bytes _ _ _ _ _ _ (g.W.Write.contents c.answer_upcoming.new.writer.inner) (waiting c.answer_upcoming.new.room.outbox) _ n.comes.1 before in
     ended_served _ _ _ _ _ (g.W.Write.contents c.close_with.new.writer.inner) _ _ c.in-Ok-Ended.end
-    (finishes _ _ c.next_answered.new.input _ _ _ _ _ _ _ (waiting c.next_answered.new.outbox) _ so c.in-Ok-Ended.end ends) c.close_with.result c.close_with.ensures.served
+    (finishes _ _ n.bytes _ _ _ _ _ _ _ _ (waiting c.answer_upcoming.new.room.outbox) _ so c.in-Ok-Ended.end n.comes.0) c.close_with.result c.close_with.ensures.served
 
 pub returns-in-Ok-Ended-clause-fault : goal.returns-in-Ok-Ended-clause-fault
 returns-in-Ok-Ended-clause-fault g c =
-    let so = SoFar-next _ _ _ _ c.next_answered.new.input _ _ _ _ _ _ _ _ (g.W.Write.contents c.next_answered.new.writer.inner) _ (waiting c.next_answered.new.outbox) _ c.loop-head.invariant.0 c.next_answered.ensures.reads c.in-Ok-Ended.ensures.sends in
-    let ends = rw c.in-Ok-Ended.field-0-is at c.in-Ok-Ended.ensures.next in
-    ended_cause g.S.Store.state g.R.Read.remaining g.W.Write.contents c.args.desk.now c.loop-head.desk c.args.reader.now c.next_answered.new.reader c.args.writer.now c.next_answered.new.writer c.close_with.new.writer
-    c.args.room.now.input.turns _ _ c.close_with.result (c.in-Ok-Ended.ensures.kept_writer ∙ c.loop-head.invariant.3) c.close_with.ensures.fault
+    let n = rw c.in-Ok-Ended.field-0-is at c.in-Ok-Ended.ensures.comes in
+    let before = SoFar-next _ _ _ _ n.bytes _ _ _ _ _ _ _ _ _ _ (g.W.Write.contents c.answer_upcoming.new.writer.inner) _ (waiting c.answer_upcoming.new.room.outbox) _ c.loop-answered.invariant.0 n.reads c.in-Ok-Ended.ensures.sends in
+    let so = SoFar-same g.S.Store.state c.loop-answered.desk c.answer_upcoming.new.desk _ _ n.bytes _ _ _ _ _ _ (g.W.Write.contents c.answer_upcoming.new.writer.inner) (waiting c.answer_upcoming.new.room.outbox) _ n.comes.1 before in
+    ended_cause g.S.Store.state g.R.Read.remaining g.W.Write.contents c.args.desk.now c.answer_upcoming.new.desk c.args.reader.now c.answer_upcoming.new.reader c.args.writer.now c.answer_upcoming.new.writer c.close_with.new.writer
+    c.args.room.now.input.turns _ _ c.close_with.result (c.in-Ok-Ended.ensures.kept_writer ∙ c.loop-answered.invariant.3) c.close_with.ensures.fault
     (ended_fault _ _ _ _ _ (g.W.Write.contents c.close_with.new.writer.inner) _ _ c.in-Ok-Ended.end
-    (finishes _ _ c.next_answered.new.input _ _ _ _ _ _ _ (waiting c.next_answered.new.outbox) _ so c.in-Ok-Ended.end ends) _ _ c.close_with.result c.close_with.ensures.fault)
+    (finishes _ _ n.bytes _ _ _ _ _ _ _ _ (waiting c.answer_upcoming.new.room.outbox) _ so c.in-Ok-Ended.end n.comes.0) _ _ c.close_with.result c.close_with.ensures.fault)
 
 pub returns-in-Ok-Ended-clause-turns : goal.returns-in-Ok-Ended-clause-turns
 returns-in-Ok-Ended-clause-turns g c =
-    let so = SoFar-reads _ _ _ _ c.next_answered.new.input _ _ _ _ _ _ _ _ _ _ c.loop-head.invariant.0 c.next_answered.ensures.reads in
-    keeps_turns g.R.Read.remaining c.args.reader.now c.next_answered.new.reader c.next_answered.new.input _ _ _ _ _ _ _ so
+    let n = rw c.in-Ok-Ended.field-0-is at c.in-Ok-Ended.ensures.comes in
+    let so = SoFar-reads _ _ _ _ n.bytes _ _ _ _ _ _ _ _ _ _ _ _ c.loop-answered.invariant.0 n.reads in
+    keeps_turns g.R.Read.remaining c.args.reader.now c.answer_upcoming.new.reader n.bytes _ _ _ _ _ _ _ _ so
 
 -- ---- no request came
 
 pub returns-in-Err-clause-fault : goal.returns-in-Err-clause-fault
 returns-in-Err-clause-fault g c =
-    let so = SoFar-reads _ _ _ _ c.next_answered.new.input _ _ _ _ _ _ _ _ _ _ c.loop-head.invariant.0 c.next_answered.ensures.reads in
-    given_up g.S.Store.state g.R.Read.remaining g.W.Write.contents c.args.desk.now c.loop-head.desk c.args.reader.now c.loop-head.reader c.next_answered.new.reader c.args.writer.now c.loop-head.writer c.next_answered.new.writer
-    c.next_answered.new.input c.args.room.now.input.turns c.loop-head.requests (waiting c.loop-head.room.outbox) so c.loop-head.invariant.2 c.loop-head.invariant.3 c.in-Err.kind c.in-Err.ensures.stops
+    let n = c.in-Err.ensures.stops in
+    let before = SoFar-reads _ _ _ _ n.bytes _ _ _ _ _ _ _ _ _ _ _ _ c.loop-answered.invariant.0 n.reads in
+    let so = SoFar-same g.S.Store.state c.loop-answered.desk c.answer_upcoming.new.desk _ _ n.bytes _ _ _ _ _ _ _ _ _ n.same before in
+    given_up g.S.Store.state g.R.Read.remaining g.W.Write.contents c.args.desk.now c.answer_upcoming.new.desk c.args.reader.now c.loop-answered.reader c.answer_upcoming.new.reader c.args.writer.now c.loop-answered.writer c.answer_upcoming.new.writer
+    n.bytes _ c.args.room.now.input.turns c.loop-answered.requests (waiting c.loop-answered.room.outbox) so c.loop-answered.invariant.2 c.loop-answered.invariant.3 c.in-Err.kind n.stops
 
 pub returns-in-Err-clause-turns : goal.returns-in-Err-clause-turns
 returns-in-Err-clause-turns g c =
-    let so = SoFar-reads _ _ _ _ c.next_answered.new.input _ _ _ _ _ _ _ _ _ _ c.loop-head.invariant.0 c.next_answered.ensures.reads in
-    keeps_turns g.R.Read.remaining c.args.reader.now c.next_answered.new.reader c.next_answered.new.input _ _ _ _ _ _ _ so
+    let n = c.in-Err.ensures.stops in
+    let so = SoFar-reads _ _ _ _ n.bytes _ _ _ _ _ _ _ _ _ _ _ _ c.loop-answered.invariant.0 n.reads in
+    keeps_turns g.R.Read.remaining c.args.reader.now c.answer_upcoming.new.reader n.bytes _ _ _ _ _ _ _ _ so
 
 -- ---- one more request
 
 pub overflow_add-requests : goal.overflow_add-requests
 overflow_add-requests g c =
-    let so = SoFar-next _ _ _ _ c.next_answered.new.input _ _ _ _ _ _ _ _ (g.W.Write.contents c.next_answered.new.writer.inner) _ (waiting c.next_answered.new.outbox) _ c.loop-head.invariant.0 c.next_answered.ensures.reads c.in-Ok-Request.ensures.sends in
-    let has = rw c.in-Ok-Request.field-0-is at c.in-Ok-Request.ensures.next in
-    let after = c.answer_next-told in
-    let most = countable _ _ c.next_answered.new.input after.new.room.input _ _ _ _ _ (g.S.Store.state after.new.desk) _ _ (g.W.Write.contents c.next_answered.new.writer.inner) (waiting c.next_answered.new.outbox) (waiting c.next_answered.new.outbox) _ _ so has after.ensures.taken after.ensures.turns after.ensures.office after.ensures.clean (told_reply after.result) (after.ensures.step has) in
+    let n = rw c.in-Ok-Request.field-0-is at c.in-Ok-Request.ensures.comes in
+    let so = SoFar-next _ _ _ _ n.bytes _ _ _ _ _ _ _ _ _ _ (g.W.Write.contents c.answer_upcoming.new.writer.inner) _ (waiting c.answer_upcoming.new.room.outbox) _ c.loop-answered.invariant.0 n.reads c.in-Ok-Request.ensures.sends in
+    let t = n.comes in
+    let most = countable _ _ n.bytes (unread c.answer_upcoming.new.room.input) _ _ _ _ _ _ (g.S.Store.state c.answer_upcoming.new.desk) _ _ (g.W.Write.contents c.answer_upcoming.new.writer.inner) (waiting c.answer_upcoming.new.room.outbox) (waiting c.answer_upcoming.new.room.outbox) _ so t.part t.is_part t.whole _ t.is_last c.answer_upcoming.ensures.office c.answer_upcoming.ensures.clean (told_reply c.in-Ok-Request.answered.told) t.step in
     omega (arith, most, c.requires.turns)
 
 pub returns-in_default-clause-fault : goal.returns-in_default-clause-fault
 returns-in_default-clause-fault g c =
-    let so = SoFar-next _ _ _ _ c.next_answered.new.input _ _ _ _ _ _ _ _ (g.W.Write.contents c.next_answered.new.writer.inner) _ (waiting c.next_answered.new.outbox) _ c.loop-head.invariant.0 c.next_answered.ensures.reads c.in-Ok-Request.ensures.sends in
-    let has = rw c.in-Ok-Request.field-0-is at c.in-Ok-Request.ensures.next in
-    let after = c.answer_next-told in
-    let gathers = rw (ap waiting after.ensures.outbox) at c.in_default.ensures.gathers in
+    let n = rw c.in-Ok-Request.field-0-is at c.in-Ok-Request.ensures.comes in
+    let so = SoFar-next _ _ _ _ n.bytes _ _ _ _ _ _ _ _ _ _ (g.W.Write.contents c.answer_upcoming.new.writer.inner) _ (waiting c.answer_upcoming.new.room.outbox) _ c.loop-answered.invariant.0 n.reads c.in-Ok-Request.ensures.sends in
+    let t = n.comes in
     record {
-      breaks = failed _ _ c.next_answered.new.input after.new.room.input _ _ _ _ _ (g.S.Store.state after.new.desk) _ _ (g.W.Write.contents c.send.new.writer.inner) (waiting c.next_answered.new.outbox) (waiting c.send.new.room.outbox) _ _ so has after.ensures.taken after.ensures.turns after.ensures.office after.ensures.clean (told_reply after.result) (after.ensures.step has)
-          gathers;
-      cause = rises_from _ _ _ (c.in-Ok-Request.ensures.kept_writer ∙ c.loop-head.invariant.3) c.in_default.ensures.failed;
+      breaks = failed _ _ n.bytes (unread c.answer_upcoming.new.room.input) _ _ _ _ _ _ (g.S.Store.state c.answer_upcoming.new.desk) _ _ (g.W.Write.contents c.send.new.writer.inner) (waiting c.answer_upcoming.new.room.outbox) (waiting c.send.new.room.outbox) _ so t.part t.is_part t.whole _ t.is_last c.answer_upcoming.ensures.office c.answer_upcoming.ensures.clean (told_reply c.in-Ok-Request.answered.told) t.step c.in_default.ensures.gathers;
+      cause = rises_from _ _ _ (c.in-Ok-Request.ensures.kept_writer ∙ c.loop-answered.invariant.3) c.in_default.ensures.failed;
     }
 
 pub returns-in_default-clause-turns : goal.returns-in_default-clause-turns
 returns-in_default-clause-turns g c =
-    let so = SoFar-reads _ _ _ _ c.next_answered.new.input _ _ _ _ _ _ _ _ _ _ c.loop-head.invariant.0 c.next_answered.ensures.reads in
-    keeps_turns g.R.Read.remaining c.args.reader.now c.next_answered.new.reader c.next_answered.new.input _ _ _ _ _ _ _ so
+    let n = rw c.in-Ok-Request.field-0-is at c.in-Ok-Request.ensures.comes in
+    let so = SoFar-reads _ _ _ _ n.bytes _ _ _ _ _ _ _ _ _ _ _ _ c.loop-answered.invariant.0 n.reads in
+    keeps_turns g.R.Read.remaining c.args.reader.now c.answer_upcoming.new.reader n.bytes _ _ _ _ _ _ _ _ so
 
-pub returns-then-head-clause-served : goal.returns-then-head-clause-served
-returns-then-head-clause-served g c =
-    let so = SoFar-next _ _ _ _ c.next_answered.new.input _ _ _ _ _ _ _ _ (g.W.Write.contents c.next_answered.new.writer.inner) _ (waiting c.next_answered.new.outbox) _ c.loop-head.invariant.0 c.next_answered.ensures.reads c.in-Ok-Request.ensures.sends in
-    let has = rw c.in-Ok-Request.field-0-is at c.in-Ok-Request.ensures.next in
-    let after = c.answer_next-told in
-    let gathers = rw (ap waiting after.ensures.outbox) at c.in-Ok.ensures.gathers in
-    ended_served _ _ _ _ _ (g.W.Write.contents c.close_with-then-head.new.writer.inner) _ _ Closed
-    (closes_on _ _ c.next_answered.new.input after.new.room.input _ _ _ _ _ (g.S.Store.state after.new.desk) _ _ (g.W.Write.contents c.send.new.writer.inner) (waiting c.next_answered.new.outbox) (waiting c.send.new.room.outbox) _ _ so has after.ensures.taken after.ensures.turns after.ensures.office after.ensures.clean (told_reply after.result) (after.ensures.step has)
-    c.if-head.true gathers) c.close_with-then-head.result c.close_with-then-head.ensures.served
+pub returns-then-answered-clause-served : goal.returns-then-answered-clause-served
+returns-then-answered-clause-served g c =
+    let n = rw c.in-Ok-Request.field-0-is at c.in-Ok-Request.ensures.comes in
+    let so = SoFar-next _ _ _ _ n.bytes _ _ _ _ _ _ _ _ _ _ (g.W.Write.contents c.answer_upcoming.new.writer.inner) _ (waiting c.answer_upcoming.new.room.outbox) _ c.loop-answered.invariant.0 n.reads c.in-Ok-Request.ensures.sends in
+    let t = n.comes in
+    ended_served _ _ _ _ _ (g.W.Write.contents c.close_with-then-answered.new.writer.inner) _ _ Closed
+    (closes_on _ _ n.bytes (unread c.answer_upcoming.new.room.input) _ _ _ _ _ _ (g.S.Store.state c.answer_upcoming.new.desk) _ _ (g.W.Write.contents c.send.new.writer.inner) (waiting c.answer_upcoming.new.room.outbox) (waiting c.send.new.room.outbox) _ so t.part t.is_part t.whole _ t.is_last c.answer_upcoming.ensures.office c.answer_upcoming.ensures.clean (told_reply c.in-Ok-Request.answered.told) t.step
+    c.if-answered.true c.in-Ok.ensures.gathers) c.close_with-then-answered.result c.close_with-then-answered.ensures.served
 
-pub returns-then-head-clause-fault : goal.returns-then-head-clause-fault
-returns-then-head-clause-fault g c =
-    let so = SoFar-next _ _ _ _ c.next_answered.new.input _ _ _ _ _ _ _ _ (g.W.Write.contents c.next_answered.new.writer.inner) _ (waiting c.next_answered.new.outbox) _ c.loop-head.invariant.0 c.next_answered.ensures.reads c.in-Ok-Request.ensures.sends in
-    let has = rw c.in-Ok-Request.field-0-is at c.in-Ok-Request.ensures.next in
-    let after = c.answer_next-told in
-    let gathers = rw (ap waiting after.ensures.outbox) at c.in-Ok.ensures.gathers in
-    ended_cause g.S.Store.state g.R.Read.remaining g.W.Write.contents c.args.desk.now after.new.desk c.args.reader.now c.next_answered.new.reader c.args.writer.now c.send.new.writer c.close_with-then-head.new.writer
-    c.args.room.now.input.turns _ _ c.close_with-then-head.result (c.in-Ok.ensures.kept ∙ c.in-Ok-Request.ensures.kept_writer ∙ c.loop-head.invariant.3) c.close_with-then-head.ensures.fault
-    (ended_fault _ _ _ _ _ (g.W.Write.contents c.close_with-then-head.new.writer.inner) _ _ Closed
-    (closes_on _ _ c.next_answered.new.input after.new.room.input _ _ _ _ _ (g.S.Store.state after.new.desk) _ _ (g.W.Write.contents c.send.new.writer.inner) (waiting c.next_answered.new.outbox) (waiting c.send.new.room.outbox) _ _ so has after.ensures.taken after.ensures.turns after.ensures.office after.ensures.clean (told_reply after.result) (after.ensures.step has)
-    c.if-head.true gathers) _ _ c.close_with-then-head.result c.close_with-then-head.ensures.fault)
+pub returns-then-answered-clause-fault : goal.returns-then-answered-clause-fault
+returns-then-answered-clause-fault g c =
+    let n = rw c.in-Ok-Request.field-0-is at c.in-Ok-Request.ensures.comes in
+    let so = SoFar-next _ _ _ _ n.bytes _ _ _ _ _ _ _ _ _ _ (g.W.Write.contents c.answer_upcoming.new.writer.inner) _ (waiting c.answer_upcoming.new.room.outbox) _ c.loop-answered.invariant.0 n.reads c.in-Ok-Request.ensures.sends in
+    let t = n.comes in
+    ended_cause g.S.Store.state g.R.Read.remaining g.W.Write.contents c.args.desk.now c.answer_upcoming.new.desk c.args.reader.now c.answer_upcoming.new.reader c.args.writer.now c.send.new.writer c.close_with-then-answered.new.writer
+    c.args.room.now.input.turns _ _ c.close_with-then-answered.result (c.in-Ok.ensures.kept ∙ c.in-Ok-Request.ensures.kept_writer ∙ c.loop-answered.invariant.3) c.close_with-then-answered.ensures.fault
+    (ended_fault _ _ _ _ _ (g.W.Write.contents c.close_with-then-answered.new.writer.inner) _ _ Closed
+    (closes_on _ _ n.bytes (unread c.answer_upcoming.new.room.input) _ _ _ _ _ _ (g.S.Store.state c.answer_upcoming.new.desk) _ _ (g.W.Write.contents c.send.new.writer.inner) (waiting c.answer_upcoming.new.room.outbox) (waiting c.send.new.room.outbox) _ so t.part t.is_part t.whole _ t.is_last c.answer_upcoming.ensures.office c.answer_upcoming.ensures.clean (told_reply c.in-Ok-Request.answered.told) t.step
+    c.if-answered.true c.in-Ok.ensures.gathers) _ _ c.close_with-then-answered.result c.close_with-then-answered.ensures.fault)
 
-pub returns-then-head-clause-turns : goal.returns-then-head-clause-turns
-returns-then-head-clause-turns g c =
-    let so = SoFar-reads _ _ _ _ c.next_answered.new.input _ _ _ _ _ _ _ _ _ _ c.loop-head.invariant.0 c.next_answered.ensures.reads in
-    keeps_turns g.R.Read.remaining c.args.reader.now c.next_answered.new.reader c.next_answered.new.input _ _ _ _ _ _ _ so
+pub returns-then-answered-clause-turns : goal.returns-then-answered-clause-turns
+returns-then-answered-clause-turns g c =
+    let n = rw c.in-Ok-Request.field-0-is at c.in-Ok-Request.ensures.comes in
+    let so = SoFar-reads _ _ _ _ n.bytes _ _ _ _ _ _ _ _ _ _ _ _ c.loop-answered.invariant.0 n.reads in
+    keeps_turns g.R.Read.remaining c.args.reader.now c.answer_upcoming.new.reader n.bytes _ _ _ _ _ _ _ _ so
 
-pub loop-head-smaller : goal.loop-head-smaller
-loop-head-smaller g c =
-    let so = SoFar-next _ _ _ _ c.next_answered.new.input _ _ _ _ _ _ _ _ (g.W.Write.contents c.next_answered.new.writer.inner) _ (waiting c.next_answered.new.outbox) _ c.loop-head.invariant.0 c.next_answered.ensures.reads c.in-Ok-Request.ensures.sends in
-    let has = rw c.in-Ok-Request.field-0-is at c.in-Ok-Request.ensures.next in
-    let after = c.answer_next-told in
-    let less = fewer _ _ c.next_answered.new.input after.new.room.input _ _ _ _ _ (g.S.Store.state after.new.desk) _ _ (g.W.Write.contents c.next_answered.new.writer.inner) (waiting c.next_answered.new.outbox) (waiting c.next_answered.new.outbox) _ _ so has after.ensures.taken after.ensures.turns after.ensures.office after.ensures.clean (told_reply after.result) (after.ensures.step has) in
-    smaller c.loop-head.room.input c.next_answered.new.input after.new.room.input c.send.new.room.input _ _ _ _ c.next_answered.ensures.reads less c.send.ensures.input
+pub loop-answered-smaller : goal.loop-answered-smaller
+loop-answered-smaller g c =
+    let n = rw c.in-Ok-Request.field-0-is at c.in-Ok-Request.ensures.comes in
+    let so = SoFar-next _ _ _ _ n.bytes _ _ _ _ _ _ _ _ _ _ (g.W.Write.contents c.answer_upcoming.new.writer.inner) _ (waiting c.answer_upcoming.new.room.outbox) _ c.loop-answered.invariant.0 n.reads c.in-Ok-Request.ensures.sends in
+    let t = n.comes in
+    let less = fewer _ _ n.bytes (unread c.answer_upcoming.new.room.input) _ _ _ _ _ _ (g.S.Store.state c.answer_upcoming.new.desk) _ _ (g.W.Write.contents c.answer_upcoming.new.writer.inner) (waiting c.answer_upcoming.new.room.outbox) (waiting c.answer_upcoming.new.room.outbox) _ so t.part t.is_part t.whole _ t.is_last c.answer_upcoming.ensures.office c.answer_upcoming.ensures.clean (told_reply c.in-Ok-Request.answered.told) t.step in
+    let P : Input → Type 0 = λ i. length (unread i) + i.turns * 16384 < length (unread c.loop-answered.room.input) + c.loop-answered.room.input.turns * 16384 in
+    subst P (sym c.send.ensures.input) (smaller _ n.bytes (unread c.answer_upcoming.new.room.input) _ _ _ _ _ _ n.reads less)
 
-pub loop-head-preserved : goal.loop-head-preserved
-loop-head-preserved g c =
-    let so = SoFar-next _ _ _ _ c.next_answered.new.input _ _ _ _ _ _ _ _ (g.W.Write.contents c.next_answered.new.writer.inner) _ (waiting c.next_answered.new.outbox) _ c.loop-head.invariant.0 c.next_answered.ensures.reads c.in-Ok-Request.ensures.sends in
-    let has = rw c.in-Ok-Request.field-0-is at c.in-Ok-Request.ensures.next in
-    let after = c.answer_next-told in
-    let gathers = rw (ap waiting after.ensures.outbox) at c.in-Ok.ensures.gathers in
-    let same = c.send.ensures.input in (
-      goes_on _ _ c.next_answered.new.input c.send.new.room.input _ _ _ _ _ (g.S.Store.state after.new.desk) _ _ (g.W.Write.contents c.send.new.writer.inner) (waiting c.next_answered.new.outbox) (waiting c.send.new.room.outbox) _ _ so has (ap (λ (i : Input). unread i) same ∙ after.ensures.taken) (ap (λ (i : Input). i.turns) same ∙ after.ensures.turns) after.ensures.office after.ensures.clean (told_reply after.result) (after.ensures.step has) c.if-head.false gathers,
+pub loop-answered-preserved : goal.loop-answered-preserved
+loop-answered-preserved g c =
+    let n = rw c.in-Ok-Request.field-0-is at c.in-Ok-Request.ensures.comes in
+    let so = SoFar-next _ _ _ _ n.bytes _ _ _ _ _ _ _ _ _ _ (g.W.Write.contents c.answer_upcoming.new.writer.inner) _ (waiting c.answer_upcoming.new.room.outbox) _ c.loop-answered.invariant.0 n.reads c.in-Ok-Request.ensures.sends in
+    let t = n.comes in
+    let on = goes_on _ _ n.bytes (unread c.answer_upcoming.new.room.input) _ _ _ _ _ _ (g.S.Store.state c.answer_upcoming.new.desk) _ _ (g.W.Write.contents c.send.new.writer.inner) (waiting c.answer_upcoming.new.room.outbox) (waiting c.send.new.room.outbox) _ so t.part t.is_part t.whole _ t.is_last c.answer_upcoming.ensures.office c.answer_upcoming.ensures.clean (told_reply c.in-Ok-Request.answered.told) t.step c.if-answered.false c.in-Ok.ensures.gathers in (
+      SoFar-input _ _ _ c.send.new.room.input _ _ _ _ _ _ (g.W.Write.contents c.send.new.writer.inner) (waiting c.send.new.room.outbox) _ c.send.ensures.input on,
       c.send.ensures.ready,
-      c.in-Ok-Request.ensures.kept ∙ c.loop-head.invariant.2,
-      c.in-Ok.ensures.kept ∙ c.in-Ok-Request.ensures.kept_writer ∙ c.loop-head.invariant.3,
-      λ clean. c.loop-head.invariant.4 (after.ensures.clean clean),
+      c.in-Ok-Request.ensures.kept ∙ c.loop-answered.invariant.2,
+      c.in-Ok.ensures.kept ∙ c.in-Ok-Request.ensures.kept_writer ∙ c.loop-answered.invariant.3,
+      λ clean. c.loop-answered.invariant.4 (c.answer_upcoming.ensures.clean clean),
     )

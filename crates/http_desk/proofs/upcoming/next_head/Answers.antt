@@ -6,11 +6,11 @@ use Rattle.http_desk.specs.Counted.{inner_of}
 use Rattle.http_desk.proofs.upcoming.next_head.Goals as goal
 
 pub loop-head-init : goal.loop-head-init
-loop-head-init g c = (ReadsOn-same _ _ _ _ refl refl c.args.reader.now.reads_fit, refl)
+loop-head-init g c = (ReadsOn-same _ _ _ _ _ _ refl refl c.args.reader.now.reads_fit, refl)
 
 pub loop-head-preserved : goal.loop-head-preserved
 loop-head-preserved g c =
-    (ReadsOn-join _ _ _ _ _ _ _ _ _ c.loop-head.invariant.0 c.read_more.ensures.reads, c.in_ok-read_more.ensures.kept ∙ c.loop-head.invariant.1)
+    (ReadsOn-join _ _ _ _ _ _ _ _ _ _ _ _ c.loop-head.invariant.0 c.read_more.ensures.reads, c.in_ok-read_more.ensures.kept ∙ c.loop-head.invariant.1)
 
 pub returns-in-TooLarge-clause-next : goal.returns-in-TooLarge-clause-next
 returns-in-TooLarge-clause-next g c = so_large _ (g.R.Read.remaining (inner_of c.loop-head.reader)) (rw c.unread.ensures at c.in-TooLarge.ensures)
@@ -23,3 +23,7 @@ returns-in_err-read_more-clause-awaits g c =
     let P : List ℕ → Type 0 = λ v. AwaitsHead v in
     let Q : List ℕ → Type 0 = λ v. Awaits v in
     after_failure _ (subst Q (sym c.in_err-read_more.ensures.stays) (inl (subst P c.unread.ensures c.in-Partial.ensures)))
+
+pub returns-in_err-read_more-clause-reads : goal.returns-in_err-read_more-clause-reads
+returns-in_err-read_more-clause-reads g c =
+    ReadsOn-join _ _ _ _ _ _ _ _ _ _ _ _ c.loop-head.invariant.0 c.read_more.ensures.reads

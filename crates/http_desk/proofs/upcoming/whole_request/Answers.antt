@@ -6,11 +6,11 @@ use Rattle.http_desk.proofs.UpcomingLemmas.{HasHead-append, HasHead-is, ReadsOn-
 use Rattle.http_desk.proofs.upcoming.whole_request.Goals as goal
 
 pub returns-in_default-clause-reads : goal.returns-in_default-clause-reads
-returns-in_default-clause-reads g c = ReadsOn-same _ _ _ _ c.reserve.ensures.bytes c.reserve.ensures.turns c.args.reader.now.reads_fit
+returns-in_default-clause-reads g c = ReadsOn-same _ _ _ _ _ _ c.reserve.ensures.bytes c.reserve.ensures.turns c.args.reader.now.reads_fit
 
 pub loop-input-init : goal.loop-input-init
 loop-input-init g c = (
-  ReadsOn-same _ _ _ _ c.reserve.ensures.bytes c.reserve.ensures.turns c.args.reader.now.reads_fit,
+  ReadsOn-same _ _ _ _ _ _ c.reserve.ensures.bytes c.reserve.ensures.turns c.args.reader.now.reads_fit,
   refl,
   HasHead-is _ _ _ c.requires c.reserve.ensures.bytes,
   c.in-Ok.ensures.ok,
@@ -19,7 +19,7 @@ loop-input-init g c = (
 pub loop-input-preserved : goal.loop-input-preserved
 loop-input-preserved g c =
     let reads = c.read_more.ensures.reads in (
-      ReadsOn-join _ _ _ _ _ _ _ _ _ c.loop-input.invariant.0 reads,
+      ReadsOn-join _ _ _ _ _ _ _ _ _ _ _ _ c.loop-input.invariant.0 reads,
       c.in_ok-read_more.ensures.kept ∙ c.loop-input.invariant.1,
       HasHead-is _ _ _ (HasHead-append _ reads.more _ c.loop-input.invariant.2) reads.grown,
       omega (arith, c.loop-input.invariant.3, c.read_more.ensures.room),
@@ -31,7 +31,7 @@ returns-clause-next g c =
 
 pub returns-then-not-branch-clause-reads : goal.returns-then-not-branch-clause-reads
 returns-then-not-branch-clause-reads g c =
-    ReadsOn-join _ _ _ _ _ _ _ _ _ c.loop-input.invariant.0 c.read_more.ensures.reads
+    ReadsOn-join _ _ _ _ _ _ _ _ _ _ _ _ c.loop-input.invariant.0 c.read_more.ensures.reads
 
 pub returns-in_default-clause-next : goal.returns-in_default-clause-next
 returns-in_default-clause-next g c =
@@ -48,3 +48,7 @@ returns-then-not-branch-clause-next g c =
     let e = c.in_ok-read_more.ensures.end c.if-not-branch.true in
     ended_short _ (g.R.Read.remaining (inner_of c.read_more.new.reader)) c.args.head e.1 (HasHead-is _ _ _ c.loop-input.invariant.2 e.0)
     (omega (arith, c.loop-input-test.true, ap length e.0, ap length c.unread.ensures))
+
+pub returns-in_err-read_more-clause-reads : goal.returns-in_err-read_more-clause-reads
+returns-in_err-read_more-clause-reads g c =
+    ReadsOn-join _ _ _ _ _ _ _ _ _ _ _ _ c.loop-input.invariant.0 c.read_more.ensures.reads

@@ -6,7 +6,7 @@ use Rattle.http_desk.proofs.upcoming.whole_request.Given as goal
 
 abbrev pub invariant-loop-input : goal.invariant-loop-input
 invariant-loop-input g l =
-    ReadsOn l.fn.input l.input (g.R.Read.remaining l.fn.reader.inner) (g.R.Read.remaining l.reader.inner) l.fn.reader.reads l.reader.reads
+    ReadsOn (unread l.fn.input) (unread l.input) l.fn.input.turns l.input.turns (g.R.Read.remaining l.fn.reader.inner) (g.R.Read.remaining l.reader.inner) l.fn.reader.reads l.reader.reads
     × (l.reader.failures ≡ l.fn.reader.failures)
     × HasHead (unread l.input) l.head
     × (l.size + max_piece ≤ vec_capacity l.input.bytes)

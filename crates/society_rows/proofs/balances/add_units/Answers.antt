@@ -1,7 +1,7 @@
 use Rattle.std.proofs.Common.{w64, FitsSigned, sym, subst}
 use Rattle.std.proofs.lemmas.Int.{to_z-of_z}
 use Rattle.sqlite.specs.Held.{state}
-use Rattle.society_rows.proofs.UnitLemmas.{sums_units}
+use Rattle.society_rows.proofs.UnitLemmas.{sums_units, told_refuses}
 use Rattle.society_rows.proofs.balances.add_units.Goals as goal
 
 pub returns-clause-written : goal.returns-clause-written
@@ -11,3 +11,6 @@ returns-clause-written g c =
     let small : FitsSigned w64 c.in-Some.sum = subst (FitsSigned w64) (sym sum.1) sum.0 in
     sums_units (state g.S.Store c.args.tx.now.conn.now) (state g.S.Store c.units_of.new.tx.conn.now) (state g.S.Store c.put_balance.new.tx.conn.now) c.args.account.now before c.args.units c.in-Some.sum c.put_balance.result
     c.in_ok-before.ensures.read sum.0 sum.1 (rw (to_z-of_z w64 c.in-Some.sum small) at c.put_balance.ensures.written)
+
+pub returns-clause-cause : goal.returns-clause-cause
+returns-clause-cause g c = λ clean has. told_refuses c.args.account.now c.args.units (state g.S.Store c.args.tx.now.conn.now).now.trees c.put_balance.result c.put_balance.ensures.told

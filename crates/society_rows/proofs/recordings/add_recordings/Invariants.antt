@@ -1,13 +1,16 @@
-use Rattle.std.proofs.Common.{◌≡◌, map, take, Ok}
+use Rattle.std.proofs.Common.{◌≡◌}
+use Rattle.std.specs.Slice.Iter.{chunks_rest, chunks_size}
 use Rattle.sqlite.specs.Held.{state}
-use Rattle.society_rows.specs.Effects.{Writes}
 use Rattle.society_rows.specs.Layout.{recordings}
 use Rattle.society_rows.specs.Rows.{recording_values}
-use Rattle.society_rows.specs.Stored.{Adds}
+use Rattle.society_rows.proofs.ListWrites.{AddsSome}
 use Rattle.society_rows.proofs.recordings.add_recordings.Given as goal
 
-abbrev pub invariant-loop-row : goal.invariant-loop-row
-invariant-loop-row g l = record {
+abbrev pub invariant-loop-part : goal.invariant-loop-part
+invariant-loop-part g l = record {
+  ready : (goal.iterator-loop-part g).can_next l.part-iterator;
+  finite : (goal.iterator-loop-part g).is_finite l.part-iterator;
+  size : chunks_size l.part-iterator ≡ 2;
   same_reference : l.tx.conn.ghost_name ≡ l.initial.tx.conn.ghost_name;
-  written : Writes {X = Unit {0}} (state g.S.Store l.initial.tx.conn.now) (state g.S.Store l.tx.conn.now) (Ok tt) (Adds recordings (map recording_values (take l.row-index l.rows)));
+  some : AddsSome recordings recording_values l.rows (chunks_rest l.part-iterator) (state g.S.Store l.initial.tx.conn.now) (state g.S.Store l.tx.conn.now);
 }

@@ -1,29 +1,48 @@
-use Rattle.std.proofs.Common.{◌∙◌, map, take, refl}
+use Rattle.std.proofs.Common.{◌∙◌, map, refl, rules}
+use Rattle.std.specs.Slice.Iter.{chunks_rest}
 use Rattle.sqlite.specs.Held.{state}
+use Rattle.society_rows.specs.Faults.{IsTold}
 use Rattle.society_rows.specs.Layout.{verdicts}
-use Rattle.society_rows.specs.Stored.{Adds}
 use Rattle.society_rows.specs.Rows.{verdict_values}
-use Rattle.society_rows.proofs.ListWrites.{adds_first, adds_next, adds_fails, leaves_first}
+use Rattle.society_rows.proofs.Effects.{handed_on}
+use Rattle.society_rows.proofs.ListWrites.{some_first, some_next, some_fails, some_left, some_all}
 use Rattle.society_rows.proofs.verdicts.add_verdicts.Goals as goal
 
-pub loop-row-init : goal.loop-row-init
-loop-row-init g c = record { same_reference = refl; written = adds_first verdicts (state g.S.Store c.args.tx.now.conn.now) }
-
-pub loop-row-preserved : goal.loop-row-preserved
-loop-row-preserved g c = record {
-  same_reference = c.add_verdict.ensures.same_reference ∙ c.loop-row.invariant.same_reference;
-  written = adds_next verdicts verdict_values c.args.rows.now c.loop-row.row-index _ (state g.S.Store c.args.tx.now.conn.now) (state g.S.Store c.loop-row.tx.conn.now)
-      (state g.S.Store c.add_verdict.new.tx.conn.now) c.loop-row.invariant.written c.loop-row-test.true tt c.in_ok-add_verdict.ensures.written;
+pub loop-part-init : goal.loop-part-init
+loop-part-init g c = record {
+  ready = search rules;
+  finite = tt;
+  size = search rules;
+  same_reference = refl;
+  some = some_first verdicts verdict_values c.args.rows.now _ (state g.S.Store c.args.tx.now.conn.now) (search rules);
 }
 
-pub returns-in_err-add_verdict : goal.returns-in_err-add_verdict
-returns-in_err-add_verdict g c =
-    let written = adds_fails verdicts verdict_values c.args.rows.now c.loop-row.row-index _ (state g.S.Store c.args.tx.now.conn.now) (state g.S.Store c.loop-row.tx.conn.now)
-    (state g.S.Store c.add_verdict.new.tx.conn.now) c.loop-row.invariant.written c.in_err-add_verdict.field-0.0 (map verdict_values c.args.rows.now) c.from_residual.result
-    c.from_residual.ensures.0 c.in_err-add_verdict.ensures.written in
+pub loop-part-preserved : goal.loop-part-preserved
+loop-part-preserved g c =
+    let steps = c.in-Some.ensures.steps in
     record {
-      same_reference = c.add_verdict.ensures.same_reference ∙ c.loop-row.invariant.same_reference;
-      written = written;
-      left = leaves_first (state g.S.Store c.args.tx.now.conn.now) (state g.S.Store c.loop-row.tx.conn.now) (state g.S.Store c.add_verdict.new.tx.conn.now) (λ count. Adds verdicts (map verdict_values (take count c.args.rows.now))) c.loop-row.row-index
-          c.in_err-add_verdict.field-0.0 c.from_residual.result c.loop-row.invariant.written c.in_err-add_verdict.ensures.written.survives c.in_err-add_verdict.ensures.whole;
+      ready = search rules;
+      finite = tt;
+      size = steps.0 ∙ c.loop-part.invariant.size;
+      same_reference = c.add_part.ensures.same_reference ∙ c.loop-part.invariant.same_reference;
+      some = some_next verdicts verdict_values c.args.rows.now _ (state g.S.Store c.args.tx.now.conn.now) (state g.S.Store c.loop-part.tx.conn.now) (state g.S.Store c.add_part.new.tx.conn.now)
+          c.loop-part.invariant.some c.in-Some.part.now (chunks_rest c.next.new.self) tt steps.1.0 c.in_ok-add_part.ensures.written;
     }
+
+pub returns-in_err-add_part : goal.returns-in_err-add_part
+returns-in_err-add_part g c =
+    let old = state g.S.Store c.args.tx.now.conn.now in
+    let on = state g.S.Store c.loop-part.tx.conn.now in
+    let new = state g.S.Store c.add_part.new.tx.conn.now in
+    record {
+      same_reference = c.add_part.ensures.same_reference ∙ c.loop-part.invariant.same_reference;
+      written = some_fails verdicts verdict_values c.args.rows.now _ old on new c.loop-part.invariant.some c.in_err-add_part.field-0.0 _ (map verdict_values c.args.rows.now) c.from_residual.result
+          c.from_residual.ensures.0 c.in_err-add_part.ensures.written;
+      left = some_left verdicts verdict_values c.args.rows.now _ old on new c.loop-part.invariant.some c.in_err-add_part.field-0.0 c.from_residual.result c.in_err-add_part.ensures.written.survives
+          c.in_err-add_part.ensures.whole;
+      told = handed_on c.in_err-add_part.field-0.0 c.from_residual.result IsTold c.from_residual.ensures.1 c.in_err-add_part.ensures.told;
+    }
+
+pub returns-clause-written : goal.returns-clause-written
+returns-clause-written g c =
+    some_all verdicts verdict_values c.args.rows.now _ (state g.S.Store c.args.tx.now.conn.now) (state g.S.Store c.loop-part.tx.conn.now) c.in-None.ensures.steps.1.0 c.loop-part.invariant.some

@@ -1,29 +1,48 @@
-use Rattle.std.proofs.Common.{◌∙◌, map, take, refl}
+use Rattle.std.proofs.Common.{◌∙◌, map, refl, rules}
+use Rattle.std.specs.Slice.Iter.{chunks_rest}
 use Rattle.sqlite.specs.Held.{state}
+use Rattle.society_rows.specs.Faults.{IsTold}
 use Rattle.society_rows.specs.Layout.{versions}
-use Rattle.society_rows.specs.Stored.{Adds}
 use Rattle.society_rows.specs.Rows.{version_values}
-use Rattle.society_rows.proofs.ListWrites.{adds_first, adds_next, adds_fails, leaves_first}
+use Rattle.society_rows.proofs.Effects.{handed_on}
+use Rattle.society_rows.proofs.ListWrites.{some_first, some_next, some_fails, some_left, some_all}
 use Rattle.society_rows.proofs.versions.add_versions.Goals as goal
 
-pub loop-row-init : goal.loop-row-init
-loop-row-init g c = record { same_reference = refl; written = adds_first versions (state g.S.Store c.args.tx.now.conn.now) }
-
-pub loop-row-preserved : goal.loop-row-preserved
-loop-row-preserved g c = record {
-  same_reference = c.add_version.ensures.same_reference ∙ c.loop-row.invariant.same_reference;
-  written = adds_next versions version_values c.args.rows.now c.loop-row.row-index _ (state g.S.Store c.args.tx.now.conn.now) (state g.S.Store c.loop-row.tx.conn.now)
-      (state g.S.Store c.add_version.new.tx.conn.now) c.loop-row.invariant.written c.loop-row-test.true tt c.in_ok-add_version.ensures.written;
+pub loop-part-init : goal.loop-part-init
+loop-part-init g c = record {
+  ready = search rules;
+  finite = tt;
+  size = search rules;
+  same_reference = refl;
+  some = some_first versions version_values c.args.rows.now _ (state g.S.Store c.args.tx.now.conn.now) (search rules);
 }
 
-pub returns-in_err-add_version : goal.returns-in_err-add_version
-returns-in_err-add_version g c =
-    let written = adds_fails versions version_values c.args.rows.now c.loop-row.row-index _ (state g.S.Store c.args.tx.now.conn.now) (state g.S.Store c.loop-row.tx.conn.now)
-    (state g.S.Store c.add_version.new.tx.conn.now) c.loop-row.invariant.written c.in_err-add_version.field-0.0 (map version_values c.args.rows.now) c.from_residual.result
-    c.from_residual.ensures.0 c.in_err-add_version.ensures.written in
+pub loop-part-preserved : goal.loop-part-preserved
+loop-part-preserved g c =
+    let steps = c.in-Some.ensures.steps in
     record {
-      same_reference = c.add_version.ensures.same_reference ∙ c.loop-row.invariant.same_reference;
-      written = written;
-      left = leaves_first (state g.S.Store c.args.tx.now.conn.now) (state g.S.Store c.loop-row.tx.conn.now) (state g.S.Store c.add_version.new.tx.conn.now) (λ count. Adds versions (map version_values (take count c.args.rows.now))) c.loop-row.row-index
-          c.in_err-add_version.field-0.0 c.from_residual.result c.loop-row.invariant.written c.in_err-add_version.ensures.written.survives c.in_err-add_version.ensures.whole;
+      ready = search rules;
+      finite = tt;
+      size = steps.0 ∙ c.loop-part.invariant.size;
+      same_reference = c.add_part.ensures.same_reference ∙ c.loop-part.invariant.same_reference;
+      some = some_next versions version_values c.args.rows.now _ (state g.S.Store c.args.tx.now.conn.now) (state g.S.Store c.loop-part.tx.conn.now) (state g.S.Store c.add_part.new.tx.conn.now)
+          c.loop-part.invariant.some c.in-Some.part.now (chunks_rest c.next.new.self) tt steps.1.0 c.in_ok-add_part.ensures.written;
     }
+
+pub returns-in_err-add_part : goal.returns-in_err-add_part
+returns-in_err-add_part g c =
+    let old = state g.S.Store c.args.tx.now.conn.now in
+    let on = state g.S.Store c.loop-part.tx.conn.now in
+    let new = state g.S.Store c.add_part.new.tx.conn.now in
+    record {
+      same_reference = c.add_part.ensures.same_reference ∙ c.loop-part.invariant.same_reference;
+      written = some_fails versions version_values c.args.rows.now _ old on new c.loop-part.invariant.some c.in_err-add_part.field-0.0 _ (map version_values c.args.rows.now) c.from_residual.result
+          c.from_residual.ensures.0 c.in_err-add_part.ensures.written;
+      left = some_left versions version_values c.args.rows.now _ old on new c.loop-part.invariant.some c.in_err-add_part.field-0.0 c.from_residual.result c.in_err-add_part.ensures.written.survives
+          c.in_err-add_part.ensures.whole;
+      told = handed_on c.in_err-add_part.field-0.0 c.from_residual.result IsTold c.from_residual.ensures.1 c.in_err-add_part.ensures.told;
+    }
+
+pub returns-clause-written : goal.returns-clause-written
+returns-clause-written g c =
+    some_all versions version_values c.args.rows.now _ (state g.S.Store c.args.tx.now.conn.now) (state g.S.Store c.loop-part.tx.conn.now) c.in-None.ensures.steps.1.0 c.loop-part.invariant.some

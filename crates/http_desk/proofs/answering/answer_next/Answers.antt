@@ -1,7 +1,7 @@
 use Rattle.society_core.specs.Requests.{reply_of}
 use Rattle.http_desk.specs.Told.{told_reply}
 use Rattle.http_desk.proofs.StepLemmas.{tells_step}
-use Rattle.http_desk.proofs.connection.answer_next.Goals as goal
+use Rattle.http_desk.proofs.answering.answer_next.Goals as goal
 
 pub returns-clause-step : goal.returns-clause-step
 returns-clause-step g c =

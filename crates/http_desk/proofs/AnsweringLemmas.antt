@@ -1,0 +1,154 @@
+-- Lemmas on the next request: what was read for it, and what is told.
+use Rattle.std.proofs.Common.{◌≡◌, inl, inr, ℕ, ◌+◌, Bool, List, [], ◌++◌, length, drop, Option, Some, None, Result, Ok, Err, sym, ◌∙◌, ap, subst, arith, append_assoc, length-append}
+use Rattle.std.specs.Prelude.{◌⊎◌, IfErr, IfOk, IfSome, slice_range}
+use Rattle.std.specs.Io.KnownBytes.{Appends}
+use Rattle.std.proofs.lemmas.List.{append-nil, drop_at}
+use Rattle.cwr_files.specs.Fed.{Fed, WasFed}
+use Rattle.httparse.specs.Grammar.{print_request}
+use Rattle.society_core.specs.Requests.{Puts, Query, Reply}
+use Rattle.society_core.specs.Runs.{Proceeds, Step}
+use Rattle.society_core.specs.State.{State}
+use Rattle.society_core.specs.declared.transmission_key.TransmissionKey.{TransmissionKey}
+use Rattle.http_desk.specs.Answering.{AsksToPut, ComesNext, IsLeft, Takes}
+use Rattle.http_desk.specs.Counted.{failures_of, inner_of}
+use Rattle.http_desk.specs.Feeding.{HasFed, pending}
+use Rattle.http_desk.specs.Head.{HasHead}
+use Rattle.http_desk.specs.Input.{unread, FailsBy, ReadsFrom}
+use Rattle.http_desk.specs.Outbox.{Sends}
+use Rattle.http_desk.specs.Part.{print_part}
+use Rattle.http_desk.specs.Path.{query_for}
+use Rattle.http_desk.specs.Reads.{Awaits}
+use Rattle.http_desk.specs.Serves.{Steps}
+use Rattle.http_desk.specs.Told.{told_reply}
+use Rattle.http_desk.specs.Upcoming.{HasPart, IsUpcoming, StopsBy}
+use Rattle.http_desk.specs.declared.answering.Next.{Next}
+use Rattle.http_desk.specs.declared.counted.Counted.{Counted}
+use Rattle.http_desk.specs.declared.fault.FaultKind.{FaultKind}
+use Rattle.http_desk.specs.declared.fault.FaultKind.TheVariants.{Read, Write, Turns, Memory}
+use Rattle.http_desk.specs.declared.head.Head.{Head}
+use Rattle.http_desk.specs.declared.input.Input.{Input}
+use Rattle.http_desk.specs.declared.told.Told.{Told}
+use Rattle.http_desk.specs.declared.upcoming.Upcoming.TheVariants.{Request}
+use Rattle.http_desk.proofs.CuttingLemmas.{none_while_awaited}
+use Rattle.http_desk.proofs.FeedingLemmas.{fed_is_part, fed_whole_part}
+use Rattle.http_desk.proofs.HeadLemmas.{slice_range-append}
+use Rattle.http_desk.proofs.Known.{Appends-is}
+use Rattle.http_desk.proofs.UpcomingLemmas.{ReadsOn-join}
+
+-- ---- heads
+
+-- what a head asks by its target is asked by its bytes
+pub asks_to_put : (bytes target : List ℕ) (kept : Head) (key : Option TransmissionKey) → target ≡ slice_range bytes kept.target.start kept.target.end
+    → IfSome key (λ k. (body : List ℕ) → query_for kept.put target body ≡ Puts k.sender k.number body) → IfSome key (AsksToPut bytes kept)
+asks_to_put bytes target kept None is asks = tt
+asks_to_put bytes target kept (Some k) is asks = λ has body.
+    ap (λ (b : Bool). query_for b has.0.target body) (sym has.3.put)
+    ∙ ap (λ (t : List ℕ). query_for kept.put t body) (sym (same has))
+    ∙ asks body
+  where
+    same : (has : HasHead bytes kept) → target ≡ has.0.target
+    same has =
+        is ∙ ap (λ (v : List ℕ). slice_range v kept.target.start kept.target.end) has.2.reads.1
+        ∙ slice_range-append (print_request has.0) has.1 kept.target.start kept.target.end has.3.within.0 has.3.within.1
+        ∙ has.3.target
+
+-- ---- one request
+
+-- a whole request was answered, and taken
+pub takes_part : {S : Type 0} (state : S → State) (desk new_desk : S) (bytes rest : List ℕ) (told : Told) (close : Bool) (kept : Head) → (has : HasPart bytes kept)
+    → rest ≡ drop (kept.length + kept.body) bytes → close ≡ kept.closes → Steps state desk new_desk has.part (told_reply told)
+    → Takes state desk new_desk bytes rest told close
+takes_part state desk new_desk bytes rest told close kept has front is step = record {
+  part = has.part;
+  is_part = has.is_part;
+  whole = has.whole ∙ ap (λ (v : List ℕ). print_part has.part ++ v) (sym rest_is);
+  is_last = is ∙ has.is_kept.last;
+  step = step;
+}
+  where
+    size_is : length (print_part has.part) ≡ kept.length + kept.body
+    size_is = omega (arith, length-append (print_request has.part.head) has.part.body, has.is_kept.size, has.size)
+
+    rest_is : rest ≡ has.rest
+    rest_is = front ∙ ap (λ (v : List ℕ). drop (kept.length + kept.body) v) has.whole ∙ drop_at (print_part has.part) has.rest (kept.length + kept.body) size_is
+
+-- a request whose body was fed was answered
+pub takes_fed : {S : Type 0} (state : S → State) (desk new_desk : S) (before rest : List ℕ) (turns spare : ℕ) (known now : Option (List ℕ)) (reads now_reads : ℕ) (kept : Head) (sink : Fed) (left : ℕ) (told : Told) (key : TransmissionKey) (reply : Reply)
+    → (so : HasFed before rest turns spare known now reads now_reads kept sink left) → HasHead before kept → left ≡ 0 → AsksToPut before kept key
+    → told_reply told ≡ reply → ((bytes : List ℕ) → WasFed sink bytes → Proceeds (state desk) (state new_desk) (Puts key.sender key.number bytes) reply)
+    → Takes state desk new_desk (pending before kept so.fed rest) rest told kept.closes
+takes_fed state desk new_desk before rest turns spare known now reads now_reads kept sink left told key reply so h none asks same proceeds = record {
+  part = record { head = h.0; body = so.fed };
+  is_part = fed_is_part before turns known reads kept rest spare now now_reads sink left so h none;
+  whole = fed_whole_part before turns known reads kept rest spare now now_reads sink left so h;
+  is_last = h.3.last;
+  step = λ clean.
+      let P : Query → Type 0 = λ q. Step (state desk).office (state desk).book q (told_reply told) (state new_desk).book in
+      let Q : Reply → Type 0 = λ r. Step (state desk).office (state desk).book (Puts key.sender key.number so.fed) r (state new_desk).book in
+      subst P (sym (asks h so.fed)) (subst Q (sym same) ((proceeds so.fed so.was_fed).step clean));
+}
+
+-- ---- what was read
+
+pub ComesNext-after : {S R : Type 0} (state : S → State) (remaining : R → Option (List ℕ)) (desk new_desk : S) (reader mid_reader new_reader : Counted R) (input mid_input new_input : Input) (result : Result Next FaultKind)
+    → ReadsFrom remaining reader mid_reader input mid_input → ComesNext state remaining desk new_desk mid_reader new_reader mid_input new_input result
+    → ComesNext state remaining desk new_desk reader new_reader input new_input result
+ComesNext-after state remaining desk new_desk reader mid_reader new_reader input mid_input new_input result reads next = record {
+  bytes = next.bytes;
+  reads = ReadsOn-join _ _ _ _ _ _ _ _ _ _ _ _ reads next.reads;
+  comes = next.comes;
+}
+
+pub came : {S R : Type 0} (state : S → State) (remaining : R → Option (List ℕ)) (desk new_desk : S) (reader mid_reader new_reader : Counted R) (input mid_input new_input : Input) (result : Result Next FaultKind)
+    → ReadsFrom remaining reader mid_reader input mid_input → ComesNext state remaining desk new_desk mid_reader new_reader mid_input new_input result
+    → IfOk result (λ next. ComesNext state remaining desk new_desk reader new_reader input new_input (Ok next))
+came state remaining desk new_desk reader mid_reader new_reader input mid_input new_input (Ok next) reads comes =
+    ComesNext-after state remaining desk new_desk reader mid_reader new_reader input mid_input new_input (Ok next) reads comes
+came state remaining desk new_desk reader mid_reader new_reader input mid_input new_input (Err kind) reads comes = tt
+
+-- ---- no request came
+
+stops_by : (kind : FaultKind) (bytes : List ℕ) (turns failures new_failures : ℕ) (writer : ℕ × ℕ) (holds new_holds : Option (List ℕ)) (waiting : List ℕ)
+    → Awaits bytes → FailsBy kind turns failures new_failures → Appends holds new_holds waiting
+    → StopsBy kind bytes turns (failures, new_failures) writer holds new_holds waiting
+stops_by Read bytes turns failures new_failures writer holds new_holds waiting awaits fails appends = (awaits, fails, appends)
+stops_by Turns bytes turns failures new_failures writer holds new_holds waiting awaits fails appends = (awaits, fails, appends)
+stops_by Write bytes turns failures new_failures writer holds new_holds waiting awaits fails appends = absurd fails
+stops_by Memory bytes turns failures new_failures writer holds new_holds waiting awaits fails appends = absurd fails
+
+-- bytes of which more are awaited do not begin with a whole request
+not_whole : (bytes more : List ℕ) (kept : Head) → Awaits (bytes ++ more) → HasPart bytes kept → ⊥
+not_whole bytes more kept awaits has =
+    none_while_awaited (bytes ++ more) awaits has.part (has.rest ++ more) has.is_part
+    (ap (λ (v : List ℕ). v ++ more) has.whole ∙ append_assoc (print_part has.part) has.rest more)
+
+-- all that waited was written where more bytes are awaited
+all_written : (holds new_holds : Option (List ℕ)) (waiting later bytes more : List ℕ) (kept : Head) (known : Option (List ℕ)) → Sends holds new_holds waiting later
+    → (later ≡ []) ⊎ IsUpcoming (Request kept) bytes known → Awaits (bytes ++ more) → Appends holds new_holds waiting
+all_written holds new_holds waiting later bytes more kept known sends written awaits =
+    elim (written) [
+      | inl nil ↦
+          Appends-is holds new_holds sends.0 waiting sends.2
+          (sym (sends.1 ∙ ap (λ (v : List ℕ). sends.0 ++ v) nil ∙ append-nil sends.0))
+      | inr has ↦ absurd (not_whole bytes more kept awaits has)
+    ]
+
+pub left_by : {S R W : Type 0} (state : S → State) (remaining : R → Option (List ℕ)) (contents : W → Option (List ℕ)) (desk new_desk : S) (reader mid_reader new_reader : Counted R) (writer new_writer : Counted W) (input mid_input new_input : Input) (waiting later : List ℕ) (kept : Head) (result : Result Next FaultKind)
+    → ReadsFrom remaining reader mid_reader input mid_input → failures_of mid_reader ≡ failures_of reader
+    → Sends (contents (inner_of writer)) (contents (inner_of new_writer)) waiting later
+    → (later ≡ []) ⊎ IsUpcoming (Request kept) (unread mid_input) (remaining (inner_of mid_reader))
+    → ComesNext state remaining desk new_desk mid_reader new_reader mid_input new_input result
+    → IfErr result (λ kind. FailsBy kind new_input.turns (failures_of mid_reader) (failures_of new_reader))
+    → IfErr result (IsLeft state remaining contents desk new_desk reader new_reader writer new_writer input new_input waiting)
+left_by state remaining contents desk new_desk reader mid_reader new_reader writer new_writer input mid_input new_input waiting later kept (Ok next) reads same sends written comes fails = tt
+left_by state remaining contents desk new_desk reader mid_reader new_reader writer new_writer input mid_input new_input waiting later kept (Err kind) reads same sends written comes fails =
+    let P : List ℕ → Type 0 = λ v. Awaits v in
+    let Q : ℕ → Type 0 = λ n. FailsBy kind new_input.turns n (failures_of new_reader) in
+    record {
+      bytes = comes.bytes;
+      reads = ReadsOn-join _ _ _ _ _ _ _ _ _ _ _ _ reads comes.reads;
+      same = comes.comes.1;
+      stops =
+          stops_by kind comes.bytes new_input.turns (failures_of reader) (failures_of new_reader) (failures_of writer, failures_of new_writer) _ _ waiting comes.comes.0 (subst Q same fails)
+          (all_written (contents (inner_of writer)) (contents (inner_of new_writer)) waiting later (unread mid_input) comes.reads.more kept (remaining (inner_of mid_reader)) sends written (subst P comes.reads.grown comes.comes.0));
+    }

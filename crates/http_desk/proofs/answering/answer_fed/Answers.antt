@@ -1,0 +1,38 @@
+use Rattle.std.proofs.Common.{refl}
+use Rattle.http_desk.specs.Feeding.{pending}
+use Rattle.http_desk.specs.Input.{unread}
+use Rattle.http_desk.proofs.AnsweringLemmas.{takes_fed}
+use Rattle.http_desk.proofs.FeedingLemmas.{fed_refused}
+use Rattle.http_desk.proofs.answering.answer_fed.Goals as goal
+
+pub returns-in-Ok-Whole-clause-comes : goal.returns-in-Ok-Whole-clause-comes
+returns-in-Ok-Whole-clause-comes g c =
+    let f = rw c.in-Ok-Whole.field-0-is at c.in-Ok-Whole.ensures.feeds in
+    record {
+      bytes = pending (unread c.args.room.now.input) c.args.head.now f.so_far.fed (unread c.feed_request.new.input);
+      reads = f.so_far.read_on;
+      comes =
+          takes_fed g.S.Store.state c.args.desk.now c.put_fed-arrival.new.self (unread c.args.room.now.input) (unread c.feed_request.new.input) _ _ _ _ _ _ c.args.head.now c.feed_request.new.sink f.left c.tell_arrival.result c.args.key.now _
+          f.so_far c.requires.head f.ends c.requires.asks c.tell_arrival.ensures.tells c.put_fed-arrival.ensures;
+    }
+
+pub returns-in-Ok-Whole-clause-office : goal.returns-in-Ok-Whole-clause-office
+returns-in-Ok-Whole-clause-office g c =
+    let f = c.feed_request.ensures.feeds.so_far in (c.put_fed-arrival.ensures f.fed f.was_fed).goes.office
+
+pub returns-in-Ok-Whole-clause-clean : goal.returns-in-Ok-Whole-clause-clean
+returns-in-Ok-Whole-clause-clean g c =
+    let f = c.feed_request.ensures.feeds.so_far in (c.put_fed-arrival.ensures f.fed f.was_fed).goes.clean
+
+pub returns-in-Ok-Refused-clause-comes : goal.returns-in-Ok-Refused-clause-comes
+returns-in-Ok-Refused-clause-comes g c =
+    let f = rw c.in-Ok-Refused.field-0-is at c.in-Ok-Refused.ensures.feeds in
+    record {
+      bytes = pending (unread c.args.room.now.input) c.args.head.now f.so_far.fed (unread c.feed_request.new.input);
+      reads = f.so_far.read_on;
+      comes = (
+        fed_refused (unread c.args.room.now.input) _ _ _ c.args.head.now (unread c.feed_request.new.input) _ _ _ c.feed_request.new.sink f.left f.so_far c.requires.head f.ends
+            (c.args.key.now.sender, c.args.key.now.number, λ body. c.requires.asks c.requires.head body),
+        refl,
+      );
+    }

@@ -1,0 +1,60 @@
+-- Representation, not meaning: what came next on a connection, and what was read for it.
+use Rattle.std.specs.Prelude.{◌≡◌, ℕ, Bool, List, ◌++◌, Option, Result, Ok, Err, ⊤}
+use Rattle.society_core.specs.Requests.{Puts}
+use Rattle.society_core.specs.State.{State}
+use Rattle.society_core.specs.declared.transmission_key.TransmissionKey.{TransmissionKey}
+use Rattle.http_desk.specs.BodyLength.{closes, is_put}
+use Rattle.http_desk.specs.Counted.{failures_of, inner_of, reads_of}
+use Rattle.http_desk.specs.declared.answering.Next.{Next}
+use Rattle.http_desk.specs.declared.answering.Next.TheVariants.{Request, Ended}
+use Rattle.http_desk.specs.declared.counted.Counted.{Counted}
+use Rattle.http_desk.specs.declared.fault.FaultKind.{FaultKind}
+use Rattle.http_desk.specs.declared.head.Head.{Head}
+use Rattle.http_desk.specs.declared.input.Input.{Input}
+use Rattle.http_desk.specs.declared.told.Told.{Told}
+use Rattle.http_desk.specs.Head.{HasHead}
+use Rattle.http_desk.specs.Input.{unread, ReadsOn}
+use Rattle.http_desk.specs.Part.{Part, print_part, IsPart}
+use Rattle.http_desk.specs.Path.{query_for}
+use Rattle.http_desk.specs.Reads.{Awaits}
+use Rattle.http_desk.specs.Serves.{Steps}
+use Rattle.http_desk.specs.Told.{IsReadyToSend, told_reply}
+use Rattle.http_desk.specs.Upcoming.{EndsSo, StopsBy}
+
+-- the head at the front of the bytes, of which this is kept, asks to put the transmission of this key, whatever its body
+abbrev pub AsksToPut : List ℕ → Head → TransmissionKey → Type 0
+AsksToPut bytes kept key =
+    (has : HasHead bytes kept) (body : List ℕ) → query_for (is_put has.0.method) has.0.target body ≡ Puts key.sender key.number body
+
+-- the body of what is told was made
+abbrev pub IsReadyNext : Next → Type 0
+IsReadyNext (Request answered) = IsReadyToSend answered.told
+IsReadyNext (Ended end) = ⊤
+
+-- the request at the front of the bytes was answered so by a step, and taken
+pub record Takes {S : Type 0} (state : S → State) (desk new_desk : S) (bytes rest : List ℕ) (told : Told) (close : Bool) : Type 0 where
+  pub part : Part
+  pub is_part : IsPart part
+  pub whole : bytes ≡ print_part part ++ rest
+  pub is_last : close ≡ closes part.head
+  pub step : Steps state desk new_desk part (told_reply told)
+
+-- a request was taken, or the bytes have this end, or more are awaited
+abbrev pub Comes : {S : Type 0} → (S → State) → S → S → List ℕ → List ℕ → Option (List ℕ) → Result Next FaultKind → Type 0
+Comes state desk new_desk bytes rest known (Ok (Request answered)) = Takes state desk new_desk bytes rest answered.told answered.closes
+Comes state desk new_desk bytes rest known (Ok (Ended end)) = EndsSo bytes known end × (new_desk ≡ desk)
+Comes state desk new_desk bytes rest known (Err kind) = Awaits bytes × (new_desk ≡ desk)
+
+-- what came next, and the bytes that were read for it and not answered before
+pub record ComesNext {S R : Type 0} (state : S → State) (remaining : R → Option (List ℕ)) (desk new_desk : S) (reader new_reader : Counted R) (input new_input : Input) (result : Result Next FaultKind) : Type 0 where
+  pub bytes : List ℕ
+  pub reads : ReadsOn (unread input) bytes input.turns new_input.turns (remaining (inner_of reader)) (remaining (inner_of new_reader)) (reads_of reader) (reads_of new_reader)
+  pub comes : Comes state desk new_desk bytes (unread new_input) (remaining (inner_of new_reader)) result
+
+-- why no request came, while these texts waited
+pub record IsLeft {S R W : Type 0} (state : S → State) (remaining : R → Option (List ℕ)) (contents : W → Option (List ℕ)) (desk new_desk : S) (reader new_reader : Counted R) (writer new_writer : Counted W) (input new_input : Input) (waiting : List ℕ) (kind : FaultKind) : Type 0 where
+  pub bytes : List ℕ
+  pub reads : ReadsOn (unread input) bytes input.turns new_input.turns (remaining (inner_of reader)) (remaining (inner_of new_reader)) (reads_of reader) (reads_of new_reader)
+  pub same : new_desk ≡ desk
+  pub stops : StopsBy kind bytes new_input.turns (failures_of reader, failures_of new_reader) (failures_of writer, failures_of new_writer)
+      (contents (inner_of writer)) (contents (inner_of new_writer)) waiting

@@ -1,0 +1,234 @@
+//! The next request of a connection is answered: a transmission's body is fed while it comes, any other is read first.
+ghost use Rattle.std.specs.Prelude.{◌≡◌, ◌≤◌, ◌+◌, ℕ, List, drop, Ok, IfOk, IfErr, IfSome, OnOk, IsTrue, vec_capacity};
+ghost use Rattle.society_core.specs.Requests.{reply_of};
+ghost use Rattle.http_desk.specs.Answering.{AsksToPut, ComesNext, IsLeft, IsReadyNext};
+ghost use Rattle.http_desk.specs.Counted.{failures_of};
+ghost use Rattle.http_desk.specs.Head.{HasHead};
+ghost use Rattle.http_desk.specs.Input.{unread, FailsBy};
+ghost use Rattle.http_desk.specs.Outbox.{waiting, SendsTo};
+ghost use Rattle.http_desk.specs.Path.{office_routes};
+ghost use Rattle.http_desk.specs.Room.{IsReady};
+ghost use Rattle.http_desk.specs.Serves.{IsAnswered};
+ghost use Rattle.http_desk.specs.Told.{IsReadyToSend, told_reply};
+ghost use Rattle.http_desk.specs.Upcoming.{HasPart};
+
+use crate::connection_end::End;
+use crate::counted::Counted;
+use crate::fault::FaultKind;
+use crate::feeding::{Feeding, feed_request};
+use crate::head::Head;
+use crate::requests::{put_transmission, request_for};
+use crate::room::Room;
+use crate::routes::Route;
+use crate::told::{Told, tell, tell_arrival};
+use crate::upcoming::{Upcoming, next_answered, whole_request};
+use cwr_files::FileReader;
+use matchit::Router;
+use society_core::{Answer, Desk, Refusal, Store, TransmissionKey, answer};
+use std::alloc::Global;
+use std::io::{Read, Write};
+
+/// A request that was answered at the desk.
+#[derive(Drop)]
+pub(crate) struct Answered {
+    /// What is told of it.
+    pub told: Told,
+    /// Whether the connection ends after the answer.
+    pub closes: bool,
+}
+
+/// What came next on a connection.
+#[derive(Drop)]
+pub(crate) enum Next {
+    /// A request, which was answered.
+    Request(Answered),
+    /// The end of the connection.
+    Ended(End),
+}
+
+// Answers the request at the front of these bytes.
+fn answer_front<S: Store>(
+    alloc: Global,
+    desk: &mut Desk<S>,
+    router: &Router<Route>,
+    scratch: &mut Vec<u8>,
+    bytes: &[u8],
+    head: &Head,
+) -> Answer
+    requires routes { router.now ≡ office_routes }
+    requires room { 8192 ≤ vec_capacity scratch.old }
+    requires part { HasPart bytes.now head.now }
+    ensures step { IsAnswered S.state desk.old desk.new bytes.now head.now (reply_of result) }
+    ensures office { (S.state desk.new).office ≡ (S.state desk.old).office }
+    ensures clean { IsTrue (S.state desk.new).is_clean → IsTrue (S.state desk.old).is_clean }
+    ensures room { vec_capacity scratch.old ≤ vec_capacity scratch.new }
+{
+    let target = head.target.of(bytes);
+    let body = &bytes[head.length..head.length + head.body as usize];
+    let Ok(request) = request_for(alloc, router, scratch, head.put, target, body) else {
+        return Answer::Refused(Refusal::Unavailable);
+    };
+    answer(alloc, desk, &request)
+}
+
+// Answers the request at the front of the bytes and takes it.
+fn answer_next<S: Store>(alloc: Global, desk: &mut Desk<S>, room: &mut Room, head: &Head) -> Told
+    requires ready { IsReady room.old }
+    requires part { HasPart (unread room.old.input) head.now }
+    ensures step { IsAnswered S.state desk.old desk.new (unread room.old.input) head.now
+        (told_reply result) }
+    ensures told { IsReadyToSend result }
+    ensures office { (S.state desk.new).office ≡ (S.state desk.old).office }
+    ensures clean { IsTrue (S.state desk.new).is_clean → IsTrue (S.state desk.old).is_clean }
+    ensures taken { unread room.new.input
+        ≡ drop (head.now.length + head.now.body) (unread room.old.input) }
+    ensures turns { room.new.input.turns ≡ room.old.input.turns }
+    ensures outbox { room.new.outbox ≡ room.old.outbox }
+    ensures ready { IsReady room.new }
+{
+    let bytes = room.input.unread();
+    let answer = answer_front(alloc, desk, &room.router, &mut room.parameter, bytes, head);
+    room.input.take(head.length + head.body as usize);
+    tell(alloc, answer)
+}
+
+// Answers the request whose head stands at the front, once it is whole.
+fn answer_whole<S: Store, R: Read>(
+    alloc: Global,
+    desk: &mut Desk<S>,
+    reader: &mut Counted<R>,
+    room: &mut Room,
+    head: Head,
+) -> Result<Next, FaultKind>
+    requires ready { IsReady room.old }
+    requires head { HasHead (unread room.old.input) head }
+    ensures comes { ComesNext S.state R.remaining desk.old desk.new reader.old reader.new
+        room.old.input room.new.input result }
+    ensures told { IfOk result IsReadyNext }
+    ensures office { (S.state desk.new).office ≡ (S.state desk.old).office }
+    ensures clean { IsTrue (S.state desk.new).is_clean → IsTrue (S.state desk.old).is_clean }
+    ensures kept { OnOk result (failures_of reader.new ≡ failures_of reader.old) }
+    ensures fault { IfErr result (λ kind.
+        FailsBy kind room.new.input.turns (failures_of reader.old) (failures_of reader.new)) }
+    ensures outbox { room.new.outbox ≡ room.old.outbox }
+    ensures ready { IsReady room.new }
+{
+    match whole_request(reader, &mut room.input, head) {
+        Ok(Upcoming::Request(whole)) => {
+            let told = answer_next(alloc, desk, room, &whole);
+            Ok(Next::Request(Answered {
+                told,
+                closes: whole.closes,
+            }))
+        }
+        Ok(Upcoming::Ended(end)) => Ok(Next::Ended(end)),
+        Err(kind) => Err(kind),
+    }
+}
+
+// Answers the put of a transmission whose head stands at the front; its body is fed while it comes.
+fn answer_fed<S: Store, R: Read>(
+    alloc: Global,
+    desk: &mut Desk<S>,
+    reader: &mut Counted<R>,
+    room: &mut Room,
+    head: &Head,
+    key: &TransmissionKey,
+) -> Result<Next, FaultKind>
+    requires ready { IsReady room.old }
+    requires head { HasHead (unread room.old.input) head.now }
+    requires asks { AsksToPut (unread room.old.input) head.now key.now }
+    ensures comes { ComesNext S.state R.remaining desk.old desk.new reader.old reader.new
+        room.old.input room.new.input result }
+    ensures told { IfOk result IsReadyNext }
+    ensures office { (S.state desk.new).office ≡ (S.state desk.old).office }
+    ensures clean { IsTrue (S.state desk.new).is_clean → IsTrue (S.state desk.old).is_clean }
+    ensures kept { OnOk result (failures_of reader.new ≡ failures_of reader.old) }
+    ensures fault { IfErr result (λ kind.
+        FailsBy kind room.new.input.turns (failures_of reader.old) (failures_of reader.new)) }
+    ensures outbox { room.new.outbox ≡ room.old.outbox }
+    ensures ready { IsReady room.new }
+{
+    let mut sink = FileReader::new(alloc, &key.sender);
+    match feed_request(reader, &mut room.input, head, &mut sink) {
+        Ok(Feeding::Whole) => {
+            let arrival = desk.put_fed(alloc, &key.sender, key.number, sink);
+            Ok(Next::Request(Answered {
+                told: tell_arrival(alloc, arrival),
+                closes: head.closes,
+            }))
+        }
+        Ok(Feeding::Cut) => Ok(Next::Ended(End::Bad)),
+        Ok(Feeding::Refused) => Ok(Next::Ended(End::Busy)),
+        Err(kind) => Err(kind),
+    }
+}
+
+// The transmission that the head at the front puts, if it does.
+fn put_at_front(room: &mut Room, head: &Head) -> Option<TransmissionKey>
+    requires ready { IsReady room.old }
+    requires head { HasHead (unread room.old.input) head.now }
+    ensures asks { IfSome result (AsksToPut (unread room.old.input) head.now) }
+    ensures input { room.new.input ≡ room.old.input }
+    ensures outbox { room.new.outbox ≡ room.old.outbox }
+    ensures ready { IsReady room.new }
+{
+    let target = head.target.of(room.input.unread());
+    put_transmission(&room.router, &mut room.parameter, head.put, target)
+}
+
+// Answers the request whose head stands at the front.
+fn answer_head<S: Store, R: Read>(
+    alloc: Global,
+    desk: &mut Desk<S>,
+    reader: &mut Counted<R>,
+    room: &mut Room,
+    head: Head,
+) -> Result<Next, FaultKind>
+    requires ready { IsReady room.old }
+    requires head { HasHead (unread room.old.input) head }
+    ensures comes { ComesNext S.state R.remaining desk.old desk.new reader.old reader.new
+        room.old.input room.new.input result }
+    ensures told { IfOk result IsReadyNext }
+    ensures office { (S.state desk.new).office ≡ (S.state desk.old).office }
+    ensures clean { IsTrue (S.state desk.new).is_clean → IsTrue (S.state desk.old).is_clean }
+    ensures kept { OnOk result (failures_of reader.new ≡ failures_of reader.old) }
+    ensures fault { IfErr result (λ kind.
+        FailsBy kind room.new.input.turns (failures_of reader.old) (failures_of reader.new)) }
+    ensures outbox { room.new.outbox ≡ room.old.outbox }
+    ensures ready { IsReady room.new }
+{
+    match put_at_front(room, &head) {
+        Some(key) => answer_fed(alloc, desk, reader, room, &head, &key),
+        None => answer_whole(alloc, desk, reader, room, head),
+    }
+}
+
+/// Answers the next request. Before more bytes are read for it, the answers that wait are written. The desk is as before
+/// where no request came.
+pub(crate) fn answer_upcoming<S: Store, R: Read, W: Write>(
+    alloc: Global,
+    desk: &mut Desk<S>,
+    reader: &mut Counted<R>,
+    writer: &mut Counted<W>,
+    room: &mut Room,
+) -> Result<Next, FaultKind>
+    requires ready { IsReady room.old }
+    ensures comes { IfOk result (λ next. ComesNext S.state R.remaining desk.old desk.new reader.old reader.new
+        room.old.input room.new.input (Ok next)) }
+    ensures stops { IfErr result (IsLeft S.state R.remaining W.contents desk.old desk.new reader.old reader.new
+        writer.old writer.new room.old.input room.new.input (waiting room.old.outbox)) }
+    ensures sends { OnOk result (SendsTo W.contents writer.old writer.new room.old.outbox room.new.outbox) }
+    ensures told { IfOk result IsReadyNext }
+    ensures office { (S.state desk.new).office ≡ (S.state desk.old).office }
+    ensures clean { IsTrue (S.state desk.new).is_clean → IsTrue (S.state desk.old).is_clean }
+    ensures kept { OnOk result (failures_of reader.new ≡ failures_of reader.old) }
+    ensures kept_writer { OnOk result (failures_of writer.new ≡ failures_of writer.old) }
+    ensures ready { IsReady room.new }
+{
+    match next_answered(reader, writer, &mut room.input, &mut room.outbox) {
+        Ok(Upcoming::Request(head)) => answer_head(alloc, desk, reader, room, head),
+        Ok(Upcoming::Ended(end)) => Ok(Next::Ended(end)),
+        Err(kind) => Err(kind),
+    }
+}

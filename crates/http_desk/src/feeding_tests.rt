@@ -1,0 +1,201 @@
+//! Bodies that are fed while they come: one byte a read, faulty ones, and ones that are cut short.
+use crate::connection::{Served, serve};
+use crate::counted::Counted;
+use crate::fault::DeskFault;
+use share_rules::Office;
+use society_core::{Desk, PlainStore};
+use std::alloc::{AllocError, Global};
+use std::io::Read;
+use std::process::Abort;
+use std::str;
+use std::test::Fail;
+
+/// A registration of one work, 1,048 bytes.
+const F1: &[u8] =
+    b"HDRPB000000012EXAMPLE MUSIC                                01.102026010510150020260106\r\nGRHNWR0000102.200000000000\r\nNWR0000000000000000FIRST SONG                                                    W1            T0345246801\r\nSPU000000000000000101P1       EXAMPLE MUSIC                                 E          00000000199                 05000   10000   10000\r\nSPT0000000000000002P1             050001000010000I2136 001\r\nSWR0000000000000003A1       WRITER                                       ANNA                           CA         00000000295   05000   00000   00000\r\nSWT0000000000000004A1       050000000000000I2136 001\r\nPWR0000000000000005P1       EXAMPLE MUSIC                                                            A1\r\nREC0000000000000006                                                                                                                                                                                                                                      ATABC2600001\r\nGRT000010000000100000009\r\nTRL000010000000100000011\r\n";
+
+/// The acknowledgement of that as the sender's first transmission, 346 bytes.
+const F1_ACK: &[u8] =
+    b"HDRSO000000900EXAMPLE SOCIETY                              01.102026010600000020260106               \r\nGRHACK0000102.200000000000  \r\nACK0000000000000000202601051015000000100000000NWRFIRST SONG                                                  W1                  0000000120000000000120260106AS\r\nGRT000010000000100000003\r\nTRL000010000000100000005\r\n";
+
+const BAD: &str = "{\"error\":\"request\"}";
+
+/// A reader that gives one byte a read.
+#[derive(Drop)]
+struct Slow<'a> {
+    bytes: &'a [u8],
+}
+
+impl Read for Slow<'_> {
+    fn read(&mut self, buf: &mut [u8]) -> std::io::Result<usize> {
+        if buf.is_empty() {
+            return Ok(0);
+        }
+        self.bytes.read(&mut buf[..1])
+    }
+}
+
+/// What is written for bytes that come one at a time, and how many requests were answered.
+fn served_slowly(
+    alloc: Global,
+    input: &[u8],
+) -> Result<(Vec<u8>, Result<Served, DeskFault>), Fail> {
+    let office = Office::new(900, 40, b"EXAMPLE SOCIETY").ok_or("an office")?;
+    let mut desk = Desk::new(PlainStore::new(alloc, &office));
+    let mut reader = Counted::new(Slow { bytes: input });
+    let mut writer = Counted::new(Vec::new(alloc));
+    let served = serve(alloc, &mut desk, &mut reader, &mut writer, u64::MAX);
+    Ok((writer.into_inner(), served))
+}
+
+/// Appends the put of a transmission that announces a body of this length.
+fn put(alloc: Global, input: &mut Vec<u8>, length: usize, body: &[u8]) -> Result<(), AllocError> {
+    let head = format!(in alloc;
+        "PUT /v1/senders/PB000000012/transmissions/1 HTTP/1.1\r\nContent-Length: {length}\r\n\r\n"
+    )?;
+    input.extend_from_slice(head.as_bytes())?;
+    input.extend_from_slice(body)
+}
+
+/// Appends an answer.
+fn tell(
+    alloc: Global,
+    out: &mut Vec<u8>,
+    status: &str,
+    fields: &str,
+    body: &str,
+) -> Result<(), AllocError> {
+    let length = body.len();
+    let head = format!(in alloc;
+        "HTTP/1.1 {status}\r\nContent-Type: application/json\r\nContent-Length: {length}\r\n{fields}\r\n{body}"
+    )?;
+    out.extend_from_slice(head.as_bytes())
+}
+
+/// Puts bodies in turn, each with its status and answer, and then bytes that are no request.
+fn check_puts(
+    rt: &impl Abort,
+    alloc: Global,
+    rows: &[(&[u8], &str, &str)],
+    last: &[u8],
+) -> Result<(), Fail> {
+    let mut input = Vec::new(alloc);
+    let mut wanted = Vec::new(alloc);
+    for (body, status, text) in rows {
+        put(alloc, &mut input, body.len(), body)?;
+        tell(alloc, &mut wanted, status, "", text)?;
+    }
+    input.extend_from_slice(last)?;
+    tell(
+        alloc,
+        &mut wanted,
+        "400 Bad Request",
+        "Connection: close\r\n",
+        BAD,
+    )?;
+    let (out, served) = served_slowly(alloc, input.as_slice())?;
+    assert_eq!(rt; str::from_utf8(&out), str::from_utf8(&wanted));
+    assert_eq!(rt;
+        served,
+        Ok(Served {
+            requests: rows.len() as u128
+        })
+    );
+    Ok(())
+}
+
+/// F1 with one record too many told by its trailer of the group.
+fn miscounted(alloc: Global) -> Result<Vec<u8>, AllocError> {
+    let mut body = Vec::from_slice(alloc, F1)?;
+    if let Some(digit) = body.get_mut(1_019) {
+        *digit = b'8';
+    }
+    Ok(body)
+}
+
+#[test]
+fn first_acknowledgement(rt: HostRuntime) -> Result<(), Fail> {
+    let alloc = rt.alloc();
+    let mut input = Vec::new(alloc);
+    put(alloc, &mut input, F1.len(), F1)?;
+    input.extend_from_slice(b"GET /v1/senders/PB000000012/acks/1 HTTP/1.1\r\n\r\n")?;
+    let mut wanted = Vec::new(alloc);
+    let text = "{\"front\":1,\"state\":\"applied\"}";
+    tell(alloc, &mut wanted, "201 Created", "", text)?;
+    wanted.extend_from_slice(
+        b"HTTP/1.1 200 OK\r\nContent-Type: application/octet-stream\r\nContent-Length: 346\r\n\r\n",
+    )?;
+    wanted.extend_from_slice(F1_ACK)?;
+    let (out, served) = served_slowly(alloc, input.as_slice())?;
+    assert_eq!(rt; str::from_utf8(&out), str::from_utf8(&wanted));
+    assert_eq!(rt; served, Ok(Served { requests: 2 }));
+    Ok(())
+}
+
+/// The faulty body is answered, and so is the right one behind it on the same connection.
+#[test]
+fn record_count_off_by_one(rt: HostRuntime) -> Result<(), Fail> {
+    let alloc = rt.alloc();
+    let faulty = miscounted(alloc)?;
+    let refused = "{\"error\":\"file\",\"fault\":8,\"line\":10}";
+    let applied = "{\"front\":1,\"state\":\"applied\"}";
+    check_puts(
+        &rt,
+        alloc,
+        &[
+            (faulty.as_slice(), "422 Unprocessable Entity", refused),
+            (F1, "201 Created", applied),
+            (faulty.as_slice(), "409 Conflict", "{\"error\":\"reused\"}"),
+            (F1, "200 OK", applied),
+        ],
+        b"GARBAGE\r\n\r\n",
+    )
+}
+
+#[test]
+fn cut_files(rt: HostRuntime) -> Result<(), Fail> {
+    let alloc = rt.alloc();
+    let file = |fault: u8, line: u8| -> Result<String, AllocError> {
+        format!(in alloc; "{{\"error\":\"file\",\"fault\":{fault},\"line\":{line}}}")
+    };
+    let refused = "422 Unprocessable Entity";
+    let no_trailer = file(10, 11)?;
+    let cut_trailer = file(9, 11)?;
+    let cut_header = file(3, 1)?;
+    let nothing = file(1, 1)?;
+    check_puts(
+        &rt,
+        alloc,
+        &[
+            (&F1[..1_022], refused, no_trailer.as_str()),
+            (&F1[..1_044], refused, cut_trailer.as_str()),
+            (&F1[..40], refused, cut_header.as_str()),
+            (b"", refused, nothing.as_str()),
+        ],
+        b"POST / HTTP/1.1\r\n\r\n",
+    )
+}
+
+/// Bodies that are cut short, before a fault of theirs and behind it, and heads at fault.
+#[test]
+fn broken_requests(rt: HostRuntime) -> Result<(), Fail> {
+    let alloc = rt.alloc();
+    let faulty = miscounted(alloc)?;
+    for (length, body) in [
+        (F1.len(), &F1[..1_047]),
+        (F1.len(), b"".as_slice()),
+        (faulty.len(), faulty.get(..1_040).unwrap_or(b"")),
+        (1_048_576, faulty.as_slice()),
+    ] {
+        let mut input = Vec::new(alloc);
+        put(alloc, &mut input, length, body)?;
+        check_puts(&rt, alloc, &[], input.as_slice())?;
+    }
+    for head in [
+        b"PUT /v1/senders/PB000000012/transmissions/1 HTTP/1.1\r\nContent-Length: x\r\n\r\n".as_slice(),
+        b"PUT /v1/senders/PB000000012/transmissions/1 HTTP/1.1\r\nContent-Le".as_slice(),
+    ] {
+        check_puts(&rt, alloc, &[], head)?;
+    }
+    Ok(())
+}

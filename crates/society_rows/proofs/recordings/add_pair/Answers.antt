@@ -1,0 +1,17 @@
+use Rattle.std.proofs.Common.{[], ◌∷◌, ◌++◌}
+use Rattle.sqlite.specs.Held.{state}
+use Rattle.society_rows.specs.Layout.{recordings}
+use Rattle.society_rows.specs.Rows.{recording_values}
+use Rattle.society_rows.specs.Stored.{HasLayout, Adds}
+use Rattle.society_rows.proofs.Effects.{writes_by}
+use Rattle.society_rows.proofs.RecordingTable.{pair_text, adds_pair}
+use Rattle.society_rows.proofs.recordings.add_pair.Goals as goal
+
+pub returns-clause-written : goal.returns-clause-written
+returns-clause-written g c =
+    let one = c.args.one.now in
+    let two = c.args.two.now in
+    let old = state g.S.Store c.args.tx.now.conn.now in
+    let new = state g.S.Store c.run.new.tx.conn.now in
+    writes_by HasLayout old new pair_text (recording_values one ++ recording_values two) c.run.result (Adds recordings (recording_values one ∷ recording_values two ∷ []))
+    (λ clean inside. rw (c.to_sql.ensures, c.to_sql-2.ensures) at (c.run.ensures.ran clean inside)) c.run.ensures.survives (λ count. adds_pair one two old new count)
