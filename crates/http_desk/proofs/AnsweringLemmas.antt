@@ -1,21 +1,22 @@
 -- Lemmas on the next request: what was read for it, and what is told.
-use Rattle.std.proofs.Common.{◌≡◌, inl, inr, ℕ, ◌+◌, Bool, List, [], ◌++◌, length, drop, Option, Some, None, Result, Ok, Err, sym, ◌∙◌, ap, subst, arith, append_assoc, length-append}
-use Rattle.std.specs.Prelude.{◌⊎◌, IfErr, IfOk, IfSome, slice_range}
+use Rattle.std.proofs.Common.{◌≡◌, inl, inr, ℕ, ◌+◌, Bool, List, [], ◌++◌, length, drop, Option, Result, Ok, Err, sym, ◌∙◌, ap, subst, arith, append_assoc, length-append}
+use Rattle.std.specs.Prelude.{◌⊎◌, IfErr, IfOk}
 use Rattle.std.specs.Io.KnownBytes.{Appends}
 use Rattle.std.proofs.lemmas.List.{append-nil, drop_at}
 use Rattle.cwr_files.specs.Fed.{Fed, WasFed}
-use Rattle.httparse.specs.Grammar.{print_request}
+use Rattle.httparse.specs.Grammar.{RequestHead, print_request}
 use Rattle.society_core.specs.Requests.{Puts, Query, Reply}
 use Rattle.society_core.specs.Runs.{Proceeds, Step}
 use Rattle.society_core.specs.State.{State}
 use Rattle.society_core.specs.declared.transmission_key.TransmissionKey.{TransmissionKey}
-use Rattle.http_desk.specs.Answering.{AsksToPut, ComesNext, IsLeft, Takes}
+use Rattle.http_desk.specs.Answering.{ComesNext, IsLeft, Takes}
 use Rattle.http_desk.specs.Counted.{failures_of, inner_of}
 use Rattle.http_desk.specs.Feeding.{HasFed, pending}
 use Rattle.http_desk.specs.Head.{HasHead}
 use Rattle.http_desk.specs.Input.{unread, FailsBy, ReadsFrom}
 use Rattle.http_desk.specs.Outbox.{Sends}
-use Rattle.http_desk.specs.Part.{print_part}
+use Rattle.http_desk.specs.Part.{Begins, print_part}
+use Rattle.http_desk.specs.BodyLength.{is_put}
 use Rattle.http_desk.specs.Path.{query_for}
 use Rattle.http_desk.specs.Reads.{Awaits}
 use Rattle.http_desk.specs.Serves.{Steps}
@@ -29,28 +30,24 @@ use Rattle.http_desk.specs.declared.head.Head.{Head}
 use Rattle.http_desk.specs.declared.input.Input.{Input}
 use Rattle.http_desk.specs.declared.told.Told.{Told}
 use Rattle.http_desk.specs.declared.upcoming.Upcoming.TheVariants.{Request}
-use Rattle.http_desk.proofs.CuttingLemmas.{none_while_awaited}
+use Rattle.http_desk.specs.Wanted.{AsksFor, PartAsks}
+use Rattle.http_desk.specs.declared.requests.Wanted.{Wanted}
+use Rattle.http_desk.specs.declared.requests.Wanted.TheVariants.{Transmission}
+use Rattle.http_desk.proofs.CuttingLemmas.{begins_of, none_while_awaited}
 use Rattle.http_desk.proofs.FeedingLemmas.{fed_is_part, fed_whole_part}
-use Rattle.http_desk.proofs.HeadLemmas.{slice_range-append}
+use Rattle.http_desk.proofs.HeadLemmas.{Begins-append, Begins-unique}
 use Rattle.http_desk.proofs.Known.{Appends-is}
 use Rattle.http_desk.proofs.UpcomingLemmas.{ReadsOn-join}
 
 -- ---- heads
 
--- what a head asks by its target is asked by its bytes
-pub asks_to_put : (bytes target : List ℕ) (kept : Head) (key : Option TransmissionKey) → target ≡ slice_range bytes kept.target.start kept.target.end
-    → IfSome key (λ k. (body : List ℕ) → query_for kept.put target body ≡ Puts k.sender k.number body) → IfSome key (AsksToPut bytes kept)
-asks_to_put bytes target kept None is asks = tt
-asks_to_put bytes target kept (Some k) is asks = λ has body.
-    ap (λ (b : Bool). query_for b has.0.target body) (sym has.3.put)
-    ∙ ap (λ (t : List ℕ). query_for kept.put t body) (sym (same has))
-    ∙ asks body
-  where
-    same : (has : HasHead bytes kept) → target ≡ has.0.target
-    same has =
-        is ∙ ap (λ (v : List ℕ). slice_range v kept.target.start kept.target.end) has.2.reads.1
-        ∙ slice_range-append (print_request has.0) has.1 kept.target.start kept.target.end has.3.within.0 has.3.within.1
-        ∙ has.3.target
+-- what a head asks is asked by the request that begins with it
+pub part_asks : (bytes later more : List ℕ) (kept other : Head) (wanted : Wanted) → HasHead bytes kept → later ≡ bytes ++ more → AsksFor bytes kept wanted → PartAsks later other wanted
+part_asks bytes later more kept other wanted h grown asks = λ has.
+    let P : List ℕ → Type 0 = λ v. Begins v h.0 (h.1 ++ more) in
+    let begins = subst P (sym grown) (Begins-append bytes more h.1 h.0 h.2) in
+    let same = Begins-unique later _ _ _ _ begins (begins_of has.part later has.rest has.is_part has.whole) in
+    asks h has.part.body ∙ ap (λ (r : RequestHead). query_for (is_put r.method) r.target has.part.body) same.0
 
 -- ---- one request
 
@@ -74,7 +71,7 @@ takes_part state desk new_desk bytes rest told close kept has front is step = re
 
 -- a request whose body was fed was answered
 pub takes_fed : {S : Type 0} (state : S → State) (desk new_desk : S) (before rest : List ℕ) (turns spare : ℕ) (known now : Option (List ℕ)) (reads now_reads : ℕ) (kept : Head) (sink : Fed) (left : ℕ) (told : Told) (key : TransmissionKey) (reply : Reply)
-    → (so : HasFed before rest turns spare known now reads now_reads kept sink left) → HasHead before kept → left ≡ 0 → AsksToPut before kept key
+    → (so : HasFed before rest turns spare known now reads now_reads kept sink left) → HasHead before kept → left ≡ 0 → AsksFor before kept (Transmission key)
     → told_reply told ≡ reply → ((bytes : List ℕ) → WasFed sink bytes → Proceeds (state desk) (state new_desk) (Puts key.sender key.number bytes) reply)
     → Takes state desk new_desk (pending before kept so.fed rest) rest told kept.closes
 takes_fed state desk new_desk before rest turns spare known now reads now_reads kept sink left told key reply so h none asks same proceeds = record {
@@ -85,7 +82,7 @@ takes_fed state desk new_desk before rest turns spare known now reads now_reads 
   step = λ clean.
       let P : Query → Type 0 = λ q. Step (state desk).office (state desk).book q (told_reply told) (state new_desk).book in
       let Q : Reply → Type 0 = λ r. Step (state desk).office (state desk).book (Puts key.sender key.number so.fed) r (state new_desk).book in
-      subst P (sym (asks h so.fed)) (subst Q (sym same) ((proceeds so.fed so.was_fed).step clean));
+      subst P (asks h so.fed) (subst Q (sym same) ((proceeds so.fed so.was_fed).step clean));
 }
 
 -- ---- what was read

@@ -11,7 +11,7 @@ use Rattle.http_desk.specs.Part.{Part, print_part, Begins, IsPart, IsOpenPart}
 use Rattle.http_desk.specs.Reads.{Awaits, Reads, Ends, IsBad, IsTooLarge, IsLast, HasNoPart}
 use Rattle.http_desk.proofs.HeadLemmas.{Begins-unique, print_request-some}
 
-begins_of : (part : Part) (bytes rest : List ℕ) → IsPart part → bytes ≡ print_part part ++ rest → Begins bytes part.head (part.body ++ rest)
+pub begins_of : (part : Part) (bytes rest : List ℕ) → IsPart part → bytes ≡ print_part part ++ rest → Begins bytes part.head (part.body ++ rest)
 begins_of part bytes rest is e =
     record { reads = (is.valid, e ∙ append_assoc (print_request part.head) part.body rest); short = is.short; few = is.few }
 

@@ -1,30 +1,20 @@
 -- Representation, not meaning: what came next on a connection, and what was read for it.
 use Rattle.std.specs.Prelude.{◌≡◌, ℕ, Bool, List, ◌++◌, Option, Result, Ok, Err, ⊤}
-use Rattle.society_core.specs.Requests.{Puts}
 use Rattle.society_core.specs.State.{State}
-use Rattle.society_core.specs.declared.transmission_key.TransmissionKey.{TransmissionKey}
-use Rattle.http_desk.specs.BodyLength.{closes, is_put}
+use Rattle.http_desk.specs.BodyLength.{closes}
 use Rattle.http_desk.specs.Counted.{failures_of, inner_of, reads_of}
 use Rattle.http_desk.specs.declared.answering.Next.{Next}
 use Rattle.http_desk.specs.declared.answering.Next.TheVariants.{Request, Ended}
 use Rattle.http_desk.specs.declared.counted.Counted.{Counted}
 use Rattle.http_desk.specs.declared.fault.FaultKind.{FaultKind}
-use Rattle.http_desk.specs.declared.head.Head.{Head}
 use Rattle.http_desk.specs.declared.input.Input.{Input}
 use Rattle.http_desk.specs.declared.told.Told.{Told}
-use Rattle.http_desk.specs.Head.{HasHead}
 use Rattle.http_desk.specs.Input.{unread, ReadsOn}
 use Rattle.http_desk.specs.Part.{Part, print_part, IsPart}
-use Rattle.http_desk.specs.Path.{query_for}
 use Rattle.http_desk.specs.Reads.{Awaits}
 use Rattle.http_desk.specs.Serves.{Steps}
 use Rattle.http_desk.specs.Told.{IsReadyToSend, told_reply}
 use Rattle.http_desk.specs.Upcoming.{EndsSo, StopsBy}
-
--- the head at the front of the bytes, of which this is kept, asks to put the transmission of this key, whatever its body
-abbrev pub AsksToPut : List ℕ → Head → TransmissionKey → Type 0
-AsksToPut bytes kept key =
-    (has : HasHead bytes kept) (body : List ℕ) → query_for (is_put has.0.method) has.0.target body ≡ Puts key.sender key.number body
 
 -- the body of what is told was made
 abbrev pub IsReadyNext : Next → Type 0

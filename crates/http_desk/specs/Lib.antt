@@ -20,6 +20,7 @@ pub mod Table
 pub mod Text
 pub mod Told
 pub mod Upcoming
+pub mod Wanted
 pub use Rattle.httparse.specs.Grammar
 pub use Rattle.society_core.specs.Requests
 pub use Rattle.society_core.specs.Runs

@@ -1,29 +1,27 @@
 //! The next request of a connection is answered: a transmission's body is fed while it comes, any other is read first.
-ghost use Rattle.std.specs.Prelude.{◌≡◌, ◌≤◌, ◌+◌, ℕ, List, drop, Ok, IfOk, IfErr, IfSome, OnOk, IsTrue, vec_capacity};
+ghost use Rattle.std.specs.Prelude.{◌≡◌, ◌+◌, drop, Ok, IfOk, IfErr, OnOk, IsTrue};
 ghost use Rattle.society_core.specs.Requests.{reply_of};
-ghost use Rattle.http_desk.specs.Answering.{AsksToPut, ComesNext, IsLeft, IsReadyNext};
+ghost use Rattle.http_desk.specs.Answering.{ComesNext, IsLeft, IsReadyNext};
 ghost use Rattle.http_desk.specs.Counted.{failures_of};
 ghost use Rattle.http_desk.specs.Head.{HasHead};
 ghost use Rattle.http_desk.specs.Input.{unread, FailsBy};
 ghost use Rattle.http_desk.specs.Outbox.{waiting, SendsTo};
-ghost use Rattle.http_desk.specs.Path.{office_routes};
 ghost use Rattle.http_desk.specs.Room.{IsReady};
 ghost use Rattle.http_desk.specs.Serves.{IsAnswered};
 ghost use Rattle.http_desk.specs.Told.{IsReadyToSend, told_reply};
 ghost use Rattle.http_desk.specs.Upcoming.{HasPart};
+ghost use Rattle.http_desk.specs.Wanted.{AsksFor, PartAsks};
 
 use crate::connection_end::End;
 use crate::counted::Counted;
 use crate::fault::FaultKind;
 use crate::feeding::{Feeding, feed_request};
 use crate::head::Head;
-use crate::requests::{put_transmission, request_for};
+use crate::requests::{Wanted, request_with, wanted_for};
 use crate::room::Room;
-use crate::routes::Route;
 use crate::told::{Told, tell, tell_arrival};
 use crate::upcoming::{Upcoming, next_answered, whole_request};
 use cwr_files::FileReader;
-use matchit::Router;
 use society_core::{Answer, Desk, Refusal, Store, TransmissionKey, answer};
 use std::alloc::Global;
 use std::io::{Read, Write};
@@ -50,31 +48,34 @@ pub(crate) enum Next {
 fn answer_front<S: Store>(
     alloc: Global,
     desk: &mut Desk<S>,
-    router: &Router<Route>,
-    scratch: &mut Vec<u8>,
     bytes: &[u8],
     head: &Head,
+    wanted: Wanted,
 ) -> Answer
-    requires routes { router.now ≡ office_routes }
-    requires room { 8192 ≤ vec_capacity scratch.old }
     requires part { HasPart bytes.now head.now }
+    requires asks { PartAsks bytes.now head.now wanted }
     ensures step { IsAnswered S.state desk.old desk.new bytes.now head.now (reply_of result) }
     ensures office { (S.state desk.new).office ≡ (S.state desk.old).office }
     ensures clean { IsTrue (S.state desk.new).is_clean → IsTrue (S.state desk.old).is_clean }
-    ensures room { vec_capacity scratch.old ≤ vec_capacity scratch.new }
 {
-    let target = head.target.of(bytes);
     let body = &bytes[head.length..head.length + head.body as usize];
-    let Ok(request) = request_for(alloc, router, scratch, head.put, target, body) else {
+    let Ok(request) = request_with(alloc, wanted, body) else {
         return Answer::Refused(Refusal::Unavailable);
     };
     answer(alloc, desk, &request)
 }
 
 // Answers the request at the front of the bytes and takes it.
-fn answer_next<S: Store>(alloc: Global, desk: &mut Desk<S>, room: &mut Room, head: &Head) -> Told
+fn answer_next<S: Store>(
+    alloc: Global,
+    desk: &mut Desk<S>,
+    room: &mut Room,
+    head: &Head,
+    wanted: Wanted,
+) -> Told
     requires ready { IsReady room.old }
     requires part { HasPart (unread room.old.input) head.now }
+    requires asks { PartAsks (unread room.old.input) head.now wanted }
     ensures step { IsAnswered S.state desk.old desk.new (unread room.old.input) head.now
         (told_reply result) }
     ensures told { IsReadyToSend result }
@@ -87,7 +88,7 @@ fn answer_next<S: Store>(alloc: Global, desk: &mut Desk<S>, room: &mut Room, hea
     ensures ready { IsReady room.new }
 {
     let bytes = room.input.unread();
-    let answer = answer_front(alloc, desk, &room.router, &mut room.parameter, bytes, head);
+    let answer = answer_front(alloc, desk, bytes, head, wanted);
     room.input.take(head.length + head.body as usize);
     tell(alloc, answer)
 }
@@ -99,9 +100,11 @@ fn answer_whole<S: Store, R: Read>(
     reader: &mut Counted<R>,
     room: &mut Room,
     head: Head,
+    wanted: Wanted,
 ) -> Result<Next, FaultKind>
     requires ready { IsReady room.old }
     requires head { HasHead (unread room.old.input) head }
+    requires asks { AsksFor (unread room.old.input) head wanted }
     ensures comes { ComesNext S.state R.remaining desk.old desk.new reader.old reader.new
         room.old.input room.new.input result }
     ensures told { IfOk result IsReadyNext }
@@ -115,7 +118,7 @@ fn answer_whole<S: Store, R: Read>(
 {
     match whole_request(reader, &mut room.input, head) {
         Ok(Upcoming::Request(whole)) => {
-            let told = answer_next(alloc, desk, room, &whole);
+            let told = answer_next(alloc, desk, room, &whole, wanted);
             Ok(Next::Request(Answered {
                 told,
                 closes: whole.closes,
@@ -137,7 +140,7 @@ fn answer_fed<S: Store, R: Read>(
 ) -> Result<Next, FaultKind>
     requires ready { IsReady room.old }
     requires head { HasHead (unread room.old.input) head.now }
-    requires asks { AsksToPut (unread room.old.input) head.now key.now }
+    requires asks { AsksFor (unread room.old.input) head.now (Wanted.Transmission key.now) }
     ensures comes { ComesNext S.state R.remaining desk.old desk.new reader.old reader.new
         room.old.input room.new.input result }
     ensures told { IfOk result IsReadyNext }
@@ -164,17 +167,17 @@ fn answer_fed<S: Store, R: Read>(
     }
 }
 
-// The transmission that the head at the front puts, if it does.
-fn put_at_front(room: &mut Room, head: &Head) -> Option<TransmissionKey>
+// What the head at the front asks.
+fn wanted_at_front(room: &mut Room, head: &Head) -> Wanted
     requires ready { IsReady room.old }
     requires head { HasHead (unread room.old.input) head.now }
-    ensures asks { IfSome result (AsksToPut (unread room.old.input) head.now) }
+    ensures asks { AsksFor (unread room.old.input) head.now result }
     ensures input { room.new.input ≡ room.old.input }
     ensures outbox { room.new.outbox ≡ room.old.outbox }
     ensures ready { IsReady room.new }
 {
     let target = head.target.of(room.input.unread());
-    put_transmission(&room.router, &mut room.parameter, head.put, target)
+    wanted_for(&room.router, &mut room.parameter, head.put, target)
 }
 
 // Answers the request whose head stands at the front.
@@ -198,9 +201,9 @@ fn answer_head<S: Store, R: Read>(
     ensures outbox { room.new.outbox ≡ room.old.outbox }
     ensures ready { IsReady room.new }
 {
-    match put_at_front(room, &head) {
-        Some(key) => answer_fed(alloc, desk, reader, room, &head, &key),
-        None => answer_whole(alloc, desk, reader, room, head),
+    match wanted_at_front(room, &head) {
+        Wanted::Transmission(key) => answer_fed(alloc, desk, reader, room, &head, &key),
+        wanted => answer_whole(alloc, desk, reader, room, head, wanted),
     }
 }
 

@@ -70,7 +70,8 @@ fn close_with<W: Write>(
 
 /// Serves one connection: reads requests, answers each at the desk in turn and writes its answer, until the bytes end,
 /// a request ends the connection, or bytes are no request. Answers are written together, before each further read and at
-/// the end. A turn is one read that gives bytes, at most 16,384. It is given up by `Read` and `Write` where that side
+/// the end. A transmission's body is fed to its reader while it comes; a faulty one is read to its end like any other. A
+/// turn is one read that gives bytes, at most 16,384. It is given up by `Read` and `Write` where that side
 /// failed, by `Turns` where all turns gave bytes and a further read was needed, and by `Memory` before the first read
 /// alone; the book is then that of the requests counted in the fault.
 pub fn serve<S: Store, R: Read, W: Write>(

@@ -1,9 +1,10 @@
 //! The requests of the office, by method, target and body.
-ghost use Rattle.std.specs.Prelude.{◌≡◌, ◌≤◌, ℕ, List, length, vec_capacity, IfOk, IfSome};
+ghost use Rattle.std.specs.Prelude.{◌≡◌, ◌≤◌, ℕ, List, length, vec_capacity, IfOk};
 ghost use Rattle.matchit.specs.Params.{AllText};
-ghost use Rattle.society_core.specs.Requests.{query_of, Puts};
+ghost use Rattle.society_core.specs.Requests.{query_of};
 ghost use Rattle.http_desk.specs.declared.routes.Route.TheVariants as route;
 ghost use Rattle.http_desk.specs.Parameters.{parts_of};
+ghost use Rattle.http_desk.specs.Wanted.{asked_with};
 ghost use Rattle.http_desk.specs.Path.{office_routes, is_path_byte, is_path, asked_by_put, asked_by_get, query_for};
 
 use crate::order_text::close_by;
@@ -16,6 +17,20 @@ use matchit::{Params, Router};
 use society_core::{Request, ReturnKey, TransmissionKey};
 use std::alloc::{AllocError, Global};
 use std::str;
+use work_ids::PoolNumber;
+
+/// What is asked, as far as a method and a target tell it.
+#[derive(Drop)]
+pub(crate) enum Wanted {
+    /// To put this transmission.
+    Transmission(TransmissionKey),
+    /// To put this performance return.
+    Return(ReturnKey),
+    /// To close this pool.
+    Pool(PoolNumber),
+    /// This, whatever the body.
+    Anyway(Request<'static>),
+}
 
 fn is_path_byte(byte: u8) -> bool
     ensures { result ≡ is_path_byte byte }
@@ -30,88 +45,68 @@ fn is_path(target: &[u8]) -> bool
     target.iter().all(|byte| is_path_byte(*byte))
 }
 
-// The put of a transmission, with this body.
-fn put_of_transmission<'b>(
-    scratch: &mut Vec<u8>,
-    params: &Params<'_, '_>,
-    body: &'b [u8],
-) -> Request<'b>
+// The put of a transmission.
+fn put_of_transmission(scratch: &mut Vec<u8>, params: &Params<'_, '_>) -> Wanted
     requires text { AllText (parts_of params.now) }
     requires room { length params.now.path.now ≤ vec_capacity scratch.old }
-    ensures asks { query_of result ≡ asked_by_put route.Transmission (parts_of params.now) body.now }
+    ensures asks { (body : List ℕ)
+        → asked_with result body ≡ asked_by_put route.Transmission (parts_of params.now) body }
     ensures room { vec_capacity scratch.old ≤ vec_capacity scratch.new }
 {
     let Some(sender) = sender_in_path(scratch, params) else {
-        return Request::Elsewhere;
+        return Wanted::Anyway(Request::Elsewhere);
     };
     let Some(number) = number_in_path(scratch, params) else {
-        return Request::Elsewhere;
+        return Wanted::Anyway(Request::Elsewhere);
     };
-    Request::PutTransmission {
-        sender,
-        number,
-        body,
-    }
+    Wanted::Transmission(TransmissionKey { sender, number })
 }
 
-// The put of a performance return, with this body.
-fn put_of_return<'b>(scratch: &mut Vec<u8>, params: &Params<'_, '_>, body: &'b [u8]) -> Request<'b>
+// The put of a performance return.
+fn put_of_return(scratch: &mut Vec<u8>, params: &Params<'_, '_>) -> Wanted
     requires text { AllText (parts_of params.now) }
     requires room { length params.now.path.now ≤ vec_capacity scratch.old }
-    ensures asks { query_of result ≡ asked_by_put route.Return (parts_of params.now) body.now }
+    ensures asks { (body : List ℕ)
+        → asked_with result body ≡ asked_by_put route.Return (parts_of params.now) body }
     ensures room { vec_capacity scratch.old ≤ vec_capacity scratch.new }
 {
     let Some(reporter) = reporter_in_path(scratch, params) else {
-        return Request::Elsewhere;
+        return Wanted::Anyway(Request::Elsewhere);
     };
     let Some(number) = return_number_in_path(scratch, params) else {
-        return Request::Elsewhere;
+        return Wanted::Anyway(Request::Elsewhere);
     };
-    Request::PutReturn {
-        key: ReturnKey { reporter, number },
-        body,
+    Wanted::Return(ReturnKey { reporter, number })
+}
+
+// The close of a pool.
+fn put_of_pool(scratch: &mut Vec<u8>, params: &Params<'_, '_>) -> Wanted
+    requires text { AllText (parts_of params.now) }
+    requires room { length params.now.path.now ≤ vec_capacity scratch.old }
+    ensures asks { (body : List ℕ)
+        → asked_with result body ≡ asked_by_put route.Pool (parts_of params.now) body }
+    ensures room { vec_capacity scratch.old ≤ vec_capacity scratch.new }
+{
+    match pool_in_path(scratch, params) {
+        Some(pool) => Wanted::Pool(pool),
+        None => Wanted::Anyway(Request::Elsewhere),
     }
 }
 
-// The close of a pool, by the order in this body.
-fn put_of_pool<'b>(
-    alloc: Global,
-    scratch: &mut Vec<u8>,
-    params: &Params<'_, '_>,
-    body: &[u8],
-) -> Result<Request<'b>, AllocError>
-    requires text { AllText (parts_of params.now) }
-    requires room { length params.now.path.now ≤ vec_capacity scratch.old }
-    ensures asks { IfOk result (λ request.
-        query_of request ≡ asked_by_put route.Pool (parts_of params.now) body.now) }
-    ensures room { vec_capacity scratch.old ≤ vec_capacity scratch.new }
-{
-    let Some(pool) = pool_in_path(scratch, params) else {
-        return Ok(Request::Elsewhere);
-    };
-    close_by(alloc, pool, body)
-}
-
 // What a put asks of a route.
-fn put_of<'b>(
-    alloc: Global,
-    route: Route,
-    scratch: &mut Vec<u8>,
-    params: &Params<'_, '_>,
-    body: &'b [u8],
-) -> Result<Request<'b>, AllocError>
+fn put_of(route: Route, scratch: &mut Vec<u8>, params: &Params<'_, '_>) -> Wanted
     requires text { AllText (parts_of params.now) }
     requires room { length params.now.path.now ≤ vec_capacity scratch.old }
-    ensures asks { IfOk result (λ request.
-        query_of request ≡ asked_by_put route (parts_of params.now) body.now) }
+    ensures asks { (body : List ℕ)
+        → asked_with result body ≡ asked_by_put route (parts_of params.now) body }
     ensures room { vec_capacity scratch.old ≤ vec_capacity scratch.new }
 {
     match route {
-        Route::Transmission => Ok(put_of_transmission(scratch, params, body)),
-        Route::Return => Ok(put_of_return(scratch, params, body)),
-        Route::Pool => put_of_pool(alloc, scratch, params, body),
+        Route::Transmission => put_of_transmission(scratch, params),
+        Route::Return => put_of_return(scratch, params),
+        Route::Pool => put_of_pool(scratch, params),
         Route::Acknowledgement | Route::Sender | Route::Verdicts | Route::Work | Route::Account =>
-            Ok(Request::Elsewhere),
+            Wanted::Anyway(Request::Elsewhere),
     }
 }
 
@@ -220,78 +215,50 @@ fn get_of<'b>(route: Route, scratch: &mut Vec<u8>, params: &Params<'_, '_>) -> R
     }
 }
 
-/// What is asked by a method, a target and a body; a parameter is decoded in the scratch. `AllocError` where memory is
-/// refused while an order is read.
-pub(crate) fn request_for<'b>(
-    alloc: Global,
+/// What is asked by a method and a target, whatever body comes with them; a parameter is decoded in the scratch.
+pub(crate) fn wanted_for(
     router: &Router<Route>,
     scratch: &mut Vec<u8>,
     put: bool,
     target: &[u8],
-    body: &'b [u8],
-) -> Result<Request<'b>, AllocError>
+) -> Wanted
     requires routes { router.now ≡ office_routes }
     requires room { length target.now ≤ vec_capacity scratch.old }
-    ensures asks { IfOk result (λ request. query_of request ≡ query_for put target.now body.now) }
+    ensures asks { (body : List ℕ) → asked_with result body ≡ query_for put target.now body }
     ensures room { vec_capacity scratch.old ≤ vec_capacity scratch.new }
 {
     if !is_path(target) {
-        return Ok(Request::Elsewhere);
+        return Wanted::Anyway(Request::Elsewhere);
     }
     let Ok(path) = str::from_utf8(target) else {
-        return Ok(Request::Elsewhere);
+        return Wanted::Anyway(Request::Elsewhere);
     };
     let Ok(found) = router.at(path) else {
-        return Ok(Request::Elsewhere);
+        return Wanted::Anyway(Request::Elsewhere);
     };
     if put {
-        put_of(alloc, *found.value, scratch, &found.params, body)
+        put_of(*found.value, scratch, &found.params)
     } else {
-        Ok(get_of(*found.value, scratch, &found.params))
+        Wanted::Anyway(get_of(*found.value, scratch, &found.params))
     }
 }
 
-// The transmission in the parameters of a route.
-fn transmission_in_path(scratch: &mut Vec<u8>, params: &Params<'_, '_>) -> Option<TransmissionKey>
-    requires text { AllText (parts_of params.now) }
-    requires room { length params.now.path.now ≤ vec_capacity scratch.old }
-    ensures asks { IfSome result (λ key. (body : List ℕ)
-        → asked_by_put route.Transmission (parts_of params.now) body ≡ Puts key.sender key.number body) }
-    ensures room { vec_capacity scratch.old ≤ vec_capacity scratch.new }
+/// What is asked with a body. `AllocError` where memory is refused while an order is read.
+pub(crate) fn request_with<'b>(
+    alloc: Global,
+    wanted: Wanted,
+    body: &'b [u8],
+) -> Result<Request<'b>, AllocError>
+    ensures { IfOk result (λ request. query_of request ≡ asked_with wanted body.now) }
 {
-    let sender = sender_in_path(scratch, params)?;
-    let number = number_in_path(scratch, params)?;
-    Some(TransmissionKey { sender, number })
-}
-
-/// The transmission that a method and a target put, whatever body comes with them; a parameter is decoded in the scratch.
-/// None where they ask anything else.
-pub(crate) fn put_transmission(
-    router: &Router<Route>,
-    scratch: &mut Vec<u8>,
-    put: bool,
-    target: &[u8],
-) -> Option<TransmissionKey>
-    requires routes { router.now ≡ office_routes }
-    requires room { length target.now ≤ vec_capacity scratch.old }
-    ensures asks { IfSome result (λ key. (body : List ℕ)
-        → query_for put target.now body ≡ Puts key.sender key.number body) }
-    ensures room { vec_capacity scratch.old ≤ vec_capacity scratch.new }
-{
-    if !put {
-        return None;
-    }
-    if !is_path(target) {
-        return None;
-    }
-    let Ok(path) = str::from_utf8(target) else {
-        return None;
-    };
-    let Ok(found) = router.at(path) else {
-        return None;
-    };
-    match *found.value {
-        Route::Transmission => transmission_in_path(scratch, &found.params),
-        _ => None,
+    match wanted {
+        Wanted::Transmission(key) => Ok(Request::PutTransmission {
+            sender: key.sender,
+            number: key.number,
+            body,
+        }),
+        Wanted::Return(key) => Ok(Request::PutReturn { key, body }),
+        Wanted::Pool(pool) => close_by(alloc, pool, body),
+        Wanted::Anyway(request) => Ok(request),
     }
 }

@@ -3,7 +3,7 @@ use crate::counted::Counted;
 use crate::head::{Reading, read_head};
 use crate::outbox::Outbox;
 use crate::reply::{put_reply, write_end};
-use crate::requests::request_for;
+use crate::requests::{request_with, wanted_for};
 use crate::routes::routes;
 use crate::told::tell;
 use cwr_files::FileFault;
@@ -70,7 +70,8 @@ fn asked(alloc: Global, put: bool, target: &[u8]) -> Result<Option<u32>, AllocEr
     if target.len() > 8192 {
         return Ok(None);
     }
-    match request_for(alloc, &router, &mut scratch, put, target, b"")? {
+    let wanted = wanted_for(&router, &mut scratch, put, target);
+    match request_with(alloc, wanted, b"")? {
         Request::PutTransmission { number, .. } => Ok(Some(number.value())),
         Request::Acknowledgement { number, .. } => Ok(Some(number.value())),
         Request::PutReturn { key, .. } => Ok(Some(key.number.value())),

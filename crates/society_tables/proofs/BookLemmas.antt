@@ -39,7 +39,7 @@ both_tie Greater b = refl
 pub numbers_tie : (n m : ℕ) → is_eq (nat_cmp n m) ≡ (n == m)
 numbers_tie n m = grind (arith, nat_tests)
 
-transmissions_tie : (a b : TransmissionKey) → eq_by_cmp transmission_cmp a b ≡ same_transmission_key a b
+pub transmissions_tie : (a b : TransmissionKey) → eq_by_cmp transmission_cmp a b ≡ same_transmission_key a b
 transmissions_tie a b =
     both_tie (bytes_cmp a.sender b.sender) (nat_cmp a.number b.number) ∙ ap₂ (λ x y. x && y) (is_eq-slice_cmp a.sender b.sender) (numbers_tie a.number b.number)
 

@@ -22,7 +22,7 @@ use Rattle.society_tables.specs.Shown.{ShowFront}
 use Rattle.society_tables.proofs.NamedRows.{HasName, found_by_name, one_or_none}
 use Rattle.std.proofs.lemmas.Slice.Eq.{bytes_eq-Decides}
 
-none_so : (s : List ℕ) (n : ℕ) (keys : List TransmissionKey) → list_any (λ key. bytes_eq key.sender s) keys ≡ false → list_any (eq_by_cmp transmission_cmp (transmission_key s n)) keys ≡ false
+pub none_so : (s : List ℕ) (n : ℕ) (keys : List TransmissionKey) → list_any (λ key. bytes_eq key.sender s) keys ≡ false → list_any (eq_by_cmp transmission_cmp (transmission_key s n)) keys ≡ false
 none_so s n [] h = refl
 none_so s n (key ∷ keys) h = by_cases (bytes_eq key.sender s) refl (eq_by_cmp transmission_cmp (transmission_key s n) key) refl (none_so s n keys)
   where
@@ -37,7 +37,7 @@ none_so s n (key ∷ keys) h = by_cases (bytes_eq key.sender s) refl (eq_by_cmp 
 pub front_of_nobody : (b : Book) (s : List ℕ) → has_sent b s ≡ false → front b s ≡ 0
 front_of_nobody b s h = sym (front_only b s 0 refl (finite.contains_key-keys b.transmissions (transmission_key s 1) ∙ none_so s 1 (finite.keys b.transmissions) h))
 
-fronts_named : (o : Office) (b : Book) (s : List ℕ) → AllByRecursion HasName (front_rows o b s)
+pub fronts_named : (o : Office) (b : Book) (s : List ℕ) → AllByRecursion HasName (front_rows o b s)
 fronts_named o b s = elim (has_sent b s) as (λ x. AllByRecursion HasName (cond x ((Text s ∷ Int (pos (front b s)) ∷ Int (pos (works_to o b s)) ∷ []) ∷ []) [])) [ true ↦ (refl, tt) | false ↦ tt ]
 
 -- what is found of a sender's front shows it

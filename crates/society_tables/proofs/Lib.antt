@@ -20,5 +20,7 @@ pub mod CreditRows
 pub mod OrderRows
 pub mod PoolsAlike
 pub mod ReturnAdds
+pub mod HeldAdds
+pub mod HeldTables
 pub mod AddLemmas
 pub mod EmptyTables

@@ -56,5 +56,9 @@ fn nobody_has_money_of_an_empty_book(rt: HostRuntime) -> Result<(), Fail> {
             .credits(rt.alloc(), pool)
             .is_ok_and(|credits| credits.is_none())
     );
+    let order = PoolOrder::new(rt.alloc(), 0, &[], &[])
+        .ok()
+        .ok_or("an order")?;
+    assert!(rt; tables.known_pool(pool, &order) == Ok(Known::Absent));
     Ok(())
 }

@@ -1,4 +1,4 @@
-use Rattle.std.proofs.Common.{refl}
+use Rattle.std.proofs.Common.{refl, sym}
 use Rattle.http_desk.specs.Feeding.{pending}
 use Rattle.http_desk.specs.Input.{unread}
 use Rattle.http_desk.proofs.AnsweringLemmas.{takes_fed}
@@ -32,7 +32,7 @@ returns-in-Ok-Refused-clause-comes g c =
       reads = f.so_far.read_on;
       comes = (
         fed_refused (unread c.args.room.now.input) _ _ _ c.args.head.now (unread c.feed_request.new.input) _ _ _ c.feed_request.new.sink f.left f.so_far c.requires.head f.ends
-            (c.args.key.now.sender, c.args.key.now.number, λ body. c.requires.asks c.requires.head body),
+            (c.args.key.now.sender, c.args.key.now.number, λ body. sym (c.requires.asks c.requires.head body)),
         refl,
       );
     }

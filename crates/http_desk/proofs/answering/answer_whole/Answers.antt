@@ -1,6 +1,6 @@
 use Rattle.std.proofs.Common.{refl}
 use Rattle.http_desk.specs.Input.{unread}
-use Rattle.http_desk.proofs.AnsweringLemmas.{takes_part}
+use Rattle.http_desk.proofs.AnsweringLemmas.{part_asks, takes_part}
 use Rattle.http_desk.proofs.UpcomingLemmas.{ReadsOn-spare}
 use Rattle.http_desk.proofs.answering.answer_whole.Goals as goal
 
@@ -15,3 +15,8 @@ returns-in-Ok-Request-clause-comes g c =
           takes_part g.S.Store.state c.args.desk.now after.new.desk (unread c.whole_request.new.input) (unread after.new.room.input) after.result _ c.in-Ok-Request.whole has
           after.ensures.taken refl (after.ensures.step has);
     }
+
+pub answer_next-told-requires-clause-asks : goal.answer_next-told-requires-clause-asks
+answer_next-told-requires-clause-asks g c =
+    let reads = c.whole_request.ensures.reads in
+    part_asks (unread c.args.room.now.input) _ reads.more c.args.head c.in-Ok-Request.whole c.args.wanted c.requires.head reads.grown c.requires.asks

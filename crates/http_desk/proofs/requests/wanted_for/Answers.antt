@@ -1,10 +1,10 @@
 use Rattle.std.proofs.Common.{◌∙◌, sym}
 use Rattle.std.proofs.lemmas.Str.{IsUtf8-from_ascii}
 use Rattle.http_desk.proofs.PathLemmas.{route_text, ascii_from_path}
-use Rattle.http_desk.proofs.requests.request_for.Goals as goal
+use Rattle.http_desk.proofs.requests.wanted_for.Goals as goal
 
 pub returns-in_default-clause-asks : goal.returns-in_default-clause-asks
-returns-in_default-clause-asks c =
+returns-in_default-clause-asks c = λ body.
     absurd (c.in_default.ensures.cases.0 (IsUtf8-from_ascii _ (ascii_from_path c.args.target.now (sym c.is_path.ensures ∙ c.if-not-is_path.false))))
 
 pub put_of-requires-clause-text : goal.put_of-requires-clause-text

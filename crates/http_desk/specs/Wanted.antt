@@ -1,0 +1,27 @@
+-- Representation, not meaning: what a method and a target ask, before the body comes.
+use Rattle.std.specs.Prelude.{◌≡◌, ℕ, List}
+use Rattle.society_core.specs.Requests.{Query, Puts, PutsReturn, query_of}
+use Rattle.http_desk.specs.BodyLength.{is_put}
+use Rattle.http_desk.specs.declared.head.Head.{Head}
+use Rattle.http_desk.specs.declared.requests.Wanted.{Wanted}
+use Rattle.http_desk.specs.declared.requests.Wanted.TheVariants.{Transmission, Return, Pool, Anyway}
+use Rattle.http_desk.specs.Head.{HasHead}
+use Rattle.http_desk.specs.OrderText.{close_query}
+use Rattle.http_desk.specs.Path.{query_for, request_of}
+use Rattle.http_desk.specs.Upcoming.{HasPart}
+
+-- what is asked with this body
+abbrev pub asked_with : Wanted → List ℕ → Query
+asked_with (Transmission key) body = Puts key.sender key.number body
+asked_with (Return key) body = PutsReturn key body
+asked_with (Pool pool) body = close_query pool body
+asked_with (Anyway request) body = query_of request
+
+-- the head at the front of the bytes, of which this is kept, asks so, whatever its body
+abbrev pub AsksFor : List ℕ → Head → Wanted → Type 0
+AsksFor bytes kept wanted =
+    (has : HasHead bytes kept) (body : List ℕ) → asked_with wanted body ≡ query_for (is_put has.0.method) has.0.target body
+
+-- the request at the front of the bytes, of whose head this is kept, asks so
+abbrev pub PartAsks : List ℕ → Head → Wanted → Type 0
+PartAsks bytes kept wanted = (has : HasPart bytes kept) → asked_with wanted has.part.body ≡ request_of has.part
