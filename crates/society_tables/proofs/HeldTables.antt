@@ -26,6 +26,9 @@ use Rattle.society_tables.specs.BookRows.{is_transmission_row, row_of_some, tran
 use Rattle.society_tables.specs.Columns.{HasRows, text_at}
 use Rattle.society_tables.specs.DerivedRows.{Telling, balance_rows, credit_rows, front_rows, has_sent, is_named, tells_recordings, tells_verdict, tells_version, told_to_front, works_to}
 use Rattle.society_tables.specs.Kept.{HoldsBook}
+use Rattle.society_tables.specs.Shown.{KeepsBoth, Waits}
+use Rattle.society_rows.specs.Stored.{Adds, HasLayout, Puts}
+use Rattle.sqlite.specs.Effect.{Database}
 use Rattle.society_tables.proofs.Equals.{texts_equal}
 use Rattle.society_tables.proofs.FrontRows.{fronts_named}
 use Rattle.society_tables.proofs.Growth.{told_stays}
@@ -46,9 +49,6 @@ pub record KeepBoth (old new : Trees) : Type 0 where
   pub recordings : new layout.recordings.tree ≡ old layout.recordings.tree
   pub credits : new layout.credits.tree ≡ old layout.credits.tree
   pub balances : new layout.balances.tree ≡ old layout.balances.tree
-
-abbrev pub KeepsBoth : Trees → Trees → Type 0
-KeepsBoth old new = AllByRecursion (λ t. t.tree ≢ layout.transmissions.tree → t.tree ≢ layout.fronts.tree → new t.tree ≡ old t.tree) all_tables
 
 pub kept_both : (old new : Trees) → KeepsBoth old new → KeepBoth old new
 unfolding all_tables written_out
@@ -182,3 +182,29 @@ module _ (o : Office) (b : Book) (s : List ℕ) (n : ℕ) (body : List ℕ) (fre
           };
           numbered = (numbered, subst (AllByRecursion (λ r. is_int (rowid r) ≡ true)) (sym keeps.balances) holds.numbered.1);
         }
+
+both_kept : (ts : List Table) (old mid new : Trees) → AllByRecursion (λ t. t.tree ≢ layout.transmissions.tree → mid t.tree ≡ old t.tree) ts → AllByRecursion (λ t. t.tree ≢ layout.fronts.tree → new t.tree ≡ mid t.tree) ts → AllByRecursion (λ t. t.tree ≢ layout.transmissions.tree → t.tree ≢ layout.fronts.tree → new t.tree ≡ old t.tree) ts
+both_kept [] old mid new first second = tt
+both_kept (t ∷ ts) old mid new first second = ((λ x y. second.0 y ∙ first.0 x), both_kept ts old mid new first.1 second.1)
+
+front_kept : (old new : Trees) → AllByRecursion (λ t. t.tree ≢ layout.transmissions.tree → new t.tree ≡ old t.tree) all_tables → new layout.fronts.tree ≡ old layout.fronts.tree
+unfolding all_tables written_out
+front_kept old new keeps = keeps.1.1.1.1.1.1.0 (λ e. omega (arith, e))
+
+sent_kept : (old new : Trees) → AllByRecursion (λ t. t.tree ≢ layout.fronts.tree → new t.tree ≡ old t.tree) all_tables → new layout.transmissions.tree ≡ old layout.transmissions.tree
+unfolding all_tables written_out
+sent_kept old new keeps = keeps.1.0 (λ e. omega (arith, e))
+
+-- a transmission that was added, and then a front that was put
+pub waits_by : (row front : Row) (old mid new : Database) → Adds layout.transmissions (row ∷ []) old mid → Puts layout.fronts front mid new → Waits row front old.trees new.trees × HasLayout new
+waits_by row front old mid new adds puts =
+    let same = front_kept old.trees mid.trees adds.others in
+    let numbered_mid : AreNumbered layout.fronts old.trees → AreNumbered layout.fronts mid.trees = λ h. subst (AllByRecursion (λ r. is_int (rowid r) ≡ true)) (sym same) h in (
+      record {
+        rows = subst (IsPermutation ((row ∷ []) ++ rows_in layout.transmissions old.trees)) (sym (rows_kept layout.transmissions mid.trees new.trees (sent_kept mid.trees new.trees puts.others))) adds.rows;
+        put = λ h. subst (λ l. IsPermutation (put_over front l) (rows_in layout.fronts new.trees)) (rows_kept layout.fronts old.trees mid.trees same) (puts.rows (numbered_mid h));
+        numbered = λ h. puts.numbered (numbered_mid h);
+        others = both_kept all_tables old.trees mid.trees new.trees adds.others puts.others;
+      },
+      puts.layout,
+    )

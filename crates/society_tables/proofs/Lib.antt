@@ -22,5 +22,6 @@ pub mod PoolsAlike
 pub mod ReturnAdds
 pub mod HeldAdds
 pub mod HeldTables
+pub mod HeldWrites
 pub mod AddLemmas
 pub mod EmptyTables

@@ -8,7 +8,9 @@ use Rattle.sqlite_trees.specs.Tree.{Trees}
 use Rattle.sqlite_schema.specs.declared.schema.Table.{Table}
 use Rattle.sqlite.specs.State.{HasCleanDisk, State, Survives}
 use Rattle.society_rows.specs.declared.fault.RowFault.{RowFault}
-use Rattle.society_rows.specs.Stored.{HasLayout, KeepsOthers, rows_in}
+use Rattle.society_rows.specs.Stored.{AreNumbered, HasLayout, KeepsOthers, put_over, rows_in}
+use Rattle.society_rows.specs.Layout.{all_tables, fronts, transmissions}
+use Rattle.std.specs.Prelude.{◌≢◌}
 use Rattle.pool_split.specs.declared.claim.Credit.{Credit}
 use Rattle.society_core.specs.Book.{Book}
 use Rattle.society_core.specs.Orders.{Order}
@@ -100,3 +102,14 @@ ShowCredits credits rows = (pool : ℕ) × (rows ≡ map (λ line. credit_row po
 -- the row of a pool that is closed, or none
 abbrev pub ShowPool : Option Order → List Row → Type 0
 ShowPool kept rows = ((rows ≡ []) × (kept ≡ None)) ⊎ ((pool : ℕ) × (order : Order) × (rows ≡ (Int (pos pool) ∷ Int (pos order.amount) ∷ []) ∷ []) × (kept ≡ Some order))
+
+-- every table but those of the transmissions and of the fronts is as it was
+abbrev pub KeepsBoth : Trees → Trees → Type 0
+KeepsBoth old new = AllByRecursion (λ t. t.tree ≢ transmissions.tree → t.tree ≢ fronts.tree → new t.tree ≡ old t.tree) all_tables
+
+-- the tables have this row of a transmission more, and this row of a front in place of its sender's; the other tables are as they were
+pub record Waits (row front : Row) (old new : Trees) : Type 0 where
+  pub rows : IsPermutation ((row ∷ []) ++ rows_in transmissions old) (rows_in transmissions new)
+  pub put : AreNumbered fronts old → IsPermutation (put_over front (rows_in fronts old)) (rows_in fronts new)
+  pub numbered : AreNumbered fronts old → AreNumbered fronts new
+  pub others : KeepsBoth old new

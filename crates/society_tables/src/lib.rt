@@ -1,6 +1,7 @@
 //! The office's book in SQLite, with all that is derived from it.
 #![tactic(auto)]
 
+mod arrivals;
 mod fault;
 mod orders;
 mod pools;
