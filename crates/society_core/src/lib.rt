@@ -37,3 +37,4 @@ pub use return_key::ReturnKey;
 pub use runs::{answer, run};
 pub use store::{Known, KnownTransmission, Payment, Store, StoreFault};
 pub use transmission_key::TransmissionKey;
+pub use work::show;

@@ -30,8 +30,9 @@ fn right_iswc(transaction: &Transaction<'_>) -> Option<Iswc>
     }
 }
 
-/// What a version of a work shows, by its transaction.
-pub(crate) fn show(
+/// What a version of a sender's work shows, by its transaction: number, title without the blanks at its end, ISWC, ISRCs in order, and the
+/// holders with their weights (profile). Any store shows its works by it.
+pub fn show(
     alloc: Global,
     office: &Office,
     sender: &SenderKey,

@@ -14,6 +14,8 @@ pub mod AccountRows
 pub mod PaidRows
 pub mod SortedRows
 pub mod VerdictRows
+pub mod AckRows
+pub mod WorkRows
 pub mod HeldRows
 pub mod CreditParts
 pub mod CreditRows

@@ -11,6 +11,13 @@ use Rattle.sqlite_value.specs.declared.keys.Collation.TheVariants.{Binary}
 use Rattle.sqlite_value.specs.declared.keys.Key.{Key}
 use Rattle.sqlite_value.specs.declared.value.Value.{Value}
 use Rattle.society_rows.specs.Reads.{IsFirstOf, falling, has_key}
+use Rattle.society_tables.specs.Shown.{ShowVersion}
+use Rattle.work_ids.specs.Characters.{is_printable}
+use Rattle.work_ids.specs.WorkNumber.{work_number_of}
+use Rattle.work_ids.specs.declared.fault.IdFault.{IdFault}
+use Rattle.work_ids.specs.declared.fault.IdFault.TheVariants.{Length, Character}
+use Rattle.std.proofs.Common.{Result, Ok, Err, nat_le}
+use Rattle.std.specs.List.{list_all}
 use Rattle.society_tables.specs.BookRows.{row_of_some}
 use Rattle.society_tables.specs.Columns.{text_at}
 use Rattle.sqlite_keyed.proofs.ListLemmas.{IsPermutation-filter}
@@ -27,7 +34,7 @@ use Rattle.society_tables.proofs.KeyRows.{either_way, same_truth}
 use Rattle.society_tables.proofs.RowLemmas.{all_rows}
 use Rattle.society_tables.proofs.VerdictRows.{filter_both}
 use Rattle.society_tables.proofs.SortedRows.{numbers_rise}
-use Rattle.std.proofs.lemmas.List.{append-nil, get_or-append_right, get_or-replicate, get_or_append_left, get_or_push, length-append, length-replicate, length_push, map_push, take_at}
+use Rattle.std.proofs.lemmas.List.{append-nil, take_all, get_or-append_right, get_or-replicate, get_or_append_left, get_or_push, length-append, length-replicate, length_push, map_push, take_at}
 use Rattle.std.proofs.lemmas.List.Sums.{suffix_len_is}
 use Rattle.std.specs.List.{suffix_len}
 use Rattle.cwr_files.specs.Transaction.{first_work, submitter_number}
@@ -43,7 +50,7 @@ use Rattle.cwr_files.specs.declared.transmission.Transaction.{Transaction}
 use Rattle.cwr_files.specs.declared.transmission.Transmission.{Transmission}
 use Rattle.share_rules.specs.Fault.{fault_of}
 use Rattle.share_rules.specs.declared.office.Office.{Office}
-use Rattle.society_core.specs.Book.{Book, body_at, front, transmissions_to, verdicts_in}
+use Rattle.society_core.specs.Book.{Book, body_at, front, transmissions_to, verdicts_in, version_in}
 use Rattle.sqlite_value.specs.declared.value.Value.TheVariants.{Int, Text}
 use Rattle.sqlite_value.specs.Order.{Row, column}
 use Rattle.society_tables.specs.DerivedRows.{is_named, tells_version, told_by, told_from, told_to_front}
@@ -55,7 +62,7 @@ use Rattle.works_core.proofs.TrackLemmas.{same_bytes}
 use Rattle.works_core.specs.Line.{filled_number, judged, judged_by, judged_in, line_of, verdicts_at}
 use Rattle.works_core.specs.Tracks.{number_in}
 use Rattle.works_core.specs.Verdicts.{behind_all, concerns, is_accepted, ordinal_of, verdict_of, verdicts_from, versions_of}
-use Rattle.works_core.specs.Versions.{Placed, is_version, judged_of, last_version, placed_at, placed_behind, placed_line, version_of}
+use Rattle.works_core.specs.Versions.{Placed, is_version, judged_of, last_version, placed_at, placed_behind, placed_line, version_of, work_at}
 use Rattle.works_core.specs.declared.judged.Judged.{Judged}
 use Rattle.works_core.specs.declared.judged.Judged.TheVariants.{Clean, Faulty}
 use Rattle.works_core.specs.declared.verdict.Verdict.{Verdict}
@@ -85,7 +92,8 @@ module _ (o : Office) (b : Book) (s : List ℕ) where
   line_push : (n : ℕ) → line_to (suc n) ≡ line_to n ++ judged_in o (sent (suc n)) ∷ []
   line_push n = map_push (judged_in o) (transmissions_to b s n) (sent (suc n))
 
-  length_line : (n : ℕ) → length (line_to n) ≡ n
+  -- it has so many transmissions
+  pub length_line : (n : ℕ) → length (line_to n) ≡ n
   length_line zero = refl
   length_line (suc n) =
       let before = length_line n in
@@ -376,3 +384,40 @@ module _ (o : Office) (b : Book) (db : Trees) (holds : HoldsBook o b db) (s w : 
       (IsPermutation-trans (work_rows s w line_at_front) (filter (is_of_work w) (filter (is_named s) rows)) is.all there (subst (λ l. IsPermutation l is.all) same is.rows))
       is.sorted in
       is.first ∙ ap (take 1) ordered ∙ first_row s w line_at_front
+
+-- ---- the version at the front
+
+-- the last version of the line up to the front is the version at the front
+pub front_version : (o : Office) (b : Book) (s w : List ℕ) → last_version w (placed_line (line_to o b s (front b s))) ≡ version_in o b s w (front b s)
+unfolding work_at
+front_version o b s w =
+    let f = front b s in
+    let within : length (line_to o b s f) ≤ f = omega (arith, length_line o b s f) in
+    ap (λ (l : List (List Judged)). last_version w (placed_line l)) (sym (take_all f (line_to o b s f) within))
+
+shows : (s w : List ℕ) (v : Option WorkVersion) → ShowVersion v (row_of_some (version_row s w) v)
+shows s w None = refl
+shows s w (Some v) = (s, without_trailing_blanks w, refl)
+
+-- what is found of a work's last version shows it
+pub version_shows : (o : Office) (b : Book) (db : Trees) → HoldsBook o b db → (s w : List ℕ) → IsBack w → (found : List Row) → IsFirstOf layout.versions (has_key (Text s ∷ Text (without_trailing_blanks w) ∷ [])) 3 db found → ShowVersion (version_in o b s w (front b s)) found
+version_shows o b db holds s w back found is =
+    let line = placed_line (line_to o b s (front b s)) in
+    subst (λ v. ShowVersion v found) (front_version o b s w)
+    (subst (ShowVersion (last_version w line)) (sym (last_found o b db holds s w back found is)) (shows s w (last_version w line)))
+
+-- a work number that its text spells is read back
+pub back_by : (w text : List ℕ) → text ≡ without_trailing_blanks w → work_number_of text ≡ Ok w → IsBack w
+back_by w text is back =
+    let again : without_trailing_blanks (without_trailing_blanks w) ≡ without_trailing_blanks w = ap without_trailing_blanks (sym (append-nil (without_trailing_blanks w))) ∙ left_again w 0 in
+    let same : without_trailing_blanks text ≡ without_trailing_blanks w = ap without_trailing_blanks is ∙ again in
+    ap (fill 14) (sym same)
+    ∙ by_length (nat_le 1 (length (without_trailing_blanks text)) && nat_le (length (without_trailing_blanks text)) 14) (list_all is_printable (without_trailing_blanks text)) back
+  where
+    of_ok : (x y : List ℕ) → ◌≡◌ {A = Result (List ℕ) IdFault} (Ok x) (Ok y) → x ≡ y
+    of_ok x y e = cc
+
+    by_length : (a c : Bool) → cond a (cond c (Ok (fill 14 (without_trailing_blanks text))) (Err Character)) (Err Length) ≡ Ok w → fill 14 (without_trailing_blanks text) ≡ w
+    by_length true true e = of_ok (fill 14 (without_trailing_blanks text)) w e
+    by_length true false e = absurd (let x = e in cc)
+    by_length false c e = absurd (let x = e in cc)

@@ -8,6 +8,9 @@ use Rattle.share_rules.specs.declared.office.Office.{Office}
 use Rattle.society_core.specs.Book.{Book}
 use Rattle.society_core.specs.Keys.{coded_return_key, coded_transmission_key}
 use Rattle.society_core.specs.Orders.{coded_order}
+use Rattle.society_core.specs.Requests.{Shown}
+use Rattle.share_rules.specs.contracts.holder.Holder as holder
+use Rattle.works_core.specs.contracts.version.WorkVersion as version
 use Rattle.society_core.specs.State as store
 use Rattle.society_core.specs.State.{HasCause, Question}
 use Rattle.pool_split.specs.contracts.claim.Credit as credit
@@ -29,7 +32,7 @@ use Rattle.society_tables.specs.BookRows.{book_of}
 use Rattle.society_tables.specs.Faults.{Told, counted, store_fault}
 use Rattle.society_rows.specs.Questions as Rows
 use Rattle.sqlite_trees.specs.Tree.{Trees}
-use Rattle.society_tables.specs.Shown.{ByBook}
+use Rattle.society_tables.specs.Shown.{ByBook, ByOwnBook}
 use Rattle.society_tables.specs.Kept.{AsksOf, HoldsBook, IsKept, Rests, tables_state}
 use Rattle.society_tables.proofs.AskLemmas.{asks, clean_before, clean_is, first_true, goes, rests_on}
 use Rattle.sqlite.specs.Effect.{Database}
@@ -125,6 +128,16 @@ question_by IsAnswer o old new f g answer result rests asked alone below told =
     question o old new f g rests (asks_of old new answer (ByBook IsAnswer) asked) answer result (IsAnswer o (book_of old.now.trees)) (alone (book_of old.now.trees)) below told
     (λ clean kept. of_book IsAnswer o (book_of old.now.trees) old.now.trees answer kept.holds (asked.found (clean_is new.is_clean (first_true new.is_clean new.is_open clean)) kept.layout))
 
+-- so is one that is answered by the book of the office
+pub question_own : {T : Type 0} (o : Office) (IsAnswer : Book → T → Type 0) (old new : State) (f g : ℕ) (answer : Result T RowFault) (result : Result T StoreFault) → ∥ Rests o old ∥₁ → Rows.Asks old new answer (ByOwnBook o IsAnswer) → ((b : Book) (x : T) → IsAlone (IsAnswer b x)) → f < 2 ^ 64 - 1 → Told answer result f g → Question (tables_state o old f) (tables_state o new g) result (IsAnswer (book_of old.now.trees))
+question_own {T} o IsAnswer old new f g answer result rests asked alone below told =
+    question o old new f g rests (asks_of old new answer (ByOwnBook o IsAnswer) asked) answer result (IsAnswer (book_of old.now.trees)) (alone (book_of old.now.trees)) below told
+    (λ clean kept. own answer kept.holds (asked.found (clean_is new.is_clean (first_true new.is_clean new.is_open clean)) kept.layout))
+  where
+    own : (r : Result T RowFault) → HoldsBook o (book_of old.now.trees) old.now.trees → IfOk r (ByOwnBook o IsAnswer old.now.trees) → IfOk r (IsAnswer (book_of old.now.trees))
+    own (Ok x) holds h = h (book_of old.now.trees) holds
+    own (Err fault) holds h = tt
+
 -- and the store rests on
 pub still_rests : {X : Type 0} (o : Office) (old new : State) (r : Result X RowFault) (Found : Trees → X → Type 0) → ∥ Rests o old ∥₁ → Rows.Asks old new r Found → ∥ Rests o new ∥₁
 still_rests o old new r Found rests asked = ∥∥₁_map rests (rests_on o old new (asks_of old new r Found asked))
@@ -203,6 +216,21 @@ one_judgment x y = Coded-set (coded_option (coded_list verdict.the_row.coded)) x
 
 pub one_list : (x y : List ℕ) → IsAlone (x ≡ y)
 one_list x y = Coded-set (coded_list coded_ℕ) x y
+
+-- what is shown of a work as the tuple of its parts
+coded_shown : Coded Shown
+coded_shown =
+    code_by (_ × (_ × (_ × (_ × (_ × _)))))
+    (coded× (coded_list coded_ℕ) (coded× version.the_row.coded (coded× (coded_list coded_ℕ) (coded× (coded_option (coded_list coded_ℕ)) (coded× (coded_list (coded_list coded_ℕ)) (coded_list holder.the_row.coded))))))
+    (λ w. (w.number, (w.version, (w.title, (w.iswc, (w.isrcs, w.holders))))))
+    (λ p. record { number = p.0; version = p.1.0; title = p.1.1.0; iswc = p.1.1.1.0; isrcs = p.1.1.1.1.0; holders = p.1.1.1.1.1 })
+    (λ _. refl)
+
+pub one_work : (x y : Option Shown) → IsAlone (x ≡ y)
+one_work x y = Coded-set (coded_option coded_shown) x y
+
+pub one_text : (x y : Option (List ℕ)) → IsAlone (x ≡ y)
+one_text x y = Coded-set (coded_option (coded_list coded_ℕ)) x y
 
 pub pairs_alone : {P Q : Type 0} → IsAlone P → IsAlone Q → IsAlone (P × Q)
 pairs_alone p q x y = λ i. (p x.0 y.0 i, q x.1 y.1 i)

@@ -21,12 +21,17 @@ use Rattle.work_ids.specs.declared.account.Account.TheVariants.{Ipi, Party, Uncl
 use Rattle.society_tables.specs.Columns.{number_at, text_at}
 use Rattle.society_tables.specs.DerivedRows.{credit_row, verdict_row}
 use Rattle.society_tables.specs.Kept.{HoldsBook}
+use Rattle.works_core.specs.declared.version.WorkVersion.{WorkVersion}
 use Rattle.works_core.specs.declared.verdict.Verdict.{Verdict}
 use Rattle.works_core.specs.declared.verdict.Verdict.TheVariants.{Accepted, Rejected}
 
 -- an answer is that of every book that the tables hold
 abbrev pub ByBook : {T : Type 0} → (Office → Book → T → Type 0) → Trees → T → Type 0
 ByBook IsAnswer db x = (office : Office) (book : Book) → HoldsBook office book db → IsAnswer office book x
+
+-- an answer is that of every book of this office that the tables hold
+abbrev pub ByOwnBook : {T : Type 0} → Office → (Book → T → Type 0) → Trees → T → Type 0
+ByOwnBook office IsAnswer db x = (book : Book) → HoldsBook office book db → IsAnswer book x
 
 -- the rows of a front that is this number: the one row of its sender, or none where it is 0
 abbrev pub ShowFront : ℕ → List Row → Type 0
@@ -35,6 +40,16 @@ ShowFront front rows = ((rows ≡ []) × (front ≡ 0)) ⊎ ((sender : List ℕ)
 -- the rows of what a key has: one row that ends with its bytes, or none
 abbrev pub ShowBody : Option (List ℕ) → List Row → Type 0
 ShowBody kept rows = ((rows ≡ []) × (kept ≡ None)) ⊎ ((name : List ℕ) × (number : ℕ) × (body : List ℕ) × (rows ≡ (Text name ∷ Int (pos number) ∷ Blob body ∷ []) ∷ []) × (kept ≡ Some body))
+
+-- the version that a row is: its transmission's number, its place there, its ordinal and its revision
+abbrev pub version_shown : Row → WorkVersion
+version_shown row = record { transmission = number_at 3 row; place = number_at 4 row; ordinal = number_at 5 row; revision = number_at 2 row }
+
+-- the rows of a work's last version: one row that ends with its revision, its transmission's number, its place there and its ordinal, or none
+abbrev pub ShowVersion : Option WorkVersion → List Row → Type 0
+ShowVersion None rows = rows ≡ []
+ShowVersion (Some v) rows =
+    (sender : List ℕ) × (work : List ℕ) × (rows ≡ (Text sender ∷ Text work ∷ Int (pos v.revision) ∷ Int (pos v.transmission) ∷ Int (pos v.place) ∷ Int (pos v.ordinal) ∷ []) ∷ [])
 
 -- the tables have these rows more in one table, and are as they were in the others
 pub record Comes (table : Table) (more : List Row) (old new : Trees) : Type 0 where

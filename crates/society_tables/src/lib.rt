@@ -1,6 +1,7 @@
 //! The office's book in SQLite, with all that is derived from it.
 #![tactic(auto)]
 
+mod acknowledgements;
 mod arrivals;
 mod fault;
 mod orders;
@@ -8,6 +9,7 @@ mod pools;
 mod returns;
 mod senders;
 mod tables;
+mod works;
 
 pub use tables::Tables;
 

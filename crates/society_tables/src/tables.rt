@@ -2,29 +2,31 @@
 ghost use Rattle.std.specs.Prelude.{◌≡◌, ◌<◌, ◌^◌, ◌&&◌, IfOk, IsTrue, None, ⊤, false, option_map};
 ghost use Rattle.sqlite.specs.Held.{state};
 ghost use Rattle.sqlite.specs.Steps.{over_memory};
-ghost use Rattle.society_core.specs.Answers.{known_as, known_with_front, payment_in, pool_known_as, return_known_as};
+ghost use Rattle.society_core.specs.Answers.{known_as, known_with_front, payment_in, pool_known_as, return_known_as, shown_in};
 ghost use Rattle.perf_returns.specs.Returns.{return_fault};
-ghost use Rattle.society_core.specs.Book.{empty_book, front, held, order_at, return_at, shown_verdicts, with_return};
+ghost use Rattle.society_core.specs.Book.{ack, empty_book, front, held, order_at, return_at, shown_verdicts, with_return};
 ghost use Rattle.society_core.specs.Pools.{balance, credits_of};
-ghost use Rattle.society_core.specs.Requests.{Stands, standing_of};
+ghost use Rattle.society_core.specs.Requests.{Stands, shown_of, standing_of};
 ghost use Rattle.society_core.specs.State.{Addition, Question};
 ghost use Rattle.society_tables.specs.BookRows.{book_of};
 ghost use Rattle.society_tables.specs.Kept.{Rests, tables_state};
 
+use crate::acknowledgements::ack_of;
 use crate::fault::told;
 use crate::orders::known_pool_of;
 use crate::pools::{balance_of, pool_credits};
 use crate::returns::{known_return_of, payment_of, write_return};
 use crate::senders::{front_of, known_of, status_of, verdicts_of};
+use crate::works::work_of;
 use pool_split::Credit;
 use share_rules::Office;
 use society_core::{
-    Known, KnownTransmission, Payment, PoolOrder, ReturnKey, SenderStatus, StoreFault,
+    Known, KnownTransmission, Payment, PoolOrder, ReturnKey, SenderStatus, StoreFault, Work,
 };
 use society_rows::{OfficeRow, ReturnRow, RowFault, create};
 use sqlite::{Alter, Connection, MemStore};
 use std::alloc::Global;
-use work_ids::{Account, PoolNumber, SenderKey, TransmissionNumber};
+use work_ids::{Account, PoolNumber, SenderKey, TransmissionNumber, WorkNumber};
 use works_core::Verdict;
 
 /// An office's book in the tables of a database, with all that is derived from it. Each question is answered from the derived
@@ -119,6 +121,40 @@ impl<S: Alter> Tables<S> {
             return Err(StoreFault::Refused);
         }
         let answer = verdicts_of(alloc, &mut self.conn, sender.as_bytes(), number.value());
+        told(&mut self.failures, answer)
+    }
+
+    /// The acknowledgement of a sender's transmission, none where its number is above the front.
+    pub fn ack(
+        &mut self,
+        alloc: Global,
+        sender: &SenderKey,
+        number: TransmissionNumber,
+    ) -> Result<Option<Vec<u8>>, StoreFault>
+        ensures { Question (tables_state self.old.office (state S.Store self.old.conn) self.old.failures) (tables_state self.new.office (state S.Store self.new.conn) self.new.failures)
+            result (λ text. option_map (λ bytes. bytes.items) text ≡ ack self.old.office (book_of (state S.Store self.old.conn).now.trees) sender.now number) }
+    {
+        if self.failures == u64::MAX {
+            return Err(StoreFault::Refused);
+        }
+        let answer = ack_of(alloc, &mut self.conn, &self.office, sender, number.value());
+        told(&mut self.failures, answer)
+    }
+
+    /// A sender's work as its version at the sender's front shows it, none where it has none.
+    pub fn work(
+        &mut self,
+        alloc: Global,
+        sender: &SenderKey,
+        work: &WorkNumber,
+    ) -> Result<Option<Work>, StoreFault>
+        ensures { Question (tables_state self.old.office (state S.Store self.old.conn) self.old.failures) (tables_state self.new.office (state S.Store self.new.conn) self.new.failures)
+            result (λ shown. option_map shown_of shown ≡ shown_in self.old.office (book_of (state S.Store self.old.conn).now.trees) sender.now work.now) }
+    {
+        if self.failures == u64::MAX {
+            return Err(StoreFault::Refused);
+        }
+        let answer = work_of(alloc, &mut self.conn, &self.office, sender, work);
         told(&mut self.failures, answer)
     }
 

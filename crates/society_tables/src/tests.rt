@@ -5,7 +5,9 @@ use society_core::{Known, KnownTransmission, Payment, PoolOrder, ReturnKey};
 use sqlite::MemStore;
 use std::alloc::Global;
 use std::test::Fail;
-use work_ids::{Account, PoolNumber, Reporter, ReturnNumber, SenderKey, TransmissionNumber};
+use work_ids::{
+    Account, PoolNumber, Reporter, ReturnNumber, SenderKey, TransmissionNumber, WorkNumber,
+};
 
 /// The tables of the example society, with nothing in them.
 fn tables(alloc: Global) -> Result<Tables<MemStore>, Fail> {
@@ -33,6 +35,17 @@ fn nothing_is_known_of_an_empty_book(rt: HostRuntime) -> Result<(), Fail> {
         .ok()
         .ok_or("a standing")?;
     assert!(rt; status.front == 0 && status.held.is_empty());
+    assert!(rt;
+        tables
+            .ack(rt.alloc(), &sender, number)
+            .is_ok_and(|text| text.is_none())
+    );
+    let work = WorkNumber::from_bytes(b"W1").ok().ok_or("a work")?;
+    assert!(rt;
+        tables
+            .work(rt.alloc(), &sender, &work)
+            .is_ok_and(|shown| shown.is_none())
+    );
     let key = ReturnKey {
         reporter: Reporter::from_bytes(b"RADIO1").ok().ok_or("a reporter")?,
         number: ReturnNumber::from_u32(1).ok_or("a number")?,
