@@ -1,5 +1,5 @@
 -- What candidates stand for: one recording more, one transaction more, one transmission more.
-use Rattle.std.proofs.Common.{◌≡◌, ◌⊎◌, inl, inr, ℕ, zero, suc, ◌+◌, ◌<◌, ◌≤◌, Bool, true, false, ◌||◌, ◌&&◌, nat_le, cond, not, List, [], ◌∷◌, ◌++◌, length, map, take, flat_map, None, Result, Ok, Err, slice_get, refl, ap, sym, subst, ◌∙◌, arith, length-append, append_assoc, append-nil, get_or, unwrap_or, ◌-◌}
+use Rattle.std.proofs.Common.{◌≡◌, ◌⊎◌, inl, inr, ℕ, zero, suc, ◌+◌, ◌<◌, ◌≤◌, Bool, true, false, ◌||◌, ◌&&◌, nat_le, cond, not, List, [], ◌∷◌, ◌++◌, length, map, take, flat_map, None, Result, Ok, Err, OnOk, slice_get, refl, ap, sym, subst, ◌∙◌, arith, length-append, append_assoc, append-nil, get_or, unwrap_or, ◌-◌}
 use Rattle.std.proofs.lemmas.List.{map-append, length-map}
 use Rattle.std.specs.Ordering.{eq_by_cmp}
 use Rattle.std.proofs.lemmas.Bool.{cases_lt, false≢true}
@@ -20,9 +20,10 @@ use Rattle.cwr_files.specs.Transaction.{number_of_work}
 use Rattle.cwr_files.specs.declared.transmission.Transaction.{Transaction}
 use Rattle.cwr_files.specs.declared.transmission.Transmission.{Transmission}
 use Rattle.share_rules.specs.declared.holder.Holder.{Holder}
+use Rattle.share_rules.specs.Weights.{weights_of}
 use Rattle.share_rules.specs.declared.office.Office.{Office}
 use Rattle.society_core.specs.Book.{Book, body_at, front, transmissions_to}
-use Rattle.society_core.specs.Candidates.{Adds, ReachesCut, StandFor, holders_among, holders_naming, is_version_by, transactions_sent, work_where}
+use Rattle.society_core.specs.Candidates.{Adds, ListsOnce, ReachesCut, StandFor, candidate_with, holders_among, holders_naming, is_version_by, transactions_sent, work_where}
 use Rattle.society_core.specs.Claims.{is_candidate_for}
 use Rattle.society_core.specs.Orders.{Order}
 use Rattle.society_core.specs.Owners.{CutWork, cut_work, is_version_at, names_recording, versions_at_cut, versions_of_transmission}
@@ -31,32 +32,30 @@ use Rattle.society_core.specs.declared.claim_list.Candidate.{Candidate}
 use Rattle.society_core.specs.declared.transmission_key.TransmissionKey.{TransmissionKey}
 use Rattle.work_ids.specs.declared.fault.IdFault.{IdFault}
 use Rattle.works_core.specs.Line.{line_of}
+use Rattle.works_core.specs.Recordings.{isrcs_of}
 
 pub both : (a b : Bool) → (a && b) ≡ true → (a ≡ true) × (b ≡ true)
 both true true e = (refl, refl)
 both true false e = absurd (false≢true e)
 both false b e = absurd (false≢true e)
 
--- a list of one element, where there is one
-abbrev pub once : {X : Type 0} → Bool → X → List X
-once b x = cond b (x ∷ []) []
+module _ (office : Office) (of_these : List ℕ → Bool) where
+  -- candidates that have the holders of more works stand for these too
+  pub adds_by : (more : List CutWork) (old new : List Candidate) → ((isrc : List ℕ) → of_these isrc ≡ true → holders_among new isrc ≡ holders_among old isrc ++ holders_naming office more isrc) → Adds office of_these more old new
+  adds_by more old new e = λ works stand. record {
+    same = λ isrc is.
+        e isrc is
+        ∙ ap (λ (hs : List (List Holder)). hs ++ holders_naming office more isrc) (stand.same isrc is)
+        ∙ sym (ap (map (holders_of office)) (filter-append (names_recording isrc) works more) ∙ map-append (holders_of office) (filter (names_recording isrc) works) (filter (names_recording isrc) more));
+  }
 
--- candidates that have the holders of more works stand for these too
-pub adds_by : (office : Office) (more : List CutWork) (old new : List Candidate) → ((isrc : List ℕ) → holders_among new isrc ≡ holders_among old isrc ++ holders_naming office more isrc) → Adds office more old new
-adds_by office more old new e = λ works stand. record {
-  same = λ isrc.
-      e isrc
-      ∙ ap (λ (hs : List (List Holder)). hs ++ holders_naming office more isrc) (stand.same isrc)
-      ∙ sym (ap (map (holders_of office)) (filter-append (names_recording isrc) works more) ∙ map-append (holders_of office) (filter (names_recording isrc) works) (filter (names_recording isrc) more));
-}
+  -- nothing more
+  pub adds_none : (old : List Candidate) → Adds office of_these [] old old
+  adds_none old = λ works stand. subst (λ (ws : List CutWork). StandFor office of_these ws old) (sym (append-nil works)) stand
 
--- nothing more
-pub adds_none : (office : Office) (old : List Candidate) → Adds office [] old old
-adds_none office old = λ works stand. subst (λ (ws : List CutWork). StandFor office ws old) (sym (append-nil works)) stand
-
--- some works, and then others
-pub adds_then : (office : Office) (a b : List CutWork) (old mid new : List Candidate) → Adds office a old mid → Adds office b mid new → Adds office (a ++ b) old new
-adds_then office a b old mid new first second = λ works stand. subst (λ (ws : List CutWork). StandFor office ws new) (append_assoc works a b) (second (works ++ a) (first works stand))
+  -- some works, and then others
+  pub adds_then : (a b : List CutWork) (old mid new : List Candidate) → Adds office of_these a old mid → Adds office of_these b mid new → Adds office of_these (a ++ b) old new
+  adds_then a b old mid new first second = λ works stand. subst (λ (ws : List CutWork). StandFor office of_these ws new) (append_assoc works a b) (second (works ++ a) (first works stand))
 
 same_bytes : (a b : List ℕ) → bytes_eq a b ≡ true → a ≡ b
 same_bytes a b = (bytes_eq-Decides a b).0
@@ -73,32 +72,91 @@ turned a b = by_case (bytes_eq a b) (bytes_eq b a) refl refl
     by_case true false e f = let s : a ≡ b = same_bytes a b e in sym (itself a) ∙ ap (λ (x : List ℕ). bytes_eq x a) s ∙ f
     by_case false true e f = let s : b ≡ a = same_bytes b a f in sym e ∙ ap (λ (x : List ℕ). bytes_eq a x) s ∙ itself a
 
--- a recording that is named again changes nothing
-pub named_again : (x i : List ℕ) (seen : List (List ℕ)) → list_any (bytes_eq i) seen ≡ true → list_any (bytes_eq x) (seen ++ i ∷ []) ≡ list_any (bytes_eq x) seen
-named_again x i seen e = list_any-append (bytes_eq x) seen (i ∷ []) ∙ by_case (bytes_eq x i) refl (list_any (bytes_eq x) seen) refl
+-- the holders of candidates that one work makes for some recordings more
+pub holders_more : (cs : List Candidate) (sender work : List ℕ) (holders : List Holder) (isrcs : List (List ℕ)) (x : List ℕ) →
+    holders_among (cs ++ map (candidate_with sender work holders) isrcs) x ≡ holders_among cs x ++ map (λ one. holders) (filter (λ one. bytes_eq one x) isrcs)
+holders_more cs sender work holders isrcs x =
+    ap (map (λ (c : Candidate). c.holders)) (filter-append (is_candidate_for x) cs (map (candidate_with sender work holders) isrcs))
+    ∙ map-append (λ (c : Candidate). c.holders) (filter (is_candidate_for x) cs) (filter (is_candidate_for x) (map (candidate_with sender work holders) isrcs))
+    ∙ ap (λ (hs : List (List Holder)). holders_among cs x ++ hs) (each isrcs)
   where
-    by_case : (b : Bool) → bytes_eq x i ≡ b → (r : Bool) → list_any (bytes_eq x) seen ≡ r → (r || (b || false)) ≡ r
-    by_case b is true known = refl
-    by_case false is false known = refl
-    by_case true is false known = let s : x ≡ i = same_bytes x i is in sym e ∙ ap (λ (y : List ℕ). list_any (bytes_eq y) seen) (sym s) ∙ known
+    each : (is : List (List ℕ)) → map (λ (c : Candidate). c.holders) (filter (is_candidate_for x) (map (candidate_with sender work holders) is)) ≡ map (λ one. holders) (filter (λ one. bytes_eq one x) is)
+    each [] = refl
+    each (i ∷ is) = by_case (bytes_eq i x) (each is)
+      where
+        by_case : (b : Bool) → map (λ (c : Candidate). c.holders) (filter (is_candidate_for x) (map (candidate_with sender work holders) is)) ≡ map (λ one. holders) (filter (λ one. bytes_eq one x) is) →
+            map (λ (c : Candidate). c.holders) (cond b (candidate_with sender work holders i ∷ filter (is_candidate_for x) (map (candidate_with sender work holders) is)) (filter (is_candidate_for x) (map (candidate_with sender work holders) is))) ≡ map (λ one. holders) (cond b (i ∷ filter (λ one. bytes_eq one x) is) (filter (λ one. bytes_eq one x) is))
+        by_case true e = ap (λ (hs : List (List Holder)). holders ∷ hs) e
+        by_case false e = e
 
--- a recording that is named for the first time has one candidate more
-pub named_first : (x : List ℕ) (cs : List Candidate) (c : Candidate) (before : List (List Holder)) (seen : List (List ℕ)) → list_any (bytes_eq c.isrc) seen ≡ false →
-    holders_among cs x ≡ before ++ once (list_any (bytes_eq x) seen) c.holders →
-    holders_among (cs ++ c ∷ []) x ≡ before ++ once (list_any (bytes_eq x) (seen ++ c.isrc ∷ [])) c.holders
-named_first x cs c before seen e so_far =
-    ap (map (λ (d : Candidate). d.holders)) (filter-append (is_candidate_for x) cs (c ∷ []))
-    ∙ map-append (λ (d : Candidate). d.holders) (filter (is_candidate_for x) cs) (filter (is_candidate_for x) (c ∷ []))
-    ∙ ap (λ (hs : List (List Holder)). hs ++ map (λ (d : Candidate). d.holders) (filter (is_candidate_for x) (c ∷ []))) so_far
-    ∙ by_case (bytes_eq c.isrc x) refl (list_any (bytes_eq x) seen) refl
-    ∙ ap (λ (b : Bool). before ++ once b c.holders) (sym (list_any-append (bytes_eq x) seen (c.isrc ∷ []) ∙ ap (λ (b : Bool). list_any (bytes_eq x) seen || (b || false)) (turned x c.isrc)))
+-- a work adds one candidate for each of these recordings that it names
+pub work_adds : (office : Office) (of_these : List ℕ → Bool) (sender work : List ℕ) (t : Transaction) (listed : List (List ℕ)) (old : List Candidate) → ListsOnce of_these (isrcs_of t) listed →
+    Adds office of_these (cut_work sender t ∷ []) old (old ++ map (candidate_with sender work (holders_of office (cut_work sender t))) listed)
+work_adds office of_these sender work t listed old once_each =
+    adds_by office of_these (cut_work sender t ∷ []) old (old ++ map (candidate_with sender work (holders_of office (cut_work sender t))) listed)
+    (λ x is. holders_more old sender work (holders_of office (cut_work sender t)) listed x
+    ∙ ap (λ (hs : List (List Holder)). holders_among old x ++ hs) (ap (map (λ one. holders_of office (cut_work sender t))) (once_each x is) ∙ by_case x (list_any (bytes_eq x) (isrcs_of t))))
   where
-    by_case : (b : Bool) → bytes_eq c.isrc x ≡ b → (r : Bool) → list_any (bytes_eq x) seen ≡ r →
-        (before ++ once r c.holders) ++ map (λ (d : Candidate). d.holders) (cond b (c ∷ []) []) ≡ before ++ once (r || (b || false)) c.holders
-    by_case false is true known = append-nil (before ++ once true c.holders)
-    by_case false is false known = append-nil (before ++ [])
-    by_case true is false known = append_assoc before [] (c.holders ∷ [])
-    by_case true is true known = let s : c.isrc ≡ x = same_bytes c.isrc x is in let no : true ≡ false = sym known ∙ ap (λ (y : List ℕ). list_any (bytes_eq y) seen) (sym s) ∙ e in absurd (cc)
+    by_case : (x : List ℕ) (b : Bool) → map (λ one. holders_of office (cut_work sender t)) (cond b (x ∷ []) []) ≡ map (holders_of office) (cond b (cut_work sender t ∷ []) [])
+    by_case x true = refl
+    by_case x false = refl
+
+-- once these candidates are appended
+pub added_by : {X E : Type 0} (office : Office) (of_these : List ℕ → Bool) (sender work : List ℕ) (t : Transaction) (listed : List (List ℕ)) (holders : List Holder) (isrcs : List (List ℕ)) (old new : List Candidate) (result : Result X E) → ListsOnce of_these (isrcs_of t) listed → holders ≡ weights_of sender office t → isrcs ≡ listed →
+    OnOk result (new ≡ old ++ map (candidate_with sender work holders) isrcs) → OnOk result (Adds office of_these (cut_work sender t ∷ []) old new)
+added_by office of_these sender work t listed holders isrcs old new (Err e) once_each same these appended = tt
+added_by office of_these sender work t listed holders isrcs old new (Ok x) once_each same these appended =
+    subst (Adds office of_these (cut_work sender t ∷ []) old)
+    (sym (appended ∙ ap (λ (hs : List Holder). old ++ map (candidate_with sender work hs) isrcs) same ∙ ap (λ (is : List (List ℕ)). old ++ map (candidate_with sender work (holders_of office (cut_work sender t))) is) these))
+    (work_adds office of_these sender work t listed old once_each)
+
+-- so it does where it names none of them
+pub work_adds_none : (office : Office) (of_these : List ℕ → Bool) (sender : List ℕ) (t : Transaction) (old : List Candidate) → ListsOnce of_these (isrcs_of t) [] → Adds office of_these (cut_work sender t ∷ []) old old
+work_adds_none office of_these sender t old once_each =
+    subst (λ (cs : List Candidate). Adds office of_these (cut_work sender t ∷ []) old cs) (append-nil old) (work_adds office of_these sender [] t [] old once_each)
+
+-- whether a recording is among some
+abbrev pub is_among : List ℕ → List (List ℕ) → Bool
+is_among x named = list_any (bytes_eq x) named
+
+-- a recording that is none of these, or is listed already, changes nothing
+pub listed_still : (of_these : List ℕ → Bool) (named listed : List (List ℕ)) (i : List ℕ) → (of_these i ≡ true → is_among i named ≡ true) → ListsOnce of_these named listed → ListsOnce of_these (named ++ i ∷ []) listed
+listed_still of_these named listed i known before x is =
+    before x is ∙ ap (λ (b : Bool). cond b (x ∷ []) []) (sym (list_any-append (bytes_eq x) named (i ∷ []) ∙ by_case (bytes_eq x i) refl (is_among x named) refl))
+  where
+    by_case : (b : Bool) → bytes_eq x i ≡ b → (r : Bool) → is_among x named ≡ r → (r || (b || false)) ≡ is_among x named
+    by_case b same true there = sym there
+    by_case false same false there = sym there
+    by_case true same false there =
+        let one : x ≡ i = same_bytes x i same in
+        sym (ap (λ (y : List ℕ). is_among y named) one ∙ known (ap of_these (sym one) ∙ is))
+
+or_none : (b : Bool) → (b || false) ≡ b
+or_none true = refl
+or_none false = refl
+
+-- one of these that was not named before is listed behind
+pub listed_more : (of_these : List ℕ → Bool) (named listed : List (List ℕ)) (i : List ℕ) → is_among i named ≡ false → ListsOnce of_these named listed → ListsOnce of_these (named ++ i ∷ []) (listed ++ i ∷ [])
+listed_more of_these named listed i fresh before x is =
+    filter-append (λ one. bytes_eq one x) listed (i ∷ [])
+    ∙ ap (λ (is : List (List ℕ)). is ++ cond (bytes_eq i x) (i ∷ []) []) (before x is)
+    ∙ by_case (bytes_eq x i) refl (is_among x named) refl
+    ∙ ap (λ (b : Bool). cond b (x ∷ []) []) (sym (list_any-append (bytes_eq x) named (i ∷ [])))
+  where
+    by_case : (b : Bool) → bytes_eq x i ≡ b → (r : Bool) → is_among x named ≡ r → cond (is_among x named) (x ∷ []) [] ++ cond (bytes_eq i x) (i ∷ []) [] ≡ cond (is_among x named || (bytes_eq x i || false)) (x ∷ []) []
+    by_case true same true there =
+        let one : x ≡ i = same_bytes x i same in
+        absurd (false≢true (sym fresh ∙ ap (λ (y : List ℕ). is_among y named) (sym one) ∙ there))
+    by_case true same false there =
+        let one : x ≡ i = same_bytes x i same in
+        ap (λ (b : Bool). cond b (x ∷ []) [] ++ cond (bytes_eq i x) (i ∷ []) []) there
+        ∙ ap (λ (b : Bool). cond b (i ∷ []) []) (turned i x ∙ same)
+        ∙ ap (λ (y : List ℕ). y ∷ []) (sym one)
+        ∙ sym (ap (λ (b : Bool). cond (b || (bytes_eq x i || false)) (x ∷ []) []) there ∙ ap (λ (b : Bool). cond (b || false) (x ∷ []) []) same)
+    by_case false same r there =
+        ap (λ (b : Bool). cond (is_among x named) (x ∷ []) [] ++ cond b (i ∷ []) []) (turned i x ∙ same)
+        ∙ append-nil (cond (is_among x named) (x ∷ []) [])
+        ∙ ap (λ (b : Bool). cond b (x ∷ []) []) (sym (ap (λ (b : Bool). is_among x named || (b || false)) same ∙ or_none (is_among x named)))
 
 -- one element more at the end of a numbered list
 pub enumerate_push : {X : Type 0} (n : ℕ) (xs : List X) (x : X) → enumerate_from n (xs ++ x ∷ []) ≡ enumerate_from n xs ++ (n + length xs, x) ∷ []
@@ -151,19 +209,6 @@ works_push office book keys key =
     flat_map-append (versions_at_cut office book) keys (key ∷ [])
     ∙ ap (λ (ws : List CutWork). flat_map (versions_at_cut office book) keys ++ ws) (append-nil (versions_at_cut office book key))
 
--- the same test, by the order of the bytes
-pub same_tests : (x : List ℕ) (seen : List (List ℕ)) → list_any (eq_by_cmp bytes_cmp x) seen ≡ list_any (bytes_eq x) seen
-same_tests x [] = refl
-same_tests x (y ∷ ys) = ap (λ (b : Bool). b || list_any (eq_by_cmp bytes_cmp x) ys) (is_eq-slice_cmp x y) ∙ ap (λ (b : Bool). bytes_eq x y || b) (same_tests x ys)
-
--- one candidate for a recording that is named, none else
-pub named_once : (office : Office) (sender : List ℕ) (t : Transaction) (x : List ℕ) → once (names_recording x (cut_work sender t)) (holders_of office (cut_work sender t)) ≡ holders_naming office (cut_work sender t ∷ []) x
-named_once office sender t x = by_case (names_recording x (cut_work sender t))
-  where
-    by_case : (b : Bool) → once b (holders_of office (cut_work sender t)) ≡ map (holders_of office) (cond b (cut_work sender t ∷ []) [])
-    by_case true = refl
-    by_case false = refl
-
 get_at_end : {X : Type 0} (xs : List X) (x d : X) (k : ℕ) → k ≡ length xs → get_or (xs ++ x ∷ []) k d ≡ x
 get_at_end [] x d zero e = refl
 get_at_end [] x d (suc k) e = absurd (omega arith)
@@ -215,13 +260,13 @@ verdicts_are_counted office book sender n (suc k) low high =
     ∙ ap (λ (js : List Judged). length js) (judged_at office book sender n k high)
     ∙ judged_counted office (transmission_in (unwrap_or (body_at book sender (suc k)) []))
 
--- one key more in a set
-pub kept_more : (x i : List ℕ) (seen : List (List ℕ)) (b : Bool) → b ≡ list_any (eq_by_cmp bytes_cmp x) seen → cond (eq_by_cmp bytes_cmp i x) true b ≡ list_any (eq_by_cmp bytes_cmp x) (seen ++ i ∷ [])
-kept_more x i seen b e =
-    ap (λ (p : Bool). cond p true b) (is_eq-slice_cmp i x ∙ turned i x ∙ sym (is_eq-slice_cmp x i))
-    ∙ ap (λ (p : Bool). cond (eq_by_cmp bytes_cmp x i) true p) e
-    ∙ by_case (eq_by_cmp bytes_cmp x i) (list_any (eq_by_cmp bytes_cmp x) seen)
-    ∙ sym (list_any-append (eq_by_cmp bytes_cmp x) seen (i ∷ []))
+-- one key more in a set of those that were named
+pub seen_more : (x i : List ℕ) (named : List (List ℕ)) (had : Bool) → had ≡ is_among x named → cond (eq_by_cmp bytes_cmp i x) true had ≡ is_among x (named ++ i ∷ [])
+seen_more x i named had e =
+    ap (λ (p : Bool). cond p true had) (is_eq-slice_cmp i x ∙ turned i x)
+    ∙ ap (λ (p : Bool). cond (bytes_eq x i) true p) e
+    ∙ by_case (bytes_eq x i) (is_among x named)
+    ∙ sym (list_any-append (bytes_eq x) named (i ∷ []))
   where
     by_case : (p q : Bool) → cond p true q ≡ (q || (p || false))
     by_case true true = refl
@@ -229,13 +274,27 @@ kept_more x i seen b e =
     by_case false true = refl
     by_case false false = refl
 
-pub was_not : (had is_new : Bool) → is_new ≡ not had → is_new ≡ true → had ≡ false
-was_not true is_new e f = absurd (false≢true (sym e ∙ f))
-was_not false is_new e f = refl
+-- one that is none of these, or was named already, changes nothing for them
+pub seen_still : (of_these : List ℕ → Bool) (x i : List ℕ) (named : List (List ℕ)) → (of_these i ≡ true → is_among i named ≡ true) → of_these x ≡ true → is_among x named ≡ is_among x (named ++ i ∷ [])
+seen_still of_these x i named known is = by_case (bytes_eq x i) refl ∙ sym (list_any-append (bytes_eq x) named (i ∷ []))
+  where
+    by_case : (b : Bool) → bytes_eq x i ≡ b → is_among x named ≡ (is_among x named || (bytes_eq x i || false))
+    by_case true same =
+        let one : x ≡ i = same_bytes x i same in
+        let there : is_among x named ≡ true = ap (λ (y : List ℕ). is_among y named) one ∙ known (ap of_these (sym one) ∙ is) in
+        there ∙ sym (ap (λ (q : Bool). q || (bytes_eq x i || false)) there)
+    by_case false same = sym (ap (λ (p : Bool). is_among x named || (p || false)) same ∙ or_none (is_among x named))
 
-pub was_there : (had is_new : Bool) → is_new ≡ not had → is_new ≡ false → had ≡ true
-was_there true is_new e f = refl
-was_there false is_new e f = absurd (false≢true (sym f ∙ e))
+-- of one that is due it is known that it is one of these and was not named, of one that is not that it was where it is one of these
+pub due_is : (one had : Bool) → (one && not had) ≡ true → (one ≡ true) × (had ≡ false)
+due_is true false e = (refl, refl)
+due_is true true e = absurd (false≢true e)
+due_is false had e = absurd (false≢true e)
+
+pub not_due : (one had : Bool) → (one && not had) ≡ false → one ≡ true → had ≡ true
+not_due true true e is = refl
+not_due true false e is = absurd (false≢true (sym e))
+not_due false had e is = absurd (false≢true is)
 
 -- there is an element at a place within a list
 pub no_place : {X : Type 0} (xs : List X) (k : ℕ) → k < length xs → slice_get xs k ≡ None → ⊥
@@ -247,10 +306,6 @@ no_place (x ∷ xs) (suc k) h e = no_place xs k (omega arith) e
 pub is_version_same : (office : Office) (book : Book) (key : TransmissionKey) (number place : ℕ) (r : Result (List ℕ) IdFault) → is_version_by (line_of office (transmissions_to book key.sender key.number)) key.number number place r ≡ is_version_at office book key number place r
 is_version_same office book key number place (Ok work) = refl
 is_version_same office book key number place (Err fault) = refl
-
--- a candidate with these holders
-abbrev pub with_holders : List ℕ → List ℕ → List ℕ → List Holder → Candidate
-with_holders isrc sender work holders = record { isrc = isrc; sender = sender; work = work; holders = holders }
 
 -- what a test says of all holds at each place
 pub all_at : {X : Type 0} (p : X → Bool) (xs : List X) (i : ℕ) (d : X) → list_all p xs ≡ true → i < length xs → p (get_or xs i d) ≡ true

@@ -204,13 +204,13 @@ abbrev pub claim_with : List ℕ × ℕ → Option (List Holder) → Claim
 claim_with played holders = record { isrc = played.0; points = played.1; holders = holders }
 
 -- the claims among candidates that stand for the works of a cut are those of the pool
-pub claims_are : (office : Office) (book : Book) (order : Order) (candidates : List Candidate) (ps : List (List ℕ × ℕ)) → StandFor office (works_of_cut office book order) candidates → claims_among ps candidates ≡ map (claim_of office book order) ps
-claims_are office book order candidates [] stand = refl
-claims_are office book order candidates (p ∷ ps) stand =
+pub claims_are : (office : Office) (book : Book) (order : Order) (candidates : List Candidate) (of_these : List ℕ → Bool) (ps : List (List ℕ × ℕ)) → AllByRecursion (λ p. of_these p.0 ≡ true) ps → StandFor office of_these (works_of_cut office book order) candidates → claims_among ps candidates ≡ map (claim_of office book order) ps
+claims_are office book order candidates of_these [] these stand = refl
+claims_are office book order candidates of_these (p ∷ ps) these stand =
     let same : option_map (λ (c : Candidate). c.holders) (sole (filter (is_candidate_for p.0) candidates)) ≡ option_map (holders_of office) (owner office book order p.0) =
-    sole_map (λ (c : Candidate). c.holders) (filter (is_candidate_for p.0) candidates) ∙ ap sole (stand.same p.0) ∙ sym (sole_map (holders_of office) (filter (names_recording p.0) (works_of_cut office book order))) in
+    sole_map (λ (c : Candidate). c.holders) (filter (is_candidate_for p.0) candidates) ∙ ap sole (stand.same p.0 these.0) ∙ sym (sole_map (holders_of office) (filter (names_recording p.0) (works_of_cut office book order))) in
     ap (λ (hs : Option (List Holder)). claim_with p hs ∷ claims_among ps candidates) same
-    ∙ ap (λ (cs : List Claim). claim_of office book order p ∷ cs) (claims_are office book order candidates ps stand)
+    ∙ ap (λ (cs : List Claim). claim_of office book order p ∷ cs) (claims_are office book order candidates of_these ps these.1 stand)
 
 -- what is read of each claim
 pub isrcs_of_claims : (office : Office) (book : Book) (order : Order) (ps : List (List ℕ × ℕ)) → map (λ (c : Claim). c.isrc) (map (claim_of office book order) ps) ≡ map (λ (e : List ℕ × ℕ). e.0) ps

@@ -1,5 +1,5 @@
 -- The points of recordings: what one more performance changes, their order, their least and their sum.
-use Rattle.std.proofs.Common.{◌≡◌, ℕ, suc, ◌+◌, ◌*◌, ◌^◌, ◌-◌, ◌<◌, ◌≤◌, min, Bool, true, false, ◌||◌, cond, List, [], ◌∷◌, ◌++◌, length, map, filter, sum, sum_by, All, Option, Some, None, unwrap_or, refl, ap, sym, subst, ◌∙◌, arith, add-zero, true≢false}
+use Rattle.std.proofs.Common.{◌≡◌, ℕ, suc, ◌+◌, ◌*◌, ◌^◌, ◌-◌, ◌<◌, ◌≤◌, min, Bool, true, false, ◌||◌, cond, List, [], ◌∷◌, ◌++◌, length, map, filter, sum, sum_by, All, Option, Some, None, is_some, unwrap_or, refl, ap, sym, subst, ◌∙◌, arith, add-zero, true≢false}
 use Rattle.std.proofs.lemmas.Bool.{false≢true}
 use Rattle.std.proofs.lemmas.Cmp.{eq_by_cmp_equiv, nat_list_cmp_total}
 use Rattle.std.proofs.lemmas.List.Elements.{All-from_recursion, filter-append}
@@ -20,7 +20,7 @@ use Rattle.std.specs.Str.{bytes_eq}
 use Rattle.std.specs.declared.cmp.Ordering.TheVariants.{Less}
 use Rattle.perf_returns.specs.declared.performance.Performance.{Performance}
 use Rattle.society_core.specs.Keys.{bytes_cmp}
-use Rattle.society_core.specs.Points.{HasPoints, Tallies, is_performance_of, points_by_recording, points_in, points_known, points_of, recordings_in}
+use Rattle.society_core.specs.Points.{HasPoints, Tallies, is_performance_of, is_tallied, points_by_recording, points_in, points_known, points_of, recordings_in}
 use Rattle.society_core.specs.declared.points.Tally.{Tally}
 use Rattle.society_core.proofs.Ascending.{ascending_ascends, ascending_has}
 use Rattle.society_core.proofs.KeysOfMaps.{entries_in_order}
@@ -182,6 +182,19 @@ pub recordings_have_points : (rows : List Performance) → AllByRecursion HasPoi
 recordings_have_points rows h =
     All-from_recursion (λ (e : List ℕ × ℕ). 1 ≤ e.1) (points_by_recording rows)
     (paired_least (points_in rows) (recordings_in rows) (λ k member. least_of rows k h (sym (has_recording rows k) ∙ member)))
+
+paired_tallied : (p : List ℕ → Bool) (f : List ℕ → ℕ) (ks : List (List ℕ)) → ((k : List ℕ) → list_any (eq_by_cmp bytes_cmp k) ks ≡ true → p k ≡ true) → AllByRecursion (λ (e : List ℕ × ℕ). p e.0 ≡ true) (map (λ (k : List ℕ). (k, f k)) ks)
+paired_tallied p f [] all = tt
+paired_tallied p f (k ∷ ks) all = (
+  all k (ap (λ (b : Bool). b || list_any (eq_by_cmp bytes_cmp k) ks) ((eq_by_cmp_equiv nat_list_cmp_total).refl k)),
+  paired_tallied p f ks (λ q h. all q (or_right (eq_by_cmp bytes_cmp q k) (list_any (eq_by_cmp bytes_cmp q) ks) h)),
+)
+
+-- a tally of performances has points for each of their recordings
+pub recordings_tallied : (tally : Tally) (rows : List Performance) → Tallies tally rows → AllByRecursion (λ (e : List ℕ × ℕ). is_tallied tally e.0 ≡ true) (points_by_recording rows)
+recordings_tallied tally rows tallies =
+    paired_tallied (is_tallied tally) (points_in rows) (recordings_in rows)
+    (λ k member. ap is_some (tallies.points k ∙ ap (λ (b : Bool). cond b (Some (points_in rows k)) None) (sym (has_recording rows k) ∙ member)))
 
 at_most : (b : Bool) (p : ℕ) → cond b p 0 ≤ p
 at_most true p = omega arith

@@ -1,6 +1,6 @@
 -- Candidates for the recordings of a pool, and the works that they stand for.
-use Rattle.std.specs.Prelude.{ℕ, ◌≡◌, ◌++◌, ◌∷◌, Bool, false, if◌then◌else◌, List, [], Result, Ok, Err, map, is_some, nat_le, true, unwrap_or}
-use Rattle.std.specs.List.{filter, list_all}
+use Rattle.std.specs.Prelude.{ℕ, ◌≡◌, ◌++◌, ◌∷◌, Bool, false, if◌then◌else◌, List, [], Result, Ok, Err, map, is_some, bytes_eq, nat_le, true, unwrap_or}
+use Rattle.std.specs.List.{filter, list_all, list_any}
 use Rattle.cwr_files.specs.Contents.{transactions_of, transmission_in}
 use Rattle.cwr_files.specs.declared.transmission.Transaction.{Transaction}
 use Rattle.perf_returns.specs.Returns.{performances_in}
@@ -26,13 +26,21 @@ holders_among candidates isrc = map (λ candidate. candidate.holders) (filter (i
 abbrev pub holders_naming : Office → List CutWork → List ℕ → List (List Holder)
 holders_naming office works isrc = map (holders_of office) (filter (names_recording isrc) works)
 
--- candidates stand for works: of each recording they have the holders of the works that name it, in the same order
-pub record StandFor (office : Office) (works : List CutWork) (candidates : List Candidate) : Type 0 where
-  pub same : (isrc : List ℕ) → holders_among candidates isrc ≡ holders_naming office works isrc
+-- candidates stand for works: of each of these recordings they have the holders of the works that name it, in the same order
+pub record StandFor (office : Office) (of_these : List ℕ → Bool) (works : List CutWork) (candidates : List Candidate) : Type 0 where
+  pub same : (isrc : List ℕ) → of_these isrc ≡ true → holders_among candidates isrc ≡ holders_naming office works isrc
 
--- candidates are added that stand for some works more
-abbrev pub Adds : Office → List CutWork → List Candidate → List Candidate → Type 0
-Adds office more old new = (works : List CutWork) → StandFor office works old → StandFor office (works ++ more) new
+-- candidates for these recordings are added that stand for some works more
+abbrev pub Adds : Office → (List ℕ → Bool) → List CutWork → List Candidate → List Candidate → Type 0
+Adds office of_these more old new = (works : List CutWork) → StandFor office of_these works old → StandFor office of_these (works ++ more) new
+
+-- each of these recordings that is named stands once in a list, and none that is not named
+abbrev pub ListsOnce : (List ℕ → Bool) → List (List ℕ) → List (List ℕ) → Type 0
+ListsOnce of_these named listed = (isrc : List ℕ) → of_these isrc ≡ true → filter (λ one. bytes_eq one isrc) listed ≡ (if list_any (bytes_eq isrc) named then isrc ∷ [] else [])
+
+-- the candidate that a work makes for a recording
+abbrev pub candidate_with : List ℕ → List ℕ → List Holder → List ℕ → Candidate
+candidate_with sender work holders isrc = record { isrc = isrc; sender = sender; work = work; holders = holders }
 
 -- the transactions of a sender's transmission
 abbrev pub transactions_sent : Book → List ℕ → ℕ → List Transaction

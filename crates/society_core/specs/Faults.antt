@@ -1,16 +1,9 @@
 -- Which refusal a fault of a lower layer becomes.
 use Rattle.std.specs.Prelude.{◌≡◌}
-use Rattle.cwr_files.specs.declared.fault.ReadFault.{ReadFault}
-use Rattle.cwr_files.specs.declared.fault.ReadFault.TheVariants as faults
 use Rattle.perf_returns.specs.declared.fault.ReturnError.{ReturnError}
 use Rattle.perf_returns.specs.declared.fault.ReturnError.TheVariants as errors
 use Rattle.society_core.specs.declared.refusal.Refusal.{Refusal}
-use Rattle.society_core.specs.declared.refusal.Refusal.TheVariants.{Csv, File, Unavailable}
-
--- a file fault is told, and want of memory makes the office unavailable
-abbrev pub refusal_for : ReadFault → Refusal → Type 0
-refusal_for (faults.File fault) refusal = refusal ≡ File fault
-refusal_for faults.Memory refusal = refusal ≡ Unavailable
+use Rattle.society_core.specs.declared.refusal.Refusal.TheVariants.{Csv, Unavailable}
 
 -- a return fault is told, and want of memory makes the office unavailable
 abbrev pub refusal_for_return : ReturnError → Refusal → Type 0

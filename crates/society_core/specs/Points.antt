@@ -1,5 +1,5 @@
 -- What the performances of a pool's returns come to, for each recording.
-use Rattle.std.specs.Prelude.{ℕ, ◌≡◌, ◌*◌, ◌≤◌, Bool, List, [], Option, Some, None, if◌then◌else◌, map, unwrap_or, bytes_eq}
+use Rattle.std.specs.Prelude.{ℕ, ◌≡◌, ◌*◌, ◌≤◌, Bool, List, [], Option, Some, None, is_some, if◌then◌else◌, map, unwrap_or, bytes_eq}
 use Rattle.std.specs.BTreeMap as tree
 use Rattle.std.specs.List.{AllByRecursion, filter, flat_map, list_any, sum_by}
 use Rattle.perf_returns.specs.Returns.{performances_in}
@@ -45,3 +45,7 @@ HasPoints row = (1 ≤ points_of row) × (points_of row ≤ 10000000000)
 pub record Tallies (tally : Tally) (rows : List Performance) : Type 0 where
   pub points : (isrc : List ℕ) → tree.get bytes_cmp tally.totals isrc ≡ points_known rows isrc
   pub played : AllByRecursion HasPoints rows
+
+-- whether a tally has points for a recording
+abbrev pub is_tallied : Tally → List ℕ → Bool
+is_tallied tally isrc = is_some (tree.get bytes_cmp tally.totals isrc)

@@ -1,50 +1,99 @@
 //! The candidates for the recordings of a pool: the works of its cut, each by the version that it has there.
-ghost use Rattle.std.specs.Prelude.{◌≡◌, ◌≤◌, ◌∷◌, [], IfOk, OnOk, true};
+ghost use Rattle.std.specs.Prelude.{◌≡◌, ◌≤◌, ◌&&◌, ◌++◌, ◌∷◌, [], IfOk, OnOk, map, not, true};
+ghost use Rattle.std.specs.BTreeSet.{contains};
 ghost use Rattle.cwr_files.specs.Transaction.{number_of_work};
 ghost use Rattle.society_core.specs.Book.{IsSound, front, is_there, transmissions_to};
-ghost use Rattle.society_core.specs.Candidates.{Adds, ReachesCut, StandFor, is_version_by, transactions_sent, work_where};
+ghost use Rattle.society_core.specs.Candidates.{Adds, ListsOnce, ReachesCut, StandFor, candidate_with, is_version_by, transactions_sent, work_where};
+ghost use Rattle.society_core.specs.Keys.{bytes_cmp};
 ghost use Rattle.society_core.specs.Owners.{cut_work, is_at, versions_at_cut, versions_of_transmission, works_of_cut};
+ghost use Rattle.society_core.specs.Points.{is_tallied};
 ghost use Rattle.works_core.specs.Line.{line_of};
+ghost use Rattle.works_core.specs.Recordings.{isrcs_of};
 ghost use Rattle.works_core.specs.Versions.{work_at};
 
 use crate::claim_list::Candidate;
 use crate::order::PoolOrder;
 use crate::plain_book::PlainBook;
 use crate::plain_lines::{line_to, transmission_of};
+use crate::points::Tally;
 use crate::transmission_key::TransmissionKey;
 use cwr_files::Transaction;
 use pool_split::Holders;
-use share_rules::{Office, weights};
+use share_rules::{Holder, Office, weights};
 use std::alloc::{AllocError, Global};
 use std::collections::BTreeSet;
-use work_ids::{SenderKey, TransmissionNumber, WorkNumber};
+use work_ids::{Isrc, SenderKey, TransmissionNumber, WorkNumber};
 use works_core::{SenderLine, isrcs};
 
-/// Adds the candidates that a work's version makes: one for each recording that it names, however often.
+/// Whether a recording is one of a tally and was not seen before.
+fn is_due(tally: &Tally, seen: &BTreeSet<Isrc>, isrc: &Isrc) -> bool
+    ensures { result ≡ (is_tallied tally.now isrc.now && not (contains bytes_cmp seen.now isrc.now)) }
+{
+    tally.has(isrc) && !seen.contains(isrc)
+}
+
+/// The recordings of a tally that a transaction names, each once, however often it names them.
+fn tallied_isrcs(
+    alloc: Global,
+    tally: &Tally,
+    transaction: &Transaction<'_>,
+) -> Result<Vec<Isrc>, AllocError>
+    ensures { IfOk result (λ list. ListsOnce (is_tallied tally.now) (isrcs_of transaction.now) list.items) }
+{
+    let named = isrcs(alloc, transaction)?;
+    let mut seen = BTreeSet::new(alloc);
+    let mut list = Vec::new(alloc);
+    for isrc in &named {
+        if is_due(tally, &seen, isrc) {
+            seen.insert(*isrc)?;
+            list.push(*isrc)?;
+        }
+    }
+    Ok(list)
+}
+
+/// Adds the candidates that a work makes for these recordings, each with these holders.
+fn append_candidates(
+    alloc: Global,
+    sender: &SenderKey,
+    work: &WorkNumber,
+    holders: &[Holder],
+    isrcs: &[Isrc],
+    candidates: &mut Vec<Candidate>,
+) -> Result<(), AllocError>
+    ensures { OnOk result (candidates.new.items ≡ candidates.old.items ++ map (candidate_with sender.now work.now holders.now) isrcs.now) }
+{
+    for isrc in isrcs {
+        let copies = Vec::from_slice(alloc, holders)?;
+        candidates.push(Candidate {
+            isrc: *isrc,
+            sender: *sender,
+            work: *work,
+            holders: Holders::from_vec(copies),
+        })?;
+    }
+    Ok(())
+}
+
+/// Adds the candidates that a work's version makes: one for each recording of a tally that it names. Its weights are worked
+/// out once, and only where it names one.
 fn add_recordings(
     alloc: Global,
     office: &Office,
+    tally: &Tally,
     sender: &SenderKey,
     work: &WorkNumber,
     transaction: &Transaction<'_>,
     candidates: &mut Vec<Candidate>,
 ) -> Result<(), AllocError>
-    ensures { OnOk result (Adds office.now (cut_work sender.now transaction.now ∷ []) candidates.old.items candidates.new.items) }
+    ensures { OnOk result (Adds office.now (is_tallied tally.now) (cut_work sender.now transaction.now ∷ []) candidates.old.items candidates.new.items) }
 {
-    let named = isrcs(alloc, transaction)?;
-    let mut seen = BTreeSet::new(alloc);
-    for isrc in &named {
-        if seen.insert(*isrc)? {
-            let holders = weights(alloc, sender, transaction, office)?;
-            candidates.push(Candidate {
-                isrc: *isrc,
-                sender: *sender,
-                work: *work,
-                holders: Holders::from_vec(holders),
-            })?;
-        }
+    let named = tallied_isrcs(alloc, tally, transaction)?;
+    if named.is_empty() {
+        return Ok(());
     }
-    Ok(())
+    let holders = weights(alloc, sender, transaction, office)?;
+    append_candidates(alloc, sender, work, &holders, &named, candidates)
 }
 
 /// Whether the version that a work has at a cut is the transaction at this place of this transmission.
@@ -67,6 +116,7 @@ fn is_version_at(
 fn add_transaction(
     alloc: Global,
     office: &Office,
+    tally: &Tally,
     key: &TransmissionKey,
     line: &SenderLine,
     number: TransmissionNumber,
@@ -74,7 +124,7 @@ fn add_transaction(
     transaction: &Transaction<'_>,
     candidates: &mut Vec<Candidate>,
 ) -> Result<(), AllocError>
-    ensures { OnOk result (Adds office.now (work_where (is_version_by line.now.judged key.now.number number place (number_of_work transaction.now)) key.now.sender transaction.now) candidates.old.items candidates.new.items) }
+    ensures { OnOk result (Adds office.now (is_tallied tally.now) (work_where (is_version_by line.now.judged key.now.number number place (number_of_work transaction.now)) key.now.sender transaction.now) candidates.old.items candidates.new.items) }
 {
     let Some(work) = transaction.work_number() else {
         return Ok(());
@@ -82,13 +132,22 @@ fn add_transaction(
     if !is_version_at(line, key.number, &work, number, place) {
         return Ok(());
     }
-    add_recordings(alloc, office, &key.sender, &work, transaction, candidates)
+    add_recordings(
+        alloc,
+        office,
+        tally,
+        &key.sender,
+        &work,
+        transaction,
+        candidates,
+    )
 }
 
 /// Adds the candidates of a sender's transmission: of those of its transactions that are versions at the sender's cut.
 fn add_versions(
     alloc: Global,
     office: &Office,
+    tally: &Tally,
     book: &PlainBook,
     key: &TransmissionKey,
     line: &SenderLine,
@@ -99,7 +158,7 @@ fn add_versions(
     requires line { line.now.judged ≡ line_of office.now (transmissions_to book.now key.now.sender key.now.number) }
     requires within { number ≤ key.now.number }
     requires there { is_there book.now key.now.sender number ≡ true }
-    ensures { OnOk result (Adds office.now (versions_of_transmission office.now book.now key.now number (transactions_sent book.now key.now.sender number)) candidates.old.items candidates.new.items) }
+    ensures { OnOk result (Adds office.now (is_tallied tally.now) (versions_of_transmission office.now book.now key.now number (transactions_sent book.now key.now.sender number)) candidates.old.items candidates.new.items) }
 {
     let transmission = transmission_of(alloc, book, &key.sender, number)?;
     prove!(number.value() >= 1);
@@ -113,6 +172,7 @@ fn add_versions(
         add_transaction(
             alloc,
             office,
+            tally,
             key,
             line,
             number,
@@ -128,38 +188,40 @@ fn add_versions(
 fn add_sender(
     alloc: Global,
     office: &Office,
+    tally: &Tally,
     book: &PlainBook,
     key: &TransmissionKey,
     candidates: &mut Vec<Candidate>,
 ) -> Result<(), AllocError>
     requires sound { IsSound book.now }
     requires reached { key.now.number ≤ front book.now key.now.sender }
-    ensures { OnOk result (Adds office.now (versions_at_cut office.now book.now key.now) candidates.old.items candidates.new.items) }
+    ensures { OnOk result (Adds office.now (is_tallied tally.now) (versions_at_cut office.now book.now key.now) candidates.old.items candidates.new.items) }
 {
     let line = line_to(alloc, office, book, &key.sender, key.number.value())?;
     for sent in 0..key.number.value() {
         let Some(number) = TransmissionNumber::from_u32(sent + 1) else {
             unreachable!();
         };
-        add_versions(alloc, office, book, key, &line, number, candidates)?;
+        add_versions(alloc, office, tally, book, key, &line, number, candidates)?;
     }
     Ok(())
 }
 
-/// The candidates for the recordings of a pool: all works of the cut of its order.
+/// The candidates for the recordings of a tally: of all works of the cut of an order those that name one.
 pub(crate) fn candidates_of(
     alloc: Global,
     office: &Office,
+    tally: &Tally,
     book: &PlainBook,
     order: &PoolOrder,
 ) -> Result<Vec<Candidate>, AllocError>
     requires sound { IsSound book.now }
     requires reached { ReachesCut book.now order.now }
-    ensures { IfOk result (λ candidates. StandFor office.now (works_of_cut office.now book.now order.now) candidates.items) }
+    ensures { IfOk result (λ candidates. StandFor office.now (is_tallied tally.now) (works_of_cut office.now book.now order.now) candidates.items) }
 {
     let mut candidates = Vec::new(alloc);
     for key in order.cut() {
-        add_sender(alloc, office, book, key, &mut candidates)?;
+        add_sender(alloc, office, tally, book, key, &mut candidates)?;
     }
     Ok(candidates)
 }

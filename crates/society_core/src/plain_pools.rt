@@ -118,7 +118,7 @@ fn credits_by(
 {
     let tally = tally_of(alloc, book, order)?;
     let points = tally.points_by_recording(alloc)?;
-    let candidates = candidates_of(alloc, office, book, order)?;
+    let candidates = candidates_of(alloc, office, &tally, book, order)?;
     let claims = claims(alloc, &points, &candidates)?;
     credits(alloc, order.amount(), &claims)
 }

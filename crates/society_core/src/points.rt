@@ -1,7 +1,7 @@
 //! The points of the recordings of a pool's performances.
 ghost use Rattle.std.specs.Prelude.{◌≡◌, ◌+◌, ◌<◌, ◌≤◌, ◌++◌, ◌∷◌, [], List, IfOk, OnOk, length};
 ghost use Rattle.perf_returns.specs.declared.performance.Performance.{Performance as Row};
-ghost use Rattle.society_core.specs.Points.{HasPoints, Tallies, points_by_recording, points_of};
+ghost use Rattle.society_core.specs.Points.{HasPoints, Tallies, is_tallied, points_by_recording, points_of};
 
 use perf_returns::Performance;
 use std::alloc::{AllocError, Global};
@@ -52,6 +52,13 @@ impl Tally {
             self.add(row)?;
         }
         Ok(())
+    }
+
+    /// Whether it has points for a recording.
+    pub(crate) fn has(&self, isrc: &Isrc) -> bool
+        ensures { result ≡ is_tallied self.now isrc.now }
+    {
+        self.totals.contains_key(isrc)
     }
 
     /// Each recording with its points, ascending by ISRC.

@@ -1,7 +1,7 @@
 //! Why a request is refused.
 use crate::return_key::ReturnKey;
 use crate::store::StoreFault;
-use cwr_files::{FileFault, ReadFault};
+use cwr_files::FileFault;
 use perf_returns::{ReturnError, ReturnFault};
 use std::alloc::AllocError;
 use thiserror::Error;
@@ -58,19 +58,6 @@ impl From<AllocError> for Refusal {
 
     fn from(_fault: AllocError) -> Refusal {
         Refusal::Unavailable
-    }
-}
-
-impl From<ReadFault> for Refusal {
-    ghost use Rattle.society_core.specs.Faults.{refusal_for};
-
-    ghost from_gives = { λ fault refusal. refusal_for fault refusal };
-
-    fn from(fault: ReadFault) -> Refusal {
-        match fault {
-            ReadFault::File(fault) => Refusal::File(fault),
-            ReadFault::Memory => Refusal::Unavailable,
-        }
     }
 }
 

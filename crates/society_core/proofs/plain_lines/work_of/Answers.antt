@@ -1,4 +1,4 @@
-use Rattle.std.proofs.Common.{◌≡◌, ap, sym, ◌∙◌}
+use Rattle.std.proofs.Common.{sym, ◌∙◌}
 use Rattle.society_core.specs.Book.{front, transmissions_to}
 use Rattle.works_core.specs.Line.{line_of}
 use Rattle.society_core.proofs.Books.{there_to_front}

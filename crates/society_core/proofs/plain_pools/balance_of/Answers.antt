@@ -1,11 +1,9 @@
-use Rattle.std.proofs.Common.{◌≡◌, ◌≤◌, ◌<◌, ◌*◌, ◌∙◌, Bor, List, ℕ, ap, arith, get_or, length, map, nat_le, sum, sym, take, true}
-use Rattle.std.specs.FinMap as finite
+use Rattle.std.proofs.Common.{◌≡◌, ◌≤◌, ◌∙◌, Bor, List, ℕ, ap, arith, length, map, nat_le, sum, true}
 use Rattle.std.specs.List.{flat_map}
 use Rattle.std.proofs.lemmas.Bool.Decides.{nat_tests}
 use Rattle.std.proofs.lemmas.List.{length-map, take_all}
 use Rattle.pool_split.specs.Credits.{units_of}
 use Rattle.pool_split.specs.declared.claim.Credit.{Credit}
-use Rattle.society_core.specs.Candidates.{CanBePaid}
 use Rattle.society_core.specs.Orders.{Order}
 use Rattle.society_core.specs.Pools.{credits_of, units_to}
 use Rattle.society_core.proofs.PoolLemmas.{credits_through, few_pools, paid_at, part_within, units_next}
