@@ -7,10 +7,12 @@ pub mod Casts
 pub mod Columns
 pub mod Creates
 pub mod CreditTable
+pub mod CutRows
 pub mod Effects
 pub mod FrontTable
 pub mod Inserts
 pub mod KeyEquality
+pub mod KeyQueries
 pub mod ListWrites
 pub mod Listings
 pub mod NewBooks

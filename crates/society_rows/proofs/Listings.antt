@@ -1,8 +1,8 @@
 -- The query that shows all rows of a table, for each table.
-use Rattle.std.proofs.Common.{List, [], true}
+use Rattle.std.proofs.Common.{List, [], ◌++◌, true}
 use Rattle.sqlite_value.specs.Order.{Row}
 use Rattle.sqlite.specs.Listing.{understood}
-use Rattle.sqlite.specs.State.{State, Shown}
+use Rattle.sqlite.specs.State.{State, IsUnchanged, Shown, Begins}
 use Rattle.sqlite.proofs.Callers.{IsPlain}
 use Rattle.society_rows.specs.declared.tables.TableName.{TableName}
 use Rattle.society_rows.specs.declared.tables.TableName.TheVariants as name
@@ -10,6 +10,7 @@ use Rattle.society_rows.specs.Layout.{layout}
 use Rattle.society_rows.specs.Reads.{Lists}
 use Rattle.society_rows.specs.Stored.{HasLayout}
 use Rattle.society_rows.specs.TableNames.{table_called, key_width, listing_text}
+use Rattle.society_rows.proofs.RowFolds.{whole_listed}
 use Rattle.society_rows.proofs.OfficeTable.{all_offices_is, all_offices_lists}
 use Rattle.society_rows.proofs.TransmissionTable.{all_transmissions_is, all_transmissions_lists}
 use Rattle.society_rows.proofs.ReturnTable.{all_returns_is, all_returns_lists}
@@ -50,3 +51,19 @@ lists_called name.Versions = all_versions_lists
 lists_called name.Recordings = all_recordings_lists
 lists_called name.Credits = all_credits_lists
 lists_called name.Balances = all_balances_lists
+
+-- what such a query shows first is the first of the table's rows
+pub first_called : (table : TableName) (old new : State) (rows : List Row) → HasLayout old.now → Begins (listing_text table) [] old rows × IsUnchanged old new
+    → (after : List Row) × Lists (table_called table) (λ _. true) (key_width table) old.now.trees (rows ++ after)
+first_called name.Office old new = whole_listed _ _ _ all_offices_is [] old new (Lists (table_called name.Office) (λ _. true) (key_width name.Office)) (all_offices_lists old new)
+first_called name.Transmissions old new = whole_listed _ _ _ all_transmissions_is [] old new (Lists (table_called name.Transmissions) (λ _. true) (key_width name.Transmissions)) (all_transmissions_lists old new)
+first_called name.Returns old new = whole_listed _ _ _ all_returns_is [] old new (Lists (table_called name.Returns) (λ _. true) (key_width name.Returns)) (all_returns_lists old new)
+first_called name.Pools old new = whole_listed _ _ _ all_pools_is [] old new (Lists (table_called name.Pools) (λ _. true) (key_width name.Pools)) (all_pools_lists old new)
+first_called name.PoolCuts old new = whole_listed _ _ _ all_pool_cuts_is [] old new (Lists (table_called name.PoolCuts) (λ _. true) (key_width name.PoolCuts)) (all_pool_cuts_lists old new)
+first_called name.PoolReturns old new = whole_listed _ _ _ all_pool_returns_is [] old new (Lists (table_called name.PoolReturns) (λ _. true) (key_width name.PoolReturns)) (all_pool_returns_lists old new)
+first_called name.Fronts old new = whole_listed _ _ _ all_fronts_is [] old new (Lists (table_called name.Fronts) (λ _. true) (key_width name.Fronts)) (all_fronts_lists old new)
+first_called name.Verdicts old new = whole_listed _ _ _ all_verdicts_is [] old new (Lists (table_called name.Verdicts) (λ _. true) (key_width name.Verdicts)) (all_verdicts_lists old new)
+first_called name.Versions old new = whole_listed _ _ _ all_versions_is [] old new (Lists (table_called name.Versions) (λ _. true) (key_width name.Versions)) (all_versions_lists old new)
+first_called name.Recordings old new = whole_listed _ _ _ all_recordings_is [] old new (Lists (table_called name.Recordings) (λ _. true) (key_width name.Recordings)) (all_recordings_lists old new)
+first_called name.Credits old new = whole_listed _ _ _ all_credits_is [] old new (Lists (table_called name.Credits) (λ _. true) (key_width name.Credits)) (all_credits_lists old new)
+first_called name.Balances old new = whole_listed _ _ _ all_balances_is [] old new (Lists (table_called name.Balances) (λ _. true) (key_width name.Balances)) (all_balances_lists old new)

@@ -40,13 +40,13 @@ pub record IsShowing (table : Table) (filters project : List Term) (order : List
 abbrev pub IsListing : Table → List Term → List Term → List (Term × Key) → Row → (Row → Bool) → ℕ → Type 0
 IsListing table filters project order params passes width = IsShowing table filters project order params passes (rising width [])
 
-answer_of : (text : List ℕ) (query : Query) (names : List (List ℕ)) → IsQuery text query names → (params : Row) (old new : State) (rows : List Row) → HasLayout old.now → Shown text params old new rows
+pub answer_of : (text : List ℕ) (query : Query) (names : List (List ℕ)) → IsQuery text query names → (params : Row) (old new : State) (rows : List Row) → HasLayout old.now → Shown text params old new rows
     → IsAnswer query (overlay old.now.trees []) params rows
 answer_of text query names is params old new rows has h =
     (reads_as text params old new layout has (Select (record { lets = []; body = query }) names) is.command is.plain is.unlisted rows h).answer Null
 
 -- the rows that the query shows are those that pass, in their order
-listed : (table : Table) (filters project : List Term) (order : List (Term × Key)) (params : Row) (passes : Row → Bool) (keys : List Key) → IsShowing table filters project order params passes keys
+pub listed : (table : Table) (filters project : List Term) (order : List (Term × Key)) (params : Row) (passes : Row → Bool) (keys : List Key) → IsShowing table filters project order params passes keys
     → (db : Trees) (rows : List Row) → IsAnswer (picked table.tree filters project order) (overlay db []) params rows → IsPermutation (filter passes (rows_in table db)) rows × IsSorted (key_cmp 0 keys) rows
 listed table filters project order params passes keys listing db rows a =
     let kept : map (shown_in project params) (filter (passes_in filters params) (db table.tree)) ≡ filter passes (rows_in table db) =

@@ -78,7 +78,7 @@ pub return_at_is : IsQuery return_at_text (picked 3 (op2 (Compare Eq Binary) (co
 unfolding understood everything written_out
 return_at_is = record { command = refl; plain = (refl, refl); unlisted = refl }
 
-return_at_listing : (reporter : List ℕ) (number : ℤ) → IsListing returns (op2 (Compare Eq Binary) (col 1 1) (col 0 0) ∷ op2 (Compare Eq Binary) (col 1 2) (col 0 1) ∷ []) project order (Text reporter ∷ Int number ∷ []) (has_key (Text reporter ∷ Int number ∷ [])) 2
+pub return_at_listing : (reporter : List ℕ) (number : ℤ) → IsListing returns (op2 (Compare Eq Binary) (col 1 1) (col 0 0) ∷ op2 (Compare Eq Binary) (col 1 2) (col 0 1) ∷ []) project order (Text reporter ∷ Int number ∷ []) (has_key (Text reporter ∷ Int number ∷ [])) 2
 unfolding written_out
 return_at_listing reporter number = record { shows = λ r. refl; tests = λ r. refl; orders = λ a b. refl }
 

@@ -1,25 +1,33 @@
 -- Rows that are gone over one at a time.
-use Rattle.std.proofs.Common.{◌≡◌, ◌⊎◌, ℕ, List, [], ◌∷◌, ◌++◌, None, Result, Ok, Err, IfOk, sym, ap, subst, ◌∙◌, inl, inr, arith}
-use Rattle.std.specs.Result.{IsErr}
+use Rattle.std.proofs.Common.{◌≡◌, ◌⊎◌, ◌+◌, ℕ, List, [], ◌∷◌, ◌++◌, length, None, Result, Ok, Err, IfOk, IfErr, sym, ap, subst, ◌∙◌, inl, inr, arith}
+use Rattle.std.specs.Result.{IsErr, IsErrAnd}
+use Rattle.std.proofs.lemmas.List.{length-append}
 use Rattle.std.proofs.lemmas.List.Sums.{fold_push}
 use Rattle.sqlite_value.specs.Order.{Row}
 use Rattle.sqlite_trees.specs.Tree.{Trees}
+use Rattle.sqlite_trees.specs.declared.store.Store.{Ghosts}
 use Rattle.sqlite.specs.declared.error.Error.{Error}
 use Rattle.sqlite.specs.Effect.{Database}
 use Rattle.sqlite.specs.Clock.{timed}
+use Rattle.sqlite.specs.Given.{HasGiven}
+use Rattle.sqlite.specs.Held.{Held, state}
 use Rattle.sqlite.specs.Listing.{understood, reads_listing, IsSourceOf}
-use Rattle.sqlite.specs.State.{State, HasCleanDisk, IsUnchanged, IsRolledBack, Survives, Fails, FailsToQuery, Shown, ShowsRows, IsStatement, CommitsShowing}
-use Rattle.sqlite.proofs.Callers.{IsPlain, never_commits, unchanged_then}
+use Rattle.sqlite.specs.State.{State, HasCleanDisk, IsUnchanged, IsRolledBack, Survives, Fails, FailsToQuery, Shown, ShowsRows, IsStatement, CommitsShowing, Begins}
+use Rattle.sqlite.proofs.Callers.{EndsIn, IsPlain, begins_shown, command_of, given_begin, never_commits, unchanged_then}
 use Rattle.sqlite.proofs.StateLemmas.{survives_then, survives_weaker}
 use Rattle.sqlite.proofs.StreamLemmas.{rolled_back_since}
+use Rattle.sqlite_schema.specs.declared.command.Command.{Command}
 use Rattle.sqlite_schema.specs.declared.schema.Schema.{Schema}
+use Rattle.sqlite_sql.specs.Query.{Query}
 use Rattle.sqlite_resolve.specs.declared.compiled.Compiled.{Compiled}
 use Rattle.sqlite_resolve.specs.declared.error.CompileError.{CompileError}
 use Rattle.society_rows.specs.declared.fault.RowFault.{RowFault}
-use Rattle.society_rows.specs.Folds.{ReadsAlone, HasTaken, OfOtherLayout}
+use Rattle.society_rows.specs.declared.fault.RowFault.TheVariants.{Unread}
+use Rattle.society_rows.specs.Faults.{IsTold}
+use Rattle.society_rows.specs.Folds.{ReadsAlone, HasTaken, OfOtherLayout, AreFirst, AreShownFirst, AreTooMany, RefusesRow, StopsOver}
 use Rattle.society_rows.specs.Layout.{layout}
 use Rattle.society_rows.specs.Stored.{HasLayout}
-use Rattle.society_rows.proofs.Queries.{failed_query}
+use Rattle.society_rows.proofs.Queries.{IsQuery, failed_query}
 
 -- a query whose text is known under the layout commits nothing there
 pub commits_nothing : (text : List ℕ) (params : Row) (old new : State) → IsPlain (understood layout text) → Survives old new (CommitsShowing text params old) → Survives old new (OfOtherLayout old)
@@ -114,3 +122,75 @@ ends_alone step Now text params old mid new first last plain before same taken s
       whole = λ clean has. tt;
       survives = survives_on old mid new before survives;
     }
+
+-- what a reading has given, as far as the layout tells it
+abbrev pub HasGone : {S : Type 0} → Ghosts S → List ℕ → Row → State → Held S → ℕ → List Row → Type 0
+HasGone g text params old h count rows = (length rows ≡ count) × (HasCleanDisk (state g h) → HasLayout old.now → HasGiven g text params h rows)
+
+pub gone_given : {S : Type 0} (g : Ghosts S) {F : Type 0} (step : F → Row → F) (text : List ℕ) (params : Row) (old : State) (h : Held S) (count : ℕ) (first last : F)
+    → HasTaken step (HasGone g text params old h count) first last → HasCleanDisk (state g h) → HasLayout old.now → HasTaken step (HasGiven g text params h) first last
+gone_given g step text params old h count first last gone clean has = taken_as step _ _ first last (λ rows it. it.1 clean has) gone
+
+-- one row more
+pub goes_on : {S : Type 0} (g : Ghosts S) {F : Type 0} (step : F → Row → F) (text : List ℕ) (params : Row) (old : State) (mid new : Held S) (count : ℕ) (first now next : F) (row : Row)
+    → (HasCleanDisk (state g new) → HasCleanDisk (state g mid)) → (HasCleanDisk (state g new) → (rows : List Row) → HasGiven g text params mid rows → HasGiven g text params new (rows ++ row ∷ []))
+    → HasTaken step (HasGone g text params old mid count) first now → next ≡ step now row → HasTaken step (HasGone g text params old new (count + 1)) first next
+goes_on g step text params old mid new count first now next row early gives gone is =
+    takes_row step _ _ first now next row (λ rows it. (omega (arith, length-append rows (row ∷ []), it.0), λ clean has. gives clean rows (it.1 (early clean) has))) gone is
+
+-- what begins an answer to a later state that was as before begins one to the earlier
+begins_before : (text : List ℕ) (params : Row) (old new : State) (rows : List Row) → IsUnchanged old new → Begins text params new rows → Begins text params old rows
+unfolding Begins
+begins_before text params old new rows same h =
+    let it : IsStatement old text params h.0 = record { is = subst (λ (d : Database). understood d.schema text ≡ Ok h.0) same.0.now_is h.1.is; whole = h.1.whole; given = h.1.given; now = h.1.now } in
+    (h.0, it, h.2, h.3, subst (λ (d : Database). IsSourceOf (reads_listing d.schema text) d h.3) same.0.now_is h.4, h.5)
+
+pub given_first : {S : Type 0} (g : Ghosts S) (text : List ℕ) (params : Row) (old : State) (h : Held S) (rows : List Row) → IsUnchanged old (state g h) → HasGiven g text params h rows → Begins text params old rows × IsUnchanged old (state g h)
+given_first g text params old h rows same given = (begins_before text params old (state g h) rows same (given_begin g text params h rows given), same)
+
+-- SQLite told an error
+pub told_over : {F : Type 0} (step : F → Row → F) (refusal : F → Row → RowFault → Type 0) (First : List Row → Type 0) (begun : F) (result : Result (Unit {0}) RowFault) → IfErr result IsTold
+    → IfErr result (StopsOver step refusal First begun)
+told_over step refusal First begun (Ok x) told = tt
+told_over step refusal First begun (Err fault) told = record { why = inl told }
+
+-- a row was refused
+pub refused_over : {F : Type 0} (step : F → Row → F) (refusal : F → Row → RowFault → Type 0) (Now First : List Row → Type 0) (begun now : F) (row : Row) (result : Result (Unit {0}) RowFault)
+    → ((rows : List Row) → Now rows → First (rows ++ row ∷ [])) → HasTaken step Now begun now → IfErr result (refusal now row) → IfErr result (StopsOver step refusal First begun)
+refused_over step refusal Now First begun now row (Ok x) more taken told = tt
+refused_over step refusal Now First begun now row (Err fault) more taken told = record {
+  why = inr (inl (record { before = taken.rows; row = row; first = more taken.rows taken.these; refused = subst (λ f. refusal f row fault) taken.folded told }));
+}
+
+-- the same of the connection that was lent, once it is given back
+pub stops_for : {S : Type 0} (g : Ghosts S) {F : Type 0} (step : F → Row → F) (refusal : F → Row → RowFault → Type 0) (text : List ℕ) (params : Row) (old : State) (mid : Held S) (begun : F) (fault : RowFault)
+    → StopsOver step refusal (AreShownFirst text params old (state g mid)) begun fault → (IsLent : Type 0) → IsLent → (back : Held S) → back ≡ mid
+    → (given : (new : Held S) × (IsLent → new ≡ back)) → StopsOver step refusal (AreShownFirst text params old (state g given.0)) begun fault
+stops_for g step refusal text params old mid begun fault stops IsLent lent back is given =
+    subst (λ h. StopsOver step refusal (AreShownFirst text params old (state g h)) begun fault) (sym (given.1 lent ∙ is)) stops
+
+-- the fault is the one that was told
+pub err_as : (result : Result (Unit {0}) RowFault) (fault : RowFault) (Told : RowFault → Type 0) → IsErrAnd result (λ e. e ≡ fault) → Told fault → IfErr result Told
+err_as (Ok x) fault Told is told = tt
+err_as (Err e) fault Told is told = subst Told (sym is) told
+
+-- the first rows that a query shows, as the first of those that it lists
+pub first_listed : {F : Type 0} (step : F → Row → F) (refusal : F → Row → RowFault → Type 0) (text : List ℕ) (params : Row) (old new : State) (Rows : Trees → List Row → Type 0) (begun : F) (result : Result (Unit {0}) RowFault)
+    → ((rows : List Row) → HasLayout old.now → Begins text params old rows × IsUnchanged old new → (after : List Row) × Rows old.now.trees (rows ++ after))
+    → IfErr result (StopsOver step refusal (AreShownFirst text params old new) begun) → IfErr result (StopsOver step refusal (AreFirst old new Rows) begun)
+first_listed step refusal text params old new Rows begun (Ok x) lists h = tt
+first_listed step refusal text params old new Rows begun (Err fault) lists h = record { why = turned h.why }
+  where
+    turned : IsTold fault ⊎ (RefusesRow step refusal (AreShownFirst text params old new) begun fault ⊎ ((fault ≡ Unread) × AreTooMany (AreShownFirst text params old new)))
+        → IsTold fault ⊎ (RefusesRow step refusal (AreFirst old new Rows) begun fault ⊎ ((fault ≡ Unread) × AreTooMany (AreFirst old new Rows)))
+    turned (inl told) = inl told
+    turned (inr (inl refused)) = inr (inl (record { before = refused.before; row = refused.row; first = λ clean has. lists _ has (refused.first clean has); refused = refused.refused }))
+    turned (inr (inr many)) = inr (inr (many.0, (many.1.0, λ clean has. lists _ has (many.1.1 clean has), many.1.2)))
+
+-- a query that has no table of its own, so that its first rows are those of a whole answer
+pub whole_listed : (text : List ℕ) (query : Query) (names : List (List ℕ)) → IsQuery text query names → (params : Row) (old new : State) (Rows : Trees → List Row → Type 0)
+    → ((rows : List Row) → HasLayout old.now → Shown text params old new rows → Rows old.now.trees rows) → (rows : List Row) → HasLayout old.now → Begins text params old rows × IsUnchanged old new → (after : List Row) × Rows old.now.trees (rows ++ after)
+whole_listed text query names is params old new Rows lists rows has h =
+    let shown = begins_shown text params old new rows h.0 h.1
+    (λ c db it source. subst (λ (k : Command). EndsIn k db (timed params c.formats it.now)) (sym (sym (ap command_of (sym (ap (λ s. understood s text) has) ∙ it.is)) ∙ is.command)) tt) in
+    (shown.0, lists (rows ++ shown.0) has shown.1)

@@ -1,5 +1,5 @@
 -- The transmissions of a sender, one number after another.
-use Rattle.std.proofs.Common.{IsTrue, ◌≡◌, ℕ, suc, pos, ◌+◌, ◌<◌, ◌≤◌, length, List, [], ◌∷◌, ◌++◌, get_or, Vec, Ok, Err, sym, ap, subst, refl, inl, inr, arith}
+use Rattle.std.proofs.Common.{IsTrue, ◌≡◌, ◌∙◌, ℕ, suc, pos, ◌+◌, ◌^◌, ◌<◌, ◌≤◌, length, List, [], ◌∷◌, ◌++◌, get_or, Vec, Result, Ok, Err, IfErr, sym, ap, subst, refl, inl, inr, arith}
 use Rattle.std.specs.declared.alloc.Global.{Global}
 use Rattle.std.proofs.lemmas.Bool.{cases_lt}
 use Rattle.std.proofs.lemmas.List.{length-append}
@@ -9,12 +9,14 @@ use Rattle.sqlite_trees.specs.Tree.{Trees}
 use Rattle.sqlite_trees.specs.declared.store.Store.{Ghosts}
 use Rattle.sqlite.specs.Effect.{Database}
 use Rattle.sqlite.specs.Held.{Held, state}
-use Rattle.sqlite.specs.State.{KeepsCommit, HasCleanDisk, IsUnchanged, Survives}
+use Rattle.sqlite.specs.State.{State, KeepsCommit, HasCleanDisk, IsUnchanged, Survives}
 use Rattle.sqlite.proofs.Callers.{unchanged_then}
 use Rattle.sqlite.proofs.InsideLemmas.{keeps_then}
 use Rattle.sqlite.proofs.StateLemmas.{survives_then}
 use Rattle.society_rows.specs.declared.fault.RowFault.{RowFault}
-use Rattle.society_rows.specs.Folds.{ReadsInside, HasTaken, AreFrom, IsRun}
+use Rattle.society_rows.specs.declared.fault.RowFault.TheVariants.{Unread}
+use Rattle.society_rows.specs.Faults.{IsTold}
+use Rattle.society_rows.specs.Folds.{ReadsInside, HasTaken, AreFirstOfRun, AreDoubled, AreFrom, IsRun, StopsRun}
 use Rattle.society_rows.specs.Layout.{transmissions}
 use Rattle.society_rows.specs.Reads.{Lists, Reads, has_key}
 use Rattle.society_rows.specs.Stored.{HasLayout}
@@ -27,7 +29,7 @@ pub record HasRunTo {S : Type 0} (g : Ghosts S) {F : Type 0} (step : F → Row �
   pub inside : HasCleanDisk (state g new) → IsTrue (state g old).in_transaction → IsTrue (state g new).in_transaction
   pub kept : HasCleanDisk (state g new) → IsTrue (state g old).in_transaction → KeepsCommit (state g old) (state g new)
   pub same : HasCleanDisk (state g new) → HasLayout (state g old).now → first < number → IsUnchanged (state g old) (state g new)
-  pub taken : HasCleanDisk (state g new) → HasLayout (state g old).now → HasTaken step (λ rows. AreFrom sender first (state g old).now.trees rows × (length rows + first ≡ number)) begun now
+  pub gone : HasTaken step (λ rows. (length rows + first ≡ number) × AreFirstOfRun (state g old) (state g new) sender first rows) begun now
 
 pub runs_to_first : {S : Type 0} (g : Ghosts S) {F : Type 0} (step : F → Row → F) (sender : List ℕ) (old : Held S) (first : ℕ) (begun : F) → HasRunTo g step sender old old first first begun begun
 runs_to_first g step sender old first begun = record {
@@ -36,7 +38,7 @@ runs_to_first g step sender old first begun = record {
   inside = λ clean inside. inside;
   kept = λ clean inside. record { was_open = λ h. h; committed = λ h. refl };
   same = λ clean has more. absurd (omega arith);
-  taken = λ clean has. record { rows = []; these = (tt, omega arith); folded = refl };
+  gone = record { rows = []; these = (omega arith, λ clean has. tt); folded = refl };
 }
 
 are_from_then : (sender : List ℕ) (first number : ℕ) (db : Trees) (rows : List Row) (row : Row) → AreFrom sender first db rows → length rows + first ≡ number
@@ -86,6 +88,10 @@ module _ {S : Type 0} (g : Ghosts S) {F : Type 0} (step : F → Row → F) (send
         let was = early read.survives clean in
         keeps_then (state g old) (state g mid) (state g new) (run.kept was inside) (read.kept clean (run.inside was inside))
 
+    run_more : (row : Row) → rows.items ≡ row ∷ [] → (given : List Row) → length given + first ≡ number → AreFirstOfRun (state g old) (state g mid) sender first given → AreFirstOfRun (state g old) (state g new) sender first (given ++ row ∷ [])
+    run_more row one given long each clean has =
+        are_from_then sender first number (state g old).now.trees given row (each (early read.survives clean) has) long (subst (Lists transmissions (has_key (Text sender ∷ Int (pos number) ∷ [])) 2 (state g old).now.trees) one (found_first clean has))
+
     pub runs_on : (row : Row) (next : F) → rows.items ≡ row ∷ [] → next ≡ step now row → HasRunTo g step sender old new first (number + 1) begun next
     runs_on row next one is = record {
       start = λ e. absurd (omega arith);
@@ -93,24 +99,41 @@ module _ {S : Type 0} (g : Ghosts S) {F : Type 0} (step : F → Row → F) (send
       inside = inside_on;
       kept = kept_on;
       same = λ clean has more. same_first clean has;
-      taken = λ clean has.
-          takes_row step _ _ begun now next row
-          (λ given h. (
-            are_from_then sender first number (state g old).now.trees given row h.0 h.1 (subst (Lists transmissions (has_key (Text sender ∷ Int (pos number) ∷ [])) 2 (state g old).now.trees) one (found_first clean has)),
-            omega (arith, length-append given (row ∷ []), h.1),
-          )) (run.taken (early read.survives clean) has) is;
+      gone = takes_row step _ _ begun now next row (λ given h. (omega (arith, length-append given (row ∷ []), h.0), run_more row one given h.0 h.1)) run.gone is;
     }
+
+    pub run_refused : (row : Row) (refusal : F → Row → RowFault → Type 0) (result : Result (Unit {0}) RowFault) → rows.items ≡ row ∷ [] → IfErr result (refusal now row)
+        → IfErr result (StopsRun step refusal (state g old) (state g new) sender first begun)
+    run_refused row refusal (Ok x) one told = tt
+    run_refused row refusal (Err fault) one told =
+        let gone = run.gone in
+        record {
+          why = inr (inl (record { before = gone.rows; row = row; first = run_more row one gone.rows gone.these.0 gone.these.1; refused = subst (λ f. refusal f row fault) gone.folded told }));
+        }
+
+    pub run_doubled : (refusal : F → Row → RowFault → Type 0) → 2 ≤ length rows.items → StopsRun step refusal (state g old) (state g new) sender first begun Unread
+    run_doubled refusal several =
+        let gone = run.gone in
+        let there : HasCleanDisk (state g new) → HasLayout (state g old).now → AreDoubled sender first (state g old).now.trees =
+        λ clean has. record {
+          before = gone.rows;
+          each = gone.these.1 (early read.survives clean) has;
+          rows = rows.items;
+          there = subst (λ n. Lists transmissions (has_key (Text sender ∷ Int (pos n) ∷ [])) 2 (state g old).now.trees rows.items) (sym gone.these.0) (found_first clean has);
+          several = several;
+        } in
+        record { why = inr (inr (refl, λ clean has. inl (there clean has))) }
 
     pub run_ends : rows.items ≡ [] → ReadsInside {X = Unit {0}} (state g old) (state g new) (Ok tt) (λ db _. HasTaken step (IsRun sender first db) begun now)
     run_ends none = record {
       found = λ clean has.
           taken_as step _ _ begun now
           (λ given h. record {
-            each = h.0;
-            gap = subst (λ n. Lists transmissions (has_key (Text sender ∷ Int (pos n) ∷ [])) 2 (state g old).now.trees []) (sym h.1)
+            each = h.1 (early read.survives clean) has;
+            gap = subst (λ n. Lists transmissions (has_key (Text sender ∷ Int (pos n) ∷ [])) 2 (state g old).now.trees []) (sym h.0)
                 (subst (Lists transmissions (has_key (Text sender ∷ Int (pos number) ∷ [])) 2 (state g old).now.trees) none (found_first clean has));
           })
-          (run.taken (early read.survives clean) has);
+          run.gone;
       same = same_first;
       whole = λ clean has. tt;
       inside = inside_on;
@@ -129,6 +152,19 @@ run_overflows g step sender old new first number begun now more run fault Any = 
   kept = run.kept;
   survives = run.survives;
 }
+
+-- every number from the first on is there
+pub run_fills : {S : Type 0} (g : Ghosts S) {F : Type 0} (step : F → Row → F) (refusal : F → Row → RowFault → Type 0) (sender : List ℕ) (old new : Held S) (first number : ℕ) (begun now : F) → number ≡ 2 ^ 32
+    → HasRunTo g step sender old new first number begun now → StopsRun step refusal (state g old) (state g new) sender first begun Unread
+run_fills g step refusal sender old new first number begun now all run =
+    let gone = run.gone in
+    record { why = inr (inr (refl, λ clean has. inr (record { rows = gone.rows; each = gone.these.1 clean has; full = gone.these.0 ∙ all }))) }
+
+-- SQLite told an error
+pub run_told : {F : Type 0} (step : F → Row → F) (refusal : F → Row → RowFault → Type 0) (old new : State) (sender : List ℕ) (first : ℕ) (begun : F) (result : Result (Unit {0}) RowFault) → IfErr result IsTold
+    → IfErr result (StopsRun step refusal old new sender first begun)
+run_told step refusal old new sender first begun (Ok x) told = tt
+run_told step refusal old new sender first begun (Err fault) told = record { why = inl told }
 
 -- no row, and one
 

@@ -95,7 +95,7 @@ pub transmissions_above_is : IsQuery transmissions_above_text (picked 1 (op2 (Co
 unfolding understood everything written_out
 transmissions_above_is = record { command = refl; plain = (refl, refl); unlisted = refl }
 
-transmissions_above_listing : (sender : List ℕ) (number : ℤ) → IsListing transmissions (op2 (Compare Eq Binary) (col 1 1) (col 0 0) ∷ op2 (Compare Gt Binary) (col 1 2) (col 0 1) ∷ []) project order (Text sender ∷ Int number ∷ []) (is_above (Text sender) (Int number)) 2
+pub transmissions_above_listing : (sender : List ℕ) (number : ℤ) → IsListing transmissions (op2 (Compare Eq Binary) (col 1 1) (col 0 0) ∷ op2 (Compare Gt Binary) (col 1 2) (col 0 1) ∷ []) project order (Text sender ∷ Int number ∷ []) (is_above (Text sender) (Int number)) 2
 unfolding written_out
 transmissions_above_listing sender number = record { shows = λ r. refl; tests = λ r. ap (λ b. equal Binary (column r 1) (Text sender) && b) (sym (and_true (exceeds (column r 2) (Int number)))); orders = λ a b. refl }
 

@@ -1,10 +1,12 @@
 -- Readings on a connection, outside a transaction, with rows that are gone over one at a time.
-use Rattle.std.specs.Prelude.{ℕ, suc, pos, ◌+◌, ◌⊎◌, ◌≡◌, List, [], ◌∷◌, length, fold, Result, IsTrue, IfOk, OnOk, OnErr}
+use Rattle.std.specs.Prelude.{ℕ, suc, pos, ◌+◌, ◌^◌, ◌≤◌, ◌⊎◌, ◌≡◌, List, [], ◌∷◌, ◌++◌, length, fold, Result, IsTrue, IfOk, OnOk, OnErr}
 use Rattle.sqlite_value.specs.declared.value.Value.TheVariants.{Int, Text}
 use Rattle.sqlite_value.specs.Order.{Row}
 use Rattle.sqlite_trees.specs.Tree.{Trees}
-use Rattle.sqlite.specs.State.{State, HasCleanDisk, IsUnchanged, IsRolledBack, KeepsCommit, Survives}
+use Rattle.sqlite.specs.State.{State, HasCleanDisk, IsUnchanged, IsRolledBack, KeepsCommit, Survives, Begins}
 use Rattle.society_rows.specs.declared.fault.RowFault.{RowFault}
+use Rattle.society_rows.specs.declared.fault.RowFault.TheVariants.{Unread}
+use Rattle.society_rows.specs.Faults.{IsTold}
 use Rattle.society_rows.specs.Layout.{transmissions}
 use Rattle.society_rows.specs.Reads.{Lists, has_key}
 use Rattle.society_rows.specs.Stored.{HasLayout}
@@ -45,3 +47,52 @@ AreFrom sender number db (row ∷ rows) = Lists transmissions (has_key (Text sen
 pub record IsRun (sender : List ℕ) (number : ℕ) (db : Trees) (rows : List Row) : Type 0 where
   pub each : AreFrom sender number db rows
   pub gap : Lists transmissions (has_key (Text sender ∷ Int (pos (length rows + number)) ∷ [])) 2 db []
+
+-- a row is refused by what has gone over those before it
+pub record RefusesRow {F : Type 0} (step : F → Row → F) (refusal : F → Row → RowFault → Type 0) (First : List Row → Type 0) (begun : F) (fault : RowFault) : Type 0 where
+  pub before : List Row
+  pub row : Row
+  pub first : First (before ++ row ∷ [])
+  pub refused : refusal (fold step begun before) row fault
+
+-- the first of the rows that a reading is to find
+abbrev pub AreFirst : State → State → (Trees → List Row → Type 0) → List Row → Type 0
+AreFirst old new Rows first = HasCleanDisk new → HasLayout old.now → (after : List Row) × Rows old.now.trees (first ++ after)
+
+-- the first of the rows that a query shows, which changed nothing yet
+abbrev pub AreShownFirst : List ℕ → Row → State → State → List Row → Type 0
+AreShownFirst text params old new first = HasCleanDisk new → HasLayout old.now → Begins text params old first × IsUnchanged old new
+
+-- there are more rows than 64 bits count
+abbrev pub AreTooMany : (List Row → Type 0) → Type 0
+AreTooMany First = (rows : List Row) × First rows × (2 ^ 64 ≤ suc (length rows))
+
+-- why rows were not gone over to their end: SQLite told an error, a row was refused, or there are too many
+pub record StopsOver {F : Type 0} (step : F → Row → F) (refusal : F → Row → RowFault → Type 0) (First : List Row → Type 0) (begun : F) (fault : RowFault) : Type 0 where
+  pub why : IsTold fault ⊎ (RefusesRow step refusal First begun fault ⊎ ((fault ≡ Unread) × AreTooMany First))
+
+-- the first of a run of the sender's transmissions
+abbrev pub AreFirstOfRun : State → State → List ℕ → ℕ → List Row → Type 0
+AreFirstOfRun old new sender number rows = HasCleanDisk new → HasLayout old.now → AreFrom sender number old.now.trees rows
+
+-- behind these transmissions of a run, several stand under the next number
+pub record AreDoubled (sender : List ℕ) (number : ℕ) (db : Trees) : Type 0 where
+  pub before : List Row
+  pub each : AreFrom sender number db before
+  pub rows : List Row
+  pub there : Lists transmissions (has_key (Text sender ∷ Int (pos (length before + number)) ∷ [])) 2 db rows
+  pub several : 2 ≤ length rows
+
+-- the run has a transmission under every number from this one on
+pub record HasNoGap (sender : List ℕ) (number : ℕ) (db : Trees) : Type 0 where
+  pub rows : List Row
+  pub each : AreFrom sender number db rows
+  pub full : length rows + number ≡ 2 ^ 32
+
+-- the run has no gap at which each of its rows stands alone
+abbrev pub IsNoRun : State → State → List ℕ → ℕ → Type 0
+IsNoRun old new sender number = HasCleanDisk new → HasLayout old.now → AreDoubled sender number old.now.trees ⊎ HasNoGap sender number old.now.trees
+
+-- why a run was not gone over up to its gap: SQLite told an error, a row was refused, several stand under a number, or no number is free
+pub record StopsRun {F : Type 0} (step : F → Row → F) (refusal : F → Row → RowFault → Type 0) (old new : State) (sender : List ℕ) (number : ℕ) (begun : F) (fault : RowFault) : Type 0 where
+  pub why : IsTold fault ⊎ (RefusesRow step refusal (AreFirstOfRun old new sender number) begun fault ⊎ ((fault ≡ Unread) × IsNoRun old new sender number))

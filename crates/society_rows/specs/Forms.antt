@@ -43,6 +43,10 @@ office_forms = Only 1 ∷ Only 2 ∷ Count ∷ Count ∷ Words ∷ []
 abbrev pub transmission_forms : List Form
 transmission_forms = Words ∷ Count ∷ Bytes ∷ []
 
+-- sender, number
+abbrev pub transmission_key_forms : List Form
+transmission_key_forms = Words ∷ Count ∷ []
+
 -- reporter, number, body
 abbrev pub return_forms : List Form
 return_forms = Words ∷ Count ∷ Bytes ∷ []

@@ -8,7 +8,7 @@ use Rattle.society_rows.specs.declared.fault.RowFault.{RowFault}
 use Rattle.society_rows.specs.declared.questions.Question.{Question}
 use Rattle.society_rows.specs.declared.questions.Question.TheVariants as question
 use Rattle.society_rows.specs.Layout.{office, transmissions, returns, pools, pool_cuts, pool_returns, fronts, verdicts, versions, recordings, credits, balances}
-use Rattle.society_rows.specs.Reads.{Lists, IsFirstOf, has_key, has_at, is_above}
+use Rattle.society_rows.specs.Reads.{Lists, ListsKeys, IsFirstOf, has_key, has_at, is_above}
 use Rattle.society_rows.specs.Stored.{HasLayout}
 
 -- the rows that answer the question
@@ -17,7 +17,9 @@ Answers question.Office = Lists office (λ _. true) 1
 Answers (question.Front sender) = Lists fronts (has_key (Text sender.now ∷ [])) 1
 Answers (question.Transmission sender number) = Lists transmissions (has_key (Text sender.now ∷ Int (pos number) ∷ [])) 2
 Answers (question.TransmissionsAbove sender number) = Lists transmissions (is_above (Text sender.now) (Int (pos number))) 2
+Answers (question.NumbersAbove sender number) = ListsKeys transmissions (is_above (Text sender.now) (Int (pos number))) 2
 Answers (question.Return reporter number) = Lists returns (has_key (Text reporter.now ∷ Int (pos number) ∷ [])) 2
+Answers (question.HasReturn reporter number) = ListsKeys returns (has_key (Text reporter.now ∷ Int (pos number) ∷ [])) 2
 Answers (question.Pool pool) = Lists pools (has_key (Int (pos pool) ∷ [])) 1
 Answers (question.Cuts pool) = Lists pool_cuts (has_key (Int (pos pool) ∷ [])) 2
 Answers (question.Payer reporter number) = Lists pool_returns (has_key (Text reporter.now ∷ Int (pos number) ∷ [])) 2

@@ -1,5 +1,5 @@
 -- What a reading within a transaction gives.
-use Rattle.std.specs.Prelude.{◌≡◌, ◌⊎◌, ℕ, zero, suc, Bool, true, ◌&&◌, List, [], ◌∷◌, filter, take, Vec, Result, Ok, Err, IsTrue, IfOk, OnOk, OnErr, IsPermutation, IsSorted}
+use Rattle.std.specs.Prelude.{◌≡◌, ◌⊎◌, ℕ, zero, suc, Bool, true, ◌&&◌, List, [], ◌∷◌, map, filter, take, Vec, Result, Ok, Err, IsTrue, IfOk, OnOk, OnErr, IsPermutation, IsSorted}
 use Rattle.sqlite_value.specs.declared.keys.Key.{Key}
 use Rattle.sqlite_value.specs.Keys.{rising}
 use Rattle.sqlite_value.specs.Order.{Row, column}
@@ -43,6 +43,12 @@ is_above key least row = equal Binary (column row 0) key && exceeds (column row 
 pub record Lists (table : Table) (passes : Row → Bool) (width : ℕ) (db : Trees) (found : List Row) : Type 0 where
   pub rows : IsPermutation (filter passes (rows_in table db)) found
   pub sorted : IsSorted (key_cmp 0 (rising width [])) found
+
+-- the same rows, each cut to these first columns, which are its key
+pub record ListsKeys (table : Table) (passes : Row → Bool) (width : ℕ) (db : Trees) (found : List Row) : Type 0 where
+  pub whole : List Row
+  pub listed : Lists table passes width db whole
+  pub cut : found ≡ map (take width) whole
 
 -- by so many columns, each descending
 abbrev pub falling : ℕ → List Key

@@ -11,6 +11,7 @@ use Rattle.society_rows.specs.declared.pool_returns.PoolReturnRow.{PoolReturnRow
 use Rattle.society_rows.specs.declared.pools.PoolRow.{PoolRow}
 use Rattle.society_rows.specs.declared.recordings.RecordingRow.{RecordingRow}
 use Rattle.society_rows.specs.declared.returns.ReturnRow.{ReturnRow}
+use Rattle.society_rows.specs.declared.transmissions.TransmissionKeyRow.{TransmissionKeyRow}
 use Rattle.society_rows.specs.declared.transmissions.TransmissionRow.{TransmissionRow}
 use Rattle.society_rows.specs.declared.verdicts.VerdictRow.{VerdictRow}
 use Rattle.society_rows.specs.declared.versions.VersionRow.{VersionRow}
@@ -22,6 +23,10 @@ office_values r = Int (pos 1) ∷ Int (pos 2) ∷ Int (pos r.society) ∷ Int (p
 -- sender, number, body
 abbrev pub transmission_values : TransmissionRow → Row
 transmission_values r = Text r.sender.now ∷ Int (pos r.number) ∷ Blob r.body.now ∷ []
+
+-- sender, number
+abbrev pub transmission_key_values : TransmissionKeyRow → Row
+transmission_key_values r = Text r.sender.now ∷ Int (pos r.number) ∷ []
 
 -- reporter, number, body
 abbrev pub return_values : ReturnRow → Row

@@ -1,5 +1,5 @@
 //! Rows that are gone over one at a time, so that no answer is kept.
-ghost use Rattle.std.specs.Prelude.{◌≡◌, [], false, fold, pos, true, List, IsTrue, OnOk};
+ghost use Rattle.std.specs.Prelude.{◌≡◌, ◌++◌, [], false, fold, pos, true, List, IsTrue, IfErr, OnOk};
 ghost use Rattle.sqlite.specs.Held.{state};
 ghost use Rattle.sqlite_value.specs.Order.{Row as SqlRow};
 ghost use Rattle.sqlite_value.specs.declared.value.Value.TheVariants.{Int, Text};
@@ -7,7 +7,7 @@ ghost use Rattle.sqlite.specs.State.{HasCleanDisk, Shown, Survives};
 ghost use Rattle.sqlite.specs.Given.{IsPlain};
 ghost use Rattle.sqlite.specs.Listing.{understood};
 ghost use Rattle.sqlite.specs.Values.{bound};
-ghost use Rattle.society_rows.specs.Folds.{ReadsAlone, ReadsInside, HasTaken, IsRun};
+ghost use Rattle.society_rows.specs.Folds.{ReadsAlone, ReadsInside, HasTaken, IsRun, AreFirst, AreShownFirst, StopsOver, StopsRun};
 ghost use Rattle.society_rows.specs.Layout.{layout, transmissions};
 ghost use Rattle.society_rows.specs.Reads.{Lists, Reads, is_above};
 ghost use Rattle.society_rows.specs.TableNames.{table_called, key_width};
@@ -20,12 +20,18 @@ use sqlite_value::value::ValueRef;
 
 /// What goes over rows, one at a time, and keeps what it wants of them.
 pub trait RowFold {
+    ghost use Rattle.society_rows.specs.declared.fault.RowFault.{RowFault};
+
     /// What it is once it has taken the row.
     ghost step: { Self → SqlRow → Self };
 
+    /// Why it takes no row: the fault that it tells of it.
+    ghost refusal: { Self → SqlRow → RowFault → Type 0 };
+
     /// Takes a row. An error ends the reading.
     fn take(&mut self, row: &Row) -> Result<(), RowFault>
-        ensures { OnOk result (self.new ≡ step self.old row.now) };
+        ensures taken { OnOk result (self.new ≡ step self.old row.now) }
+        ensures told { IfErr result (refusal self.old row.now) };
 }
 
 /// Goes over the rows that a query shows.
@@ -39,9 +45,11 @@ fn fold_shown<S: Alter, F: RowFold>(
     ensures taken { ReadsAlone (state S.Store conn.old) (state S.Store conn.new) result
         (λ _ _. HasTaken F.step (Shown sql.now (bound params.now) (state S.Store conn.old) (state S.Store conn.new)) into.old into.new) }
     ensures mode { conn.old.in_transaction ≡ false → conn.new.in_transaction ≡ false }
+    ensures told { IfErr result (StopsOver F.step F.refusal
+        (AreShownFirst sql.now (bound params.now) (state S.Store conn.old) (state S.Store conn.new)) into.old) }
 {
     let mut rows = conn.query(sql, params)?;
-    'rows: for _ in 0..u64::MAX {
+    'rows: for count in 0..u64::MAX {
         let Some(row) = rows.next()? else {
             return Ok(());
         };
@@ -60,6 +68,8 @@ pub fn fold_table<S: Alter, F: RowFold>(
     ensures taken { ReadsAlone (state S.Store conn.old) (state S.Store conn.new) result
         (λ db _. HasTaken F.step (Lists (table_called table) (λ _. true) (key_width table) db) into.old into.new) }
     ensures mode { conn.old.in_transaction ≡ false → conn.new.in_transaction ≡ false }
+    ensures told { IfErr result (StopsOver F.step F.refusal
+        (AreFirst (state S.Store conn.old) (state S.Store conn.new) (Lists (table_called table) (λ _. true) (key_width table))) into.old) }
 {
     fold_shown(conn, listing(table), &[], into)
 }
@@ -74,6 +84,8 @@ pub fn fold_above<S: Alter, F: RowFold>(
     ensures taken { ReadsAlone (state S.Store conn.old) (state S.Store conn.new) result
         (λ db _. HasTaken F.step (Lists transmissions (is_above (Text sender.now) (Int (pos number))) 2 db) into.old into.new) }
     ensures mode { conn.old.in_transaction ≡ false → conn.new.in_transaction ≡ false }
+    ensures told { IfErr result (StopsOver F.step F.refusal
+        (AreFirst (state S.Store conn.old) (state S.Store conn.new) (Lists transmissions (is_above (Text sender.now) (Int (pos number))) 2)) into.old) }
 {
     fold_shown(
         conn,
@@ -94,6 +106,8 @@ pub fn fold_run<S: Alter, F: RowFold>(
     ensures same_reference { tx.new.conn.ghost_name ≡ tx.old.conn.ghost_name }
     ensures taken { ReadsInside (state S.Store tx.old.conn.now) (state S.Store tx.new.conn.now) result
         (λ db _. HasTaken F.step (IsRun sender.now first db) into.old into.new) }
+    ensures told { IfErr result
+        (StopsRun F.step F.refusal (state S.Store tx.old.conn.now) (state S.Store tx.new.conn.now) sender.now first into.old) }
 {
     for number in first..=u32::MAX {
         let rows = transmission_at(tx, sender, number)?;

@@ -1,9 +1,10 @@
 //! The layout of the tables, and how they begin.
-ghost use Rattle.std.specs.Prelude.{◌≡◌, ℕ, List, map, false, IsTrue, OnOk, OnErr};
+ghost use Rattle.std.specs.Prelude.{◌≡◌, ℕ, List, map, false, IsTrue, IfErr, OnOk, OnErr};
 ghost use Rattle.std.specs.Borrow.{Bor};
 ghost use Rattle.sqlite.specs.Held.{state};
 ghost use Rattle.sqlite.specs.State.{HasCleanDisk, Survives};
 ghost use Rattle.society_rows.specs.Effects.{WritesOver};
+ghost use Rattle.society_rows.specs.Faults.{IsTold};
 ghost use Rattle.society_rows.specs.NewBook.{IsBare, IsEmptyBook, IsNewBook, Begins};
 ghost use Rattle.society_rows.specs.Rows.{office_values};
 ghost use Rattle.society_rows.specs.Texts.{all_texts};
@@ -35,6 +36,7 @@ fn make_tables<S: Alter>(tx: &mut Transaction<'_, S>, texts: &[&str]) -> Result<
     ensures same_reference { tx.new.conn.ghost_name ≡ tx.old.conn.ghost_name }
     ensures made { WritesOver IsBare (state S.Store tx.old.conn.now) (state S.Store tx.new.conn.now) result
         (λ _. IsEmptyBook) }
+    ensures told { IfErr result IsTold }
 {
     for text in texts {
         run(tx, text, &[])?;
@@ -47,6 +49,7 @@ pub(crate) fn lay_out<S: Alter>(tx: &mut Transaction<'_, S>) -> Result<(), RowFa
     ensures same_reference { tx.new.conn.ghost_name ≡ tx.old.conn.ghost_name }
     ensures made { WritesOver IsBare (state S.Store tx.old.conn.now) (state S.Store tx.new.conn.now) result
         (λ _. IsEmptyBook) }
+    ensures told { IfErr result IsTold }
 {
     make_tables(tx, &TABLES)
 }
@@ -56,6 +59,7 @@ fn begin_book<S: Alter>(tx: &mut Transaction<'_, S>, office: &OfficeRow<'_>) -> 
     ensures same_reference { tx.new.conn.ghost_name ≡ tx.old.conn.ghost_name }
     ensures begun { WritesOver IsBare (state S.Store tx.old.conn.now) (state S.Store tx.new.conn.now) result
         (λ _. Begins (office_values office.now)) }
+    ensures told { IfErr result IsTold }
 {
     lay_out(tx)?;
     add_office(tx, office)
@@ -74,6 +78,7 @@ pub fn create<S: Alter>(conn: &mut Connection<S>, office: &OfficeRow<'_>) -> Res
     ensures ended { conn.new.in_transaction ≡ false }
     ensures crash { Survives (state S.Store conn.old) (state S.Store conn.new)
         (λ db. IsBare (state S.Store conn.old).now → IsNewBook (office_values office.now) db) }
+    ensures told { IfErr result IsTold }
 {
     let mut tx = conn.transaction();
     begin_book(&mut tx, office)?;

@@ -46,11 +46,11 @@ pub use questions::{Question, answer, ask};
 pub use recordings::{
     RecordingRow, add_recording, add_recordings, all_recordings, recordings_of, recordings_with,
 };
-pub use returns::{ReturnRow, add_return, add_returns, all_returns, return_at};
+pub use returns::{ReturnRow, add_return, add_returns, all_returns, return_at, return_known};
 pub use tables::{TableName, all_rows};
 pub use transmissions::{
-    TransmissionRow, add_transmission, add_transmissions, all_transmissions, transmission_at,
-    transmissions_above,
+    TransmissionKeyRow, TransmissionRow, add_transmission, add_transmissions, all_transmissions,
+    numbers_above, transmission_at, transmissions_above,
 };
 pub use verdicts::{VerdictRow, add_verdict, add_verdicts, all_verdicts, verdicts_of};
 pub use versions::{

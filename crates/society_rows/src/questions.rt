@@ -6,9 +6,9 @@ ghost use Rattle.society_rows.specs.Questions.{Answers, Asks};
 ghost use Rattle.society_rows.specs.Reads.{Reads};
 
 use crate::{
-    RowFault, all_offices, balance_at, credits_of, cuts_of, front_at, last_version_of, pool_at,
-    pool_return_at, recordings_of, recordings_with, return_at, returns_of_pool, transmission_at,
-    transmissions_above, verdicts_of, versions_of,
+    RowFault, all_offices, balance_at, credits_of, cuts_of, front_at, last_version_of,
+    numbers_above, pool_at, pool_return_at, recordings_of, recordings_with, return_at,
+    return_known, returns_of_pool, transmission_at, transmissions_above, verdicts_of, versions_of,
 };
 use sqlite::{Alter, Connection, Row, Transaction};
 
@@ -23,8 +23,12 @@ pub enum Question<'a> {
     Transmission(&'a [u8], u32),
     /// The transmissions of a sender above a number.
     TransmissionsAbove(&'a [u8], u32),
+    /// The keys of the transmissions of a sender above a number.
+    NumbersAbove(&'a [u8], u32),
     /// The return of a reporter under a number.
     Return(&'a [u8], u32),
+    /// The key of the return of a reporter under a number.
+    HasReturn(&'a [u8], u32),
     /// The pool of a number.
     Pool(u32),
     /// The cuts of a pool.
@@ -64,7 +68,9 @@ pub fn answer<S: Alter>(
         Question::Front(sender) => front_at(tx, sender),
         Question::Transmission(sender, number) => transmission_at(tx, sender, number),
         Question::TransmissionsAbove(sender, number) => transmissions_above(tx, sender, number),
+        Question::NumbersAbove(sender, number) => numbers_above(tx, sender, number),
         Question::Return(reporter, number) => return_at(tx, reporter, number),
+        Question::HasReturn(reporter, number) => return_known(tx, reporter, number),
         Question::Pool(pool) => pool_at(tx, pool),
         Question::Cuts(pool) => cuts_of(tx, pool),
         Question::Payer(reporter, number) => pool_return_at(tx, reporter, number),

@@ -7,7 +7,7 @@ ghost use Rattle.society_rows.specs.Effects.{Writes, IsWhole, LeavesFirst};
 ghost use Rattle.society_rows.specs.Faults.{IsTold};
 ghost use Rattle.society_rows.specs.Forms.{IsRead, return_forms};
 ghost use Rattle.society_rows.specs.Layout.{returns};
-ghost use Rattle.society_rows.specs.Reads.{Lists, Reads, has_key};
+ghost use Rattle.society_rows.specs.Reads.{Lists, ListsKeys, Reads, has_key};
 ghost use Rattle.society_rows.specs.Rows.{return_values};
 ghost use Rattle.society_rows.specs.Stored.{Adds};
 
@@ -108,6 +108,24 @@ pub fn return_at<S: Alter>(
     select(
         tx,
         "SELECT reporter, number, body FROM returns WHERE reporter = ?1 AND number = ?2 ORDER BY reporter, number",
+        &[ValueRef::Text(reporter), number.to_sql()],
+    )
+}
+
+/// The key of the return of a reporter under a number, if there is one; its body is not read.
+pub fn return_known<S: Alter>(
+    tx: &mut Transaction<'_, S>,
+    reporter: &[u8],
+    number: u32,
+) -> Result<Vec<Row>, RowFault>
+    ensures same_reference { tx.new.conn.ghost_name ≡ tx.old.conn.ghost_name }
+    ensures read { Reads (state S.Store tx.old.conn.now) (state S.Store tx.new.conn.now) result
+        (λ db rows. ListsKeys returns (has_key (Text reporter.now ∷ Int (pos number) ∷ [])) 2 db rows.items) }
+    ensures told { IfErr result IsTold }
+{
+    select(
+        tx,
+        "SELECT reporter, number FROM returns WHERE reporter = ?1 AND number = ?2 ORDER BY reporter, number",
         &[ValueRef::Text(reporter), number.to_sql()],
     )
 }

@@ -5,10 +5,10 @@ ghost use Rattle.sqlite.specs.Held.{state};
 ghost use Rattle.society_rows.specs.declared.fault.RowFault.TheVariants.{Unread};
 ghost use Rattle.society_rows.specs.Effects.{Writes, IsWhole, LeavesFirst};
 ghost use Rattle.society_rows.specs.Faults.{IsTold};
-ghost use Rattle.society_rows.specs.Forms.{IsRead, transmission_forms};
+ghost use Rattle.society_rows.specs.Forms.{IsRead, transmission_forms, transmission_key_forms};
 ghost use Rattle.society_rows.specs.Layout.{transmissions};
-ghost use Rattle.society_rows.specs.Reads.{Lists, Reads, has_key, is_above};
-ghost use Rattle.society_rows.specs.Rows.{transmission_values};
+ghost use Rattle.society_rows.specs.Reads.{Lists, ListsKeys, Reads, has_key, is_above};
+ghost use Rattle.society_rows.specs.Rows.{transmission_values, transmission_key_values};
 ghost use Rattle.society_rows.specs.Stored.{Adds};
 
 use crate::reading::{bytes, text, whole};
@@ -40,6 +40,30 @@ impl<'a> TransmissionRow<'a> {
             sender: text(row, 0)?,
             number: whole(row, 1)?,
             body: bytes(row, 2)?,
+        })
+    }
+}
+
+/// The key of a transmission: its sender key and its number.
+#[derive(Clone, Copy, Debug)]
+pub struct TransmissionKeyRow<'a> {
+    pub sender: &'a [u8],
+    pub number: u32,
+}
+
+impl<'a> TransmissionKeyRow<'a> {
+    /// The key that these values are, in the order of the columns; else `Unread`.
+    pub fn from_row(row: &'a Row) -> Result<TransmissionKeyRow<'a>, RowFault>
+        ensures value { IfOk result (λ x. transmission_key_values x ≡ row.now) }
+        ensures read { IsRead transmission_key_forms row.now result }
+        ensures fault { IfErr result (λ e. e ≡ Unread) }
+    {
+        if row.column_count() != 2 {
+            return Err(RowFault::Unread);
+        }
+        Ok(TransmissionKeyRow {
+            sender: text(row, 0)?,
+            number: whole(row, 1)?,
         })
     }
 }
@@ -126,6 +150,24 @@ pub fn transmissions_above<S: Alter>(
     select(
         tx,
         "SELECT sender, number, body FROM transmissions WHERE sender = ?1 AND number > ?2 ORDER BY sender, number",
+        &[ValueRef::Text(sender), number.to_sql()],
+    )
+}
+
+/// The keys of the transmissions of a sender above a number, by number; their bodies are not read.
+pub fn numbers_above<S: Alter>(
+    tx: &mut Transaction<'_, S>,
+    sender: &[u8],
+    number: u32,
+) -> Result<Vec<Row>, RowFault>
+    ensures same_reference { tx.new.conn.ghost_name ≡ tx.old.conn.ghost_name }
+    ensures read { Reads (state S.Store tx.old.conn.now) (state S.Store tx.new.conn.now) result
+        (λ db rows. ListsKeys transmissions (is_above (Text sender.now) (Int (pos number))) 2 db rows.items) }
+    ensures told { IfErr result IsTold }
+{
+    select(
+        tx,
+        "SELECT sender, number FROM transmissions WHERE sender = ?1 AND number > ?2 ORDER BY sender, number",
         &[ValueRef::Text(sender), number.to_sql()],
     )
 }

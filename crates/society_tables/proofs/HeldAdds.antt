@@ -80,14 +80,14 @@ module _ (b : Book) (s : List ℕ) (n : ℕ) (body : List ℕ) (free : body_at b
       ∙ ap (λ x. cond x (Some body) (body_at b t m)) (transmissions_tie (transmission_key t m) (transmission_key s n))
 
   -- what is there is what came, or was there
-  there_from : (t : List ℕ) (m : ℕ) → is_there after t m ≡ true → (transmission_key t m ≡ transmission_key s n) ⊎ (is_there b t m ≡ true)
+  pub there_from : (t : List ℕ) (m : ℕ) → is_there after t m ≡ true → (transmission_key t m ≡ transmission_key s n) ⊎ (is_there b t m ≡ true)
   there_from t m h = by_case (same_transmission_key (transmission_key t m) (transmission_key s n)) refl
     where
       by_case : (x : Bool) → same_transmission_key (transmission_key t m) (transmission_key s n) ≡ x → (transmission_key t m ≡ transmission_key s n) ⊎ (is_there b t m ≡ true)
       by_case true is = inl (same_key_is (transmission_key t m) (transmission_key s n) is)
       by_case false is = inr (sym (ap is_some (told_after t m ∙ ap (λ x. cond x (Some body) (body_at b t m)) is)) ∙ h)
 
-  still_there : (t : List ℕ) (m : ℕ) → is_there b t m ≡ true → is_there after t m ≡ true
+  pub still_there : (t : List ℕ) (m : ℕ) → is_there b t m ≡ true → is_there after t m ≡ true
   still_there t m h = let found = some_body (body_at b t m) h in ap is_some (added_keeps b s n body free t m found.0 found.1)
 
   came : is_there after s n ≡ true

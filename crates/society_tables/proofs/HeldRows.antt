@@ -1,5 +1,5 @@
 -- What the rows of a sender's transmissions above its front show.
-use Rattle.std.proofs.Common.{◌≡◌, ◌∙◌, ◌<◌, ◌≤◌, ◌&&◌, ◌||◌, ◌==◌, ℕ, pos, suc, Bool, true, false, cond, List, [], ◌∷◌, Option, Some, None, is_some, length, refl, ap, ap₂, sym, subst, arith, map, filter, nat_lt, bytes_eq, IsPermutation, IsSorted, Less, Equal, Greater, Ordering, int_cmp, is_gt, is_lt, add-one, eqb-true, ⊎_elim}
+use Rattle.std.proofs.Common.{◌≡◌, ◌∙◌, ◌<◌, ◌≤◌, ◌&&◌, ◌||◌, ◌==◌, ℕ, pos, suc, Bool, true, false, cond, List, [], ◌∷◌, Option, Some, None, is_some, length, refl, ap, ap₂, sym, subst, arith, map, filter, take, nat_lt, bytes_eq, IsPermutation, IsSorted, Less, Equal, Greater, Ordering, int_cmp, is_gt, is_lt, add-one, eqb-true, ⊎_elim}
 use Rattle.std.proofs.Common.{IfOk, Ok, Err, Result}
 use Rattle.society_core.specs.declared.answers.SenderStatus.{SenderStatus}
 use Rattle.society_rows.specs.declared.fault.RowFault.{RowFault}
@@ -30,7 +30,7 @@ use Rattle.society_core.specs.Book.{Book, body_at, front, held, is_there}
 use Rattle.society_core.specs.Keys.{transmission_key}
 use Rattle.society_core.specs.declared.transmission_key.TransmissionKey.{TransmissionKey}
 use Rattle.society_rows.specs.Layout as layout
-use Rattle.society_rows.specs.Reads.{Lists, exceeds, is_above}
+use Rattle.society_rows.specs.Reads.{Lists, ListsKeys, exceeds, is_above}
 use Rattle.society_rows.specs.Stored.{rows_in}
 use Rattle.society_tables.specs.BookRows.{is_transmission_row, row_of_some, transmission_key_of, transmission_row, transmission_rows}
 use Rattle.society_tables.specs.Columns.{number_at, text_at}
@@ -292,8 +292,18 @@ module _ (o : Office) (b : Book) (db : Trees) (holds : HoldsBook o b db) (s : Li
       ∙ same_ascending nat_cmp_total exact_numbers (map (number_at 1) found) (held b s) (members found these)
       ∙ ascending_in_order nat_cmp_total exact_numbers (held b s) (held_ascend b s)
 
+-- the second of a row's first two columns is its second
+second_kept : (row : Row) → number_at 1 (take 2 row) ≡ number_at 1 row
+second_kept [] = refl
+second_kept (x ∷ []) = refl
+second_kept (x ∷ y ∷ more) = refl
+
+numbers_kept : (rows : List Row) → map (number_at 1) (map (take 2) rows) ≡ map (number_at 1) rows
+numbers_kept [] = refl
+numbers_kept (row ∷ rows) = ap₂ (λ n ns. n ∷ ns) (second_kept row) (numbers_kept rows)
+
 -- so they show how the sender stands
-pub status_found : (o : Office) (b : Book) (db : Trees) → HoldsBook o b db → (s : List ℕ) (reached : ℕ) (found : List Row) (r : Result SenderStatus RowFault) → Lists layout.transmissions (is_above (Text s) (Int (pos reached))) 2 db found → IfOk r (λ status. (status.front ≡ reached) × (status.held.items ≡ map (number_at 1) found)) → IfOk r (λ status. reached ≡ front b s → (status.front ≡ front b s) × (status.held.items ≡ held b s))
-status_found o b db holds s reached found (Err fault) lists h = tt
-status_found o b db holds s reached found (Ok status) lists h =
-    λ at. (h.0 ∙ at, h.1 ∙ held_found o b db holds s found (subst (λ (n : ℕ). Lists layout.transmissions (is_above (Text s) (Int (pos n))) 2 db found) at lists))
+pub status_found : (o : Office) (b : Book) (db : Trees) → HoldsBook o b db → (s : List ℕ) (reached : ℕ) (found : List Row) (r : Result SenderStatus RowFault) → ListsKeys layout.transmissions (is_above (Text s) (Int (pos reached))) 2 db found → IfOk r (λ status. (status.front ≡ reached) × (status.held.items ≡ map (number_at 1) found)) → IfOk r (λ status. reached ≡ front b s → (status.front ≡ front b s) × (status.held.items ≡ held b s))
+status_found o b db holds s reached found (Err fault) keys h = tt
+status_found o b db holds s reached found (Ok status) keys h =
+    λ at. (h.0 ∙ at, h.1 ∙ ap (map (number_at 1)) keys.cut ∙ numbers_kept keys.whole ∙ held_found o b db holds s keys.whole (subst (λ (n : ℕ). Lists layout.transmissions (is_above (Text s) (Int (pos n))) 2 db keys.whole) at keys.listed))

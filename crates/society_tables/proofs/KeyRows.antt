@@ -1,5 +1,5 @@
 -- What the tables have under a name and a number in their first two columns.
-use Rattle.std.proofs.Common.{◌≡◌, ◌∙◌, ◌==◌, ℕ, pos, Bool, true, false, ◌&&◌, List, [], ◌∷◌, inl, inr, Option, Some, None, is_some, Result, Ok, Err, cond, length, nat_le, refl, ap, ap₂, subst, sym, arith, filter, bytes_eq, IsPermutation}
+use Rattle.std.proofs.Common.{◌≡◌, ◌∙◌, ◌==◌, ℕ, pos, Bool, true, false, ◌&&◌, List, [], ◌∷◌, inl, inr, Option, Some, None, is_some, Result, Ok, Err, cond, length, nat_le, refl, ap, ap₂, subst, sym, arith, filter, map, take, bytes_eq, IsPermutation}
 use Rattle.std.specs.List.{AllByRecursion}
 use Rattle.std.proofs.lemmas.Bool.Decides.{nat_tests}
 use Rattle.std.proofs.lemmas.List.Sorted.{IsPermutation-trans}
@@ -15,12 +15,12 @@ use Rattle.society_core.specs.Book.{Book, body_at, return_at}
 use Rattle.society_core.specs.declared.return_key.ReturnKey.{ReturnKey}
 use Rattle.society_core.specs.declared.transmission_key.TransmissionKey.{TransmissionKey}
 use Rattle.society_rows.specs.Layout as layout
-use Rattle.society_rows.specs.Reads.{Lists, has_key}
+use Rattle.society_rows.specs.Reads.{Lists, ListsKeys, has_key}
 use Rattle.society_rows.specs.Stored.{rows_in}
 use Rattle.society_tables.specs.BookRows.{is_return_row, is_transmission_row, return_key_of, return_row, return_rows, row_of_some, transmission_key_of, transmission_row, transmission_rows}
 use Rattle.society_tables.specs.Columns.{HasRows, number_at, text_at}
 use Rattle.society_tables.specs.Kept.{HoldsBook}
-use Rattle.society_tables.specs.Shown.{ShowBody}
+use Rattle.society_tables.specs.Shown.{ShowBody, ShowKey}
 use Rattle.work_ids.specs.Blanks.{fill, without_trailing_blanks}
 use Rattle.work_ids.specs.Characters.{is_capital_or_digit}
 use Rattle.work_ids.specs.Reporter.{reporter_of}
@@ -116,6 +116,14 @@ pub return_shows : (o : Office) (b : Book) (db : Trees) → HoldsBook o b db →
 return_shows o b db holds key whole found lists = shows (return_at b key) (return_found o b db holds key whole found lists)
   where
     shows : (kept : Option (List ℕ)) → found ≡ row_of_some (return_row key) kept → ShowBody kept found
+    shows None e = inl (e, refl)
+    shows (Some body) e = inr (without_trailing_blanks key.reporter, key.number, body, e, refl)
+
+-- what is found of a return's key shows whether it is there
+pub return_key_shows : (o : Office) (b : Book) (db : Trees) → HoldsBook o b db → (key : ReturnKey) → IsRefilled key → (found : List Row) → ListsKeys layout.returns (has_key (Text (without_trailing_blanks key.reporter) ∷ Int (pos key.number) ∷ [])) 2 db found → ShowKey (return_at b key) found
+return_key_shows o b db holds key whole found keys = shows (return_at b key) (keys.cut ∙ ap (map (take 2)) (return_found o b db holds key whole keys.whole keys.listed))
+  where
+    shows : (kept : Option (List ℕ)) → found ≡ map (take 2) (row_of_some (return_row key) kept) → ShowKey kept found
     shows None e = inl (e, refl)
     shows (Some body) e = inr (without_trailing_blanks key.reporter, key.number, body, e, refl)
 

@@ -23,6 +23,10 @@ pub mod OrderRows
 pub mod PoolsAlike
 pub mod ReturnAdds
 pub mod HeldAdds
+pub mod PutRows
+pub mod RunTables
+pub mod BalanceAdds
+pub mod PoolTables
 pub mod HeldTables
 pub mod HeldWrites
 pub mod AddLemmas

@@ -25,7 +25,7 @@ and_truth : (b : Bool) → (b && true) ≡ b
 and_truth true = refl
 and_truth false = refl
 
-keyed_as_named : (s : List ℕ) (rows : List Row) → AllByRecursion HasName rows → AllByRecursion (λ r. has_key (Text s ∷ []) r ≡ is_named s r) rows
+pub keyed_as_named : (s : List ℕ) (rows : List Row) → AllByRecursion HasName rows → AllByRecursion (λ r. has_key (Text s ∷ []) r ≡ is_named s r) rows
 keyed_as_named s [] h = tt
 keyed_as_named s (r ∷ rows) h =
     (and_truth (equal Binary (column r 0) (Text s)) ∙ ap (λ v. equal Binary v (Text s)) h.0 ∙ texts_equal (text_at 0 r) s, keyed_as_named s rows h.1)

@@ -7,17 +7,21 @@ use Rattle.sqlite_value.specs.Order.{Row}
 use Rattle.sqlite_trees.specs.Tree.{Trees}
 use Rattle.sqlite_schema.specs.declared.schema.Table.{Table}
 use Rattle.sqlite.specs.State.{HasCleanDisk, State, Survives}
+use Rattle.sqlite.specs.Effect.{Database}
+use Rattle.society_rows.specs.Balances.{AddsUnits}
 use Rattle.society_rows.specs.declared.fault.RowFault.{RowFault}
 use Rattle.society_rows.specs.Stored.{AreNumbered, HasLayout, KeepsOthers, put_over, rows_in}
+use Rattle.society_rows.specs.Layout as layout
 use Rattle.society_rows.specs.Layout.{all_tables, fronts, transmissions}
 use Rattle.std.specs.Prelude.{◌≢◌}
 use Rattle.pool_split.specs.declared.claim.Credit.{Credit}
 use Rattle.society_core.specs.Book.{Book}
 use Rattle.society_core.specs.Orders.{Order}
-use Rattle.work_ids.specs.Account.{account_of}
+use Rattle.work_ids.specs.Account.{account_of, account_text}
 use Rattle.work_ids.specs.declared.fault.IdFault.{IdFault}
 use Rattle.work_ids.specs.declared.account.Account.{Account}
 use Rattle.work_ids.specs.declared.account.Account.TheVariants.{Ipi, Party, Unclaimed}
+use Rattle.society_tables.specs.BookRows.{cut_row, paid_row, pool_row}
 use Rattle.society_tables.specs.Columns.{number_at, text_at}
 use Rattle.society_tables.specs.DerivedRows.{credit_row, verdict_row}
 use Rattle.society_tables.specs.Kept.{HoldsBook}
@@ -40,6 +44,10 @@ ShowFront front rows = ((rows ≡ []) × (front ≡ 0)) ⊎ ((sender : List ℕ)
 -- the rows of what a key has: one row that ends with its bytes, or none
 abbrev pub ShowBody : Option (List ℕ) → List Row → Type 0
 ShowBody kept rows = ((rows ≡ []) × (kept ≡ None)) ⊎ ((name : List ℕ) × (number : ℕ) × (body : List ℕ) × (rows ≡ (Text name ∷ Int (pos number) ∷ Blob body ∷ []) ∷ []) × (kept ≡ Some body))
+
+-- the rows of whether a key has anything: one row that is the key, or none
+abbrev pub ShowKey : Option (List ℕ) → List Row → Type 0
+ShowKey kept rows = ((rows ≡ []) × (kept ≡ None)) ⊎ ((name : List ℕ) × (number : ℕ) × (body : List ℕ) × (rows ≡ (Text name ∷ Int (pos number) ∷ []) ∷ []) × (kept ≡ Some body))
 
 -- the version that a row is: its transmission's number, its place there, its ordinal and its revision
 abbrev pub version_shown : Row → WorkVersion
@@ -128,3 +136,36 @@ pub record Waits (row front : Row) (old new : Trees) : Type 0 where
   pub put : AreNumbered fronts old → IsPermutation (put_over front (rows_in fronts old)) (rows_in fronts new)
   pub numbered : AreNumbered fronts old → AreNumbered fronts new
   pub others : KeepsBoth old new
+
+-- every table but the five of a sender's line is as it was
+abbrev pub KeepsRest : Trees → Trees → Type 0
+KeepsRest old new =
+    AllByRecursion (λ t. t.tree ≢ transmissions.tree → t.tree ≢ fronts.tree → t.tree ≢ layout.verdicts.tree → t.tree ≢ layout.versions.tree → t.tree ≢ layout.recordings.tree → new t.tree ≡ old t.tree) all_tables
+
+-- the tables have this row of a transmission more, this row of a front in place of its sender's, and these rows of verdicts, of versions and of recordings more; the other tables are as they were
+pub record Runs (row front : Row) (judged told named : List Row) (old new : Trees) : Type 0 where
+  pub rows : IsPermutation ((row ∷ []) ++ rows_in transmissions old) (rows_in transmissions new)
+  pub put : AreNumbered fronts old → IsPermutation (put_over front (rows_in fronts old)) (rows_in fronts new)
+  pub numbered : AreNumbered fronts old → AreNumbered fronts new
+  pub verdicts : IsPermutation (judged ++ rows_in layout.verdicts old) (rows_in layout.verdicts new)
+  pub versions : IsPermutation (told ++ rows_in layout.versions old) (rows_in layout.versions new)
+  pub recordings : IsPermutation (named ++ rows_in layout.recordings old) (rows_in layout.recordings new)
+  pub others : KeepsRest old new
+
+-- the balances have the units of each credit more, one after another
+abbrev pub AddsEach : List Credit → Database → Database → Type 0
+AddsEach [] old new = new ≡ old
+AddsEach (credit ∷ credits) old new = (mid : Database) × AddsUnits (account_text credit.account) (pos credit.units) old mid × AddsEach credits mid new
+
+-- every table but those of the pools and of what they pay is as it was
+abbrev pub KeepsLines : Trees → Trees → Type 0
+KeepsLines old new =
+    AllByRecursion (λ t. t.tree ≢ layout.pools.tree → t.tree ≢ layout.pool_cuts.tree → t.tree ≢ layout.pool_returns.tree → t.tree ≢ layout.credits.tree → t.tree ≢ layout.balances.tree → new t.tree ≡ old t.tree) all_tables
+
+-- the tables have the rows of a pool more, with its cut, the returns that it pays and the lines of its credits; but for the balances the other tables are as they were
+pub record Closes (pool : ℕ) (order : Order) (paid_out : List Credit) (old new : Trees) : Type 0 where
+  pub pools : IsPermutation ((pool_row pool order ∷ []) ++ rows_in layout.pools old) (rows_in layout.pools new)
+  pub cuts : IsPermutation (map (cut_row pool) order.cut ++ rows_in layout.pool_cuts old) (rows_in layout.pool_cuts new)
+  pub paid : IsPermutation (map (paid_row pool) order.returns ++ rows_in layout.pool_returns old) (rows_in layout.pool_returns new)
+  pub lines : IsPermutation (map (λ line. credit_row pool line.0 line.1) (enumerate_from 0 paid_out) ++ rows_in layout.credits old) (rows_in layout.credits new)
+  pub others : KeepsLines old new

@@ -9,7 +9,7 @@ ghost use Rattle.society_rows.specs.Layout.{returns};
 ghost use Rattle.society_rows.specs.Questions.{Asks};
 ghost use Rattle.society_rows.specs.Rows.{return_values};
 ghost use Rattle.society_rows.specs.Stored.{HasLayout};
-ghost use Rattle.society_tables.specs.Shown.{ByBook, Comes, ShowBody, ShowPayer};
+ghost use Rattle.society_tables.specs.Shown.{ByBook, Comes, ShowBody, ShowKey, ShowPayer};
 
 use society_core::{Known, Payment, ReturnKey};
 use society_rows::{PoolReturnRow, Question, ReturnRow, RowFault, add_return, ask};
@@ -51,9 +51,9 @@ pub(crate) fn known_return_of<S: Alter>(
     compared(rows.as_slice(), body)
 }
 
-/// Whether the rows of a return show one; `Unread` where they are more than one.
+/// Whether the keys of returns show one; `Unread` where they are more than one.
 fn shown_there(rows: &[Row]) -> Result<bool, RowFault>
-    ensures { (kept : Option (List ℕ)) → ShowBody kept rows.now → IfOk result (λ there. there ≡ is_some kept) }
+    ensures { (kept : Option (List ℕ)) → ShowKey kept rows.now → IfOk result (λ there. there ≡ is_some kept) }
 {
     match rows {
         [] => Ok(false),
@@ -71,7 +71,7 @@ fn is_there<S: Alter>(conn: &mut Connection<S>, key: &ReturnKey) -> Result<bool,
 {
     let rows = ask(
         conn,
-        Question::Return(key.reporter.as_bytes(), key.number.value()),
+        Question::HasReturn(key.reporter.as_bytes(), key.number.value()),
     )?;
     shown_there(rows.as_slice())
 }

@@ -8,7 +8,9 @@ ghost use Rattle.society_tables.specs.Columns.{number_at};
 ghost use Rattle.society_tables.specs.Shown.{ByBook, ShowBody, ShowFront, ShowVerdicts, verdict_in};
 
 use society_core::{Known, KnownTransmission, SenderStatus};
-use society_rows::{FrontRow, Question, RowFault, TransmissionRow, VerdictRow, ask};
+use society_rows::{
+    FrontRow, Question, RowFault, TransmissionKeyRow, TransmissionRow, VerdictRow, ask,
+};
 use sqlite::{Alter, Connection, Row};
 use std::alloc::Global;
 use work_ids::TransmissionNumber;
@@ -193,17 +195,17 @@ pub(crate) fn verdicts_of<S: Alter>(
     judged_to(alloc, conn, sender, number, reached)
 }
 
-/// The number that the row of a transmission has; `Unread` where it is no transmission's number.
+/// The number that the key of a transmission has; `Unread` where it is no transmission's number.
 fn number_of(row: &Row) -> Result<TransmissionNumber, RowFault>
     ensures { IfOk result (λ number. number ≡ number_at 1 row.now) }
 {
-    match TransmissionNumber::from_u32(TransmissionRow::from_row(row)?.number) {
+    match TransmissionNumber::from_u32(TransmissionKeyRow::from_row(row)?.number) {
         Some(number) => Ok(number),
         None => Err(RowFault::Unread),
     }
 }
 
-/// The numbers that rows of transmissions have, in their order.
+/// The numbers that keys of transmissions have, in their order.
 fn numbers_in(alloc: Global, rows: &[Row]) -> Result<Vec<TransmissionNumber>, RowFault>
     ensures { IfOk result (λ list. list.items ≡ map (number_at 1) rows.now) }
 {
@@ -214,7 +216,7 @@ fn numbers_in(alloc: Global, rows: &[Row]) -> Result<Vec<TransmissionNumber>, Ro
     Ok(list)
 }
 
-/// How a sender stands with a front and the rows of its transmissions above it.
+/// How a sender stands with a front and the keys of its transmissions above it.
 fn status_in(alloc: Global, rows: &[Row], reached: u32) -> Result<SenderStatus, RowFault>
     ensures { IfOk result (λ status. (status.front ≡ reached) × (status.held.items ≡ map (number_at 1) rows.now)) }
 {
@@ -237,7 +239,7 @@ fn status_at<S: Alter>(
         (ByBook (λ _ book status. reached ≡ front book sender.now → (status.front ≡ front book sender.now) × (status.held.items ≡ held book sender.now))) }
     ensures idle { conn.new.in_transaction ≡ false }
 {
-    let rows = ask(conn, Question::TransmissionsAbove(sender, reached))?;
+    let rows = ask(conn, Question::NumbersAbove(sender, reached))?;
     status_in(alloc, rows.as_slice(), reached)
 }
 

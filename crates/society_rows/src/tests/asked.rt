@@ -1,5 +1,6 @@
 //! Questions on a connection, and rows that are taken one at a time.
-ghost use Rattle.std.specs.Prelude.{◌+◌};
+ghost use Rattle.std.specs.Prelude.{◌+◌, ◌≡◌};
+ghost use Rattle.society_rows.specs.declared.fault.RowFault.TheVariants.{Memory};
 
 use super::*;
 
@@ -11,6 +12,8 @@ struct Count {
 
 impl RowFold for Count {
     ghost step = { λ c _. record c { rows = c.rows + 1 } };
+
+    ghost refusal = { λ _ _ fault. fault ≡ Memory };
 
     fn take(&mut self, _row: &Row) -> Result<(), RowFault> {
         let Some(rows) = self.rows.checked_add(1) else {
@@ -103,6 +106,18 @@ fn a_question_leaves_the_book(rt: HostRuntime) -> Result<(), Fail> {
     );
     assert_eq!(rt;
         told_of(&mut conn, alloc, Question::Transmission(SENDER, 3))?.as_str(),
+        ""
+    );
+    assert_eq!(rt;
+        told_of(&mut conn, alloc, Question::NumbersAbove(SENDER, 1))?.as_str(),
+        "PB000000012|2|;"
+    );
+    assert_eq!(rt;
+        told_of(&mut conn, alloc, Question::HasReturn(b"RADIO1", 3))?.as_str(),
+        "RADIO1|3|;"
+    );
+    assert_eq!(rt;
+        told_of(&mut conn, alloc, Question::HasReturn(b"RADIO1", 2))?.as_str(),
         ""
     );
     assert_eq!(rt;

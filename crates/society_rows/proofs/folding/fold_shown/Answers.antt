@@ -1,12 +1,13 @@
-use Rattle.std.proofs.Common.{rules, ◌∙◌, [], Ok, refl, inl, arith}
+use Rattle.std.proofs.Common.{rules, ◌∙◌, [], Ok, IfErr, refl, sym, inl, inr, arith}
 use Rattle.sqlite.specs.Held.{state}
 use Rattle.sqlite.specs.Given.{HasGiven}
 use Rattle.sqlite.specs.State.{HasCleanDisk, Shown}
 use Rattle.sqlite.specs.Values.{bound}
 use Rattle.sqlite.proofs.Callers.{begun_plain}
-use Rattle.society_rows.specs.Folds.{ReadsAlone, HasTaken}
+use Rattle.society_rows.specs.Folds.{ReadsAlone, HasTaken, AreShownFirst, StopsOver}
 use Rattle.society_rows.specs.Stored.{HasLayout}
-use Rattle.society_rows.proofs.RowFolds.{commits_nothing, survives_on, same_on, plain_under, fails_alone, refused_alone, stopped_alone, ends_alone, takes_row}
+use Rattle.society_rows.specs.declared.fault.RowFault.TheVariants.{Unread}
+use Rattle.society_rows.proofs.RowFolds.{commits_nothing, survives_on, same_on, plain_under, fails_alone, refused_alone, stopped_alone, ends_alone, HasGone, gone_given, goes_on, given_first, refused_over, stops_for, err_as}
 use Rattle.society_rows.proofs.folding.fold_shown.Goals as goal
 
 pub returns-in_err-rows-clause-taken : goal.returns-in_err-rows-clause-taken
@@ -25,7 +26,7 @@ rows-init g c =
       survives = commits_nothing c.args.sql.now (bound c.args.params.now) _ _ c.requires made.survives;
       mode = made.mode;
       same = λ clean has. (begun clean has).1;
-      taken = λ clean has. record { rows = []; these = (begun clean has).0; folded = refl };
+      gone = record { rows = []; these = (refl, λ clean has. (begun clean has).0); folded = refl };
     }
 
 pub returns-in_err-row-clause-taken : goal.returns-in_err-row-clause-taken
@@ -47,7 +48,7 @@ returns-in_default-clause-taken g c =
     let new = state g.S.Store c.next.follows.lender-at-none.conn.now in
     let done : ReadsAlone first new (Ok tt) (λ x x'. HasTaken g.F.RowFold.step (Shown c.args.sql.now (bound c.args.params.now) first new) c.args.into.now c.rows.into) =
     ends_alone g.F.RowFold.step (HasGiven g.S.Store c.args.sql.now (bound c.args.params.now) c.rows.rows.conn.now) c.args.sql.now (bound c.args.params.now) first old new c.args.into.now c.rows.into
-    c.requires c.rows.invariant.survives c.rows.invariant.same c.rows.invariant.taken
+    c.requires c.rows.invariant.survives c.rows.invariant.same (λ clean has. gone_given g.S.Store g.F.RowFold.step c.args.sql.now (bound c.args.params.now) first c.rows.rows.conn.now c.rows.count c.args.into.now c.rows.into c.rows.invariant.gone clean has)
     (λ clean rows given. (rw (c.in_ok-row.was, c.in_default.is) at (moved.ok clean)) c.args.sql.now (bound c.args.params.now) rows given) (rw c.in_ok-row.was at moved.same) moved.survives in
     search rules
 
@@ -74,7 +75,42 @@ rows-preserved g c =
       survives = survives_on first old new c.rows.invariant.survives moved.survives;
       mode = λ none. moved.mode (c.rows.invariant.mode none);
       same = same_on first old new moved.survives c.rows.invariant.same (rw c.in_ok-row.was at moved.same);
-      taken = λ clean has.
-          takes_row g.F.RowFold.step (HasGiven g.S.Store c.args.sql.now (bound c.args.params.now) c.rows.rows.conn.now) _ c.args.into.now c.rows.into c.take.new.self _
-          (λ rows given. (rw (c.in_ok-row.was, c.in-Some.is) at (moved.ok clean)) c.args.sql.now (bound c.args.params.now) rows given) (c.rows.invariant.taken (early clean) has) c.in_ok-take.ensures;
+      gone = goes_on g.S.Store g.F.RowFold.step c.args.sql.now (bound c.args.params.now) first c.rows.rows.conn.now _ c.rows.count c.args.into.now c.rows.into c.take.new.self _ early
+          (λ clean rows given. (rw (c.in_ok-row.was, c.in-Some.is) at (moved.ok clean)) c.args.sql.now (bound c.args.params.now) rows given) c.rows.invariant.gone c.in_ok-take.ensures.taken;
     }
+
+pub returns-in_err-take-clause-told : goal.returns-in_err-take-clause-told
+returns-in_err-take-clause-told g c =
+    let moved = c.next.follows.holds-at-none in
+    let first = state g.S.Store c.args.conn.now in
+    let old = state g.S.Store c.rows.rows.conn.now in
+    let held = c.next.follows.lender-at-none.conn.now in
+    let new = state g.S.Store held in
+    let step = g.F.RowFold.step in
+    let early = λ (clean : HasCleanDisk new). let was : HasCleanDisk old = omega (arith, moved.survives.clean) in was in
+    let same = same_on first old new moved.survives c.rows.invariant.same (rw c.in_ok-row.was at moved.same) in
+    let done : IfErr c.from_residual-in_err-take.result (StopsOver step g.F.RowFold.refusal (AreShownFirst c.args.sql.now (bound c.args.params.now) first new) c.args.into.now) =
+    refused_over step g.F.RowFold.refusal (HasGone g.S.Store c.args.sql.now (bound c.args.params.now) first c.rows.rows.conn.now c.rows.count) _ c.args.into.now c.rows.into c.in-Some.row.now c.from_residual-in_err-take.result
+    (λ rows it clean has. given_first g.S.Store c.args.sql.now (bound c.args.params.now) first held _ (same clean has)
+    ((rw (c.in_ok-row.was, c.in-Some.is) at (moved.ok clean)) c.args.sql.now (bound c.args.params.now) rows (it.1 (early clean) has)))
+    c.rows.invariant.gone (err_as c.from_residual-in_err-take.result c.in_err-take.field-0.0 _ c.from_residual-in_err-take.ensures.1 c.in_err-take.ensures.told) in
+    search rules
+
+pub returns-clause-told : goal.returns-clause-told
+returns-clause-told g c =
+    let first = state g.S.Store c.args.conn.now in
+    let old = state g.S.Store c.rows.rows.conn.now in
+    let gone = c.rows.invariant.gone in
+    let done : StopsOver g.F.RowFold.step g.F.RowFold.refusal (AreShownFirst c.args.sql.now (bound c.args.params.now) first old) c.args.into.now Unread =
+    record {
+      why = inr (inr (
+        refl,
+        (
+          gone.rows,
+          λ clean has. given_first g.S.Store c.args.sql.now (bound c.args.params.now) first c.rows.rows.conn.now gone.rows (c.rows.invariant.same clean has) (gone.these.1 clean has),
+          omega (arith, gone.these.0, c.rows-test.false),
+        ),
+      ));
+    } in
+    let named = c.rows.invariant.same_reference ∙ c.in_ok-rows.ensures.same_reference in
+    search (rules, stops_for g.S.Store g.F.RowFold.step g.F.RowFold.refusal c.args.sql.now (bound c.args.params.now) first c.rows.rows.conn.now c.args.into.now Unread done _ (sym named) c.drop-rows-2.new.self.0 c.drop-rows-2.ensures)

@@ -1,10 +1,10 @@
 use Rattle.std.proofs.Common.{◌≡◌, false}
 use Rattle.sqlite.specs.State.{HasCleanDisk, IsUnchanged, Survives}
 use Rattle.sqlite.specs.Held.{state}
-use Rattle.sqlite.specs.Given.{HasGiven}
 use Rattle.sqlite.specs.Values.{bound}
 use Rattle.society_rows.specs.Folds.{HasTaken, OfOtherLayout}
 use Rattle.society_rows.specs.Stored.{HasLayout}
+use Rattle.society_rows.proofs.RowFolds.{HasGone}
 use Rattle.society_rows.proofs.folding.fold_shown.Given as goal
 
 abbrev pub invariant-rows : goal.invariant-rows
@@ -16,5 +16,5 @@ invariant-rows g l =
       survives : Survives old now (OfOtherLayout old);
       mode : l.fn.conn.in_transaction ≡ false → l.rows.conn.now.in_transaction ≡ false;
       same : HasCleanDisk now → HasLayout old.now → IsUnchanged old now;
-      taken : HasCleanDisk now → HasLayout old.now → HasTaken g.F.RowFold.step (HasGiven g.S.Store l.sql (bound l.params) l.rows.conn.now) l.initial.into l.into;
+      gone : HasTaken g.F.RowFold.step (HasGone g.S.Store l.sql (bound l.params) old l.rows.conn.now l.count) l.initial.into l.into;
     }

@@ -25,21 +25,16 @@ loop-text-preserved g c =
       made = writes_then IsBare (HasTables i) first old new tt (Ok tt) (λ _. HasTables i) (λ _. HasTables (i + 1)) (λ _. HasTables (i + 1)) (λ d e h. h) (λ d e f p q. q) c.loop-text.invariant.made one;
     }
 
-pub returns : goal.returns
-returns g c = record {
-  same_reference = c.loop-text.invariant.same_reference;
-  made = writes_as IsBare (state g.S.Store c.args.tx.now.conn.now) (state g.S.Store c.loop-text.tx.conn.now) (Ok tt) (λ _. HasTables c.loop-text.text-index) (λ _. IsEmptyBook)
-      (λ d e. last_tables c.loop-text.text-index (omega (arith, c.loop-text-test.false, ap length c.requires, length-map c.args.texts.now (λ (t : Bor (List ℕ)). t.now))) e) c.loop-text.invariant.made;
-}
+pub returns-clause-made : goal.returns-clause-made
+returns-clause-made g c =
+    writes_as IsBare (state g.S.Store c.args.tx.now.conn.now) (state g.S.Store c.loop-text.tx.conn.now) (Ok tt) (λ _. HasTables c.loop-text.text-index) (λ _. IsEmptyBook)
+    (λ d e. last_tables c.loop-text.text-index (omega (arith, c.loop-text-test.false, ap length c.requires, length-map c.args.texts.now (λ (t : Bor (List ℕ)). t.now))) e) c.loop-text.invariant.made
 
-pub returns-in_err-run : goal.returns-in_err-run
-returns-in_err-run g c =
+pub returns-in_err-run-clause-made : goal.returns-in_err-run-clause-made
+returns-in_err-run-clause-made g c =
     let i = c.loop-text.text-index in
     let first = state g.S.Store c.args.tx.now.conn.now in
     let old = state g.S.Store c.loop-text.tx.conn.now in
     let new = state g.S.Store c.run.new.tx.conn.now in
-    record {
-      same_reference = c.run.ensures.same_reference ∙ c.loop-text.invariant.same_reference;
-      made = writes_fail IsBare (HasTables i) first old new tt (λ _. HasTables i) (λ _. IsEmptyBook) (λ d e h. h) _ _ c.in_err-run.field-0.0 c.from_residual.result c.from_residual.ensures.0
-          c.loop-text.invariant.made c.in_err-run.ensures.ran c.in_err-run.ensures.survives;
-    }
+    writes_fail IsBare (HasTables i) first old new tt (λ _. HasTables i) (λ _. IsEmptyBook) (λ d e h. h) _ _ c.in_err-run.field-0.0 c.from_residual.result c.from_residual.ensures.0 c.loop-text.invariant.made
+    c.in_err-run.ensures.ran c.in_err-run.ensures.survives

@@ -13,8 +13,14 @@ returns-in-Transmission-clause-read g c = answers_as _ _ c.transmission_at.resul
 pub returns-in-TransmissionsAbove-clause-read : goal.returns-in-TransmissionsAbove-clause-read
 returns-in-TransmissionsAbove-clause-read g c = answers_as _ _ c.transmissions_above.result c.args.question _ c.in-TransmissionsAbove.is c.transmissions_above.ensures.read
 
+pub returns-in-NumbersAbove-clause-read : goal.returns-in-NumbersAbove-clause-read
+returns-in-NumbersAbove-clause-read g c = answers_as _ _ c.numbers_above.result c.args.question _ c.in-NumbersAbove.is c.numbers_above.ensures.read
+
 pub returns-in-Return-clause-read : goal.returns-in-Return-clause-read
 returns-in-Return-clause-read g c = answers_as _ _ c.return_at.result c.args.question _ c.in-Return.is c.return_at.ensures.read
+
+pub returns-in-HasReturn-clause-read : goal.returns-in-HasReturn-clause-read
+returns-in-HasReturn-clause-read g c = answers_as _ _ c.return_known.result c.args.question _ c.in-HasReturn.is c.return_known.ensures.read
 
 pub returns-in-Pool-clause-read : goal.returns-in-Pool-clause-read
 returns-in-Pool-clause-read g c = answers_as _ _ c.pool_at.result c.args.question _ c.in-Pool.is c.pool_at.ensures.read
