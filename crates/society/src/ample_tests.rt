@@ -133,11 +133,11 @@ fn three_hundred_numbers(rt: HostRuntime) -> Result<(), Fail> {
 }
 
 #[test]
-fn run_of_five_hundred_requests(rt: HostRuntime) -> Result<(), Fail> {
+fn run_of_one_hundred_thousand_puts(rt: HostRuntime) -> Result<(), Fail> {
     let alloc = rt.alloc();
     let mut input = Vec::new(alloc);
     let mut wanted = Vec::new(alloc);
-    for number in 1..501 {
+    for number in 1..100_001 {
         let number_text = format!(in alloc; "{number}")?;
         put(alloc, &mut input, number_text.as_str(), F3)?;
         let json = format!(in alloc; "{{\"front\":{number},\"state\":\"applied\"}}")?;

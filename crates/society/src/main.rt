@@ -13,7 +13,11 @@ mod day_tests;
 #[cfg(test)]
 mod desk_tests;
 #[cfg(test)]
+mod hostile_tests;
+#[cfg(test)]
 mod http_tests;
+#[cfg(test)]
+mod limit_tests;
 #[cfg(test)]
 mod pool_tests;
 mod replay;

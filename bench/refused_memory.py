@@ -1,0 +1,256 @@
+#!/usr/bin/env python3
+"""Refuses each allocation of the program in turn, and looks whether an answer changes.
+
+usage: bench/refused_memory.py [PROGRAM]     (crates/society/out/society; `bin/society --help` builds it)
+
+For each row below a server is started over and over; the k-th allocation of its process is refused, k = 1, 2, ..
+until a run in which none was. Each request comes over a connection of its own. It gets the row's answer, or, once at most, an
+answer 503 or a line 'memory fault after 0 requests'; it is then sent again, and it and all later ones get the row's answers.
+The allocations before the server listens end the program with status 1 and one line instead. `cc` compiles the refusal.
+"""
+import contextlib
+import os
+import pathlib
+import re
+import socket
+import subprocess
+import sys
+import tempfile
+import time
+
+HERE = pathlib.Path(__file__).resolve().parent.parent
+PROGRAM = str(HERE / "crates/society/out/society")
+WORDS = ["--society", "900", "--territory", "40", "--name", "EXAMPLE SOCIETY"]
+BUSY = b'{"error":"busy"}'
+MEMORY = "society: memory fault after 0 requests\n"
+
+# The C library's allocations, counted; the one with the number REFUSE_AT is refused, and a file is made that says so.
+REFUSAL = r"""
+#define _GNU_SOURCE
+#include <dlfcn.h>
+#include <errno.h>
+#include <fcntl.h>
+#include <stdlib.h>
+#include <unistd.h>
+extern void *__libc_malloc(size_t);
+extern void *__libc_realloc(void *, size_t);
+extern void *__libc_calloc(size_t, size_t);
+extern void *__libc_memalign(size_t, size_t);
+static long count, refuse_at = -1;
+static int is_refused(void) {
+    if (refuse_at < 0) {
+        const char *text = getenv("REFUSE_AT");
+        refuse_at = text ? atol(text) : 0;
+    }
+    if (++count != refuse_at) return 0;
+    int file = open(getenv("REFUSE_TOLD"), O_CREAT | O_WRONLY, 0600);
+    if (file >= 0) close(file);
+    errno = ENOMEM;
+    return 1;
+}
+void *malloc(size_t size) { return is_refused() ? 0 : __libc_malloc(size); }
+void *realloc(void *old, size_t size) { return is_refused() ? 0 : __libc_realloc(old, size); }
+void *calloc(size_t many, size_t size) { return is_refused() ? 0 : __libc_calloc(many, size); }
+void *aligned_alloc(size_t to, size_t size) { return is_refused() ? 0 : __libc_memalign(to, size); }
+int posix_memalign(void **out, size_t to, size_t size) {
+    if (is_refused()) return ENOMEM;
+    *out = __libc_memalign(to, size);
+    return *out ? 0 : ENOMEM;
+}
+"""
+
+F1 = (HERE / "examples/first.cwr").read_bytes()
+
+
+def changed(body, *places):
+    """The body with bytes put in their places."""
+    body = bytearray(body)
+    for at, by in places:
+        body[at : at + len(by)] = by
+    return bytes(body)
+
+
+F2 = changed(F1, (91, b"REV"), (116, b"REV"), (340, b"0"), (397, b"0"), (551, b"10"), (602, b"10"))
+F3 = F1[:88] + b"TRL000000000000000000002\r\n"
+PLAYS = b"isrc,plays,seconds\nATABC2600001,10,200\n"
+TWO_ROWS = b"isrc,plays,seconds\nat-abc-26-00001,1,60\nATABC2600001,2,30\n"
+NO_PLAY = b"isrc,plays,seconds\nATABC2600001,0,60\n"
+SENDER = "/v1/senders/PB000000012"
+
+
+def put(number, body):
+    return "PUT", f"{SENDER}/transmissions/{number}", body
+
+
+def order(amount, cut, returns):
+    text = '{"amount":%d,"cut":%s,"returns":%s}' % (amount, cut, returns)
+    return text.encode()
+
+
+def get(path):
+    return "GET", path, b""
+
+
+AT_3 = order(1001, '[["PB000000012",3]]', '[["RADIO1",1]]')
+# Each row with the status of each of its requests in an ample run.
+ROWS = {
+    "first_acknowledgement": [(put(1, F1), 201), (get(f"{SENDER}/acks/1"), 200)],
+    "gap_filled": [
+        (put(1, F1), 201),
+        (put(3, F3), 202),
+        (get(f"{SENDER}/acks/3"), 404),
+        (get(SENDER), 200),
+        (put(2, F2), 201),
+        (get(SENDER), 200),
+        (get(f"{SENDER}/acks/1"), 200),
+        (get(f"{SENDER}/acks/3"), 200),
+        (get(f"{SENDER}/verdicts/2"), 200),
+        (get(f"{SENDER}/works/W1"), 200),
+    ],
+    "pool_closed_at_a_cut": [
+        (put(1, F1), 201),
+        (put(2, F3), 201),
+        (("PUT", "/v1/returns/RADIO1/1", PLAYS), 201),
+        (("PUT", "/v1/pools/7", AT_3), 409),
+        (put(3, F3), 201),
+        (("PUT", "/v1/pools/7", AT_3), 201),
+        (("PUT", "/v1/pools/7", AT_3), 200),
+        (("PUT", "/v1/pools/7", AT_3.replace(b"1001", b"1002")), 409),
+        (get("/v1/pools/7"), 200),
+        (get("/v1/accounts/I00000000199"), 200),
+        (get("/v1/accounts/PPB000000012A1"), 200),
+    ],
+    "points_of_one_recording": [
+        (("PUT", "/v1/returns/RADIO1/1", TWO_ROWS), 201),
+        (("PUT", "/v1/returns/RADIO1/1", TWO_ROWS), 200),
+        (("PUT", "/v1/returns/RADIO1/1", PLAYS), 409),
+        (("PUT", "/v1/pools/1", order(5, "[]", '[["RADIO1",1]]')), 201),
+        (get("/v1/pools/1"), 200),
+        (("PUT", "/v1/returns/RADIO1/2", NO_PLAY), 422),
+        (get("/v1/accounts/UNCLAIMED"), 200),
+    ],
+}
+
+
+def compiled(folder):
+    """The library that refuses."""
+    source, library = folder / "refusal.c", folder / "refusal.so"
+    source.write_text(REFUSAL)
+    subprocess.run(["cc", "-O1", "-shared", "-fPIC", "-o", library, source], check=True)
+    return str(library)
+
+
+def free_port():
+    with socket.socket() as it:
+        it.bind(("127.0.0.1", 0))
+        return it.getsockname()[1]
+
+
+class Server:
+    """A server whose k-th allocation is refused; none where k is 0."""
+
+    def __init__(self, program, library, told, k):
+        self.told, self.port = told, free_port()
+        told.unlink(missing_ok=True)
+        words = [program, "serve", "--port", str(self.port), "--connections", "1000000", *WORDS]
+        env = {"LD_PRELOAD": library, "REFUSE_AT": str(k), "REFUSE_TOLD": str(told)}
+        self.process = subprocess.Popen(words, env=env, stdout=subprocess.PIPE, stderr=subprocess.PIPE)
+
+    def line(self):
+        return self.process.stdout.readline().decode()
+
+    def was_refused(self):
+        return self.told.exists()
+
+    def ask(self, request):
+        """What is written for one request on a connection of its own, and the server's line on it."""
+        method, path, body = request
+        head = f"{method} {path} HTTP/1.1\r\nHost: office\r\nContent-Length: {len(body)}\r\n\r\n"
+        parts = []
+        with socket.create_connection(("127.0.0.1", self.port), timeout=20) as it, contextlib.suppress(OSError):
+            # Where it is given up before the first read, the rest of this may find no peer.
+            it.sendall(head.encode() + body)
+            it.shutdown(socket.SHUT_WR)
+            while part := it.recv(65536):
+                parts.append(part)
+        return b"".join(parts), re.sub(r"^connection \d+: ", "", self.line())
+
+    def end(self):
+        self.process.kill()
+        self.process.wait()
+        self.process.stdout.close()
+        self.process.stderr.close()
+
+
+def answers_of(program, library, told, row):
+    """The row's answers with ample memory."""
+    server = Server(program, library, told, 0)
+    assert server.line() == "listening\n", server.process.stderr.read()
+    answers = []
+    for request, status in row:
+        text, line = server.ask(request)
+        assert text.startswith(b"HTTP/1.1 %d " % status), (request[:2], text)
+        assert line == "1 requests\n", line
+        answers.append(text)
+    server.end()
+    return answers
+
+
+def is_refusal(text, line):
+    """Whether a request was refused for want of memory: 503, or nothing at all."""
+    if line == "memory fault after 0 requests\n":
+        return text == b""
+    return text.startswith(b"HTTP/1.1 503 ") and text.endswith(BUSY)
+
+
+def check_run(server, row, answers):
+    """How a run went in which an allocation may be refused: what was refused of the row."""
+    if server.line() != "listening\n":
+        server.process.wait()
+        error = server.process.stderr.read().decode()
+        good = server.process.returncode == 1 and (error == MEMORY or error.startswith("society: cannot "))
+        assert good, (server.process.returncode, error)
+        return "before it listened: " + error.strip()
+    seen = "no answer"
+    for (request, _), answer in zip(row, answers):
+        text, line = server.ask(request)
+        if text != answer:
+            assert seen == "no answer" and is_refusal(text, line), (request[:2], text, line)
+            closes = b"Connection: close" in text
+            seen = "a request: " + ("503" if text else line.strip()) + " and the end of the connection" * closes
+            text, line = server.ask(request)
+        assert text == answer, (request[:2], text, answer)
+        assert line == "1 requests\n", line
+    return seen
+
+
+def check_row(program, library, told, name, row):
+    answers = answers_of(program, library, told, row)
+    counts, begun = {}, time.time()
+    for k in range(1, 100_000):
+        server = Server(program, library, told, k)
+        try:
+            seen = check_run(server, row, answers)
+        except AssertionError as error:
+            sys.exit(f"{name}: allocation {k} refused: {error}")
+        finally:
+            server.end()
+        if not server.was_refused():
+            break
+        counts[seen] = counts.get(seen, 0) + 1
+    total = sum(counts.values())
+    print(f"{name}: {total} allocations refused in turn, {time.time() - begun:.1f} s")
+    for seen, count in sorted(counts.items()):
+        print(f"    {count} refused {seen}")
+
+
+def main():
+    program = os.path.abspath(sys.argv[1] if len(sys.argv) > 1 else PROGRAM)
+    with tempfile.TemporaryDirectory() as folder:
+        folder = pathlib.Path(folder)
+        library = compiled(folder)
+        for name, row in ROWS.items():
+            check_row(program, library, folder / "told", name, row)
+
+
+main()
