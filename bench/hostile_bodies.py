@@ -416,7 +416,7 @@ def many_hard_numbers():
 
 
 @case
-def many_thousand_orders():
+def orders_of_the_most_names():
     one = close(1, 1, [["PB%09d" % k, 1] for k in range(200)], [["R", k + 1] for k in range(1_000)])
     return one * (MAX_BODY // len(one))
 

@@ -144,7 +144,7 @@ fn run_of_one_hundred_thousand_puts(rt: HostRuntime) -> Result<(), Fail> {
         answer(alloc, &mut wanted, "201 Created", "json", json.as_bytes())?;
     }
     let (out, status) = replayed(alloc, input.as_slice())?;
-    assert_eq!(rt; out.as_slice(), wanted.as_slice());
+    assert!(rt; out.as_slice() == wanted.as_slice());
     assert_eq!(rt; status, 0);
     Ok(())
 }

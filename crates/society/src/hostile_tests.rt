@@ -191,7 +191,7 @@ fn reads_that_fail(rt: HostRuntime) -> Result<(), Fail> {
     let alloc = rt.alloc();
     let stream = first_acknowledgement(alloc)?;
     for length in 0..stream.input.len() + 1 {
-        check_failing_read(&rt, alloc, &stream, length, 1)?;
+        check_failing_read(&rt, alloc, &stream, length, 64)?;
         check_failing_read(&rt, alloc, &stream, length, usize::MAX)?;
     }
     Ok(())
@@ -224,7 +224,7 @@ fn writes_that_fail(rt: HostRuntime) -> Result<(), Fail> {
     let stream = first_acknowledgement(alloc)?;
     for room in 0..stream.output.len() {
         let answered = if room < stream.arrival { 1 } else { 2 };
-        check_failing_write(&rt, alloc, &stream, room, 1, answered)?;
+        check_failing_write(&rt, alloc, &stream, room, 64, answered)?;
         check_failing_write(&rt, alloc, &stream, room, usize::MAX, 2)?;
     }
     Ok(())

@@ -179,9 +179,9 @@ fn fronts_to_three_hundred(rt: HostRuntime) -> Result<(), Fail> {
     let mut writer = Counted::new(Vec::new(alloc));
     let end = serve(alloc, &mut desk, &mut reader, &mut writer, u64::MAX);
     assert_eq!(rt; end, Ok(Served { requests: 301 }));
-    assert_eq!(rt; writer.into_inner().as_slice(), wanted.as_slice());
+    assert!(rt; writer.into_inner().as_slice() == wanted.as_slice());
     let (out, status) = replayed(alloc, input.as_slice())?;
-    assert_eq!(rt; out.as_slice(), wanted.as_slice());
+    assert!(rt; out.as_slice() == wanted.as_slice());
     assert_eq!(rt; status, 0);
     Ok(())
 }
