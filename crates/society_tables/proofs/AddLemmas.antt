@@ -15,7 +15,7 @@ use Rattle.society_tables.specs.Kept.{Holds, HoldsBook, IsAtRest, IsKept, LeftBy
 use Rattle.society_tables.specs.Shown.{AddsAlone}
 use Rattle.society_tables.proofs.AskLemmas.{both_true, clean_is, first_true, second_true, was_clean}
 use Rattle.society_tables.proofs.BookLemmas.{the_book}
-use Rattle.society_tables.proofs.QuestionLemmas.{coded_book, told_cause, told_on}
+use Rattle.society_tables.proofs.QuestionLemmas.{IsAlone, coded_book, ok_alone, told_answer, told_cause, told_on}
 use Rattle.sqlite.specs.Effect.{Database}
 use Rattle.sqlite.specs.State.{HasCleanDisk, State}
 use Rattle.sqlite_trees.specs.Tree.{Trees}
@@ -28,7 +28,7 @@ stands o b db holds = the_book b db holds.sound holds.kept
 pub holds_own : (o : Office) (b : Book) (db : Trees) → HoldsBook o b db → Holds o db
 holds_own o b db holds = subst (λ (x : Book). HoldsBook o x db) (sym (stands o b db holds)) holds
 
-module _ (o : Office) (old new : State) (Change : Trees → Trees → Type 0) (next : Book) (answer : Result (Unit {0}) RowFault) (adds : AddsAlone Change old new answer) (grows : IsTrue (old.is_clean && old.is_open) → Holds o old.now.trees → (db : Trees) → Change old.now.trees db → HoldsBook o next db) where
+module _ (o : Office) (old new : State) {X : Type 0} (Change : Trees → Trees → Type 0) (Says : Trees → X → Type 0) (next : Book) (answer : Result X RowFault) (adds : AddsAlone Change Says old new answer) (grows : IsTrue (old.is_clean && old.is_open) → Holds o old.now.trees → (db : Trees) → Change old.now.trees db → HoldsBook o next db) where
   clean_then : IsTrue new.is_clean → IsTrue old.is_clean
   clean_then = was_clean old.is_clean new.is_clean adds.survives.clean
 
@@ -38,7 +38,7 @@ module _ (o : Office) (old new : State) (Change : Trees → Trees → Type 0) (n
       (adds.was_open (clean_is new.is_clean (first_true new.is_clean new.is_open h)) (second_true new.is_clean new.is_open h))
 
   -- once it was added, the tables hold the next book
-  holds_next : Rests o old → IsTrue new.is_clean → (x : Unit {0}) → answer ≡ Ok x → HoldsBook o next new.now.trees × HasLayout new.now × (new.now ≡ new.committed)
+  holds_next : Rests o old → IsTrue new.is_clean → (x : X) → answer ≡ Ok x → HoldsBook o next new.now.trees × HasLayout new.now × (new.now ≡ new.committed)
   holds_next rests clean x is =
       let on : HasCleanDisk new = clean_is new.is_clean clean in
       let settled = subst (λ r. OnOk r (IsTrue old.is_open × (new.now ≡ new.committed))) is (adds.settled on) in
@@ -56,7 +56,7 @@ module _ (o : Office) (old new : State) (Change : Trees → Trees → Type 0) (n
   pub rests_after : Rests o old → Rests o new
   rests_after rests h = by_answer answer refl
     where
-      by_answer : (r : Result (Unit {0}) RowFault) → answer ≡ r → IsAtRest o new
+      by_answer : (r : Result X RowFault) → answer ≡ r → IsAtRest o new
       by_answer (Ok x) is =
           let held = holds_next rests (first_true new.is_clean new.is_open h) x is in
           record { same = held.2; kept = record { layout = held.1; holds = holds_own o next new.now.trees held.0 } }
@@ -64,7 +64,7 @@ module _ (o : Office) (old new : State) (Change : Trees → Trees → Type 0) (n
           let same = same_after rests h e is in
           record { same = same.0 ∙ (rests (clean_before h)).same ∙ sym same.1; kept = subst (λ (db : Database). IsKept o db) (sym same.0) (rests (clean_before h)).kept }
 
-  book_after : Rests o old → IsTrue (new.is_clean && new.is_open) → (x : Unit {0}) → answer ≡ Ok x → book_of new.now.trees ≡ next
+  book_after : Rests o old → IsTrue (new.is_clean && new.is_open) → (x : X) → answer ≡ Ok x → book_of new.now.trees ≡ next
   book_after rests h x is = stands o next new.now.trees (holds_next rests (first_true new.is_clean new.is_open h) x is).0
 
   -- what a crash leaves beside what it left before is the next book
@@ -82,10 +82,20 @@ module _ (o : Office) (old new : State) (Change : Trees → Trees → Type 0) (n
       ))
       (adds.survives.crash (clean_is new.is_clean clean) left.0 left.1)
 
-  pub addition : (f g : ℕ) (result : Result (Unit {0}) StoreFault) → ∥ Rests o old ∥₁ → f < 2 ^ 64 - 1 → Told answer result f g → Addition (tables_state o old f) (tables_state o new g) next result (λ _. ⊤)
-  addition f g result rests below told = record {
+  -- what is told once it was added, where the tables hold the book that they stand for
+  said : (IsAnswer : X → Type 0) → (Holds o old.now.trees → (x : X) → Says old.now.trees x → IsAnswer x) → Rests o old → IsTrue (new.is_clean && new.is_open) → IfOk answer IsAnswer
+  said IsAnswer tells rests clean =
+      let kept = (rests (clean_before clean)).kept in
+      weaker answer (adds.says (clean_is new.is_clean (first_true new.is_clean new.is_open clean)) kept.layout)
+    where
+      weaker : (r : Result X RowFault) → IfOk r (Says old.now.trees) → IfOk r IsAnswer
+      weaker (Ok x) h = tells (rests (clean_before clean)).kept.holds x h
+      weaker (Err e) h = tt
+
+  pub addition : (IsAnswer : X → Type 0) → ((x : X) → IsAlone (IsAnswer x)) → (IsTrue (old.is_clean && old.is_open) → Holds o old.now.trees → (x : X) → Says old.now.trees x → IsAnswer x) → (f g : ℕ) (result : Result X StoreFault) → ∥ Rests o old ∥₁ → f < 2 ^ 64 - 1 → Told answer result f g → Addition (tables_state o old f) (tables_state o new g) next result IsAnswer
+  addition IsAnswer alone tells f g result rests below told = record {
     added = λ clean. added_by answer refl result told clean;
-    answer = λ clean. any result;
+    answer = λ clean. told_answer answer result f g IsAnswer told (∥∥₁_elim rests (ok_alone answer IsAnswer alone) (λ r. said IsAnswer (tells (clean_before clean)) r clean));
     unchanged = λ clean. kept_by answer refl result told clean;
     goes = record {
       office = refl;
@@ -98,15 +108,19 @@ module _ (o : Office) (old new : State) (Change : Trees → Trees → Type 0) (n
     refuses = λ full. absurd (let e = full in omega (e, below, arith));
   }
     where
-      any : (r : Result (Unit {0}) StoreFault) → IfOk r (λ _. ⊤)
-      any (Ok x) = tt
-      any (Err e) = tt
-
-      added_by : (r : Result (Unit {0}) RowFault) → answer ≡ r → (s : Result (Unit {0}) StoreFault) → Told r s f g → IsTrue (new.is_clean && new.is_open) → OnOk s (book_of new.now.trees ≡ next)
+      added_by : (r : Result X RowFault) → answer ≡ r → (s : Result X StoreFault) → Told r s f g → IsTrue (new.is_clean && new.is_open) → OnOk s (book_of new.now.trees ≡ next)
       added_by (Ok x) is s t clean = subst (λ z. OnOk z (book_of new.now.trees ≡ next)) (sym t.0) (∥∥₁_elim rests (Coded-set coded_book _ _) (λ r. book_after r clean x is))
       added_by (Err e) is s t clean = subst (λ z. OnOk z (book_of new.now.trees ≡ next)) (sym t.0) tt
 
-      kept_by : (r : Result (Unit {0}) RowFault) → answer ≡ r → (s : Result (Unit {0}) StoreFault) → Told r s f g → IsTrue (new.is_clean && new.is_open) → OnErr s (book_of new.now.trees ≡ book_of old.now.trees)
+      kept_by : (r : Result X RowFault) → answer ≡ r → (s : Result X StoreFault) → Told r s f g → IsTrue (new.is_clean && new.is_open) → OnErr s (book_of new.now.trees ≡ book_of old.now.trees)
       kept_by (Ok x) is s t clean = subst (λ z. OnErr z (book_of new.now.trees ≡ book_of old.now.trees)) (sym t.0) tt
       kept_by (Err e) is s t clean =
           subst (λ z. OnErr z (book_of new.now.trees ≡ book_of old.now.trees)) (sym t.0) (∥∥₁_elim rests (Coded-set coded_book _ _) (λ r. ap (λ (db : Database). book_of db.trees) (same_after r clean e is).0))
+
+-- an answer that tells nothing
+pub any_told : {X E : Type 0} (r : Result X E) → IfOk r (λ _. ⊤)
+any_told (Ok x) = tt
+any_told (Err e) = tt
+
+pub one_truth : IsAlone ⊤
+one_truth x y = refl

@@ -8,7 +8,7 @@ use Rattle.share_rules.specs.declared.office.Office.{Office}
 use Rattle.sqlite_trees.specs.Tree.{Trees}
 use Rattle.sqlite_value.specs.declared.value.Value.TheVariants.{Int, Text}
 use Rattle.sqlite_value.specs.Order.{Row}
-use Rattle.society_core.specs.Book.{Book, front}
+use Rattle.society_core.specs.Book.{Book, front, transmissions_to}
 use Rattle.society_core.specs.Keys.{transmission_cmp, transmission_key}
 use Rattle.society_core.specs.declared.transmission_key.TransmissionKey.{TransmissionKey}
 use Rattle.society_core.proofs.Fronts.{front_only}
@@ -19,8 +19,12 @@ use Rattle.society_rows.specs.Reads.{Lists, has_key}
 use Rattle.society_tables.specs.DerivedRows.{front_rows, has_sent, works_to}
 use Rattle.society_tables.specs.Kept.{HoldsBook}
 use Rattle.society_tables.specs.Shown.{ShowFront}
+use Rattle.society_tables.specs.Steps.{ShowReached}
 use Rattle.society_tables.proofs.NamedRows.{HasName, found_by_name, one_or_none}
 use Rattle.std.proofs.lemmas.Slice.Eq.{bytes_eq-Decides}
+use Rattle.works_core.specs.Line.{line_of}
+use Rattle.works_core.specs.Verdicts.{works_in}
+use Rattle.works_core.specs.Versions.{judged_of, placed_line}
 
 pub none_so : (s : List ℕ) (n : ℕ) (keys : List TransmissionKey) → list_any (λ key. bytes_eq key.sender s) keys ≡ false → list_any (eq_by_cmp transmission_cmp (transmission_key s n)) keys ≡ false
 none_so s n [] h = refl
@@ -48,3 +52,16 @@ front_found o b db holds s found lists =
     shows : (x : Bool) → has_sent b s ≡ x → found ≡ cond x ((Text s ∷ Int (pos (front b s)) ∷ Int (pos (works_to o b s)) ∷ []) ∷ []) [] → ShowFront (front b s) found
     shows true is e = inr (s, pos (works_to o b s), e)
     shows false is e = inl (e, front_of_nobody b s is)
+
+-- nor has it works
+works_of_nobody : (o : Office) (b : Book) (s : List ℕ) → has_sent b s ≡ false → works_to o b s ≡ 0
+works_of_nobody o b s h = ap (λ (k : ℕ). works_in (judged_of (placed_line (line_of o (transmissions_to b s k))))) (front_of_nobody b s h)
+
+-- what is found of a sender's front shows how far it came
+pub reached_found : (o : Office) (b : Book) (db : Trees) → HoldsBook o b db → (s : List ℕ) (found : List Row) → Lists layout.fronts (has_key (Text s ∷ [])) 1 db found → ShowReached (front b s) (works_to o b s) found
+reached_found o b db holds s found lists =
+    shows (has_sent b s) refl (one_or_none (has_sent b s) (Text s ∷ Int (pos (front b s)) ∷ Int (pos (works_to o b s)) ∷ []) found (found_by_name layout.fronts (front_rows o b) 1 db found s holds.derived.fronts (fronts_named o b) lists))
+  where
+    shows : (x : Bool) → has_sent b s ≡ x → found ≡ cond x ((Text s ∷ Int (pos (front b s)) ∷ Int (pos (works_to o b s)) ∷ []) ∷ []) [] → ShowReached (front b s) (works_to o b s) found
+    shows true is e = inr (s, e)
+    shows false is e = inl (e, front_of_nobody b s is, works_of_nobody o b s is)

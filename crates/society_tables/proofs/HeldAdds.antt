@@ -90,7 +90,7 @@ module _ (b : Book) (s : List ℕ) (n : ℕ) (body : List ℕ) (free : body_at b
   pub still_there : (t : List ℕ) (m : ℕ) → is_there b t m ≡ true → is_there after t m ≡ true
   still_there t m h = let found = some_body (body_at b t m) h in ap is_some (added_keeps b s n body free t m found.0 found.1)
 
-  came : is_there after s n ≡ true
+  pub came : is_there after s n ≡ true
   came = ap is_some (told_after s n ∙ ap (λ x. cond x (Some body) (body_at b s n)) (both_same s n))
 
   -- up to a front that was reached the transmissions are the same

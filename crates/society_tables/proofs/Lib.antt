@@ -28,6 +28,11 @@ pub mod RunTables
 pub mod BalanceAdds
 pub mod PoolTables
 pub mod HeldTables
-pub mod HeldWrites
 pub mod AddLemmas
 pub mod EmptyTables
+pub mod StepLemmas
+pub mod RunLines
+pub mod OutcomeLemmas
+pub mod RunWrites
+pub mod AloneLemmas
+pub mod RunBooks

@@ -49,7 +49,7 @@ coded_book =
 abbrev pub IsAlone : Type 0 → Type 0
 IsAlone P = (x y : P) → x ≡ y
 
-ok_alone : {T E : Type 0} (r : Result T E) (P : T → Type 0) → ((x : T) → IsAlone (P x)) → IsAlone (IfOk r P)
+pub ok_alone : {T E : Type 0} (r : Result T E) (P : T → Type 0) → ((x : T) → IsAlone (P x)) → IsAlone (IfOk r P)
 ok_alone (Ok x) P alone = alone x
 ok_alone (Err e) P alone = λ x y. refl
 
@@ -76,7 +76,7 @@ pub told_cause : {T : Type 0} (o : Office) (old new : State) (answer : Result T 
 told_cause o old new (Ok x) result f g told = subst (λ r. IfErr r (HasCause (tables_state o old f) (tables_state o new g))) (sym told.0) tt
 told_cause o old new (Err fault) result f g told = subst (λ r. IfErr r (HasCause (tables_state o old f) (tables_state o new g))) (sym told.0) (fault_cause o old new fault f g told.1)
 
-told_answer : {T : Type 0} (answer : Result T RowFault) (result : Result T StoreFault) (f g : ℕ) (P : T → Type 0) → Told answer result f g → IfOk answer P → IfOk result P
+pub told_answer : {T : Type 0} (answer : Result T RowFault) (result : Result T StoreFault) (f g : ℕ) (P : T → Type 0) → Told answer result f g → IfOk answer P → IfOk result P
 told_answer (Ok x) result f g P told h = subst (λ r. IfOk r P) (sym told.0) h
 told_answer (Err fault) result f g P told h = subst (λ r. IfOk r P) (sym told.0) tt
 

@@ -3,4 +3,7 @@ pub mod BookRows
 pub mod DerivedRows
 pub mod Kept
 pub mod Shown
+pub mod Runs
+pub mod Outcomes
+pub mod Steps
 pub mod Faults

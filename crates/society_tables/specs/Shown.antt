@@ -1,5 +1,5 @@
 -- What rows that were read show.
-use Rattle.std.specs.Prelude.{ℕ, ℤ, pos, ◌≡◌, ◌⊎◌, List, [], ◌∷◌, ◌++◌, Option, Some, None, Result, OnOk, OnErr, IsTrue, IsPermutation, length, map, ◌==◌, if◌then◌else◌, bytes_eq, Ok, Err}
+use Rattle.std.specs.Prelude.{ℕ, ℤ, pos, ◌≡◌, ◌⊎◌, List, [], ◌∷◌, ◌++◌, Option, Some, None, Result, IfOk, OnOk, OnErr, IsTrue, IsPermutation, length, map, ◌==◌, if◌then◌else◌, bytes_eq, Ok, Err}
 use Rattle.std.specs.List.{AllByRecursion, enumerate_from}
 use Rattle.share_rules.specs.declared.office.Office.{Office}
 use Rattle.sqlite_value.specs.declared.value.Value.TheVariants.{Blob, Int, Text}
@@ -12,7 +12,7 @@ use Rattle.society_rows.specs.Balances.{AddsUnits}
 use Rattle.society_rows.specs.declared.fault.RowFault.{RowFault}
 use Rattle.society_rows.specs.Stored.{AreNumbered, HasLayout, KeepsOthers, put_over, rows_in}
 use Rattle.society_rows.specs.Layout as layout
-use Rattle.society_rows.specs.Layout.{all_tables, fronts, transmissions}
+use Rattle.society_rows.specs.Layout.{all_tables, fronts, recordings, transmissions, verdicts, versions}
 use Rattle.std.specs.Prelude.{◌≢◌}
 use Rattle.pool_split.specs.declared.claim.Credit.{Credit}
 use Rattle.society_core.specs.Book.{Book}
@@ -64,10 +64,11 @@ pub record Comes (table : Table) (more : List Row) (old new : Trees) : Type 0 wh
   pub rows : IsPermutation (more ++ rows_in table old) (rows_in table new)
   pub others : KeepsOthers table old new
 
--- What an addition in a transaction of its own does to a connection that is in none: this change, committed, or nothing; and a crash
--- leaves what it left before, or the tables with this change.
-pub record AddsAlone (Change : Trees → Trees → Type 0) (old new : State) (result : Result (Unit {0}) RowFault) : Type 0 where
+-- What an addition in a transaction of its own does to a connection that is in none: this change, committed, with an answer of which this
+-- holds, or nothing; and a crash leaves what it left before, or the tables with this change.
+pub record AddsAlone {X : Type 0} (Change : Trees → Trees → Type 0) (Says : Trees → X → Type 0) (old new : State) (result : Result X RowFault) : Type 0 where
   pub changed : HasCleanDisk new → HasLayout old.now → OnOk result (Change old.now.trees new.now.trees × HasLayout new.now)
+  pub says : HasCleanDisk new → HasLayout old.now → IfOk result (Says old.now.trees)
   pub settled : HasCleanDisk new → OnOk result (IsTrue old.is_open × (new.now ≡ new.committed))
   pub was_open : HasCleanDisk new → IsTrue new.is_open → IsTrue old.is_open
   pub neither : HasCleanDisk new → IsTrue new.is_open → OnErr result ((new.now ≡ old.committed) × (new.committed ≡ old.committed))
@@ -140,17 +141,28 @@ pub record Waits (row front : Row) (old new : Trees) : Type 0 where
 -- every table but the five of a sender's line is as it was
 abbrev pub KeepsRest : Trees → Trees → Type 0
 KeepsRest old new =
-    AllByRecursion (λ t. t.tree ≢ transmissions.tree → t.tree ≢ fronts.tree → t.tree ≢ layout.verdicts.tree → t.tree ≢ layout.versions.tree → t.tree ≢ layout.recordings.tree → new t.tree ≡ old t.tree) all_tables
+    AllByRecursion (λ t. t.tree ≢ transmissions.tree → t.tree ≢ fronts.tree → t.tree ≢ verdicts.tree → t.tree ≢ versions.tree → t.tree ≢ recordings.tree → new t.tree ≡ old t.tree) all_tables
 
 -- the tables have this row of a transmission more, this row of a front in place of its sender's, and these rows of verdicts, of versions and of recordings more; the other tables are as they were
 pub record Runs (row front : Row) (judged told named : List Row) (old new : Trees) : Type 0 where
   pub rows : IsPermutation ((row ∷ []) ++ rows_in transmissions old) (rows_in transmissions new)
   pub put : AreNumbered fronts old → IsPermutation (put_over front (rows_in fronts old)) (rows_in fronts new)
   pub numbered : AreNumbered fronts old → AreNumbered fronts new
-  pub verdicts : IsPermutation (judged ++ rows_in layout.verdicts old) (rows_in layout.verdicts new)
-  pub versions : IsPermutation (told ++ rows_in layout.versions old) (rows_in layout.versions new)
-  pub recordings : IsPermutation (named ++ rows_in layout.recordings old) (rows_in layout.recordings new)
+  pub verdicts : IsPermutation (judged ++ rows_in verdicts old) (rows_in verdicts new)
+  pub versions : IsPermutation (told ++ rows_in versions old) (rows_in versions new)
+  pub recordings : IsPermutation (named ++ rows_in recordings old) (rows_in recordings new)
   pub others : KeepsRest old new
+
+-- every table but those of verdicts, versions and recordings is as it was
+abbrev pub KeepsUntold : Trees → Trees → Type 0
+KeepsUntold old new = AllByRecursion (λ t. t.tree ≢ verdicts.tree → t.tree ≢ versions.tree → t.tree ≢ recordings.tree → new t.tree ≡ old t.tree) all_tables
+
+-- the tables have these rows of verdicts, of versions and of recordings more; the other tables are as they were
+pub record Tells (judged told named : List Row) (old new : Trees) : Type 0 where
+  pub verdicts : IsPermutation (judged ++ rows_in verdicts old) (rows_in verdicts new)
+  pub versions : IsPermutation (told ++ rows_in versions old) (rows_in versions new)
+  pub recordings : IsPermutation (named ++ rows_in recordings old) (rows_in recordings new)
+  pub others : KeepsUntold old new
 
 -- the balances have the units of each credit more, one after another
 abbrev pub AddsEach : List Credit → Database → Database → Type 0

@@ -1,10 +1,11 @@
 //! The acknowledgement of a transmission.
-ghost use Rattle.std.specs.Prelude.{◌≡◌, List, ℕ, [], Option, Some, false, IfOk, option_map, unwrap_or};
+ghost use Rattle.std.specs.Prelude.{◌≡◌, ◌⊎◌, List, ℕ, [], Option, Some, false, IfErr, IfOk, option_map, unwrap_or};
 ghost use Rattle.ack_files.specs.Acknowledgement.{acknowledgement};
 ghost use Rattle.cwr_files.specs.Contents.{transmission_in};
 ghost use Rattle.sqlite.specs.Held.{state};
 ghost use Rattle.society_core.specs.Book.{ack, body_at};
 ghost use Rattle.society_rows.specs.Questions.{Asks};
+ghost use Rattle.society_rows.specs.declared.fault.RowFault.TheVariants.{Memory, Unread};
 ghost use Rattle.society_tables.specs.Shown.{ByBook, ByOwnBook, ShowBody};
 
 use crate::senders::verdicts_of;
@@ -23,7 +24,8 @@ pub(crate) fn read<'a>(
     body: &'a [u8],
     sender: &SenderKey,
 ) -> Result<Transmission<'a>, RowFault>
-    ensures { IfOk result (λ transmission. transmission ≡ transmission_in body.now) }
+    ensures reads { IfOk result (λ transmission. transmission ≡ transmission_in body.now) }
+    ensures fault { IfErr result (λ fault. (fault ≡ Memory) ⊎ (fault ≡ Unread)) }
 {
     match read_transmission(alloc, body, sender) {
         Ok(transmission) => Ok(transmission),

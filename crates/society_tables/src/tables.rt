@@ -3,8 +3,9 @@ ghost use Rattle.std.specs.Prelude.{◌≡◌, ◌<◌, ◌^◌, ◌&&◌, IfOk,
 ghost use Rattle.sqlite.specs.Held.{state};
 ghost use Rattle.sqlite.specs.Steps.{over_memory};
 ghost use Rattle.society_core.specs.Answers.{known_as, known_with_front, payment_in, pool_known_as, return_known_as, shown_in};
+ghost use Rattle.cwr_files.specs.FileFault.{file_fault};
 ghost use Rattle.perf_returns.specs.Returns.{return_fault};
-ghost use Rattle.society_core.specs.Book.{ack, empty_book, front, held, order_at, return_at, shown_verdicts, with_return};
+ghost use Rattle.society_core.specs.Book.{ack, body_at, empty_book, front, held, order_at, return_at, shown_verdicts, with_return, with_transmission};
 ghost use Rattle.society_core.specs.Pools.{balance, credits_of};
 ghost use Rattle.society_core.specs.Requests.{Stands, shown_of, standing_of};
 ghost use Rattle.society_core.specs.State.{Addition, Question};
@@ -12,12 +13,14 @@ ghost use Rattle.society_tables.specs.BookRows.{book_of};
 ghost use Rattle.society_tables.specs.Kept.{Rests, tables_state};
 
 use crate::acknowledgements::ack_of;
+use crate::arrivals::arrive;
 use crate::fault::told;
 use crate::orders::known_pool_of;
 use crate::pools::{balance_of, pool_credits};
 use crate::returns::{known_return_of, payment_of, write_return};
 use crate::senders::{front_of, known_of, status_of, verdicts_of};
 use crate::works::work_of;
+use cwr_files::FileReader;
 use pool_split::Credit;
 use share_rules::Office;
 use society_core::{
@@ -199,6 +202,34 @@ impl<S: Alter> Tables<S> {
             return Err(StoreFault::Refused);
         }
         let answer = pool_credits(alloc, &mut self.conn, pool.value());
+        told(&mut self.failures, answer)
+    }
+
+    /// Adds what a reader was fed, a transmission of its sender, under a number that is free, and tells the sender's front
+    /// then. After an error the book is as before.
+    pub fn add_transmission(
+        &mut self,
+        alloc: Global,
+        number: TransmissionNumber,
+        reader: FileReader,
+    ) -> Result<u32, StoreFault>
+        requires free { IsTrue ((state S.Store self.old.conn).is_clean && (state S.Store self.old.conn).is_open) → body_at (book_of (state S.Store self.old.conn).now.trees) reader.sender number ≡ None }
+        requires right { file_fault reader.sender reader.body ≡ None }
+        ensures { Addition (tables_state self.old.office (state S.Store self.old.conn) self.old.failures) (tables_state self.new.office (state S.Store self.new.conn) self.new.failures)
+            (with_transmission (book_of (state S.Store self.old.conn).now.trees) reader.sender number reader.body) result
+            (λ n. n ≡ front (with_transmission (book_of (state S.Store self.old.conn).now.trees) reader.sender number reader.body) reader.sender) }
+    {
+        if self.failures == u64::MAX {
+            return Err(StoreFault::Refused);
+        }
+        let answer = arrive(
+            alloc,
+            &mut self.conn,
+            &self.office,
+            reader.sender(),
+            number,
+            reader.body(),
+        );
         told(&mut self.failures, answer)
     }
 

@@ -40,7 +40,7 @@ fn version_of(row: &Row) -> Result<WorkVersion, RowFault>
 }
 
 /// The last version that the rows of a work show, none where there is no row; `Unread` where they are more than one.
-fn last_version(rows: &[Row]) -> Result<Option<WorkVersion>, RowFault>
+pub(crate) fn last_version(rows: &[Row]) -> Result<Option<WorkVersion>, RowFault>
     ensures { (v : Option Version) → ShowVersion v rows.now → IfOk result (λ version. version ≡ v) }
 {
     match rows {

@@ -1,0 +1,31 @@
+use Rattle.std.proofs.Common.{◌≡◌}
+use Rattle.std.proofs.Math.Logic.{∥∥₁_map}
+use Rattle.society_core.specs.Book.{front, with_transmission}
+use Rattle.society_tables.specs.BookRows.{book_of}
+use Rattle.society_tables.specs.Steps.{Arrives, ArrivesTo}
+use Rattle.society_tables.proofs.AddLemmas.{addition, rests_after}
+use Rattle.society_tables.proofs.QuestionLemmas.{below_greatest, one_number}
+use Rattle.society_tables.proofs.tables.Tables.add_transmission.Goals as goal
+
+pub invariant_of-self-clause-rests : goal.invariant_of-self-clause-rests
+invariant_of-self-clause-rests g c =
+    let o = c.args.self.now.office in
+    let s = c.args.reader.sender in
+    let body = c.args.reader.body in
+    let book = book_of (g.S.Store.view c.args.self.now.conn.store).trees in
+    ∥∥₁_map c.args.self.now.rests
+    (rests_after o _ _ (Arrives o s c.args.number body) (ArrivesTo o s c.args.number body) (with_transmission book s c.args.number body) c.arrive-answer.result
+    (rw (c.sender.ensures, c.body.ensures) at c.arrive-answer.ensures.added)
+    (λ clean holds db arrives. arrives book holds (c.requires.free clean)))
+
+pub returns : goal.returns
+returns g c =
+    let o = c.args.self.now.office in
+    let s = c.args.reader.sender in
+    let body = c.args.reader.body in
+    let book = book_of (g.S.Store.view c.args.self.now.conn.store).trees in
+    addition o _ _ (Arrives o s c.args.number body) (ArrivesTo o s c.args.number body) (with_transmission book s c.args.number body) c.arrive-answer.result
+    (rw (c.sender.ensures, c.body.ensures) at c.arrive-answer.ensures.added)
+    (λ clean holds db arrives. arrives book holds (c.requires.free clean))
+    (λ n. n ≡ front (with_transmission book s c.args.number body) s) (λ n. one_number n _) (λ clean holds n says. says book holds (c.requires.free clean))
+    _ _ c.told.result c.args.self.now.rests (below_greatest _ c.args.self.now.small c.if-self.false) c.told.ensures
