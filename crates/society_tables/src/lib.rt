@@ -16,4 +16,6 @@ mod works;
 pub use tables::Tables;
 
 #[cfg(test)]
+mod arrival_tests;
+#[cfg(test)]
 mod tests;
