@@ -1,17 +1,23 @@
 -- What the transactions of a run tell, by the line behind which they stand.
 use Rattle.std.proofs.Common.{◌≡◌, ◌∙◌, ◌+◌, ◌++◌, ◌||◌, ℕ, suc, Bool, true, false, List, [], ◌∷◌, Option, Some, None, IsTrue, length, refl, ap, ap₂, sym, subst, arith, map, bytes_eq, flat_map, unwrap_or}
+use Rattle.std.specs.List.{list_any}
+use Rattle.std.specs.Ordering.{eq_by_cmp}
+use Rattle.std.proofs.lemmas.Cmp.{nat_list_cmp_total}
 use Rattle.std.proofs.lemmas.Grind.{flat_map-append}
+use Rattle.std.proofs.lemmas.Map.Text.{is_eq-slice_cmp}
 use Rattle.std.proofs.lemmas.Slice.Eq.{bytes_eq-Decides}
 use Rattle.cwr_files.specs.Contents.{transactions_of}
 use Rattle.cwr_files.specs.declared.transmission.Transaction.{Transaction}
 use Rattle.share_rules.specs.Fault.{fault_of}
 use Rattle.share_rules.specs.declared.office.Office.{Office}
 use Rattle.sqlite_value.specs.Order.{Row}
+use Rattle.society_core.proofs.Ascending.{ascending_has}
 use Rattle.society_core.specs.Book.{Book, body_at}
 use Rattle.society_core.specs.Keys.{ascending, bytes_cmp}
 use Rattle.society_tables.specs.DerivedRows.{Telling, tells_recordings, tells_verdict, tells_version, told_by, told_from}
 use Rattle.society_tables.specs.Runs.{AreNoted, KnowsRun, Notes, Settled, behind_run, clean_works, is_among, notes_in, settled_from, settled_recordings, settled_run, settled_verdict, settled_version, work_in}
 use Rattle.society_tables.proofs.Growth.{told_of}
+use Rattle.society_tables.proofs.KeyRows.{either_way}
 use Rattle.society_tables.proofs.LineRows.{line_goes, line_to, sent, verdicts_go}
 use Rattle.works_core.specs.Ends.{EndsAt, KnowsWorks}
 use Rattle.works_core.specs.Line.{filled_number, judged, judged_by, judged_in}
@@ -168,3 +174,18 @@ knows_all (x ∷ xs) =
 -- an end of which less is known
 pub ends_less : {past : List Placed} (p q : List ℕ → Bool) (end : _) → ((w : List ℕ) → IsTrue (q w) → IsTrue (p w)) → EndsAt p past end → EndsAt q past end
 ends_less p q end less at = record { works = at.works; last = λ w h. at.last w (less w h); right = at.right }
+
+-- whether a work is among some, by their order
+turned : (works : List (List ℕ)) (w : List ℕ) → is_among works w ≡ list_any (eq_by_cmp bytes_cmp w) works
+turned [] w = refl
+turned (x ∷ works) w = ap₂ (λ a b. a || b) (either_way x w ∙ sym (is_eq-slice_cmp w x)) (turned works w)
+
+-- each of them once is enough
+pub among_ascending : (works : List (List ℕ)) (w : List ℕ) → is_among (ascending bytes_cmp works) w ≡ is_among works w
+among_ascending works w = turned (ascending bytes_cmp works) w ∙ ascending_has nat_list_cmp_total w works ∙ sym (turned works w)
+
+-- so the works of a run may be asked once
+pub knows_each : (notes : List Notes) → KnowsRun (is_among (ascending bytes_cmp (flat_map (λ (x : Notes). clean_works x.judged) notes))) notes
+knows_each notes =
+    let works = flat_map (λ (x : Notes). clean_works x.judged) notes in
+    run_more (is_among works) (is_among (ascending bytes_cmp works)) (λ w h. subst IsTrue (sym (among_ascending works w)) h) notes (knows_all notes)

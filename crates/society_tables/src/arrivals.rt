@@ -16,7 +16,7 @@ ghost use Rattle.society_tables.specs.Steps.{Arrives, ArrivesTo, Does, DoesOpen,
 ghost use Rattle.works_core.specs.Ends.{EndsAt};
 
 use crate::outcomes::{Outcome, column_of, recording_rows, settle_run, verdict_rows, version_rows};
-use crate::run::{Noted, Run, works_of};
+use crate::run::{Noted, Run, ascending_works};
 use crate::works::last_version;
 use share_rules::Office;
 use society_rows::{
@@ -141,7 +141,7 @@ fn end_at_front<S: Alter>(
         (λ db end. (office : OfficeValue) (book : Book) → HoldsBook office book db → works ≡ works_to office book sender.now
         → EndsReady office book sender.now run.now end) }
 {
-    let asked = works_of(alloc, run)?;
+    let asked = ascending_works(alloc, run)?;
     let mut end = LineEnd::new(alloc, works);
     learn_all(tx, sender, asked.as_slice(), &mut end)?;
     Ok(end)

@@ -90,7 +90,7 @@ fn append_works(judged: &[Judged], works: &mut Vec<WorkNumber>) -> Result<(), Al
 }
 
 /// The work numbers of the clean transactions of a run, in order.
-pub(crate) fn works_of(alloc: Global, run: &[Noted]) -> Result<Vec<WorkNumber>, AllocError>
+fn works_of(alloc: Global, run: &[Noted]) -> Result<Vec<WorkNumber>, AllocError>
     ensures { IfOk result (λ works. works.items ≡ flat_map (λ x. clean_works x.judged) run.now) }
 {
     let mut works = Vec::new(alloc);
@@ -98,6 +98,21 @@ pub(crate) fn works_of(alloc: Global, run: &[Noted]) -> Result<Vec<WorkNumber>, 
         append_works(noted.judged(), &mut works)?;
     }
     Ok(works)
+}
+
+/// The set of some work numbers.
+fn distinct_works(alloc: Global, list: Vec<WorkNumber>) -> Result<BTreeSet<WorkNumber>, AllocError>
+    ensures { IfOk result (IsFromIterResult bytes_cmp list.items) }
+{
+    list.into_iter().collect(alloc)
+}
+
+/// The work numbers of the clean transactions of a run, ascending, each once.
+pub(crate) fn ascending_works(alloc: Global, run: &[Noted]) -> Result<Vec<WorkNumber>, AllocError>
+    ensures { IfOk result (λ works. works.items ≡ ascending bytes_cmp (flat_map (λ x. clean_works x.judged) run.now)) }
+{
+    let set = distinct_works(alloc, works_of(alloc, run)?)?;
+    set.iter().copied().collect(alloc)
 }
 
 impl Noted {

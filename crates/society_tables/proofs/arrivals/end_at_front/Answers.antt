@@ -1,7 +1,7 @@
 use Rattle.std.proofs.Common.{◌∙◌, List, ℕ, Ok, subst, sym}
 use Rattle.sqlite.specs.Held.{state}
 use Rattle.society_tables.specs.Runs.{KnowsRun, is_among, line_at_front}
-use Rattle.society_tables.proofs.RunLines.{knows_all}
+use Rattle.society_tables.proofs.RunLines.{knows_each}
 use Rattle.society_tables.proofs.StepLemmas.{looks_as}
 use Rattle.society_tables.proofs.arrivals.end_at_front.Goals as goal
 
@@ -12,5 +12,5 @@ returns-clause-looks g c =
     (λ learned o b holds is. (
       is_among c.as_slice.result.now,
       learned o b holds (c.new-end.ensures (line_at_front o b c.args.sender.now) is),
-      subst (λ (works : List (List ℕ)). KnowsRun (is_among works) run) (sym (c.as_slice.ensures.value ∙ c.in_ok-asked.ensures)) (knows_all run),
+      subst (λ (works : List (List ℕ)). KnowsRun (is_among works) run) (sym (c.as_slice.ensures.value ∙ c.in_ok-asked.ensures)) (knows_each run),
     ))
