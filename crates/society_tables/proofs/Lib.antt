@@ -36,3 +36,5 @@ pub mod OutcomeLemmas
 pub mod RunWrites
 pub mod AloneLemmas
 pub mod RunBooks
+pub mod PoolWrites
+pub mod PoolHolds

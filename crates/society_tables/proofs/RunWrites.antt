@@ -14,7 +14,7 @@ use Rattle.society_tables.specs.Shown.{Runs, Tells, Waits}
 use Rattle.society_tables.proofs.RunTables.{rows_kept, same_permutation}
 
 -- that a table is as it was where it is none of these
-abbrev KeptBut : Table → Trees → Trees → Table → Type 0
+abbrev pub KeptBut : Table → Trees → Trees → Table → Type 0
 KeptBut a old new t = t.tree ≢ a.tree → new t.tree ≡ old t.tree
 
 abbrev KeptOfLine : Trees → Trees → Table → Type 0
@@ -44,14 +44,14 @@ each_of P all = record {
   recordings = all.1.1.1.1.1.1.1.1.1.0;
 }
 
-both_of : (P Q R : Table → Type 0) (ts : List Table) → ((t : Table) → P t → Q t → R t) → AllByRecursion P ts → AllByRecursion Q ts → AllByRecursion R ts
+pub both_of : (P Q R : Table → Type 0) (ts : List Table) → ((t : Table) → P t → Q t → R t) → AllByRecursion P ts → AllByRecursion Q ts → AllByRecursion R ts
 both_of P Q R [] f p q = tt
 both_of P Q R (t ∷ ts) f p q = (f t p.0 q.0, both_of P Q R ts f p.1 q.1)
 
-permuted_to : (xs : List Row) (ys zs : List Row) → zs ≡ ys → IsPermutation xs ys → IsPermutation xs zs
+pub permuted_to : (xs : List Row) (ys zs : List Row) → zs ≡ ys → IsPermutation xs ys → IsPermutation xs zs
 permuted_to xs ys zs e p = subst (IsPermutation xs) (sym e) p
 
-permuted_from : (more : List Row) (xs ys zs : List Row) → ys ≡ xs → IsPermutation (more ++ ys) zs → IsPermutation (more ++ xs) zs
+pub permuted_from : (more : List Row) (xs ys zs : List Row) → ys ≡ xs → IsPermutation (more ++ ys) zs → IsPermutation (more ++ xs) zs
 permuted_from more xs ys zs e p = subst (λ (l : List Row). IsPermutation (more ++ l) zs) e p
 
 -- versions that were added, and then recordings

@@ -7,3 +7,4 @@ pub mod Runs
 pub mod Outcomes
 pub mod Steps
 pub mod Faults
+pub mod Closings

@@ -4,8 +4,6 @@ ghost use Rattle.cwr_files.specs.FileFault.{file_fault};
 ghost use Rattle.share_rules.specs.declared.office.Office.{Office as OfficeValue};
 ghost use Rattle.sqlite.specs.Held.{state};
 ghost use Rattle.society_core.specs.Book.{Book, body_at, front, is_entry, with_transmission};
-ghost use Rattle.society_rows.specs.Effects.{Writes};
-ghost use Rattle.society_rows.specs.Reads.{Reads};
 ghost use Rattle.society_rows.specs.Rows.{front_values, recording_values, transmission_values, verdict_values, version_values};
 ghost use Rattle.society_tables.specs.DerivedRows.{works_to};
 ghost use Rattle.society_tables.specs.Kept.{HoldsBook};

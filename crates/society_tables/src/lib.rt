@@ -3,6 +3,7 @@
 
 mod acknowledgements;
 mod arrivals;
+mod closings;
 mod fault;
 mod orders;
 mod outcomes;

@@ -1,5 +1,5 @@
 //! What is noted of the transmissions with which a sender's front goes on.
-ghost use Rattle.std.specs.Prelude.{◌≡◌, ◌∷◌, ◌++◌, ◌⊎◌, [], None, flat_map, map, option_map, IfErr, IfOk, OnOk};
+ghost use Rattle.std.specs.Prelude.{◌≡◌, ◌∷◌, ◌++◌, ◌⊎◌, [], None, flat_map, map, option_map, IfOk, OnOk};
 ghost use Rattle.std.specs.BTreeSet.{IsFromIterResult};
 ghost use Rattle.std.specs.List.{slice_get};
 ghost use Rattle.cwr_files.specs.FileFault.{file_fault};

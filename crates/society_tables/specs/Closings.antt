@@ -1,0 +1,32 @@
+-- What is written of a pool that is closed.
+use Rattle.std.specs.Prelude.{ℕ, ◌≡◌, ◌≢◌, List, [], ◌∷◌, ◌++◌, IsPermutation}
+use Rattle.std.specs.List.{AllByRecursion}
+use Rattle.sqlite_trees.specs.Tree.{Trees}
+use Rattle.sqlite_value.specs.Order.{Row}
+use Rattle.society_rows.specs.Layout as layout
+use Rattle.society_rows.specs.Layout.{all_tables}
+use Rattle.society_rows.specs.Stored.{Adds, rows_in}
+use Rattle.pool_split.specs.declared.claim.Credit.{Credit}
+use Rattle.society_core.specs.Orders.{Order}
+use Rattle.society_tables.specs.Shown.{AddsEach, Closes}
+use Rattle.sqlite.specs.Effect.{Database}
+
+-- every table but those of an order is as it was
+abbrev pub KeepsUnordered : Trees → Trees → Type 0
+KeepsUnordered old new = AllByRecursion (λ t. t.tree ≢ layout.pools.tree → t.tree ≢ layout.pool_cuts.tree → t.tree ≢ layout.pool_returns.tree → new t.tree ≡ old t.tree) all_tables
+
+-- the tables have this row of a pool more, and these rows of its cut and of the returns that it pays; the other tables are as they were
+pub record AddsOrder (row : Row) (cut paid : List Row) (old new : Trees) : Type 0 where
+  pub pools : IsPermutation ((row ∷ []) ++ rows_in layout.pools old) (rows_in layout.pools new)
+  pub cuts : IsPermutation (cut ++ rows_in layout.pool_cuts old) (rows_in layout.pool_cuts new)
+  pub returns : IsPermutation (paid ++ rows_in layout.pool_returns old) (rows_in layout.pool_returns new)
+  pub others : KeepsUnordered old new
+
+-- these lines are there, and then these credits' units are added
+abbrev pub PaysOut : List Row → List Credit → Database → Database → Type 0
+PaysOut lines credits old new = (mid : Database) × Adds layout.credits lines old mid × AddsEach credits mid new
+
+-- a pool is closed in the tables, and of balances that were as before the units of its credits are added
+abbrev pub ClosesWith : ℕ → Order → List Credit → Database → Database → Type 0
+ClosesWith pool order credits old new =
+    Closes pool order credits old.trees new.trees × (mid : Database) × (mid.trees layout.balances.tree ≡ old.trees layout.balances.tree) × AddsEach credits mid new
