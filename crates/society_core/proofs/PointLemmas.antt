@@ -7,6 +7,7 @@ use Rattle.std.proofs.lemmas.List.Folds.{list_any-append}
 use Rattle.std.proofs.lemmas.List.Sums.{sum_by-append, sum_by-cons, sum-map}
 use Rattle.std.proofs.lemmas.Map.Keys.{sorted_head, sorted_tail}
 use Rattle.std.proofs.lemmas.Map.Lookups.{exact_bytes}
+use Rattle.std.proofs.lemmas.Map.Made.{is_some-lookup}
 use Rattle.std.proofs.lemmas.Map.Text.{is_eq-slice_cmp}
 use Rattle.std.proofs.lemmas.Slice.Eq.{bytes_eq-Decides}
 use Rattle.std.specs.BTreeMap as tree
@@ -154,6 +155,14 @@ pub tallied_entries : (tally : Tally) (rows : List Performance) → Tallies tall
 tallied_entries tally rows h ordered =
     alike_entries tally.totals.entries (points_by_recording rows) ordered (recordings_ascend rows)
     (λ q. h.points q ∙ sym (lookup_paired (points_in rows) (recordings_in rows) q ∙ ap (λ (b : Bool). cond b (Some (points_in rows q)) None) (has_recording rows q)))
+
+any_alike : (q : List ℕ) (ks : List (List ℕ)) → list_any (tree.is_at (bytes_cmp q)) ks ≡ list_any (bytes_eq q) ks
+any_alike q [] = refl
+any_alike q (k ∷ ks) = ap (λ (b : Bool). b || list_any (tree.is_at (bytes_cmp q)) ks) (is_eq-slice_cmp q k) ∙ ap (λ (b : Bool). bytes_eq q k || b) (any_alike q ks)
+
+-- a recording is tallied where it is among the keys
+pub tallied_keys : (tally : Tally) (q : List ℕ) → is_tallied tally q ≡ list_any (bytes_eq q) (map (λ (e : List ℕ × ℕ). e.0) tally.totals.entries)
+tallied_keys tally q = is_some-lookup (tree.is_at (bytes_cmp q)) tally.totals.entries ∙ any_alike q (map (λ (e : List ℕ × ℕ). e.0) tally.totals.entries)
 
 -- ---- what can be paid
 

@@ -77,7 +77,7 @@ fn append_candidates(
 
 /// Adds the candidates that a work's version makes: one for each recording of a tally that it names. Its weights are worked
 /// out once, and only where it names one.
-fn add_recordings(
+pub fn add_candidates(
     alloc: Global,
     office: &Office,
     tally: &Tally,
@@ -132,7 +132,7 @@ fn add_transaction(
     if !is_version_at(line, key.number, &work, number, place) {
         return Ok(());
     }
-    add_recordings(
+    add_candidates(
         alloc,
         office,
         tally,

@@ -21,6 +21,7 @@ mod transmission_key;
 mod work;
 
 pub use answers::{Answer, Arrival, Receipt, SenderStatus, Standing, Work};
+pub use candidates::add_candidates;
 pub use claim_list::{Candidate, claims};
 pub use desk::Desk;
 pub use laws::{
@@ -31,6 +32,7 @@ pub use laws::{
 };
 pub use order::{OrderError, PoolOrder, orders_are_sets};
 pub use plain_store::PlainStore;
+pub use points::Tally;
 pub use refusal::Refusal;
 pub use request::Request;
 pub use return_key::ReturnKey;

@@ -311,6 +311,7 @@ impl PoolOrder {
     pub fn returns(&self) -> &[ReturnKey]
         ensures value { result.now ≡ self.now.returns }
         ensures limit { length result.now ≤ 1000 }
+        ensures kept { IsOrder self.now }
     {
         self.returns.as_slice()
     }

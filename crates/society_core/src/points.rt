@@ -1,5 +1,6 @@
 //! The points of the recordings of a pool's performances.
-ghost use Rattle.std.specs.Prelude.{◌≡◌, ◌+◌, ◌<◌, ◌≤◌, ◌++◌, ◌∷◌, [], List, IfOk, OnOk, length};
+ghost use Rattle.std.specs.Prelude.{◌≡◌, ◌+◌, ◌<◌, ◌≤◌, ◌++◌, ◌∷◌, [], List, ℕ, IfOk, OnOk, bytes_eq, length};
+ghost use Rattle.std.specs.List.{list_any};
 ghost use Rattle.perf_returns.specs.declared.performance.Performance.{Performance as Row};
 ghost use Rattle.society_core.specs.Points.{HasPoints, Tallies, is_tallied, points_by_recording, points_of};
 
@@ -11,7 +12,7 @@ use work_ids::Isrc;
 /// The points of each recording of the performances that were added, at most 10,000,000 of them (profile). It takes memory
 /// for each recording once, however often it was performed.
 #[derive(Debug, Drop)]
-pub(crate) struct Tally {
+pub struct Tally {
     totals: BTreeMap<Isrc, u64>,
 }
 
@@ -25,7 +26,7 @@ fn points_of(row: &Performance) -> u64
 
 impl Tally {
     /// The tally of no performances.
-    pub(crate) fn new(alloc: Global) -> Tally
+    pub fn new(alloc: Global) -> Tally
         ensures { Tallies result [] }
     {
         Tally {
@@ -45,7 +46,7 @@ impl Tally {
     }
 
     /// Adds the performances of a return, behind those that came before, up to 10,000,000 in all (profile).
-    pub(crate) fn add_all(&mut self, more: &[Performance]) -> Result<(), AllocError>
+    pub fn add_all(&mut self, more: &[Performance]) -> Result<(), AllocError>
         ensures { (rows : List Row) → length rows + length more.now ≤ 10000000 → Tallies self.old rows → OnOk result (Tallies self.new (rows ++ more.now)) }
     {
         for row in more {
@@ -61,8 +62,15 @@ impl Tally {
         self.totals.contains_key(isrc)
     }
 
+    /// The recordings that it has points for, ascending.
+    pub fn recordings(&self, alloc: Global) -> Result<Vec<Isrc>, AllocError>
+        ensures { IfOk result (λ list. (isrc : List ℕ) → is_tallied self.now isrc ≡ list_any (bytes_eq isrc) list.items) }
+    {
+        self.totals.keys().copied().collect(alloc)
+    }
+
     /// Each recording with its points, ascending by ISRC.
-    pub(crate) fn points_by_recording(&self, alloc: Global) -> Result<Vec<(Isrc, u64)>, AllocError>
+    pub fn points_by_recording(&self, alloc: Global) -> Result<Vec<(Isrc, u64)>, AllocError>
         ensures { (rows : List Row) → Tallies self.now rows → IfOk result (λ points. points.items ≡ points_by_recording rows) }
     {
         self.totals

@@ -1,7 +1,7 @@
 use Rattle.std.proofs.Common.{◌∙◌}
 use Rattle.society_core.specs.Points.{is_tallied}
 use Rattle.society_core.proofs.CandidateLemmas.{added_by}
-use Rattle.society_core.proofs.candidates.add_recordings.Goals as goal
+use Rattle.society_core.proofs.candidates.add_candidates.Goals as goal
 
 pub returns : goal.returns
 returns c =

@@ -1,0 +1,13 @@
+use Rattle.std.proofs.Common.{◌≡◌, ◌∙◌, List, ℕ, IfOk, ap, map, rules, sym}
+use Rattle.std.proofs.lemmas.Result.{IfOk-weaker}
+use Rattle.std.specs.List.{list_any}
+use Rattle.std.specs.Str.{bytes_eq}
+use Rattle.society_core.specs.Points.{is_tallied}
+use Rattle.society_core.proofs.PointLemmas.{tallied_keys}
+use Rattle.society_core.proofs.points.Tally.recordings.Goals as goal
+
+pub returns : goal.returns
+returns c =
+    let listed : IfOk c.collect.result (λ list. list.items ≡ map (λ e. e.0) c.args.self.now.totals.entries) = search rules in
+    IfOk-weaker c.collect.result (λ list. list.items ≡ map (λ e. e.0) c.args.self.now.totals.entries) (λ list. (isrc : List ℕ) → is_tallied c.args.self.now isrc ≡ list_any (bytes_eq isrc) list.items)
+    (λ list is isrc. tallied_keys c.args.self.now isrc ∙ ap (list_any (bytes_eq isrc)) (sym is)) listed
