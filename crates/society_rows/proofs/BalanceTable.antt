@@ -22,12 +22,13 @@ use Rattle.society_rows.specs.Stored.{HasLayout, Puts}
 use Rattle.society_rows.proofs.Answers.{picked}
 use Rattle.society_rows.proofs.Booleans.{and_true, the_only, free_of}
 use Rattle.society_rows.proofs.Casts.{cast_null, cast_int}
+use Rattle.society_rows.proofs.Failures.{IsSingle}
 use Rattle.society_rows.proofs.Inserts.{IsSettled}
 use Rattle.society_rows.proofs.Queries.{IsQuery, IsListing, lists_by}
 use Rattle.society_rows.proofs.Upserts.{IsUpserted}
 use Rattle.society_rows.proofs.UpsertParts.{IsUpdate, clause_of, puts}
 
-settled : IsSettled balances 11
+pub settled : IsSettled balances 11
 unfolding understood everything written_out
 settled = record { listed = refl; uncounted = refl; unstamped = refl }
 
@@ -40,9 +41,9 @@ put_text = codes "INSERT INTO balances (account, units) VALUES (?1, ?2) ON CONFL
 abbrev news : List Term
 news = col 0 4 ∷ col 0 5 ∷ []
 
-put_is : (command_of (understood layout put_text) ≡ InsertOr 11 Abort (Values terms 3) (clause_of 20 2 news ∷ [])) × IsPlain (understood layout put_text)
+pub put_is : (command_of (understood layout put_text) ≡ InsertOr 11 Abort (Values terms 3) (clause_of 20 2 news ∷ [])) × IsPlain (understood layout put_text) × IsSingle put_text 2 (understood layout put_text)
 unfolding understood everything written_out
-put_is = (refl, (refl, refl))
+put_is = (refl, (refl, refl), (refl, refl))
 
 abbrev row_of : List ℕ → ℤ → Row
 row_of account units = Text account ∷ Int units ∷ []
@@ -84,9 +85,9 @@ shown_names = codes "account" ∷ codes "units" ∷ []
 abbrev pub all_balances_text : List ℕ
 all_balances_text = codes "SELECT account, units FROM balances ORDER BY account"
 
-pub all_balances_is : IsQuery all_balances_text (picked 20 ([]) project order) shown_names
+pub all_balances_is : IsQuery all_balances_text 0 (picked 20 ([]) project order) shown_names
 unfolding understood everything written_out
-all_balances_is = record { command = refl; plain = (refl, refl); unlisted = refl }
+all_balances_is = record { command = refl; plain = (refl, refl); unlisted = refl; single = (refl, refl) }
 
 all_balances_listing : IsListing balances ([]) project order ([]) (λ _. true) 1
 unfolding written_out
@@ -99,9 +100,9 @@ all_balances_lists = lists_by balances all_balances_text ([]) project order show
 abbrev pub balance_at_text : List ℕ
 balance_at_text = codes "SELECT account, units FROM balances WHERE account = ?1 ORDER BY account"
 
-pub balance_at_is : IsQuery balance_at_text (picked 20 (op2 (Compare Eq Binary) (col 1 1) (col 0 0) ∷ []) project order) shown_names
+pub balance_at_is : IsQuery balance_at_text 1 (picked 20 (op2 (Compare Eq Binary) (col 1 1) (col 0 0) ∷ []) project order) shown_names
 unfolding understood everything written_out
-balance_at_is = record { command = refl; plain = (refl, refl); unlisted = refl }
+balance_at_is = record { command = refl; plain = (refl, refl); unlisted = refl; single = (refl, refl) }
 
 balance_at_listing : (account : List ℕ) → IsListing balances (op2 (Compare Eq Binary) (col 1 1) (col 0 0) ∷ []) project order (Text account ∷ []) (has_key (Text account ∷ [])) 1
 unfolding written_out

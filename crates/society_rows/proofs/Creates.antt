@@ -10,6 +10,7 @@ use Rattle.sqlite.specs.Does.{Tally, lacks_sequence}
 use Rattle.sqlite.specs.Listing.{understood}
 use Rattle.sqlite.specs.State.{State, Writes as WritesCommand, Executes}
 use Rattle.sqlite.proofs.Callers.{IsPlain, command_of, statement_of, runs_as}
+use Rattle.society_rows.proofs.Failures.{IsSingle}
 use Rattle.society_rows.proofs.Parts.{went, same_value}
 
 -- under the schema the text makes the table
@@ -17,6 +18,7 @@ pub record IsDefinition (before : Schema) (text : List ℕ) (table : Table) : Ty
   pub command : command_of (understood before text) ≡ CreateTable
   pub whole : statement_of text (understood before text) ≡ text
   pub plain : IsPlain (understood before text)
+  pub single : IsSingle text 0 (understood before text)
   pub defines : table_defined_by text ≡ Ok (record table { tree = 0 })
   pub uncounted : lacks_sequence (created before table) ≡ false
 

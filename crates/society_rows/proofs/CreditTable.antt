@@ -21,10 +21,11 @@ use Rattle.society_rows.specs.declared.credits.CreditRow.{CreditRow}
 use Rattle.society_rows.specs.Stored.{HasLayout, Adds}
 use Rattle.society_rows.proofs.Answers.{picked}
 use Rattle.society_rows.proofs.Casts.{cast_null, cast_int}
+use Rattle.society_rows.proofs.Failures.{IsSingle}
 use Rattle.society_rows.proofs.Inserts.{IsSettled, Stores, inserts}
 use Rattle.society_rows.proofs.Queries.{IsQuery, IsListing, lists_by}
 
-settled : IsSettled credits 10
+pub settled : IsSettled credits 10
 unfolding understood everything written_out
 settled = record { listed = refl; uncounted = refl; unstamped = refl }
 
@@ -34,9 +35,9 @@ terms = lit Null ∷ col 0 0 ∷ col 0 1 ∷ col 0 2 ∷ col 0 3 ∷ col 0 4 ∷
 abbrev pub insert_text : List ℕ
 insert_text = codes "INSERT INTO credits (pool, line, isrc, account, units) VALUES (?1, ?2, ?3, ?4, ?5)"
 
-insert_is : (command_of (understood layout insert_text) ≡ Insert 10 (Values terms 6)) × IsPlain (understood layout insert_text)
+pub insert_is : (command_of (understood layout insert_text) ≡ Insert 10 (Values terms 6)) × IsPlain (understood layout insert_text) × IsSingle insert_text 5 (understood layout insert_text)
 unfolding understood everything written_out
-insert_is = (refl, (refl, refl))
+insert_is = (refl, (refl, refl), (refl, refl))
 
 abbrev row_of : ℤ → ℤ → List ℕ → List ℕ → ℤ → Row
 row_of pool line isrc account units = Int pool ∷ Int line ∷ Text isrc ∷ Text account ∷ Int units ∷ []
@@ -55,9 +56,9 @@ pair_terms = lit Null ∷ col 0 0 ∷ col 0 1 ∷ col 0 2 ∷ col 0 3 ∷ col 0 
 abbrev pub pair_text : List ℕ
 pair_text = codes "INSERT INTO credits (pool, line, isrc, account, units) VALUES (?1, ?2, ?3, ?4, ?5), (?6, ?7, ?8, ?9, ?10)"
 
-pair_is : (command_of (understood layout pair_text) ≡ Insert 10 (Values pair_terms 6)) × IsPlain (understood layout pair_text)
+pub pair_is : (command_of (understood layout pair_text) ≡ Insert 10 (Values pair_terms 6)) × IsPlain (understood layout pair_text) × IsSingle pair_text 10 (understood layout pair_text)
 unfolding understood everything written_out
-pair_is = (refl, (refl, refl))
+pair_is = (refl, (refl, refl), (refl, refl))
 
 pub adds_pair : (r s : CreditRow) (old new : State) (count : ℕ) → HasLayout old.now → ExecutesInside 0 pair_text (credit_values r ++ credit_values s) old new (Ok count) → Adds credits (credit_values r ∷ credit_values s ∷ []) old.now new.now
 adds_pair r s old new count has h =
@@ -76,9 +77,9 @@ shown_names = codes "pool" ∷ codes "line" ∷ codes "isrc" ∷ codes "account"
 abbrev pub all_credits_text : List ℕ
 all_credits_text = codes "SELECT pool, line, isrc, account, units FROM credits ORDER BY pool, line"
 
-pub all_credits_is : IsQuery all_credits_text (picked 18 ([]) project order) shown_names
+pub all_credits_is : IsQuery all_credits_text 0 (picked 18 ([]) project order) shown_names
 unfolding understood everything written_out
-all_credits_is = record { command = refl; plain = (refl, refl); unlisted = refl }
+all_credits_is = record { command = refl; plain = (refl, refl); unlisted = refl; single = (refl, refl) }
 
 all_credits_listing : IsListing credits ([]) project order ([]) (λ _. true) 2
 unfolding written_out
@@ -91,9 +92,9 @@ all_credits_lists = lists_by credits all_credits_text ([]) project order shown_n
 abbrev pub credits_of_text : List ℕ
 credits_of_text = codes "SELECT pool, line, isrc, account, units FROM credits WHERE pool = ?1 ORDER BY pool, line"
 
-pub credits_of_is : IsQuery credits_of_text (picked 18 (op2 (Compare Eq Binary) (col 1 1) (col 0 0) ∷ []) project order) shown_names
+pub credits_of_is : IsQuery credits_of_text 1 (picked 18 (op2 (Compare Eq Binary) (col 1 1) (col 0 0) ∷ []) project order) shown_names
 unfolding understood everything written_out
-credits_of_is = record { command = refl; plain = (refl, refl); unlisted = refl }
+credits_of_is = record { command = refl; plain = (refl, refl); unlisted = refl; single = (refl, refl) }
 
 credits_of_listing : (pool : ℤ) → IsListing credits (op2 (Compare Eq Binary) (col 1 1) (col 0 0) ∷ []) project order (Int pool ∷ []) (has_key (Int pool ∷ [])) 2
 unfolding written_out

@@ -22,12 +22,13 @@ use Rattle.society_rows.specs.Stored.{HasLayout, Puts}
 use Rattle.society_rows.proofs.Answers.{picked}
 use Rattle.society_rows.proofs.Booleans.{and_true, the_only, free_of}
 use Rattle.society_rows.proofs.Casts.{cast_null, cast_int}
+use Rattle.society_rows.proofs.Failures.{IsSingle}
 use Rattle.society_rows.proofs.Inserts.{IsSettled}
 use Rattle.society_rows.proofs.Queries.{IsQuery, IsListing, lists_by}
 use Rattle.society_rows.proofs.Upserts.{IsUpserted}
 use Rattle.society_rows.proofs.UpsertParts.{IsUpdate, clause_of, puts}
 
-settled : IsSettled fronts 6
+pub settled : IsSettled fronts 6
 unfolding understood everything written_out
 settled = record { listed = refl; uncounted = refl; unstamped = refl }
 
@@ -40,9 +41,9 @@ put_text = codes "INSERT INTO fronts (sender, front, works) VALUES (?1, ?2, ?3) 
 abbrev news : List Term
 news = col 0 5 ∷ col 0 6 ∷ col 0 7 ∷ []
 
-put_is : (command_of (understood layout put_text) ≡ InsertOr 6 Abort (Values terms 4) (clause_of 10 3 news ∷ [])) × IsPlain (understood layout put_text)
+pub put_is : (command_of (understood layout put_text) ≡ InsertOr 6 Abort (Values terms 4) (clause_of 10 3 news ∷ [])) × IsPlain (understood layout put_text) × IsSingle put_text 3 (understood layout put_text)
 unfolding understood everything written_out
-put_is = (refl, (refl, refl))
+put_is = (refl, (refl, refl), (refl, refl))
 
 abbrev row_of : List ℕ → ℤ → ℤ → Row
 row_of sender front works = Text sender ∷ Int front ∷ Int works ∷ []
@@ -84,9 +85,9 @@ shown_names = codes "sender" ∷ codes "front" ∷ codes "works" ∷ []
 abbrev pub all_fronts_text : List ℕ
 all_fronts_text = codes "SELECT sender, front, works FROM fronts ORDER BY sender"
 
-pub all_fronts_is : IsQuery all_fronts_text (picked 10 ([]) project order) shown_names
+pub all_fronts_is : IsQuery all_fronts_text 0 (picked 10 ([]) project order) shown_names
 unfolding understood everything written_out
-all_fronts_is = record { command = refl; plain = (refl, refl); unlisted = refl }
+all_fronts_is = record { command = refl; plain = (refl, refl); unlisted = refl; single = (refl, refl) }
 
 all_fronts_listing : IsListing fronts ([]) project order ([]) (λ _. true) 1
 unfolding written_out
@@ -99,9 +100,9 @@ all_fronts_lists = lists_by fronts all_fronts_text ([]) project order shown_name
 abbrev pub front_at_text : List ℕ
 front_at_text = codes "SELECT sender, front, works FROM fronts WHERE sender = ?1 ORDER BY sender"
 
-pub front_at_is : IsQuery front_at_text (picked 10 (op2 (Compare Eq Binary) (col 1 1) (col 0 0) ∷ []) project order) shown_names
+pub front_at_is : IsQuery front_at_text 1 (picked 10 (op2 (Compare Eq Binary) (col 1 1) (col 0 0) ∷ []) project order) shown_names
 unfolding understood everything written_out
-front_at_is = record { command = refl; plain = (refl, refl); unlisted = refl }
+front_at_is = record { command = refl; plain = (refl, refl); unlisted = refl; single = (refl, refl) }
 
 front_at_listing : (sender : List ℕ) → IsListing fronts (op2 (Compare Eq Binary) (col 1 1) (col 0 0) ∷ []) project order (Text sender ∷ []) (has_key (Text sender ∷ [])) 1
 unfolding written_out

@@ -23,7 +23,7 @@ use Rattle.society_rows.proofs.ReturnTable.{return_at_listing}
 use Rattle.society_rows.proofs.TransmissionTable.{transmissions_above_listing}
 
 -- what is shown of a row's columns is its first ones
-keys_by : (table : Table) (text : List ℕ) (filters project cut : List Term) (order : List (Term × Key)) (names : List (List ℕ)) → IsQuery text (picked table.tree filters cut order) names
+keys_by : (table : Table) (text : List ℕ) {count : ℕ} (filters project cut : List Term) (order : List (Term × Key)) (names : List (List ℕ)) → IsQuery text count (picked table.tree filters cut order) names
     → (params : Row) (passes : Row → Bool) (width : ℕ) → IsListing table filters project order params passes width → ((env : Env) → eval_all cut env ≡ take width (eval_all project env))
     → (old new : State) (rows : List Row) → HasLayout old.now → Shown text params old new rows → ListsKeys table passes width old.now.trees rows
 keys_by table text filters project cut order names is params passes width listing cuts old new rows has h =
@@ -49,9 +49,9 @@ same_key = op2 (Compare Eq Binary) (col 1 1) (col 0 0) ∷ op2 (Compare Eq Binar
 abbrev pub numbers_above_text : List ℕ
 numbers_above_text = codes "SELECT sender, number FROM transmissions WHERE sender = ?1 AND number > ?2 ORDER BY sender, number"
 
-pub numbers_above_is : IsQuery numbers_above_text (picked 1 above cut order) (codes "sender" ∷ codes "number" ∷ [])
+pub numbers_above_is : IsQuery numbers_above_text 2 (picked 1 above cut order) (codes "sender" ∷ codes "number" ∷ [])
 unfolding understood everything written_out
-numbers_above_is = record { command = refl; plain = (refl, refl); unlisted = refl }
+numbers_above_is = record { command = refl; plain = (refl, refl); unlisted = refl; single = (refl, refl) }
 
 pub numbers_above_lists : (sender : List ℕ) (number : ℤ) (old new : State) (rows : List Row) → HasLayout old.now → Shown numbers_above_text (Text sender ∷ Int number ∷ []) old new rows → ListsKeys transmissions (is_above (Text sender) (Int number)) 2 old.now.trees rows
 unfolding written_out
@@ -61,9 +61,9 @@ numbers_above_lists sender number =
 abbrev pub return_known_text : List ℕ
 return_known_text = codes "SELECT reporter, number FROM returns WHERE reporter = ?1 AND number = ?2 ORDER BY reporter, number"
 
-pub return_known_is : IsQuery return_known_text (picked 3 same_key cut order) (codes "reporter" ∷ codes "number" ∷ [])
+pub return_known_is : IsQuery return_known_text 2 (picked 3 same_key cut order) (codes "reporter" ∷ codes "number" ∷ [])
 unfolding understood everything written_out
-return_known_is = record { command = refl; plain = (refl, refl); unlisted = refl }
+return_known_is = record { command = refl; plain = (refl, refl); unlisted = refl; single = (refl, refl) }
 
 pub return_known_lists : (reporter : List ℕ) (number : ℤ) (old new : State) (rows : List Row) → HasLayout old.now → Shown return_known_text (Text reporter ∷ Int number ∷ []) old new rows → ListsKeys returns (has_key (Text reporter ∷ Int number ∷ [])) 2 old.now.trees rows
 unfolding written_out

@@ -9,6 +9,7 @@ pub mod Creates
 pub mod CreditTable
 pub mod CutRows
 pub mod Effects
+pub mod Failures
 pub mod FrontTable
 pub mod Inserts
 pub mod KeyEquality
@@ -25,11 +26,14 @@ pub mod Puts
 pub mod Queries
 pub mod RecordingTable
 pub mod References
+pub mod Refusals
 pub mod ReturnTable
 pub mod RowFolds
 pub mod RunFolds
 pub mod Rowids
 pub mod Texts
+pub mod Told
+pub mod ToldTables
 pub mod TransmissionTable
 pub mod UnitLemmas
 pub mod UpsertParts

@@ -1,16 +1,21 @@
 -- The query that shows all rows of a table, for each table.
-use Rattle.std.proofs.Common.{List, [], ◌++◌, true}
+use Rattle.std.proofs.Common.{List, [], ◌++◌, Vec, Result, true, refl}
+use Rattle.std.specs.declared.alloc.Global.{Global}
 use Rattle.sqlite_value.specs.Order.{Row}
 use Rattle.sqlite.specs.Listing.{understood}
-use Rattle.sqlite.specs.State.{State, IsUnchanged, Shown, Begins}
+use Rattle.sqlite.specs.State.{State, HasCleanDisk, IsUnchanged, Shown, Begins}
 use Rattle.sqlite.proofs.Callers.{IsPlain}
+use Rattle.society_rows.specs.declared.fault.RowFault.{RowFault}
 use Rattle.society_rows.specs.declared.tables.TableName.{TableName}
 use Rattle.society_rows.specs.declared.tables.TableName.TheVariants as name
+use Rattle.society_rows.specs.Effects.{OnlyFails}
+use Rattle.society_rows.specs.Folds.{IsAsked}
 use Rattle.society_rows.specs.Layout.{layout}
-use Rattle.society_rows.specs.Reads.{Lists}
+use Rattle.society_rows.specs.Reads.{Lists, Selected}
 use Rattle.society_rows.specs.Stored.{HasLayout}
 use Rattle.society_rows.specs.TableNames.{table_called, key_width, listing_text}
-use Rattle.society_rows.proofs.RowFolds.{whole_listed}
+use Rattle.society_rows.proofs.RowFolds.{query_asked, whole_listed}
+use Rattle.society_rows.proofs.Told.{query_tells}
 use Rattle.society_rows.proofs.OfficeTable.{all_offices_is, all_offices_lists}
 use Rattle.society_rows.proofs.TransmissionTable.{all_transmissions_is, all_transmissions_lists}
 use Rattle.society_rows.proofs.ReturnTable.{all_returns_is, all_returns_lists}
@@ -51,6 +56,35 @@ lists_called name.Versions = all_versions_lists
 lists_called name.Recordings = all_recordings_lists
 lists_called name.Credits = all_credits_lists
 lists_called name.Balances = all_balances_lists
+
+pub is_asked : (table : TableName) → IsAsked (listing_text table) 0 (understood layout (listing_text table))
+is_asked name.Office = query_asked _ all_offices_is
+is_asked name.Transmissions = query_asked _ all_transmissions_is
+is_asked name.Returns = query_asked _ all_returns_is
+is_asked name.Pools = query_asked _ all_pools_is
+is_asked name.PoolCuts = query_asked _ all_pool_cuts_is
+is_asked name.PoolReturns = query_asked _ all_pool_returns_is
+is_asked name.Fronts = query_asked _ all_fronts_is
+is_asked name.Verdicts = query_asked _ all_verdicts_is
+is_asked name.Versions = query_asked _ all_versions_is
+is_asked name.Recordings = query_asked _ all_recordings_is
+is_asked name.Credits = query_asked _ all_credits_is
+is_asked name.Balances = query_asked _ all_balances_is
+
+-- what it tells of an error
+pub listing_tells : (table : TableName) (old new : State) (result : Result (Vec Row Global) RowFault) → (HasCleanDisk new → Selected (listing_text table) [] old new result) → OnlyFails old new result
+listing_tells name.Office = query_tells all_offices_is [] refl
+listing_tells name.Transmissions = query_tells all_transmissions_is [] refl
+listing_tells name.Returns = query_tells all_returns_is [] refl
+listing_tells name.Pools = query_tells all_pools_is [] refl
+listing_tells name.PoolCuts = query_tells all_pool_cuts_is [] refl
+listing_tells name.PoolReturns = query_tells all_pool_returns_is [] refl
+listing_tells name.Fronts = query_tells all_fronts_is [] refl
+listing_tells name.Verdicts = query_tells all_verdicts_is [] refl
+listing_tells name.Versions = query_tells all_versions_is [] refl
+listing_tells name.Recordings = query_tells all_recordings_is [] refl
+listing_tells name.Credits = query_tells all_credits_is [] refl
+listing_tells name.Balances = query_tells all_balances_is [] refl
 
 -- what such a query shows first is the first of the table's rows
 pub first_called : (table : TableName) (old new : State) (rows : List Row) → HasLayout old.now → Begins (listing_text table) [] old rows × IsUnchanged old new

@@ -1,5 +1,5 @@
 -- The tables, made one after another.
-use Rattle.std.proofs.Common.{◌≡◌, ℕ, zero, suc, ◌+◌, ◌<◌, ◌≤◌, List, [], ◌∷◌, ◌++◌, length, take, get_or, Ok, refl, sym, ap, subst, ◌∙◌, arith, inl, inr}
+use Rattle.std.proofs.Common.{◌≡◌, ℕ, zero, suc, ◌+◌, ◌<◌, ◌≤◌, List, [], ◌∷◌, ◌++◌, length, take, get_or, false, IsTrue, Result, Ok, IfErr, refl, sym, ap, subst, ◌∙◌, arith, inl, inr}
 use Rattle.std.specs.List.{AllByRecursion, fold}
 use Rattle.std.proofs.lemmas.List.{take_more, take_all}
 use Rattle.std.proofs.lemmas.List.Sums.{fold_push}
@@ -8,12 +8,16 @@ use Rattle.sqlite_schema.specs.declared.schema.Schema.{Schema}
 use Rattle.sqlite_catalog.specs.Change.{created, next_tree}
 use Rattle.sqlite_rules.proofs.ListLemmas.{all_has, all_from, has_either}
 use Rattle.sqlite.specs.Effect.{Database}
-use Rattle.sqlite.specs.State.{State, ExecutesInside}
+use Rattle.sqlite.specs.State.{State, HasCleanDisk, ExecutesInside}
+use Rattle.society_rows.specs.declared.fault.RowFault.{RowFault}
+use Rattle.society_rows.specs.Effects.{OnlyFailsOver, RanAs}
+use Rattle.society_rows.specs.Faults.{IsFailure}
 use Rattle.society_rows.specs.Layout.{layout, all_tables, no_schema, office}
 use Rattle.society_rows.specs.NewBook.{IsBare, HasTables, IsEmptyBook}
 use Rattle.society_rows.specs.Texts.{all_texts}
 use Rattle.society_rows.proofs.Creates.{IsDefinition, IsMade, creates}
 use Rattle.society_rows.proofs.Texts.{AreDefinitions, all_are, layout_is}
+use Rattle.society_rows.proofs.ToldTables.{create_tells}
 
 defined_at : (before : Schema) (texts : List (List ℕ)) (tables : List Table) (d : Table) → AreDefinitions before texts tables → (i : ℕ) → i < length texts
     → IsDefinition (fold created before (take i tables)) (get_or texts i []) (get_or tables i d)
@@ -51,6 +55,12 @@ next_table i within text is old new count has h =
     let definition = defined_at no_schema all_texts all_tables d all_are i within in
     let ran = subst (λ t. ExecutesInside 0 t [] old new (Ok count)) is h in
     one_more i (get_or all_tables i d) old.now new.now has (take_more all_tables i d (omega (arith, twelve))) (creates _ _ _ definition old new count has.schema ran.0)
+
+-- what the next text tells of an error
+pub next_tells : (i : ℕ) → i < length all_texts → (text : List ℕ) → text ≡ get_or all_texts i [] → (old new : State) (result : Result (Unit {0}) RowFault) → (old.in_transaction ≡ false → IfErr result IsFailure)
+    → (HasCleanDisk new → IsTrue old.in_transaction → RanAs text [] old new result) → OnlyFailsOver (HasTables i) old new result
+next_tells i within text is old new result ended ran clean has =
+    create_tells _ _ _ (defined_at no_schema all_texts all_tables office all_are i within) old new result ended (λ clean inside. subst (λ t. RanAs t [] old new result) is (ran clean inside)) clean has.schema
 
 -- no table yet
 pub first_tables : (d : Database) → IsBare d → HasTables 0 d

@@ -23,6 +23,7 @@ use Rattle.society_rows.specs.Layout.{written_out, layout, all_tables, office}
 use Rattle.society_rows.specs.NewBook.{IsEmptyBook, Begins}
 use Rattle.society_rows.specs.Stored.{values_of, rows_in, HasLayout, Adds}
 use Rattle.society_rows.proofs.Casts.{cast_int}
+use Rattle.society_rows.proofs.Failures.{IsSingle}
 use Rattle.society_rows.proofs.Inserts.{IsSettled, Stores, inserts}
 
 abbrev pub insert_text : List ℕ
@@ -31,11 +32,11 @@ insert_text = codes "INSERT INTO office (one, layout, society, territory, name) 
 abbrev terms : List Term
 terms = lit (Int (pos 1)) ∷ lit Null ∷ lit (Int (pos 2)) ∷ col 0 0 ∷ col 0 1 ∷ col 0 2 ∷ []
 
-insert_is : (command_of (understood layout insert_text) ≡ Insert 0 (Values terms 6)) × IsPlain (understood layout insert_text)
+pub insert_is : (command_of (understood layout insert_text) ≡ Insert 0 (Values terms 6)) × IsPlain (understood layout insert_text) × IsSingle insert_text 3 (understood layout insert_text)
 unfolding understood everything written_out
-insert_is = (refl, (refl, refl))
+insert_is = (refl, (refl, refl), (refl, refl))
 
-settled : IsSettled office 0
+pub settled : IsSettled office 0
 unfolding understood everything written_out
 settled = record { listed = refl; uncounted = refl; unstamped = refl }
 
@@ -80,9 +81,9 @@ order = (col 1 0, ascending Binary) ∷ []
 abbrev shown_names : List (List ℕ)
 shown_names = codes "one" ∷ codes "layout" ∷ codes "society" ∷ codes "territory" ∷ codes "name" ∷ []
 
-pub all_offices_is : IsQuery all_offices_text (picked 0 [] project order) shown_names
+pub all_offices_is : IsQuery all_offices_text 0 (picked 0 [] project order) shown_names
 unfolding understood everything written_out
-all_offices_is = record { command = refl; plain = (refl, refl); unlisted = refl }
+all_offices_is = record { command = refl; plain = (refl, refl); unlisted = refl; single = (refl, refl) }
 
 all_offices_listing : IsListing office [] project order [] (λ _. true) 1
 unfolding written_out

@@ -19,10 +19,11 @@ use Rattle.society_rows.specs.Reads.{Lists, has_key}
 use Rattle.society_rows.specs.Stored.{HasLayout, Adds}
 use Rattle.society_rows.proofs.Answers.{picked}
 use Rattle.society_rows.proofs.Casts.{cast_null, cast_int}
+use Rattle.society_rows.proofs.Failures.{IsSingle}
 use Rattle.society_rows.proofs.Inserts.{IsSettled, Stores, inserts}
 use Rattle.society_rows.proofs.Queries.{IsQuery, IsListing, lists_by}
 
-settled : IsSettled pool_cuts 4
+pub settled : IsSettled pool_cuts 4
 unfolding understood everything written_out
 settled = record { listed = refl; uncounted = refl; unstamped = refl }
 
@@ -32,9 +33,9 @@ terms = lit Null ∷ col 0 0 ∷ col 0 1 ∷ col 0 2 ∷ []
 abbrev pub insert_text : List ℕ
 insert_text = codes "INSERT INTO pool_cuts (pool, sender, number) VALUES (?1, ?2, ?3)"
 
-insert_is : (command_of (understood layout insert_text) ≡ Insert 4 (Values terms 4)) × IsPlain (understood layout insert_text)
+pub insert_is : (command_of (understood layout insert_text) ≡ Insert 4 (Values terms 4)) × IsPlain (understood layout insert_text) × IsSingle insert_text 3 (understood layout insert_text)
 unfolding understood everything written_out
-insert_is = (refl, (refl, refl))
+insert_is = (refl, (refl, refl), (refl, refl))
 
 abbrev row_of : ℤ → List ℕ → ℤ → Row
 row_of pool sender number = Int pool ∷ Text sender ∷ Int number ∷ []
@@ -59,9 +60,9 @@ shown_names = codes "pool" ∷ codes "sender" ∷ codes "number" ∷ []
 abbrev pub all_pool_cuts_text : List ℕ
 all_pool_cuts_text = codes "SELECT pool, sender, number FROM pool_cuts ORDER BY pool, sender"
 
-pub all_pool_cuts_is : IsQuery all_pool_cuts_text (picked 6 ([]) project order) shown_names
+pub all_pool_cuts_is : IsQuery all_pool_cuts_text 0 (picked 6 ([]) project order) shown_names
 unfolding understood everything written_out
-all_pool_cuts_is = record { command = refl; plain = (refl, refl); unlisted = refl }
+all_pool_cuts_is = record { command = refl; plain = (refl, refl); unlisted = refl; single = (refl, refl) }
 
 all_pool_cuts_listing : IsListing pool_cuts ([]) project order ([]) (λ _. true) 2
 unfolding written_out
@@ -74,9 +75,9 @@ all_pool_cuts_lists = lists_by pool_cuts all_pool_cuts_text ([]) project order s
 abbrev pub cuts_of_text : List ℕ
 cuts_of_text = codes "SELECT pool, sender, number FROM pool_cuts WHERE pool = ?1 ORDER BY pool, sender"
 
-pub cuts_of_is : IsQuery cuts_of_text (picked 6 (op2 (Compare Eq Binary) (col 1 1) (col 0 0) ∷ []) project order) shown_names
+pub cuts_of_is : IsQuery cuts_of_text 1 (picked 6 (op2 (Compare Eq Binary) (col 1 1) (col 0 0) ∷ []) project order) shown_names
 unfolding understood everything written_out
-cuts_of_is = record { command = refl; plain = (refl, refl); unlisted = refl }
+cuts_of_is = record { command = refl; plain = (refl, refl); unlisted = refl; single = (refl, refl) }
 
 cuts_of_listing : (pool : ℤ) → IsListing pool_cuts (op2 (Compare Eq Binary) (col 1 1) (col 0 0) ∷ []) project order (Int pool ∷ []) (has_key (Int pool ∷ [])) 2
 unfolding written_out

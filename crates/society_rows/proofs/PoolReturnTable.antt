@@ -21,10 +21,11 @@ use Rattle.society_rows.specs.Stored.{HasLayout, Adds}
 use Rattle.society_rows.proofs.Answers.{picked}
 use Rattle.society_rows.proofs.Booleans.{and_true}
 use Rattle.society_rows.proofs.Casts.{cast_null, cast_int}
+use Rattle.society_rows.proofs.Failures.{IsSingle}
 use Rattle.society_rows.proofs.Inserts.{IsSettled, Stores, inserts}
 use Rattle.society_rows.proofs.Queries.{IsQuery, IsListing, lists_by}
 
-settled : IsSettled pool_returns 5
+pub settled : IsSettled pool_returns 5
 unfolding understood everything written_out
 settled = record { listed = refl; uncounted = refl; unstamped = refl }
 
@@ -34,9 +35,9 @@ terms = lit Null ∷ col 0 0 ∷ col 0 1 ∷ col 0 2 ∷ []
 abbrev pub insert_text : List ℕ
 insert_text = codes "INSERT INTO pool_returns (reporter, number, pool) VALUES (?1, ?2, ?3)"
 
-insert_is : (command_of (understood layout insert_text) ≡ Insert 5 (Values terms 4)) × IsPlain (understood layout insert_text)
+pub insert_is : (command_of (understood layout insert_text) ≡ Insert 5 (Values terms 4)) × IsPlain (understood layout insert_text) × IsSingle insert_text 3 (understood layout insert_text)
 unfolding understood everything written_out
-insert_is = (refl, (refl, refl))
+insert_is = (refl, (refl, refl), (refl, refl))
 
 abbrev row_of : List ℕ → ℤ → ℤ → Row
 row_of reporter number pool = Text reporter ∷ Int number ∷ Int pool ∷ []
@@ -61,9 +62,9 @@ shown_names = codes "reporter" ∷ codes "number" ∷ codes "pool" ∷ []
 abbrev pub all_pool_returns_text : List ℕ
 all_pool_returns_text = codes "SELECT reporter, number, pool FROM pool_returns ORDER BY reporter, number"
 
-pub all_pool_returns_is : IsQuery all_pool_returns_text (picked 8 ([]) project order) shown_names
+pub all_pool_returns_is : IsQuery all_pool_returns_text 0 (picked 8 ([]) project order) shown_names
 unfolding understood everything written_out
-all_pool_returns_is = record { command = refl; plain = (refl, refl); unlisted = refl }
+all_pool_returns_is = record { command = refl; plain = (refl, refl); unlisted = refl; single = (refl, refl) }
 
 all_pool_returns_listing : IsListing pool_returns ([]) project order ([]) (λ _. true) 2
 unfolding written_out
@@ -76,9 +77,9 @@ all_pool_returns_lists = lists_by pool_returns all_pool_returns_text ([]) projec
 abbrev pub pool_return_at_text : List ℕ
 pool_return_at_text = codes "SELECT reporter, number, pool FROM pool_returns WHERE reporter = ?1 AND number = ?2 ORDER BY reporter, number"
 
-pub pool_return_at_is : IsQuery pool_return_at_text (picked 8 (op2 (Compare Eq Binary) (col 1 1) (col 0 0) ∷ op2 (Compare Eq Binary) (col 1 2) (col 0 1) ∷ []) project order) shown_names
+pub pool_return_at_is : IsQuery pool_return_at_text 2 (picked 8 (op2 (Compare Eq Binary) (col 1 1) (col 0 0) ∷ op2 (Compare Eq Binary) (col 1 2) (col 0 1) ∷ []) project order) shown_names
 unfolding understood everything written_out
-pool_return_at_is = record { command = refl; plain = (refl, refl); unlisted = refl }
+pool_return_at_is = record { command = refl; plain = (refl, refl); unlisted = refl; single = (refl, refl) }
 
 pool_return_at_listing : (reporter : List ℕ) (number : ℤ) → IsListing pool_returns (op2 (Compare Eq Binary) (col 1 1) (col 0 0) ∷ op2 (Compare Eq Binary) (col 1 2) (col 0 1) ∷ []) project order (Text reporter ∷ Int number ∷ []) (has_key (Text reporter ∷ Int number ∷ [])) 2
 unfolding written_out
@@ -91,9 +92,9 @@ pool_return_at_lists reporter number = lists_by pool_returns pool_return_at_text
 abbrev pub returns_of_pool_text : List ℕ
 returns_of_pool_text = codes "SELECT reporter, number, pool FROM pool_returns WHERE pool = ?1 ORDER BY reporter, number"
 
-pub returns_of_pool_is : IsQuery returns_of_pool_text (picked 8 (op2 (Compare Eq Binary) (col 1 3) (col 0 0) ∷ []) project order) shown_names
+pub returns_of_pool_is : IsQuery returns_of_pool_text 1 (picked 8 (op2 (Compare Eq Binary) (col 1 3) (col 0 0) ∷ []) project order) shown_names
 unfolding understood everything written_out
-returns_of_pool_is = record { command = refl; plain = (refl, refl); unlisted = refl }
+returns_of_pool_is = record { command = refl; plain = (refl, refl); unlisted = refl; single = (refl, refl) }
 
 returns_of_pool_listing : (pool : ℤ) → IsListing pool_returns (op2 (Compare Eq Binary) (col 1 3) (col 0 0) ∷ []) project order (Int pool ∷ []) (has_at 2 (Int pool)) 2
 unfolding written_out

@@ -19,10 +19,11 @@ use Rattle.society_rows.specs.Reads.{Lists, has_key}
 use Rattle.society_rows.specs.Stored.{HasLayout, Adds}
 use Rattle.society_rows.proofs.Answers.{picked}
 use Rattle.society_rows.proofs.Casts.{cast_int}
+use Rattle.society_rows.proofs.Failures.{IsSingle}
 use Rattle.society_rows.proofs.Inserts.{IsSettled, Stores, inserts}
 use Rattle.society_rows.proofs.Queries.{IsQuery, IsListing, lists_by}
 
-settled : IsSettled pools 3
+pub settled : IsSettled pools 3
 unfolding understood everything written_out
 settled = record { listed = refl; uncounted = refl; unstamped = refl }
 
@@ -32,9 +33,9 @@ terms = col 0 0 ∷ lit Null ∷ col 0 1 ∷ []
 abbrev pub insert_text : List ℕ
 insert_text = codes "INSERT INTO pools (pool, amount) VALUES (?1, ?2)"
 
-insert_is : (command_of (understood layout insert_text) ≡ Insert 3 (Values terms 3)) × IsPlain (understood layout insert_text)
+pub insert_is : (command_of (understood layout insert_text) ≡ Insert 3 (Values terms 3)) × IsPlain (understood layout insert_text) × IsSingle insert_text 2 (understood layout insert_text)
 unfolding understood everything written_out
-insert_is = (refl, (refl, refl))
+insert_is = (refl, (refl, refl), (refl, refl))
 
 abbrev row_of : ℤ → ℤ → Row
 row_of pool amount = Int pool ∷ Int amount ∷ []
@@ -59,9 +60,9 @@ shown_names = codes "pool" ∷ codes "amount" ∷ []
 abbrev pub all_pools_text : List ℕ
 all_pools_text = codes "SELECT pool, amount FROM pools ORDER BY pool"
 
-pub all_pools_is : IsQuery all_pools_text (picked 5 ([]) project order) shown_names
+pub all_pools_is : IsQuery all_pools_text 0 (picked 5 ([]) project order) shown_names
 unfolding understood everything written_out
-all_pools_is = record { command = refl; plain = (refl, refl); unlisted = refl }
+all_pools_is = record { command = refl; plain = (refl, refl); unlisted = refl; single = (refl, refl) }
 
 all_pools_listing : IsListing pools ([]) project order ([]) (λ _. true) 1
 unfolding written_out
@@ -74,9 +75,9 @@ all_pools_lists = lists_by pools all_pools_text ([]) project order shown_names a
 abbrev pub pool_at_text : List ℕ
 pool_at_text = codes "SELECT pool, amount FROM pools WHERE pool = ?1 ORDER BY pool"
 
-pub pool_at_is : IsQuery pool_at_text (picked 5 (op2 (Compare Eq Binary) (col 1 0) (col 0 0) ∷ []) project order) shown_names
+pub pool_at_is : IsQuery pool_at_text 1 (picked 5 (op2 (Compare Eq Binary) (col 1 0) (col 0 0) ∷ []) project order) shown_names
 unfolding understood everything written_out
-pool_at_is = record { command = refl; plain = (refl, refl); unlisted = refl }
+pool_at_is = record { command = refl; plain = (refl, refl); unlisted = refl; single = (refl, refl) }
 
 pool_at_listing : (pool : ℤ) → IsListing pools (op2 (Compare Eq Binary) (col 1 0) (col 0 0) ∷ []) project order (Int pool ∷ []) (has_key (Int pool ∷ [])) 1
 unfolding written_out

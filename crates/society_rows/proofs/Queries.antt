@@ -23,13 +23,15 @@ use Rattle.society_rows.specs.declared.fault.RowFault.{RowFault}
 use Rattle.society_rows.specs.Layout.{layout}
 use Rattle.society_rows.specs.Stored.{values_of, rows_in, HasLayout}
 use Rattle.society_rows.specs.Reads.{Lists, IsFirstOf, falling, Reads, Selected}
+use Rattle.society_rows.proofs.Failures.{IsSingle}
 use Rattle.society_rows.proofs.Answers.{picked, picked_first, passes_in, shown_in, answers_are, answers_sorted, first_answer}
 
--- over the layout the text is this query
-pub record IsQuery (text : List ℕ) (query : Query) (names : List (List ℕ)) : Type 0 where
+-- over the layout the text is this query, with so many parameters
+pub record IsQuery (text : List ℕ) (count : ℕ) (query : Query) (names : List (List ℕ)) : Type 0 where
   pub command : command_of (understood layout text) ≡ Select (record { lets = []; body = query }) names
   pub plain : IsPlain (understood layout text)
   pub unlisted : reads_listing layout text ≡ false
+  pub single : IsSingle text count (understood layout text)
 
 -- the query shows whole rows of the table, those that pass, in the order of their first columns by these keys
 pub record IsShowing (table : Table) (filters project : List Term) (order : List (Term × Key)) (params : Row) (passes : Row → Bool) (keys : List Key) : Type 0 where
@@ -40,7 +42,7 @@ pub record IsShowing (table : Table) (filters project : List Term) (order : List
 abbrev pub IsListing : Table → List Term → List Term → List (Term × Key) → Row → (Row → Bool) → ℕ → Type 0
 IsListing table filters project order params passes width = IsShowing table filters project order params passes (rising width [])
 
-pub answer_of : (text : List ℕ) (query : Query) (names : List (List ℕ)) → IsQuery text query names → (params : Row) (old new : State) (rows : List Row) → HasLayout old.now → Shown text params old new rows
+pub answer_of : (text : List ℕ) {count : ℕ} (query : Query) (names : List (List ℕ)) → IsQuery text count query names → (params : Row) (old new : State) (rows : List Row) → HasLayout old.now → Shown text params old new rows
     → IsAnswer query (overlay old.now.trees []) params rows
 answer_of text query names is params old new rows has h =
     (reads_as text params old new layout has (Select (record { lets = []; body = query }) names) is.command is.plain is.unlisted rows h).answer Null
@@ -57,14 +59,14 @@ listed table filters project order params passes keys listing db rows a =
       answers_sorted table.tree filters project order db params (key_cmp 0 keys) listing.orders rows a,
     )
 
-pub lists_by : (table : Table) (text : List ℕ) (filters project : List Term) (order : List (Term × Key)) (names : List (List ℕ)) → IsQuery text (picked table.tree filters project order) names
+pub lists_by : (table : Table) (text : List ℕ) {count : ℕ} (filters project : List Term) (order : List (Term × Key)) (names : List (List ℕ)) → IsQuery text count (picked table.tree filters project order) names
     → (params : Row) (passes : Row → Bool) (width : ℕ) → IsListing table filters project order params passes width
     → (old new : State) (rows : List Row) → HasLayout old.now → Shown text params old new rows → Lists table passes width old.now.trees rows
 lists_by table text filters project order names is params passes width listing old new rows has h =
     let found = listed table filters project order params passes (rising width []) listing old.now.trees rows (answer_of text (picked table.tree filters project order) names is params old new rows has h) in
     record { rows = found.0; sorted = found.1 }
 
-pub first_by : (table : Table) (text : List ℕ) (filters project : List Term) (order : List (Term × Key)) (names : List (List ℕ)) → IsQuery text (picked_first table.tree filters project order) names
+pub first_by : (table : Table) (text : List ℕ) {count : ℕ} (filters project : List Term) (order : List (Term × Key)) (names : List (List ℕ)) → IsQuery text count (picked_first table.tree filters project order) names
     → (params : Row) (passes : Row → Bool) (width : ℕ) → IsShowing table filters project order params passes (falling width)
     → (old new : State) (rows : List Row) → HasLayout old.now → Shown text params old new rows → IsFirstOf table passes width old.now.trees rows
 first_by table text filters project order names is params passes width listing old new rows has h =

@@ -23,10 +23,11 @@ use Rattle.society_rows.specs.Stored.{HasLayout, Adds}
 use Rattle.society_rows.proofs.Answers.{picked}
 use Rattle.society_rows.proofs.Booleans.{and_true}
 use Rattle.society_rows.proofs.Casts.{cast_null, cast_int}
+use Rattle.society_rows.proofs.Failures.{IsSingle}
 use Rattle.society_rows.proofs.Inserts.{IsSettled, Stores, inserts}
 use Rattle.society_rows.proofs.Queries.{IsQuery, IsListing, lists_by}
 
-settled : IsSettled recordings 9
+pub settled : IsSettled recordings 9
 unfolding understood everything written_out
 settled = record { listed = refl; uncounted = refl; unstamped = refl }
 
@@ -36,9 +37,9 @@ terms = lit Null ∷ col 0 0 ∷ col 0 1 ∷ col 0 2 ∷ col 0 3 ∷ []
 abbrev pub insert_text : List ℕ
 insert_text = codes "INSERT INTO recordings (sender, work, revision, isrc) VALUES (?1, ?2, ?3, ?4)"
 
-insert_is : (command_of (understood layout insert_text) ≡ Insert 9 (Values terms 5)) × IsPlain (understood layout insert_text)
+pub insert_is : (command_of (understood layout insert_text) ≡ Insert 9 (Values terms 5)) × IsPlain (understood layout insert_text) × IsSingle insert_text 4 (understood layout insert_text)
 unfolding understood everything written_out
-insert_is = (refl, (refl, refl))
+insert_is = (refl, (refl, refl), (refl, refl))
 
 abbrev row_of : List ℕ → List ℕ → ℤ → List ℕ → Row
 row_of sender work revision isrc = Text sender ∷ Text work ∷ Int revision ∷ Text isrc ∷ []
@@ -57,9 +58,9 @@ pair_terms = lit Null ∷ col 0 0 ∷ col 0 1 ∷ col 0 2 ∷ col 0 3 ∷ lit Nu
 abbrev pub pair_text : List ℕ
 pair_text = codes "INSERT INTO recordings (sender, work, revision, isrc) VALUES (?1, ?2, ?3, ?4), (?5, ?6, ?7, ?8)"
 
-pair_is : (command_of (understood layout pair_text) ≡ Insert 9 (Values pair_terms 5)) × IsPlain (understood layout pair_text)
+pub pair_is : (command_of (understood layout pair_text) ≡ Insert 9 (Values pair_terms 5)) × IsPlain (understood layout pair_text) × IsSingle pair_text 8 (understood layout pair_text)
 unfolding understood everything written_out
-pair_is = (refl, (refl, refl))
+pair_is = (refl, (refl, refl), (refl, refl))
 
 pub adds_pair : (r s : RecordingRow) (old new : State) (count : ℕ) → HasLayout old.now → ExecutesInside 0 pair_text (recording_values r ++ recording_values s) old new (Ok count) → Adds recordings (recording_values r ∷ recording_values s ∷ []) old.now new.now
 adds_pair r s old new count has h =
@@ -78,9 +79,9 @@ shown_names = codes "sender" ∷ codes "work" ∷ codes "revision" ∷ codes "is
 abbrev pub all_recordings_text : List ℕ
 all_recordings_text = codes "SELECT sender, work, revision, isrc FROM recordings ORDER BY sender, work, revision, isrc"
 
-pub all_recordings_is : IsQuery all_recordings_text (picked 16 ([]) project order) shown_names
+pub all_recordings_is : IsQuery all_recordings_text 0 (picked 16 ([]) project order) shown_names
 unfolding understood everything written_out
-all_recordings_is = record { command = refl; plain = (refl, refl); unlisted = refl }
+all_recordings_is = record { command = refl; plain = (refl, refl); unlisted = refl; single = (refl, refl) }
 
 all_recordings_listing : IsListing recordings ([]) project order ([]) (λ _. true) 4
 unfolding written_out
@@ -93,9 +94,9 @@ all_recordings_lists = lists_by recordings all_recordings_text ([]) project orde
 abbrev pub recordings_of_text : List ℕ
 recordings_of_text = codes "SELECT sender, work, revision, isrc FROM recordings WHERE sender = ?1 AND work = ?2 ORDER BY sender, work, revision, isrc"
 
-pub recordings_of_is : IsQuery recordings_of_text (picked 16 (op2 (Compare Eq Binary) (col 1 1) (col 0 0) ∷ op2 (Compare Eq Binary) (col 1 2) (col 0 1) ∷ []) project order) shown_names
+pub recordings_of_is : IsQuery recordings_of_text 2 (picked 16 (op2 (Compare Eq Binary) (col 1 1) (col 0 0) ∷ op2 (Compare Eq Binary) (col 1 2) (col 0 1) ∷ []) project order) shown_names
 unfolding understood everything written_out
-recordings_of_is = record { command = refl; plain = (refl, refl); unlisted = refl }
+recordings_of_is = record { command = refl; plain = (refl, refl); unlisted = refl; single = (refl, refl) }
 
 recordings_of_listing : (sender : List ℕ) (work : List ℕ) → IsListing recordings (op2 (Compare Eq Binary) (col 1 1) (col 0 0) ∷ op2 (Compare Eq Binary) (col 1 2) (col 0 1) ∷ []) project order (Text sender ∷ Text work ∷ []) (has_key (Text sender ∷ Text work ∷ [])) 4
 unfolding written_out
@@ -108,9 +109,9 @@ recordings_of_lists sender work = lists_by recordings recordings_of_text (op2 (C
 abbrev pub recordings_with_text : List ℕ
 recordings_with_text = codes "SELECT sender, work, revision, isrc FROM recordings WHERE isrc = ?1 ORDER BY sender, work, revision, isrc"
 
-pub recordings_with_is : IsQuery recordings_with_text (picked 16 (op2 (Compare Eq Binary) (col 1 4) (col 0 0) ∷ []) project order) shown_names
+pub recordings_with_is : IsQuery recordings_with_text 1 (picked 16 (op2 (Compare Eq Binary) (col 1 4) (col 0 0) ∷ []) project order) shown_names
 unfolding understood everything written_out
-recordings_with_is = record { command = refl; plain = (refl, refl); unlisted = refl }
+recordings_with_is = record { command = refl; plain = (refl, refl); unlisted = refl; single = (refl, refl) }
 
 recordings_with_listing : (isrc : List ℕ) → IsListing recordings (op2 (Compare Eq Binary) (col 1 4) (col 0 0) ∷ []) project order (Text isrc ∷ []) (has_at 3 (Text isrc)) 4
 unfolding written_out

@@ -19,10 +19,11 @@ use Rattle.society_rows.specs.Reads.{Lists, has_key}
 use Rattle.society_rows.specs.Stored.{HasLayout, Adds}
 use Rattle.society_rows.proofs.Answers.{picked}
 use Rattle.society_rows.proofs.Casts.{cast_null, cast_int}
+use Rattle.society_rows.proofs.Failures.{IsSingle}
 use Rattle.society_rows.proofs.Inserts.{IsSettled, Stores, inserts}
 use Rattle.society_rows.proofs.Queries.{IsQuery, IsListing, lists_by}
 
-settled : IsSettled returns 2
+pub settled : IsSettled returns 2
 unfolding understood everything written_out
 settled = record { listed = refl; uncounted = refl; unstamped = refl }
 
@@ -32,9 +33,9 @@ terms = lit Null ∷ col 0 0 ∷ col 0 1 ∷ col 0 2 ∷ []
 abbrev pub insert_text : List ℕ
 insert_text = codes "INSERT INTO returns (reporter, number, body) VALUES (?1, ?2, ?3)"
 
-insert_is : (command_of (understood layout insert_text) ≡ Insert 2 (Values terms 4)) × IsPlain (understood layout insert_text)
+pub insert_is : (command_of (understood layout insert_text) ≡ Insert 2 (Values terms 4)) × IsPlain (understood layout insert_text) × IsSingle insert_text 3 (understood layout insert_text)
 unfolding understood everything written_out
-insert_is = (refl, (refl, refl))
+insert_is = (refl, (refl, refl), (refl, refl))
 
 abbrev row_of : List ℕ → ℤ → List ℕ → Row
 row_of reporter number body = Text reporter ∷ Int number ∷ Blob body ∷ []
@@ -59,9 +60,9 @@ shown_names = codes "reporter" ∷ codes "number" ∷ codes "body" ∷ []
 abbrev pub all_returns_text : List ℕ
 all_returns_text = codes "SELECT reporter, number, body FROM returns ORDER BY reporter, number"
 
-pub all_returns_is : IsQuery all_returns_text (picked 3 ([]) project order) shown_names
+pub all_returns_is : IsQuery all_returns_text 0 (picked 3 ([]) project order) shown_names
 unfolding understood everything written_out
-all_returns_is = record { command = refl; plain = (refl, refl); unlisted = refl }
+all_returns_is = record { command = refl; plain = (refl, refl); unlisted = refl; single = (refl, refl) }
 
 all_returns_listing : IsListing returns ([]) project order ([]) (λ _. true) 2
 unfolding written_out
@@ -74,9 +75,9 @@ all_returns_lists = lists_by returns all_returns_text ([]) project order shown_n
 abbrev pub return_at_text : List ℕ
 return_at_text = codes "SELECT reporter, number, body FROM returns WHERE reporter = ?1 AND number = ?2 ORDER BY reporter, number"
 
-pub return_at_is : IsQuery return_at_text (picked 3 (op2 (Compare Eq Binary) (col 1 1) (col 0 0) ∷ op2 (Compare Eq Binary) (col 1 2) (col 0 1) ∷ []) project order) shown_names
+pub return_at_is : IsQuery return_at_text 2 (picked 3 (op2 (Compare Eq Binary) (col 1 1) (col 0 0) ∷ op2 (Compare Eq Binary) (col 1 2) (col 0 1) ∷ []) project order) shown_names
 unfolding understood everything written_out
-return_at_is = record { command = refl; plain = (refl, refl); unlisted = refl }
+return_at_is = record { command = refl; plain = (refl, refl); unlisted = refl; single = (refl, refl) }
 
 pub return_at_listing : (reporter : List ℕ) (number : ℤ) → IsListing returns (op2 (Compare Eq Binary) (col 1 1) (col 0 0) ∷ op2 (Compare Eq Binary) (col 1 2) (col 0 1) ∷ []) project order (Text reporter ∷ Int number ∷ []) (has_key (Text reporter ∷ Int number ∷ [])) 2
 unfolding written_out

@@ -1,5 +1,5 @@
 -- Rows that are gone over one at a time.
-use Rattle.std.proofs.Common.{◌≡◌, ◌⊎◌, ◌+◌, ℕ, List, [], ◌∷◌, ◌++◌, length, None, Result, Ok, Err, IfOk, IfErr, sym, ap, subst, ◌∙◌, inl, inr, arith}
+use Rattle.std.proofs.Common.{◌≡◌, ◌⊎◌, ◌+◌, ℕ, true, List, [], ◌∷◌, ◌++◌, length, None, Result, Ok, Err, IfOk, IfErr, sym, ap, subst, ◌∙◌, inl, inr, arith}
 use Rattle.std.specs.Result.{IsErr, IsErrAnd}
 use Rattle.std.proofs.lemmas.List.{length-append}
 use Rattle.std.proofs.lemmas.List.Sums.{fold_push}
@@ -7,7 +7,7 @@ use Rattle.sqlite_value.specs.Order.{Row}
 use Rattle.sqlite_trees.specs.Tree.{Trees}
 use Rattle.sqlite_trees.specs.declared.store.Store.{Ghosts}
 use Rattle.sqlite.specs.declared.error.Error.{Error}
-use Rattle.sqlite.specs.Effect.{Database}
+use Rattle.sqlite.specs.Effect.{Database, is_query}
 use Rattle.sqlite.specs.Clock.{timed}
 use Rattle.sqlite.specs.Given.{HasGiven}
 use Rattle.sqlite.specs.Held.{Held, state}
@@ -23,11 +23,31 @@ use Rattle.sqlite_resolve.specs.declared.compiled.Compiled.{Compiled}
 use Rattle.sqlite_resolve.specs.declared.error.CompileError.{CompileError}
 use Rattle.society_rows.specs.declared.fault.RowFault.{RowFault}
 use Rattle.society_rows.specs.declared.fault.RowFault.TheVariants.{Unread}
-use Rattle.society_rows.specs.Faults.{IsTold}
-use Rattle.society_rows.specs.Folds.{ReadsAlone, HasTaken, OfOtherLayout, AreFirst, AreShownFirst, AreTooMany, RefusesRow, StopsOver}
+use Rattle.society_rows.specs.Effects.{IsFailureOf}
+use Rattle.society_rows.specs.Faults.{fault_of}
+use Rattle.society_rows.specs.Folds.{ReadsAlone, HasTaken, OfOtherLayout, AreFirst, AreShownFirst, AreTooMany, IsAsked, RefusesRow, StopsOver}
 use Rattle.society_rows.specs.Layout.{layout}
 use Rattle.society_rows.specs.Stored.{HasLayout}
+use Rattle.society_rows.proofs.Failures.{IsSingle, failure_told, query_coded}
 use Rattle.society_rows.proofs.Queries.{IsQuery, failed_query}
+
+asked_plain : (text : List ℕ) (count : ℕ) (r : Result Compiled CompileError) → IsAsked text count r → IsPlain r
+asked_plain text count (Ok c) asked = (asked.0, asked.1)
+asked_plain text count (Err e) asked = absurd asked
+
+asked_single : (text : List ℕ) (count : ℕ) (r : Result Compiled CompileError) → IsAsked text count r → IsSingle text count r × (is_query (command_of r) ≡ true)
+asked_single text count (Ok c) asked = ((asked.2, asked.3), asked.4)
+asked_single text count (Err e) asked = absurd asked
+
+asked_if : (text : List ℕ) (count : ℕ) (r : Result Compiled CompileError) → IsPlain r → IsSingle text count r → is_query (command_of r) ≡ true → IsAsked text count r
+asked_if text count (Ok c) plain single query = (plain.0, plain.1, single.0, single.1, query)
+asked_if text count (Err e) plain single query = absurd plain
+
+pub query_asked : (text : List ℕ) {count : ℕ} {query : Query} {names : List (List ℕ)} → IsQuery text count query names → IsAsked text count (understood layout text)
+query_asked text {count} is = asked_if text count (understood layout text) is.plain is.single (ap is_query is.command)
+
+pub plain_asked : (text : List ℕ) (count : ℕ) → IsAsked text count (understood layout text) → IsPlain (understood layout text)
+plain_asked text count = asked_plain text count (understood layout text)
 
 -- a query whose text is known under the layout commits nothing there
 pub commits_nothing : (text : List ℕ) (params : Row) (old new : State) → IsPlain (understood layout text) → Survives old new (CommitsShowing text params old) → Survives old new (OfOtherLayout old)
@@ -148,26 +168,33 @@ begins_before text params old new rows same h =
 pub given_first : {S : Type 0} (g : Ghosts S) (text : List ℕ) (params : Row) (old : State) (h : Held S) (rows : List Row) → IsUnchanged old (state g h) → HasGiven g text params h rows → Begins text params old rows × IsUnchanged old (state g h)
 given_first g text params old h rows same given = (begins_before text params old (state g h) rows same (given_begin g text params h rows given), same)
 
--- SQLite told an error
-pub told_over : {F : Type 0} (step : F → Row → F) (refusal : F → Row → RowFault → Type 0) (First : List Row → Type 0) (begun : F) (result : Result (Unit {0}) RowFault) → IfErr result IsTold
-    → IfErr result (StopsOver step refusal First begun)
-told_over step refusal First begun (Ok x) told = tt
-told_over step refusal First begun (Err fault) told = record { why = inl told }
+-- a failure, before the first row or between two
+pub told_over : {F : Type 0} (step : F → Row → F) (refusal : F → Row → RowFault → Type 0) (text : List ℕ) (params : Row) (old mid new : State) (First : List Row → Type 0) (begun : F) (result : Result (Unit {0}) RowFault)
+    → (error : Error) → IsErrAnd result (λ e. e ≡ fault_of error) → IsAsked text (length params) (understood layout text) → (HasCleanDisk new → HasLayout old.now → HasLayout mid.now × FailsToQuery text params mid new error)
+    → IfErr result (StopsOver step refusal old new First begun)
+told_over step refusal text params old mid new First begun (Ok x) error is asked fails = tt
+told_over step refusal text params old mid new First begun (Err fault) error is asked fails = record { why = inl told }
+  where
+    told : IsFailureOf old new fault
+    told clean has =
+        let single = asked_single text (length params) (understood layout text) asked in
+        let failed = fails clean has in
+        failure_told fault error is (query_coded layout text params mid new failed.0 (plain_asked text (length params) asked) single.0 single.1 error failed.1)
 
 -- a row was refused
-pub refused_over : {F : Type 0} (step : F → Row → F) (refusal : F → Row → RowFault → Type 0) (Now First : List Row → Type 0) (begun now : F) (row : Row) (result : Result (Unit {0}) RowFault)
-    → ((rows : List Row) → Now rows → First (rows ++ row ∷ [])) → HasTaken step Now begun now → IfErr result (refusal now row) → IfErr result (StopsOver step refusal First begun)
-refused_over step refusal Now First begun now row (Ok x) more taken told = tt
-refused_over step refusal Now First begun now row (Err fault) more taken told = record {
+pub refused_over : {F : Type 0} (step : F → Row → F) (refusal : F → Row → RowFault → Type 0) (old new : State) (Now First : List Row → Type 0) (begun now : F) (row : Row) (result : Result (Unit {0}) RowFault)
+    → ((rows : List Row) → Now rows → First (rows ++ row ∷ [])) → HasTaken step Now begun now → IfErr result (refusal now row) → IfErr result (StopsOver step refusal old new First begun)
+refused_over step refusal old new Now First begun now row (Ok x) more taken told = tt
+refused_over step refusal old new Now First begun now row (Err fault) more taken told = record {
   why = inr (inl (record { before = taken.rows; row = row; first = more taken.rows taken.these; refused = subst (λ f. refusal f row fault) taken.folded told }));
 }
 
 -- the same of the connection that was lent, once it is given back
 pub stops_for : {S : Type 0} (g : Ghosts S) {F : Type 0} (step : F → Row → F) (refusal : F → Row → RowFault → Type 0) (text : List ℕ) (params : Row) (old : State) (mid : Held S) (begun : F) (fault : RowFault)
-    → StopsOver step refusal (AreShownFirst text params old (state g mid)) begun fault → (IsLent : Type 0) → IsLent → (back : Held S) → back ≡ mid
-    → (given : (new : Held S) × (IsLent → new ≡ back)) → StopsOver step refusal (AreShownFirst text params old (state g given.0)) begun fault
+    → StopsOver step refusal old (state g mid) (AreShownFirst text params old (state g mid)) begun fault → (IsLent : Type 0) → IsLent → (back : Held S) → back ≡ mid
+    → (given : (new : Held S) × (IsLent → new ≡ back)) → StopsOver step refusal old (state g given.0) (AreShownFirst text params old (state g given.0)) begun fault
 stops_for g step refusal text params old mid begun fault stops IsLent lent back is given =
-    subst (λ h. StopsOver step refusal (AreShownFirst text params old (state g h)) begun fault) (sym (given.1 lent ∙ is)) stops
+    subst (λ h. StopsOver step refusal old (state g h) (AreShownFirst text params old (state g h)) begun fault) (sym (given.1 lent ∙ is)) stops
 
 -- the fault is the one that was told
 pub err_as : (result : Result (Unit {0}) RowFault) (fault : RowFault) (Told : RowFault → Type 0) → IsErrAnd result (λ e. e ≡ fault) → Told fault → IfErr result Told
@@ -177,18 +204,18 @@ err_as (Err e) fault Told is told = subst Told (sym is) told
 -- the first rows that a query shows, as the first of those that it lists
 pub first_listed : {F : Type 0} (step : F → Row → F) (refusal : F → Row → RowFault → Type 0) (text : List ℕ) (params : Row) (old new : State) (Rows : Trees → List Row → Type 0) (begun : F) (result : Result (Unit {0}) RowFault)
     → ((rows : List Row) → HasLayout old.now → Begins text params old rows × IsUnchanged old new → (after : List Row) × Rows old.now.trees (rows ++ after))
-    → IfErr result (StopsOver step refusal (AreShownFirst text params old new) begun) → IfErr result (StopsOver step refusal (AreFirst old new Rows) begun)
+    → IfErr result (StopsOver step refusal old new (AreShownFirst text params old new) begun) → IfErr result (StopsOver step refusal old new (AreFirst old new Rows) begun)
 first_listed step refusal text params old new Rows begun (Ok x) lists h = tt
 first_listed step refusal text params old new Rows begun (Err fault) lists h = record { why = turned h.why }
   where
-    turned : IsTold fault ⊎ (RefusesRow step refusal (AreShownFirst text params old new) begun fault ⊎ ((fault ≡ Unread) × AreTooMany (AreShownFirst text params old new)))
-        → IsTold fault ⊎ (RefusesRow step refusal (AreFirst old new Rows) begun fault ⊎ ((fault ≡ Unread) × AreTooMany (AreFirst old new Rows)))
+    turned : IsFailureOf old new fault ⊎ (RefusesRow step refusal (AreShownFirst text params old new) begun fault ⊎ ((fault ≡ Unread) × AreTooMany (AreShownFirst text params old new)))
+        → IsFailureOf old new fault ⊎ (RefusesRow step refusal (AreFirst old new Rows) begun fault ⊎ ((fault ≡ Unread) × AreTooMany (AreFirst old new Rows)))
     turned (inl told) = inl told
     turned (inr (inl refused)) = inr (inl (record { before = refused.before; row = refused.row; first = λ clean has. lists _ has (refused.first clean has); refused = refused.refused }))
     turned (inr (inr many)) = inr (inr (many.0, (many.1.0, λ clean has. lists _ has (many.1.1 clean has), many.1.2)))
 
 -- a query that has no table of its own, so that its first rows are those of a whole answer
-pub whole_listed : (text : List ℕ) (query : Query) (names : List (List ℕ)) → IsQuery text query names → (params : Row) (old new : State) (Rows : Trees → List Row → Type 0)
+pub whole_listed : (text : List ℕ) {count : ℕ} (query : Query) (names : List (List ℕ)) → IsQuery text count query names → (params : Row) (old new : State) (Rows : Trees → List Row → Type 0)
     → ((rows : List Row) → HasLayout old.now → Shown text params old new rows → Rows old.now.trees rows) → (rows : List Row) → HasLayout old.now → Begins text params old rows × IsUnchanged old new → (after : List Row) × Rows old.now.trees (rows ++ after)
 whole_listed text query names is params old new Rows lists rows has h =
     let shown = begins_shown text params old new rows h.0 h.1

@@ -1,5 +1,5 @@
 -- The transmissions of a sender, one number after another.
-use Rattle.std.proofs.Common.{IsTrue, ◌≡◌, ◌∙◌, ℕ, suc, pos, ◌+◌, ◌^◌, ◌<◌, ◌≤◌, length, List, [], ◌∷◌, ◌++◌, get_or, Vec, Result, Ok, Err, IfErr, sym, ap, subst, refl, inl, inr, arith}
+use Rattle.std.proofs.Common.{IsTrue, ◌≡◌, ◌∙◌, ℕ, suc, pos, ◌+◌, ◌^◌, ◌<◌, ◌≤◌, length, List, [], ◌∷◌, ◌++◌, get_or, Vec, Result, Ok, Err, IfErr, IsErrAnd, sym, ap, subst, refl, inl, inr, arith}
 use Rattle.std.specs.declared.alloc.Global.{Global}
 use Rattle.std.proofs.lemmas.Bool.{cases_lt}
 use Rattle.std.proofs.lemmas.List.{length-append}
@@ -9,13 +9,14 @@ use Rattle.sqlite_trees.specs.Tree.{Trees}
 use Rattle.sqlite_trees.specs.declared.store.Store.{Ghosts}
 use Rattle.sqlite.specs.Effect.{Database}
 use Rattle.sqlite.specs.Held.{Held, state}
-use Rattle.sqlite.specs.State.{State, KeepsCommit, HasCleanDisk, IsUnchanged, Survives}
+use Rattle.sqlite.specs.State.{KeepsCommit, HasCleanDisk, IsUnchanged, Survives}
 use Rattle.sqlite.proofs.Callers.{unchanged_then}
 use Rattle.sqlite.proofs.InsideLemmas.{keeps_then}
 use Rattle.sqlite.proofs.StateLemmas.{survives_then}
 use Rattle.society_rows.specs.declared.fault.RowFault.{RowFault}
 use Rattle.society_rows.specs.declared.fault.RowFault.TheVariants.{Unread}
-use Rattle.society_rows.specs.Faults.{IsTold}
+use Rattle.society_rows.specs.Effects.{OnlyFails}
+use Rattle.society_rows.specs.Faults.{IsFailure}
 use Rattle.society_rows.specs.Folds.{ReadsInside, HasTaken, AreFirstOfRun, AreDoubled, AreFrom, IsRun, StopsRun}
 use Rattle.society_rows.specs.Layout.{transmissions}
 use Rattle.society_rows.specs.Reads.{Lists, Reads, has_key}
@@ -67,6 +68,14 @@ module _ {S : Type 0} (g : Ghosts S) {F : Type 0} (step : F → Row → F) (send
 
   abbrev Found : Trees → Vec Row Global → Type 0
   Found db rows = Lists transmissions (has_key (Text sender ∷ Int (pos number) ∷ [])) 2 db rows.items
+
+  -- a failure of the next reading
+  pub run_told : (refusal : F → Row → RowFault → Type 0) (fault : RowFault) (result : Result (Unit {0}) RowFault) → IsErrAnd result (λ e. e ≡ fault) → Survives (state g mid) (state g new) (λ _. ⊥)
+      → OnlyFails {X = Vec Row Global} (state g mid) (state g new) (Err fault) → IfErr result (StopsRun step refusal (state g old) (state g new) sender first begun)
+  run_told refusal fault (Ok x) is survives told = tt
+  run_told refusal fault (Err e) is survives told = record {
+    why = inl (λ clean has. subst IsFailure (sym is) (told clean (subst HasLayout (sym (seen_now (early survives clean) has)) has)));
+  }
 
   module _ (rows : Vec Row Global) (read : Reads (state g mid) (state g new) (Ok rows) Found) where
     -- what was found is what stands in the first state
@@ -159,12 +168,6 @@ pub run_fills : {S : Type 0} (g : Ghosts S) {F : Type 0} (step : F → Row → F
 run_fills g step refusal sender old new first number begun now all run =
     let gone = run.gone in
     record { why = inr (inr (refl, λ clean has. inr (record { rows = gone.rows; each = gone.these.1 clean has; full = gone.these.0 ∙ all }))) }
-
--- SQLite told an error
-pub run_told : {F : Type 0} (step : F → Row → F) (refusal : F → Row → RowFault → Type 0) (old new : State) (sender : List ℕ) (first : ℕ) (begun : F) (result : Result (Unit {0}) RowFault) → IfErr result IsTold
-    → IfErr result (StopsRun step refusal old new sender first begun)
-run_told step refusal old new sender first begun (Ok x) told = tt
-run_told step refusal old new sender first begun (Err fault) told = record { why = inl told }
 
 -- no row, and one
 

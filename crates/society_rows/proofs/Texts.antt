@@ -16,51 +16,51 @@ layout_is = refl
 
 office_is : IsDefinition (fold created no_schema (take 0 all_tables)) office_text office
 unfolding understood everything written_out
-office_is = record { command = refl; whole = refl; plain = (refl, refl); defines = refl; uncounted = refl }
+office_is = record { command = refl; whole = refl; plain = (refl, refl); single = (refl, refl); defines = refl; uncounted = refl }
 
 transmissions_is : IsDefinition (fold created no_schema (take 1 all_tables)) transmissions_text transmissions
 unfolding understood everything written_out
-transmissions_is = record { command = refl; whole = refl; plain = (refl, refl); defines = refl; uncounted = refl }
+transmissions_is = record { command = refl; whole = refl; plain = (refl, refl); single = (refl, refl); defines = refl; uncounted = refl }
 
 returns_is : IsDefinition (fold created no_schema (take 2 all_tables)) returns_text returns
 unfolding understood everything written_out
-returns_is = record { command = refl; whole = refl; plain = (refl, refl); defines = refl; uncounted = refl }
+returns_is = record { command = refl; whole = refl; plain = (refl, refl); single = (refl, refl); defines = refl; uncounted = refl }
 
 pools_is : IsDefinition (fold created no_schema (take 3 all_tables)) pools_text pools
 unfolding understood everything written_out
-pools_is = record { command = refl; whole = refl; plain = (refl, refl); defines = refl; uncounted = refl }
+pools_is = record { command = refl; whole = refl; plain = (refl, refl); single = (refl, refl); defines = refl; uncounted = refl }
 
 pool_cuts_is : IsDefinition (fold created no_schema (take 4 all_tables)) pool_cuts_text pool_cuts
 unfolding understood everything written_out
-pool_cuts_is = record { command = refl; whole = refl; plain = (refl, refl); defines = refl; uncounted = refl }
+pool_cuts_is = record { command = refl; whole = refl; plain = (refl, refl); single = (refl, refl); defines = refl; uncounted = refl }
 
 pool_returns_is : IsDefinition (fold created no_schema (take 5 all_tables)) pool_returns_text pool_returns
 unfolding understood everything written_out
-pool_returns_is = record { command = refl; whole = refl; plain = (refl, refl); defines = refl; uncounted = refl }
+pool_returns_is = record { command = refl; whole = refl; plain = (refl, refl); single = (refl, refl); defines = refl; uncounted = refl }
 
 fronts_is : IsDefinition (fold created no_schema (take 6 all_tables)) fronts_text fronts
 unfolding understood everything written_out
-fronts_is = record { command = refl; whole = refl; plain = (refl, refl); defines = refl; uncounted = refl }
+fronts_is = record { command = refl; whole = refl; plain = (refl, refl); single = (refl, refl); defines = refl; uncounted = refl }
 
 verdicts_is : IsDefinition (fold created no_schema (take 7 all_tables)) verdicts_text verdicts
 unfolding understood everything written_out
-verdicts_is = record { command = refl; whole = refl; plain = (refl, refl); defines = refl; uncounted = refl }
+verdicts_is = record { command = refl; whole = refl; plain = (refl, refl); single = (refl, refl); defines = refl; uncounted = refl }
 
 versions_is : IsDefinition (fold created no_schema (take 8 all_tables)) versions_text versions
 unfolding understood everything written_out
-versions_is = record { command = refl; whole = refl; plain = (refl, refl); defines = refl; uncounted = refl }
+versions_is = record { command = refl; whole = refl; plain = (refl, refl); single = (refl, refl); defines = refl; uncounted = refl }
 
 recordings_is : IsDefinition (fold created no_schema (take 9 all_tables)) recordings_text recordings
 unfolding understood everything written_out
-recordings_is = record { command = refl; whole = refl; plain = (refl, refl); defines = refl; uncounted = refl }
+recordings_is = record { command = refl; whole = refl; plain = (refl, refl); single = (refl, refl); defines = refl; uncounted = refl }
 
 credits_is : IsDefinition (fold created no_schema (take 10 all_tables)) credits_text credits
 unfolding understood everything written_out
-credits_is = record { command = refl; whole = refl; plain = (refl, refl); defines = refl; uncounted = refl }
+credits_is = record { command = refl; whole = refl; plain = (refl, refl); single = (refl, refl); defines = refl; uncounted = refl }
 
 balances_is : IsDefinition (fold created no_schema (take 11 all_tables)) balances_text balances
 unfolding understood everything written_out
-balances_is = record { command = refl; whole = refl; plain = (refl, refl); defines = refl; uncounted = refl }
+balances_is = record { command = refl; whole = refl; plain = (refl, refl); single = (refl, refl); defines = refl; uncounted = refl }
 
 -- each text makes its table under the schema of those before it
 abbrev pub AreDefinitions : Schema → List (List ℕ) → List Table → Type 0

@@ -21,10 +21,11 @@ use Rattle.society_rows.specs.Stored.{HasLayout, Adds}
 use Rattle.society_rows.proofs.Answers.{picked}
 use Rattle.society_rows.proofs.Booleans.{and_true}
 use Rattle.society_rows.proofs.Casts.{cast_null, cast_int}
+use Rattle.society_rows.proofs.Failures.{IsSingle}
 use Rattle.society_rows.proofs.Inserts.{IsSettled, Stores, inserts}
 use Rattle.society_rows.proofs.Queries.{IsQuery, IsListing, lists_by}
 
-settled : IsSettled transmissions 1
+pub settled : IsSettled transmissions 1
 unfolding understood everything written_out
 settled = record { listed = refl; uncounted = refl; unstamped = refl }
 
@@ -34,9 +35,9 @@ terms = lit Null ∷ col 0 0 ∷ col 0 1 ∷ col 0 2 ∷ []
 abbrev pub insert_text : List ℕ
 insert_text = codes "INSERT INTO transmissions (sender, number, body) VALUES (?1, ?2, ?3)"
 
-insert_is : (command_of (understood layout insert_text) ≡ Insert 1 (Values terms 4)) × IsPlain (understood layout insert_text)
+pub insert_is : (command_of (understood layout insert_text) ≡ Insert 1 (Values terms 4)) × IsPlain (understood layout insert_text) × IsSingle insert_text 3 (understood layout insert_text)
 unfolding understood everything written_out
-insert_is = (refl, (refl, refl))
+insert_is = (refl, (refl, refl), (refl, refl))
 
 abbrev row_of : List ℕ → ℤ → List ℕ → Row
 row_of sender number body = Text sender ∷ Int number ∷ Blob body ∷ []
@@ -61,9 +62,9 @@ shown_names = codes "sender" ∷ codes "number" ∷ codes "body" ∷ []
 abbrev pub all_transmissions_text : List ℕ
 all_transmissions_text = codes "SELECT sender, number, body FROM transmissions ORDER BY sender, number"
 
-pub all_transmissions_is : IsQuery all_transmissions_text (picked 1 ([]) project order) shown_names
+pub all_transmissions_is : IsQuery all_transmissions_text 0 (picked 1 ([]) project order) shown_names
 unfolding understood everything written_out
-all_transmissions_is = record { command = refl; plain = (refl, refl); unlisted = refl }
+all_transmissions_is = record { command = refl; plain = (refl, refl); unlisted = refl; single = (refl, refl) }
 
 all_transmissions_listing : IsListing transmissions ([]) project order ([]) (λ _. true) 2
 unfolding written_out
@@ -76,9 +77,9 @@ all_transmissions_lists = lists_by transmissions all_transmissions_text ([]) pro
 abbrev pub transmission_at_text : List ℕ
 transmission_at_text = codes "SELECT sender, number, body FROM transmissions WHERE sender = ?1 AND number = ?2 ORDER BY sender, number"
 
-pub transmission_at_is : IsQuery transmission_at_text (picked 1 (op2 (Compare Eq Binary) (col 1 1) (col 0 0) ∷ op2 (Compare Eq Binary) (col 1 2) (col 0 1) ∷ []) project order) shown_names
+pub transmission_at_is : IsQuery transmission_at_text 2 (picked 1 (op2 (Compare Eq Binary) (col 1 1) (col 0 0) ∷ op2 (Compare Eq Binary) (col 1 2) (col 0 1) ∷ []) project order) shown_names
 unfolding understood everything written_out
-transmission_at_is = record { command = refl; plain = (refl, refl); unlisted = refl }
+transmission_at_is = record { command = refl; plain = (refl, refl); unlisted = refl; single = (refl, refl) }
 
 transmission_at_listing : (sender : List ℕ) (number : ℤ) → IsListing transmissions (op2 (Compare Eq Binary) (col 1 1) (col 0 0) ∷ op2 (Compare Eq Binary) (col 1 2) (col 0 1) ∷ []) project order (Text sender ∷ Int number ∷ []) (has_key (Text sender ∷ Int number ∷ [])) 2
 unfolding written_out
@@ -91,9 +92,9 @@ transmission_at_lists sender number = lists_by transmissions transmission_at_tex
 abbrev pub transmissions_above_text : List ℕ
 transmissions_above_text = codes "SELECT sender, number, body FROM transmissions WHERE sender = ?1 AND number > ?2 ORDER BY sender, number"
 
-pub transmissions_above_is : IsQuery transmissions_above_text (picked 1 (op2 (Compare Eq Binary) (col 1 1) (col 0 0) ∷ op2 (Compare Gt Binary) (col 1 2) (col 0 1) ∷ []) project order) shown_names
+pub transmissions_above_is : IsQuery transmissions_above_text 2 (picked 1 (op2 (Compare Eq Binary) (col 1 1) (col 0 0) ∷ op2 (Compare Gt Binary) (col 1 2) (col 0 1) ∷ []) project order) shown_names
 unfolding understood everything written_out
-transmissions_above_is = record { command = refl; plain = (refl, refl); unlisted = refl }
+transmissions_above_is = record { command = refl; plain = (refl, refl); unlisted = refl; single = (refl, refl) }
 
 pub transmissions_above_listing : (sender : List ℕ) (number : ℤ) → IsListing transmissions (op2 (Compare Eq Binary) (col 1 1) (col 0 0) ∷ op2 (Compare Gt Binary) (col 1 2) (col 0 1) ∷ []) project order (Text sender ∷ Int number ∷ []) (is_above (Text sender) (Int number)) 2
 unfolding written_out

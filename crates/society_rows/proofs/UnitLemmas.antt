@@ -15,7 +15,7 @@ use Rattle.sqlite.proofs.StateLemmas.{survives_then}
 use Rattle.society_rows.specs.declared.fault.RowFault.{RowFault}
 use Rattle.society_rows.specs.Balances.{HasUnits, AddsUnits, HasNoUnits, RefusesUnits}
 use Rattle.society_rows.specs.Effects.{Writes}
-use Rattle.society_rows.specs.Faults.{IsTold}
+use Rattle.society_rows.specs.Faults.{IsFailure}
 use Rattle.society_rows.specs.Folds.{ReadsInside}
 use Rattle.society_rows.specs.Forms.{IsOfForms, balance_forms}
 use Rattle.society_rows.specs.Layout.{balances}
@@ -109,6 +109,6 @@ sums_units a b c account before units sum result read fits is write =
     (λ d e had put. record { before = before; had = had; fits = fits; put = subst (λ n. Puts balances (Text account ∷ Int n ∷ []) d e) is put })
 
 -- a write whose faults SQLite tells adds units, or it has that cause
-pub told_refuses : (account : List ℕ) (units : ℤ) (db : Trees) (result : Result (Unit {0}) RowFault) → IfErr result IsTold → IfErr result (RefusesUnits account units db)
+pub told_refuses : (account : List ℕ) (units : ℤ) (db : Trees) (result : Result (Unit {0}) RowFault) → IfErr result IsFailure → IfErr result (RefusesUnits account units db)
 told_refuses account units db (Ok x) h = tt
 told_refuses account units db (Err e) h = inl (inl h)

@@ -21,10 +21,11 @@ use Rattle.society_rows.specs.declared.verdicts.VerdictRow.{VerdictRow}
 use Rattle.society_rows.specs.Stored.{HasLayout, Adds}
 use Rattle.society_rows.proofs.Answers.{picked}
 use Rattle.society_rows.proofs.Casts.{cast_null, cast_int}
+use Rattle.society_rows.proofs.Failures.{IsSingle}
 use Rattle.society_rows.proofs.Inserts.{IsSettled, Stores, inserts}
 use Rattle.society_rows.proofs.Queries.{IsQuery, IsListing, lists_by}
 
-settled : IsSettled verdicts 7
+pub settled : IsSettled verdicts 7
 unfolding understood everything written_out
 settled = record { listed = refl; uncounted = refl; unstamped = refl }
 
@@ -34,9 +35,9 @@ terms = lit Null ∷ col 0 0 ∷ col 0 1 ∷ col 0 2 ∷ col 0 3 ∷ col 0 4 ∷
 abbrev pub insert_text : List ℕ
 insert_text = codes "INSERT INTO verdicts (sender, number, place, fault, ordinal, revision) VALUES (?1, ?2, ?3, ?4, ?5, ?6)"
 
-insert_is : (command_of (understood layout insert_text) ≡ Insert 7 (Values terms 7)) × IsPlain (understood layout insert_text)
+pub insert_is : (command_of (understood layout insert_text) ≡ Insert 7 (Values terms 7)) × IsPlain (understood layout insert_text) × IsSingle insert_text 6 (understood layout insert_text)
 unfolding understood everything written_out
-insert_is = (refl, (refl, refl))
+insert_is = (refl, (refl, refl), (refl, refl))
 
 abbrev row_of : List ℕ → ℤ → ℤ → ℤ → ℤ → ℤ → Row
 row_of sender number place fault ordinal revision = Text sender ∷ Int number ∷ Int place ∷ Int fault ∷ Int ordinal ∷ Int revision ∷ []
@@ -55,9 +56,9 @@ pair_terms = lit Null ∷ col 0 0 ∷ col 0 1 ∷ col 0 2 ∷ col 0 3 ∷ col 0 
 abbrev pub pair_text : List ℕ
 pair_text = codes "INSERT INTO verdicts (sender, number, place, fault, ordinal, revision) VALUES (?1, ?2, ?3, ?4, ?5, ?6), (?7, ?8, ?9, ?10, ?11, ?12)"
 
-pair_is : (command_of (understood layout pair_text) ≡ Insert 7 (Values pair_terms 7)) × IsPlain (understood layout pair_text)
+pub pair_is : (command_of (understood layout pair_text) ≡ Insert 7 (Values pair_terms 7)) × IsPlain (understood layout pair_text) × IsSingle pair_text 12 (understood layout pair_text)
 unfolding understood everything written_out
-pair_is = (refl, (refl, refl))
+pair_is = (refl, (refl, refl), (refl, refl))
 
 pub adds_pair : (r s : VerdictRow) (old new : State) (count : ℕ) → HasLayout old.now → ExecutesInside 0 pair_text (verdict_values r ++ verdict_values s) old new (Ok count) → Adds verdicts (verdict_values r ∷ verdict_values s ∷ []) old.now new.now
 adds_pair r s old new count has h =
@@ -76,9 +77,9 @@ shown_names = codes "sender" ∷ codes "number" ∷ codes "place" ∷ codes "fau
 abbrev pub all_verdicts_text : List ℕ
 all_verdicts_text = codes "SELECT sender, number, place, fault, ordinal, revision FROM verdicts ORDER BY sender, number, place"
 
-pub all_verdicts_is : IsQuery all_verdicts_text (picked 12 ([]) project order) shown_names
+pub all_verdicts_is : IsQuery all_verdicts_text 0 (picked 12 ([]) project order) shown_names
 unfolding understood everything written_out
-all_verdicts_is = record { command = refl; plain = (refl, refl); unlisted = refl }
+all_verdicts_is = record { command = refl; plain = (refl, refl); unlisted = refl; single = (refl, refl) }
 
 all_verdicts_listing : IsListing verdicts ([]) project order ([]) (λ _. true) 3
 unfolding written_out
@@ -91,9 +92,9 @@ all_verdicts_lists = lists_by verdicts all_verdicts_text ([]) project order show
 abbrev pub verdicts_of_text : List ℕ
 verdicts_of_text = codes "SELECT sender, number, place, fault, ordinal, revision FROM verdicts WHERE sender = ?1 AND number = ?2 ORDER BY sender, number, place"
 
-pub verdicts_of_is : IsQuery verdicts_of_text (picked 12 (op2 (Compare Eq Binary) (col 1 1) (col 0 0) ∷ op2 (Compare Eq Binary) (col 1 2) (col 0 1) ∷ []) project order) shown_names
+pub verdicts_of_is : IsQuery verdicts_of_text 2 (picked 12 (op2 (Compare Eq Binary) (col 1 1) (col 0 0) ∷ op2 (Compare Eq Binary) (col 1 2) (col 0 1) ∷ []) project order) shown_names
 unfolding understood everything written_out
-verdicts_of_is = record { command = refl; plain = (refl, refl); unlisted = refl }
+verdicts_of_is = record { command = refl; plain = (refl, refl); unlisted = refl; single = (refl, refl) }
 
 verdicts_of_listing : (sender : List ℕ) (number : ℤ) → IsListing verdicts (op2 (Compare Eq Binary) (col 1 1) (col 0 0) ∷ op2 (Compare Eq Binary) (col 1 2) (col 0 1) ∷ []) project order (Text sender ∷ Int number ∷ []) (has_key (Text sender ∷ Int number ∷ [])) 3
 unfolding written_out

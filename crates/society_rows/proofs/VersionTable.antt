@@ -21,10 +21,11 @@ use Rattle.society_rows.specs.declared.versions.VersionRow.{VersionRow}
 use Rattle.society_rows.specs.Stored.{HasLayout, Adds}
 use Rattle.society_rows.proofs.Answers.{picked, picked_first}
 use Rattle.society_rows.proofs.Casts.{cast_null, cast_int}
+use Rattle.society_rows.proofs.Failures.{IsSingle}
 use Rattle.society_rows.proofs.Inserts.{IsSettled, Stores, inserts}
 use Rattle.society_rows.proofs.Queries.{IsQuery, IsShowing, IsListing, lists_by, first_by}
 
-settled : IsSettled versions 8
+pub settled : IsSettled versions 8
 unfolding understood everything written_out
 settled = record { listed = refl; uncounted = refl; unstamped = refl }
 
@@ -34,9 +35,9 @@ terms = lit Null ∷ col 0 0 ∷ col 0 1 ∷ col 0 2 ∷ col 0 3 ∷ col 0 4 ∷
 abbrev pub insert_text : List ℕ
 insert_text = codes "INSERT INTO versions (sender, work, revision, number, place, ordinal) VALUES (?1, ?2, ?3, ?4, ?5, ?6)"
 
-insert_is : (command_of (understood layout insert_text) ≡ Insert 8 (Values terms 7)) × IsPlain (understood layout insert_text)
+pub insert_is : (command_of (understood layout insert_text) ≡ Insert 8 (Values terms 7)) × IsPlain (understood layout insert_text) × IsSingle insert_text 6 (understood layout insert_text)
 unfolding understood everything written_out
-insert_is = (refl, (refl, refl))
+insert_is = (refl, (refl, refl), (refl, refl))
 
 abbrev row_of : List ℕ → List ℕ → ℤ → ℤ → ℤ → ℤ → Row
 row_of sender work revision number place ordinal = Text sender ∷ Text work ∷ Int revision ∷ Int number ∷ Int place ∷ Int ordinal ∷ []
@@ -55,9 +56,9 @@ pair_terms = lit Null ∷ col 0 0 ∷ col 0 1 ∷ col 0 2 ∷ col 0 3 ∷ col 0 
 abbrev pub pair_text : List ℕ
 pair_text = codes "INSERT INTO versions (sender, work, revision, number, place, ordinal) VALUES (?1, ?2, ?3, ?4, ?5, ?6), (?7, ?8, ?9, ?10, ?11, ?12)"
 
-pair_is : (command_of (understood layout pair_text) ≡ Insert 8 (Values pair_terms 7)) × IsPlain (understood layout pair_text)
+pub pair_is : (command_of (understood layout pair_text) ≡ Insert 8 (Values pair_terms 7)) × IsPlain (understood layout pair_text) × IsSingle pair_text 12 (understood layout pair_text)
 unfolding understood everything written_out
-pair_is = (refl, (refl, refl))
+pair_is = (refl, (refl, refl), (refl, refl))
 
 pub adds_pair : (r s : VersionRow) (old new : State) (count : ℕ) → HasLayout old.now → ExecutesInside 0 pair_text (version_values r ++ version_values s) old new (Ok count) → Adds versions (version_values r ∷ version_values s ∷ []) old.now new.now
 adds_pair r s old new count has h =
@@ -76,9 +77,9 @@ shown_names = codes "sender" ∷ codes "work" ∷ codes "revision" ∷ codes "nu
 abbrev pub all_versions_text : List ℕ
 all_versions_text = codes "SELECT sender, work, revision, number, place, ordinal FROM versions ORDER BY sender, work, revision"
 
-pub all_versions_is : IsQuery all_versions_text (picked 14 ([]) project order) shown_names
+pub all_versions_is : IsQuery all_versions_text 0 (picked 14 ([]) project order) shown_names
 unfolding understood everything written_out
-all_versions_is = record { command = refl; plain = (refl, refl); unlisted = refl }
+all_versions_is = record { command = refl; plain = (refl, refl); unlisted = refl; single = (refl, refl) }
 
 all_versions_listing : IsListing versions ([]) project order ([]) (λ _. true) 3
 unfolding written_out
@@ -91,9 +92,9 @@ all_versions_lists = lists_by versions all_versions_text ([]) project order show
 abbrev pub versions_of_text : List ℕ
 versions_of_text = codes "SELECT sender, work, revision, number, place, ordinal FROM versions WHERE sender = ?1 AND work = ?2 ORDER BY sender, work, revision"
 
-pub versions_of_is : IsQuery versions_of_text (picked 14 (op2 (Compare Eq Binary) (col 1 1) (col 0 0) ∷ op2 (Compare Eq Binary) (col 1 2) (col 0 1) ∷ []) project order) shown_names
+pub versions_of_is : IsQuery versions_of_text 2 (picked 14 (op2 (Compare Eq Binary) (col 1 1) (col 0 0) ∷ op2 (Compare Eq Binary) (col 1 2) (col 0 1) ∷ []) project order) shown_names
 unfolding understood everything written_out
-versions_of_is = record { command = refl; plain = (refl, refl); unlisted = refl }
+versions_of_is = record { command = refl; plain = (refl, refl); unlisted = refl; single = (refl, refl) }
 
 versions_of_listing : (sender : List ℕ) (work : List ℕ) → IsListing versions (op2 (Compare Eq Binary) (col 1 1) (col 0 0) ∷ op2 (Compare Eq Binary) (col 1 2) (col 0 1) ∷ []) project order (Text sender ∷ Text work ∷ []) (has_key (Text sender ∷ Text work ∷ [])) 3
 unfolding written_out
@@ -112,9 +113,9 @@ falling_order = (col 1 1, downwards) ∷ (col 1 2, downwards) ∷ (col 1 3, down
 abbrev pub last_version_of_text : List ℕ
 last_version_of_text = codes "SELECT sender, work, revision, number, place, ordinal FROM versions WHERE sender = ?1 AND work = ?2 ORDER BY sender DESC, work DESC, revision DESC LIMIT 1"
 
-pub last_version_of_is : IsQuery last_version_of_text (picked_first 14 (op2 (Compare Eq Binary) (col 1 1) (col 0 0) ∷ op2 (Compare Eq Binary) (col 1 2) (col 0 1) ∷ []) project falling_order) shown_names
+pub last_version_of_is : IsQuery last_version_of_text 2 (picked_first 14 (op2 (Compare Eq Binary) (col 1 1) (col 0 0) ∷ op2 (Compare Eq Binary) (col 1 2) (col 0 1) ∷ []) project falling_order) shown_names
 unfolding understood everything written_out
-last_version_of_is = record { command = refl; plain = (refl, refl); unlisted = refl }
+last_version_of_is = record { command = refl; plain = (refl, refl); unlisted = refl; single = (refl, refl) }
 
 last_version_of_listing : (sender : List ℕ) (work : List ℕ) → IsShowing versions (op2 (Compare Eq Binary) (col 1 1) (col 0 0) ∷ op2 (Compare Eq Binary) (col 1 2) (col 0 1) ∷ []) project falling_order (Text sender ∷ Text work ∷ []) (has_key (Text sender ∷ Text work ∷ [])) (falling 3)
 unfolding written_out

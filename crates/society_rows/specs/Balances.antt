@@ -6,7 +6,7 @@ use Rattle.sqlite_trees.specs.Tree.{Trees}
 use Rattle.sqlite.specs.Effect.{Database}
 use Rattle.society_rows.specs.declared.fault.RowFault.{RowFault}
 use Rattle.society_rows.specs.declared.fault.RowFault.TheVariants.{Overflow, Unread}
-use Rattle.society_rows.specs.Faults.{IsTold}
+use Rattle.society_rows.specs.Faults.{IsFailure}
 use Rattle.society_rows.specs.Layout.{balances}
 use Rattle.society_rows.specs.Reads.{has_key}
 use Rattle.society_rows.specs.Stored.{rows_in, Puts}
@@ -26,9 +26,9 @@ pub record AddsUnits (account : List ℕ) (units : ℤ) (old new : Database) : T
 abbrev pub HasNoUnits : List ℕ → Trees → Type 0
 HasNoUnits account db = (units : ℤ) → FitsSigned w64 units → ¬ HasUnits account db units
 
--- why an account's units are not told: SQLite told an error, or there are no such units
+-- why an account's units are not told: a failure, or there are no such units
 abbrev pub HidesUnits : List ℕ → Trees → RowFault → Type 0
-HidesUnits account db fault = IsTold fault ⊎ ((fault ≡ Unread) × HasNoUnits account db)
+HidesUnits account db fault = IsFailure fault ⊎ ((fault ≡ Unread) × HasNoUnits account db)
 
 -- why units are not added: the account's are not told, or the sum doesn't fit 64 bits
 abbrev pub RefusesUnits : List ℕ → ℤ → Trees → RowFault → Type 0

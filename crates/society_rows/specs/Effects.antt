@@ -1,12 +1,28 @@
 -- What a call within a transaction does, whatever table it is on.
-use Rattle.std.specs.Prelude.{◌≡◌, ◌⊎◌, ℕ, List, Result, Ok, Err, IsTrue, false, OnOk, OnErr, MatchResult}
+use Rattle.std.specs.Prelude.{◌≡◌, ◌⊎◌, ℕ, List, Result, Ok, Err, IsTrue, false, IfErr, OnOk, OnErr, MatchResult}
 use Rattle.sqlite_value.specs.Order.{Row}
 use Rattle.sqlite.specs.declared.error.Error.{Error}
 use Rattle.sqlite.specs.Effect.{Database}
 use Rattle.sqlite.specs.State.{State, HasCleanDisk, IsUnchanged, IsRolledBack, KeepsCommit, Survives, ExecutesInside}
 use Rattle.society_rows.specs.declared.fault.RowFault.{RowFault}
-use Rattle.society_rows.specs.Faults.{fault_of}
+use Rattle.society_rows.specs.Faults.{fault_of, IsFailure}
 use Rattle.society_rows.specs.Stored.{HasLayout}
+
+-- over layout 2, and where the disk told the truth, the fault is such a failure
+abbrev pub IsFailureOf : State → State → RowFault → Type 0
+IsFailureOf old new fault = HasCleanDisk new → HasLayout old.now → IsFailure fault
+
+-- where the database was of a kind and the disk told the truth, the call errs only by such a failure
+abbrev pub OnlyFailsOver : {X : Type 0} → (Database → Type 0) → State → State → Result X RowFault → Type 0
+OnlyFailsOver Was old new result = HasCleanDisk new → Was old.now → IfErr result IsFailure
+
+-- the same over layout 2
+abbrev pub OnlyFails : {X : Type 0} → State → State → Result X RowFault → Type 0
+OnlyFails = OnlyFailsOver HasLayout
+
+-- the same in a transaction
+abbrev pub OnlyFailsInside : {X : Type 0} → (Database → Type 0) → State → State → Result X RowFault → Type 0
+OnlyFailsInside Was old new result = IsTrue old.in_transaction → OnlyFailsOver Was old new result
 
 -- the statement ran, or its error is told
 abbrev pub RanAs : List ℕ → Row → State → State → Result (Unit {0}) RowFault → Type 0

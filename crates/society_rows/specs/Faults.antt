@@ -1,5 +1,6 @@
 -- What is told of an error of SQLite.
-use Rattle.std.specs.Prelude.{◌≡◌}
+use Rattle.std.specs.Prelude.{◌≡◌, ◌⊎◌}
+use Rattle.sqlite.specs.declared.error.ErrorCode.{ErrorCode}
 use Rattle.sqlite.specs.declared.error.ErrorCode.TheVariants.{OutOfMemory}
 use Rattle.sqlite.specs.declared.error.Error.{Error}
 use Rattle.sqlite.specs.declared.error.Error.TheVariants.{SqliteFailure, SqlInputError, InvalidParameterCount, ExecuteReturnedResults, InvalidQuery, MultipleStatement, QueryReturnedNoRows, InvalidColumnIndex, InvalidColumnType, IntegralValueOutOfRange, Utf8Error}
@@ -21,6 +22,6 @@ fault_of (InvalidColumnType at found) = Unread
 fault_of (IntegralValueOutOfRange at) = Unread
 fault_of (Utf8Error at) = Unread
 
--- SQLite told an error, for which the fault stands
-abbrev pub IsTold : RowFault → Type 0
-IsTold fault = (error : Error) × (fault ≡ fault_of error)
+-- want of memory, or what SQLite told as a failure
+abbrev pub IsFailure : RowFault → Type 0
+IsFailure fault = (fault ≡ Memory) ⊎ ((code : ErrorCode) × (fault ≡ Refused (SqliteFailure code)))

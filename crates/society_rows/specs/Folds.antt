@@ -1,12 +1,15 @@
 -- Readings on a connection, outside a transaction, with rows that are gone over one at a time.
-use Rattle.std.specs.Prelude.{ℕ, suc, pos, ◌+◌, ◌^◌, ◌≤◌, ◌⊎◌, ◌≡◌, List, [], ◌∷◌, ◌++◌, length, fold, Result, IsTrue, IfOk, OnOk, OnErr}
+use Rattle.std.specs.Prelude.{ℕ, suc, pos, ◌+◌, ◌^◌, ◌≤◌, ◌⊎◌, ◌≡◌, List, [], ◌∷◌, ◌++◌, length, fold, None, Result, Ok, Err, true, IsTrue, IfOk, OnOk, OnErr}
 use Rattle.sqlite_value.specs.declared.value.Value.TheVariants.{Int, Text}
 use Rattle.sqlite_value.specs.Order.{Row}
 use Rattle.sqlite_trees.specs.Tree.{Trees}
+use Rattle.sqlite_resolve.specs.declared.compiled.Compiled.{Compiled}
+use Rattle.sqlite_resolve.specs.declared.error.CompileError.{CompileError}
+use Rattle.sqlite.specs.Effect.{is_query}
 use Rattle.sqlite.specs.State.{State, HasCleanDisk, IsUnchanged, IsRolledBack, KeepsCommit, Survives, Begins}
 use Rattle.society_rows.specs.declared.fault.RowFault.{RowFault}
 use Rattle.society_rows.specs.declared.fault.RowFault.TheVariants.{Unread}
-use Rattle.society_rows.specs.Faults.{IsTold}
+use Rattle.society_rows.specs.Effects.{IsFailureOf}
 use Rattle.society_rows.specs.Layout.{transmissions}
 use Rattle.society_rows.specs.Reads.{Lists, has_key}
 use Rattle.society_rows.specs.Stored.{HasLayout}
@@ -31,6 +34,11 @@ pub record ReadsInside {X : Type 0} (old new : State) (result : Result X RowFaul
   pub inside : HasCleanDisk new → IsTrue old.in_transaction → OnOk result (IsTrue new.in_transaction)
   pub kept : HasCleanDisk new → IsTrue old.in_transaction → KeepsCommit old new
   pub survives : Survives old new (λ _. ⊥)
+
+-- the text is one query, which reads no time, and has so many parameters
+abbrev pub IsAsked : List ℕ → ℕ → Result Compiled CompileError → Type 0
+IsAsked text count (Ok c) = (c.returning ≡ None) × (c.formats ≡ []) × (c.tail ≡ length text) × (length c.names ≡ count) × (is_query c.command ≡ true)
+IsAsked text count (Err e) = ⊥
 
 -- what it has become that went over the rows one after another
 pub record HasTaken {F : Type 0} (step : F → Row → F) (Rows : List Row → Type 0) (old new : F) : Type 0 where
@@ -67,9 +75,9 @@ AreShownFirst text params old new first = HasCleanDisk new → HasLayout old.now
 abbrev pub AreTooMany : (List Row → Type 0) → Type 0
 AreTooMany First = (rows : List Row) × First rows × (2 ^ 64 ≤ suc (length rows))
 
--- why rows were not gone over to their end: SQLite told an error, a row was refused, or there are too many
-pub record StopsOver {F : Type 0} (step : F → Row → F) (refusal : F → Row → RowFault → Type 0) (First : List Row → Type 0) (begun : F) (fault : RowFault) : Type 0 where
-  pub why : IsTold fault ⊎ (RefusesRow step refusal First begun fault ⊎ ((fault ≡ Unread) × AreTooMany First))
+-- why rows were not gone over to their end: a failure, a row was refused, or there are too many
+pub record StopsOver {F : Type 0} (step : F → Row → F) (refusal : F → Row → RowFault → Type 0) (old new : State) (First : List Row → Type 0) (begun : F) (fault : RowFault) : Type 0 where
+  pub why : IsFailureOf old new fault ⊎ (RefusesRow step refusal First begun fault ⊎ ((fault ≡ Unread) × AreTooMany First))
 
 -- the first of a run of the sender's transmissions
 abbrev pub AreFirstOfRun : State → State → List ℕ → ℕ → List Row → Type 0
@@ -93,6 +101,6 @@ pub record HasNoGap (sender : List ℕ) (number : ℕ) (db : Trees) : Type 0 whe
 abbrev pub IsNoRun : State → State → List ℕ → ℕ → Type 0
 IsNoRun old new sender number = HasCleanDisk new → HasLayout old.now → AreDoubled sender number old.now.trees ⊎ HasNoGap sender number old.now.trees
 
--- why a run was not gone over up to its gap: SQLite told an error, a row was refused, several stand under a number, or no number is free
+-- why a run was not gone over up to its gap: a failure, a row was refused, several stand under a number, or no number is free
 pub record StopsRun {F : Type 0} (step : F → Row → F) (refusal : F → Row → RowFault → Type 0) (old new : State) (sender : List ℕ) (number : ℕ) (begun : F) (fault : RowFault) : Type 0 where
-  pub why : IsTold fault ⊎ (RefusesRow step refusal (AreFirstOfRun old new sender number) begun fault ⊎ ((fault ≡ Unread) × IsNoRun old new sender number))
+  pub why : IsFailureOf old new fault ⊎ (RefusesRow step refusal (AreFirstOfRun old new sender number) begun fault ⊎ ((fault ≡ Unread) × IsNoRun old new sender number))

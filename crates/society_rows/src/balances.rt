@@ -6,8 +6,7 @@ ghost use Rattle.sqlite.specs.Held.{state};
 ghost use Rattle.sqlite.specs.State.{HasCleanDisk};
 ghost use Rattle.society_rows.specs.declared.fault.RowFault.TheVariants.{Unread};
 ghost use Rattle.society_rows.specs.Balances.{HasUnits, AddsUnits, HidesUnits, RefusesUnits};
-ghost use Rattle.society_rows.specs.Effects.{Writes, IsWhole, LeavesFirst};
-ghost use Rattle.society_rows.specs.Faults.{IsTold};
+ghost use Rattle.society_rows.specs.Effects.{Writes, IsWhole, LeavesFirst, OnlyFails, OnlyFailsInside};
 ghost use Rattle.society_rows.specs.Folds.{ReadsInside};
 ghost use Rattle.society_rows.specs.Forms.{IsRead, balance_forms};
 ghost use Rattle.society_rows.specs.Layout.{balances};
@@ -56,7 +55,7 @@ pub fn put_balance<S: Alter>(
     ensures written { Writes (state S.Store tx.old.conn.now) (state S.Store tx.new.conn.now) result
         (Puts balances (balance_values row.now)) }
     ensures whole { IsWhole (state S.Store tx.old.conn.now) (state S.Store tx.new.conn.now) result }
-    ensures told { IfErr result IsTold }
+    ensures told { OnlyFails (state S.Store tx.old.conn.now) (state S.Store tx.new.conn.now) result }
 {
     run(
         tx,
@@ -76,7 +75,7 @@ pub fn put_balances<S: Alter>(
         (PutsAll balances (map balance_values rows.now)) }
     ensures left { LeavesFirst (state S.Store tx.old.conn.now) (state S.Store tx.new.conn.now) result
         (λ count. PutsAll balances (map balance_values (take count rows.now))) }
-    ensures told { IfErr result IsTold }
+    ensures told { OnlyFailsInside HasLayout (state S.Store tx.old.conn.now) (state S.Store tx.new.conn.now) result }
 {
     for row in rows {
         put_balance(tx, row)?;
@@ -89,7 +88,7 @@ pub fn all_balances<S: Alter>(tx: &mut Transaction<'_, S>) -> Result<Vec<Row>, R
     ensures same_reference { tx.new.conn.ghost_name ≡ tx.old.conn.ghost_name }
     ensures read { Reads (state S.Store tx.old.conn.now) (state S.Store tx.new.conn.now) result
         (λ db rows. Lists balances (λ _. true) 1 db rows.items) }
-    ensures told { IfErr result IsTold }
+    ensures told { OnlyFails (state S.Store tx.old.conn.now) (state S.Store tx.new.conn.now) result }
 {
     all_rows(tx, TableName::Balances)
 }
@@ -102,7 +101,7 @@ pub fn balance_at<S: Alter>(
     ensures same_reference { tx.new.conn.ghost_name ≡ tx.old.conn.ghost_name }
     ensures read { Reads (state S.Store tx.old.conn.now) (state S.Store tx.new.conn.now) result
         (λ db rows. Lists balances (has_key (Text account.now ∷ [])) 1 db rows.items) }
-    ensures told { IfErr result IsTold }
+    ensures told { OnlyFails (state S.Store tx.old.conn.now) (state S.Store tx.new.conn.now) result }
 {
     select(
         tx,

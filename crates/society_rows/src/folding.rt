@@ -1,13 +1,12 @@
 //! Rows that are gone over one at a time, so that no answer is kept.
-ghost use Rattle.std.specs.Prelude.{◌≡◌, ◌++◌, [], false, fold, pos, true, List, IsTrue, IfErr, OnOk};
+ghost use Rattle.std.specs.Prelude.{◌≡◌, ◌++◌, [], false, fold, pos, true, length, List, IsTrue, IfErr, OnOk};
 ghost use Rattle.sqlite.specs.Held.{state};
 ghost use Rattle.sqlite_value.specs.Order.{Row as SqlRow};
 ghost use Rattle.sqlite_value.specs.declared.value.Value.TheVariants.{Int, Text};
 ghost use Rattle.sqlite.specs.State.{HasCleanDisk, Shown, Survives};
-ghost use Rattle.sqlite.specs.Given.{IsPlain};
 ghost use Rattle.sqlite.specs.Listing.{understood};
 ghost use Rattle.sqlite.specs.Values.{bound};
-ghost use Rattle.society_rows.specs.Folds.{ReadsAlone, ReadsInside, HasTaken, IsRun, AreFirst, AreShownFirst, StopsOver, StopsRun};
+ghost use Rattle.society_rows.specs.Folds.{IsAsked, ReadsAlone, ReadsInside, HasTaken, IsRun, AreFirst, AreShownFirst, StopsOver, StopsRun};
 ghost use Rattle.society_rows.specs.Layout.{layout, transmissions};
 ghost use Rattle.society_rows.specs.Reads.{Lists, Reads, is_above};
 ghost use Rattle.society_rows.specs.TableNames.{table_called, key_width};
@@ -41,11 +40,11 @@ fn fold_shown<S: Alter, F: RowFold>(
     params: &[ValueRef<'_>],
     into: &mut F,
 ) -> Result<(), RowFault>
-    requires { IsPlain (understood layout sql.now) }
+    requires { IsAsked sql.now (length (bound params.now)) (understood layout sql.now) }
     ensures taken { ReadsAlone (state S.Store conn.old) (state S.Store conn.new) result
         (λ _ _. HasTaken F.step (Shown sql.now (bound params.now) (state S.Store conn.old) (state S.Store conn.new)) into.old into.new) }
     ensures mode { conn.old.in_transaction ≡ false → conn.new.in_transaction ≡ false }
-    ensures told { IfErr result (StopsOver F.step F.refusal
+    ensures told { IfErr result (StopsOver F.step F.refusal (state S.Store conn.old) (state S.Store conn.new)
         (AreShownFirst sql.now (bound params.now) (state S.Store conn.old) (state S.Store conn.new)) into.old) }
 {
     let mut rows = conn.query(sql, params)?;
@@ -68,7 +67,7 @@ pub fn fold_table<S: Alter, F: RowFold>(
     ensures taken { ReadsAlone (state S.Store conn.old) (state S.Store conn.new) result
         (λ db _. HasTaken F.step (Lists (table_called table) (λ _. true) (key_width table) db) into.old into.new) }
     ensures mode { conn.old.in_transaction ≡ false → conn.new.in_transaction ≡ false }
-    ensures told { IfErr result (StopsOver F.step F.refusal
+    ensures told { IfErr result (StopsOver F.step F.refusal (state S.Store conn.old) (state S.Store conn.new)
         (AreFirst (state S.Store conn.old) (state S.Store conn.new) (Lists (table_called table) (λ _. true) (key_width table))) into.old) }
 {
     fold_shown(conn, listing(table), &[], into)
@@ -84,7 +83,7 @@ pub fn fold_above<S: Alter, F: RowFold>(
     ensures taken { ReadsAlone (state S.Store conn.old) (state S.Store conn.new) result
         (λ db _. HasTaken F.step (Lists transmissions (is_above (Text sender.now) (Int (pos number))) 2 db) into.old into.new) }
     ensures mode { conn.old.in_transaction ≡ false → conn.new.in_transaction ≡ false }
-    ensures told { IfErr result (StopsOver F.step F.refusal
+    ensures told { IfErr result (StopsOver F.step F.refusal (state S.Store conn.old) (state S.Store conn.new)
         (AreFirst (state S.Store conn.old) (state S.Store conn.new) (Lists transmissions (is_above (Text sender.now) (Int (pos number))) 2)) into.old) }
 {
     fold_shown(

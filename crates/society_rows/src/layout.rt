@@ -1,10 +1,9 @@
 //! The layout of the tables, and how they begin.
-ghost use Rattle.std.specs.Prelude.{◌≡◌, ℕ, List, map, false, IsTrue, IfErr, OnOk, OnErr};
+ghost use Rattle.std.specs.Prelude.{◌≡◌, ℕ, List, map, false, IsTrue, OnOk, OnErr};
 ghost use Rattle.std.specs.Borrow.{Bor};
 ghost use Rattle.sqlite.specs.Held.{state};
 ghost use Rattle.sqlite.specs.State.{HasCleanDisk, Survives};
-ghost use Rattle.society_rows.specs.Effects.{WritesOver};
-ghost use Rattle.society_rows.specs.Faults.{IsTold};
+ghost use Rattle.society_rows.specs.Effects.{WritesOver, OnlyFailsInside, OnlyFailsOver};
 ghost use Rattle.society_rows.specs.NewBook.{IsBare, IsEmptyBook, IsNewBook, Begins};
 ghost use Rattle.society_rows.specs.Rows.{office_values};
 ghost use Rattle.society_rows.specs.Texts.{all_texts};
@@ -36,7 +35,7 @@ fn make_tables<S: Alter>(tx: &mut Transaction<'_, S>, texts: &[&str]) -> Result<
     ensures same_reference { tx.new.conn.ghost_name ≡ tx.old.conn.ghost_name }
     ensures made { WritesOver IsBare (state S.Store tx.old.conn.now) (state S.Store tx.new.conn.now) result
         (λ _. IsEmptyBook) }
-    ensures told { IfErr result IsTold }
+    ensures told { OnlyFailsInside IsBare (state S.Store tx.old.conn.now) (state S.Store tx.new.conn.now) result }
 {
     for text in texts {
         run(tx, text, &[])?;
@@ -49,7 +48,7 @@ pub(crate) fn lay_out<S: Alter>(tx: &mut Transaction<'_, S>) -> Result<(), RowFa
     ensures same_reference { tx.new.conn.ghost_name ≡ tx.old.conn.ghost_name }
     ensures made { WritesOver IsBare (state S.Store tx.old.conn.now) (state S.Store tx.new.conn.now) result
         (λ _. IsEmptyBook) }
-    ensures told { IfErr result IsTold }
+    ensures told { OnlyFailsInside IsBare (state S.Store tx.old.conn.now) (state S.Store tx.new.conn.now) result }
 {
     make_tables(tx, &TABLES)
 }
@@ -59,7 +58,7 @@ fn begin_book<S: Alter>(tx: &mut Transaction<'_, S>, office: &OfficeRow<'_>) -> 
     ensures same_reference { tx.new.conn.ghost_name ≡ tx.old.conn.ghost_name }
     ensures begun { WritesOver IsBare (state S.Store tx.old.conn.now) (state S.Store tx.new.conn.now) result
         (λ _. Begins (office_values office.now)) }
-    ensures told { IfErr result IsTold }
+    ensures told { OnlyFailsInside IsBare (state S.Store tx.old.conn.now) (state S.Store tx.new.conn.now) result }
 {
     lay_out(tx)?;
     add_office(tx, office)
@@ -78,7 +77,7 @@ pub fn create<S: Alter>(conn: &mut Connection<S>, office: &OfficeRow<'_>) -> Res
     ensures ended { conn.new.in_transaction ≡ false }
     ensures crash { Survives (state S.Store conn.old) (state S.Store conn.new)
         (λ db. IsBare (state S.Store conn.old).now → IsNewBook (office_values office.now) db) }
-    ensures told { IfErr result IsTold }
+    ensures told { OnlyFailsOver IsBare (state S.Store conn.old) (state S.Store conn.new) result }
 {
     let mut tx = conn.transaction();
     begin_book(&mut tx, office)?;

@@ -1,8 +1,9 @@
 //! The tables of the office in SQLite: typed rows, and one call for each statement over them.
 //!
 //! The rows of a table stand for a set, seen as a list up to its order. But for `create`, each call runs within a
-//! transaction of the caller's and commits nothing. A fault is what SQLite told, but for `Unread` of a reader and of
-//! units that are not one row or none, `Overflow` of a sum, and what ends a fold.
+//! transaction of the caller's and commits nothing. Over layout 2, and where the disk told the truth, a fault is want
+//! of memory or a failure that SQLite told, but for `Unread` of a reader and of units that are not one row or none,
+//! `Overflow` of a sum, and what ends a fold.
 #![tactic(auto)]
 
 mod balances;

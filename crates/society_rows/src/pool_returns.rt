@@ -3,13 +3,12 @@ ghost use Rattle.std.specs.Prelude.{◌≡◌, map, take, [], ◌∷◌, true, p
 ghost use Rattle.sqlite_value.specs.declared.value.Value.TheVariants.{Int, Text};
 ghost use Rattle.sqlite.specs.Held.{state};
 ghost use Rattle.society_rows.specs.declared.fault.RowFault.TheVariants.{Unread};
-ghost use Rattle.society_rows.specs.Effects.{Writes, IsWhole, LeavesFirst};
-ghost use Rattle.society_rows.specs.Faults.{IsTold};
+ghost use Rattle.society_rows.specs.Effects.{Writes, IsWhole, LeavesFirst, OnlyFails, OnlyFailsInside};
 ghost use Rattle.society_rows.specs.Forms.{IsRead, pool_return_forms};
 ghost use Rattle.society_rows.specs.Layout.{pool_returns};
 ghost use Rattle.society_rows.specs.Reads.{Lists, Reads, has_key, has_at};
 ghost use Rattle.society_rows.specs.Rows.{pool_return_values};
-ghost use Rattle.society_rows.specs.Stored.{Adds};
+ghost use Rattle.society_rows.specs.Stored.{HasLayout, Adds};
 
 use crate::reading::{text, whole};
 use crate::statement::{run, select};
@@ -53,7 +52,7 @@ pub fn add_pool_return<S: Alter>(
     ensures written { Writes (state S.Store tx.old.conn.now) (state S.Store tx.new.conn.now) result
         (Adds pool_returns (pool_return_values row.now ∷ [])) }
     ensures whole { IsWhole (state S.Store tx.old.conn.now) (state S.Store tx.new.conn.now) result }
-    ensures told { IfErr result IsTold }
+    ensures told { OnlyFails (state S.Store tx.old.conn.now) (state S.Store tx.new.conn.now) result }
 {
     run(
         tx,
@@ -76,7 +75,7 @@ pub fn add_pool_returns<S: Alter>(
         (Adds pool_returns (map pool_return_values rows.now)) }
     ensures left { LeavesFirst (state S.Store tx.old.conn.now) (state S.Store tx.new.conn.now) result
         (λ count. Adds pool_returns (map pool_return_values (take count rows.now))) }
-    ensures told { IfErr result IsTold }
+    ensures told { OnlyFailsInside HasLayout (state S.Store tx.old.conn.now) (state S.Store tx.new.conn.now) result }
 {
     for row in rows {
         add_pool_return(tx, row)?;
@@ -89,7 +88,7 @@ pub fn all_pool_returns<S: Alter>(tx: &mut Transaction<'_, S>) -> Result<Vec<Row
     ensures same_reference { tx.new.conn.ghost_name ≡ tx.old.conn.ghost_name }
     ensures read { Reads (state S.Store tx.old.conn.now) (state S.Store tx.new.conn.now) result
         (λ db rows. Lists pool_returns (λ _. true) 2 db rows.items) }
-    ensures told { IfErr result IsTold }
+    ensures told { OnlyFails (state S.Store tx.old.conn.now) (state S.Store tx.new.conn.now) result }
 {
     all_rows(tx, TableName::PoolReturns)
 }
@@ -103,7 +102,7 @@ pub fn pool_return_at<S: Alter>(
     ensures same_reference { tx.new.conn.ghost_name ≡ tx.old.conn.ghost_name }
     ensures read { Reads (state S.Store tx.old.conn.now) (state S.Store tx.new.conn.now) result
         (λ db rows. Lists pool_returns (has_key (Text reporter.now ∷ Int (pos number) ∷ [])) 2 db rows.items) }
-    ensures told { IfErr result IsTold }
+    ensures told { OnlyFails (state S.Store tx.old.conn.now) (state S.Store tx.new.conn.now) result }
 {
     select(
         tx,
@@ -120,7 +119,7 @@ pub fn returns_of_pool<S: Alter>(
     ensures same_reference { tx.new.conn.ghost_name ≡ tx.old.conn.ghost_name }
     ensures read { Reads (state S.Store tx.old.conn.now) (state S.Store tx.new.conn.now) result
         (λ db rows. Lists pool_returns (has_at 2 (Int (pos pool))) 2 db rows.items) }
-    ensures told { IfErr result IsTold }
+    ensures told { OnlyFails (state S.Store tx.old.conn.now) (state S.Store tx.new.conn.now) result }
 {
     select(
         tx,

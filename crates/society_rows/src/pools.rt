@@ -3,13 +3,12 @@ ghost use Rattle.std.specs.Prelude.{◌≡◌, map, take, [], ◌∷◌, true, p
 ghost use Rattle.sqlite_value.specs.declared.value.Value.TheVariants.{Int};
 ghost use Rattle.sqlite.specs.Held.{state};
 ghost use Rattle.society_rows.specs.declared.fault.RowFault.TheVariants.{Unread};
-ghost use Rattle.society_rows.specs.Effects.{Writes, IsWhole, LeavesFirst};
-ghost use Rattle.society_rows.specs.Faults.{IsTold};
+ghost use Rattle.society_rows.specs.Effects.{Writes, IsWhole, LeavesFirst, OnlyFails, OnlyFailsInside};
 ghost use Rattle.society_rows.specs.Forms.{IsRead, pool_forms};
 ghost use Rattle.society_rows.specs.Layout.{pools};
 ghost use Rattle.society_rows.specs.Reads.{Lists, Reads, has_key};
 ghost use Rattle.society_rows.specs.Rows.{pool_values};
-ghost use Rattle.society_rows.specs.Stored.{Adds};
+ghost use Rattle.society_rows.specs.Stored.{HasLayout, Adds};
 
 use crate::reading::{integer, whole};
 use crate::statement::{run, select};
@@ -48,7 +47,7 @@ pub fn add_pool<S: Alter>(tx: &mut Transaction<'_, S>, row: &PoolRow) -> Result<
     ensures written { Writes (state S.Store tx.old.conn.now) (state S.Store tx.new.conn.now) result
         (Adds pools (pool_values row.now ∷ [])) }
     ensures whole { IsWhole (state S.Store tx.old.conn.now) (state S.Store tx.new.conn.now) result }
-    ensures told { IfErr result IsTold }
+    ensures told { OnlyFails (state S.Store tx.old.conn.now) (state S.Store tx.new.conn.now) result }
 {
     run(
         tx,
@@ -64,7 +63,7 @@ pub fn add_pools<S: Alter>(tx: &mut Transaction<'_, S>, rows: &[PoolRow]) -> Res
         (Adds pools (map pool_values rows.now)) }
     ensures left { LeavesFirst (state S.Store tx.old.conn.now) (state S.Store tx.new.conn.now) result
         (λ count. Adds pools (map pool_values (take count rows.now))) }
-    ensures told { IfErr result IsTold }
+    ensures told { OnlyFailsInside HasLayout (state S.Store tx.old.conn.now) (state S.Store tx.new.conn.now) result }
 {
     for row in rows {
         add_pool(tx, row)?;
@@ -77,7 +76,7 @@ pub fn all_pools<S: Alter>(tx: &mut Transaction<'_, S>) -> Result<Vec<Row>, RowF
     ensures same_reference { tx.new.conn.ghost_name ≡ tx.old.conn.ghost_name }
     ensures read { Reads (state S.Store tx.old.conn.now) (state S.Store tx.new.conn.now) result
         (λ db rows. Lists pools (λ _. true) 1 db rows.items) }
-    ensures told { IfErr result IsTold }
+    ensures told { OnlyFails (state S.Store tx.old.conn.now) (state S.Store tx.new.conn.now) result }
 {
     all_rows(tx, TableName::Pools)
 }
@@ -87,7 +86,7 @@ pub fn pool_at<S: Alter>(tx: &mut Transaction<'_, S>, pool: u32) -> Result<Vec<R
     ensures same_reference { tx.new.conn.ghost_name ≡ tx.old.conn.ghost_name }
     ensures read { Reads (state S.Store tx.old.conn.now) (state S.Store tx.new.conn.now) result
         (λ db rows. Lists pools (has_key (Int (pos pool) ∷ [])) 1 db rows.items) }
-    ensures told { IfErr result IsTold }
+    ensures told { OnlyFails (state S.Store tx.old.conn.now) (state S.Store tx.new.conn.now) result }
 {
     select(
         tx,

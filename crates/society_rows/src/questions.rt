@@ -1,7 +1,7 @@
 //! Questions that are asked on a connection, outside a transaction.
-ghost use Rattle.std.specs.Prelude.{◌≡◌, false, IfErr};
+ghost use Rattle.std.specs.Prelude.{◌≡◌, false};
 ghost use Rattle.sqlite.specs.Held.{state};
-ghost use Rattle.society_rows.specs.Faults.{IsTold};
+ghost use Rattle.society_rows.specs.Effects.{OnlyFails};
 ghost use Rattle.society_rows.specs.Questions.{Answers, Asks};
 ghost use Rattle.society_rows.specs.Reads.{Reads};
 
@@ -61,7 +61,7 @@ pub fn answer<S: Alter>(
     ensures same_reference { tx.new.conn.ghost_name ≡ tx.old.conn.ghost_name }
     ensures read { Reads (state S.Store tx.old.conn.now) (state S.Store tx.new.conn.now) result
         (λ db rows. Answers question.entry db rows.items) }
-    ensures told { IfErr result IsTold }
+    ensures told { OnlyFails (state S.Store tx.old.conn.now) (state S.Store tx.new.conn.now) result }
 {
     match question {
         Question::Office => all_offices(tx),
@@ -92,7 +92,7 @@ pub fn ask<S: Alter>(conn: &mut Connection<S>, question: Question<'_>) -> Result
     ensures asked { Asks (state S.Store conn.old) (state S.Store conn.new) result
         (λ db rows. Answers question.entry db rows.items) }
     ensures idle { conn.new.in_transaction ≡ false }
-    ensures told { IfErr result IsTold }
+    ensures told { OnlyFails (state S.Store conn.old) (state S.Store conn.new) result }
 {
     let mut tx = conn.transaction();
     let rows = answer(&mut tx, question);

@@ -4,13 +4,12 @@ ghost use Rattle.sqlite_value.specs.declared.value.Value.TheVariants.{Text};
 ghost use Rattle.sqlite.specs.Held.{state};
 ghost use Rattle.sqlite.specs.State.{HasCleanDisk, IsUnchanged, IsRolledBack};
 ghost use Rattle.society_rows.specs.declared.fault.RowFault.TheVariants.{Unread};
-ghost use Rattle.society_rows.specs.Effects.{Writes, IsWhole, LeavesFirst};
-ghost use Rattle.society_rows.specs.Faults.{IsTold};
+ghost use Rattle.society_rows.specs.Effects.{Writes, IsWhole, LeavesFirst, OnlyFails, OnlyFailsInside};
 ghost use Rattle.society_rows.specs.Forms.{IsRead, recording_forms};
 ghost use Rattle.society_rows.specs.Layout.{recordings};
 ghost use Rattle.society_rows.specs.Reads.{Lists, Reads, has_key, has_at};
 ghost use Rattle.society_rows.specs.Rows.{recording_values};
-ghost use Rattle.society_rows.specs.Stored.{Adds};
+ghost use Rattle.society_rows.specs.Stored.{HasLayout, Adds};
 
 use crate::reading::{integer, text};
 use crate::statement::{run, select};
@@ -56,7 +55,7 @@ pub fn add_recording<S: Alter>(
     ensures written { Writes (state S.Store tx.old.conn.now) (state S.Store tx.new.conn.now) result
         (Adds recordings (recording_values row.now ∷ [])) }
     ensures whole { IsWhole (state S.Store tx.old.conn.now) (state S.Store tx.new.conn.now) result }
-    ensures told { IfErr result IsTold }
+    ensures told { OnlyFails (state S.Store tx.old.conn.now) (state S.Store tx.new.conn.now) result }
 {
     run(
         tx,
@@ -80,7 +79,7 @@ fn add_pair<S: Alter>(
     ensures written { Writes (state S.Store tx.old.conn.now) (state S.Store tx.new.conn.now) result
         (Adds recordings (recording_values one.now ∷ recording_values two.now ∷ [])) }
     ensures whole { IsWhole (state S.Store tx.old.conn.now) (state S.Store tx.new.conn.now) result }
-    ensures told { IfErr result IsTold }
+    ensures told { OnlyFails (state S.Store tx.old.conn.now) (state S.Store tx.new.conn.now) result }
 {
     run(
         tx,
@@ -110,7 +109,7 @@ fn add_part<S: Alter>(
     ensures whole { HasCleanDisk (state S.Store tx.new.conn.now) → IsTrue (state S.Store tx.old.conn.now).in_transaction
         → OnErr result (IsUnchanged (state S.Store tx.old.conn.now) (state S.Store tx.new.conn.now)
         ⊎ IsRolledBack (state S.Store tx.old.conn.now) (state S.Store tx.new.conn.now)) }
-    ensures told { IfErr result IsTold }
+    ensures told { OnlyFails (state S.Store tx.old.conn.now) (state S.Store tx.new.conn.now) result }
 {
     match part {
         [] => Ok(()),
@@ -129,7 +128,7 @@ pub fn add_recordings<S: Alter>(
         (Adds recordings (map recording_values rows.now)) }
     ensures left { LeavesFirst (state S.Store tx.old.conn.now) (state S.Store tx.new.conn.now) result
         (λ count. Adds recordings (map recording_values (take count rows.now))) }
-    ensures told { IfErr result IsTold }
+    ensures told { OnlyFailsInside HasLayout (state S.Store tx.old.conn.now) (state S.Store tx.new.conn.now) result }
 {
     // Two rows a statement have nearly all that many would gain, for one more text that is kept compiled.
     for part in rows.chunks(2) {
@@ -143,7 +142,7 @@ pub fn all_recordings<S: Alter>(tx: &mut Transaction<'_, S>) -> Result<Vec<Row>,
     ensures same_reference { tx.new.conn.ghost_name ≡ tx.old.conn.ghost_name }
     ensures read { Reads (state S.Store tx.old.conn.now) (state S.Store tx.new.conn.now) result
         (λ db rows. Lists recordings (λ _. true) 4 db rows.items) }
-    ensures told { IfErr result IsTold }
+    ensures told { OnlyFails (state S.Store tx.old.conn.now) (state S.Store tx.new.conn.now) result }
 {
     all_rows(tx, TableName::Recordings)
 }
@@ -157,7 +156,7 @@ pub fn recordings_of<S: Alter>(
     ensures same_reference { tx.new.conn.ghost_name ≡ tx.old.conn.ghost_name }
     ensures read { Reads (state S.Store tx.old.conn.now) (state S.Store tx.new.conn.now) result
         (λ db rows. Lists recordings (has_key (Text sender.now ∷ Text work.now ∷ [])) 4 db rows.items) }
-    ensures told { IfErr result IsTold }
+    ensures told { OnlyFails (state S.Store tx.old.conn.now) (state S.Store tx.new.conn.now) result }
 {
     select(
         tx,
@@ -174,7 +173,7 @@ pub fn recordings_with<S: Alter>(
     ensures same_reference { tx.new.conn.ghost_name ≡ tx.old.conn.ghost_name }
     ensures read { Reads (state S.Store tx.old.conn.now) (state S.Store tx.new.conn.now) result
         (λ db rows. Lists recordings (has_at 3 (Text isrc.now)) 4 db rows.items) }
-    ensures told { IfErr result IsTold }
+    ensures told { OnlyFails (state S.Store tx.old.conn.now) (state S.Store tx.new.conn.now) result }
 {
     select(
         tx,

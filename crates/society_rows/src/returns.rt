@@ -3,13 +3,12 @@ ghost use Rattle.std.specs.Prelude.{◌≡◌, map, take, [], ◌∷◌, true, p
 ghost use Rattle.sqlite_value.specs.declared.value.Value.TheVariants.{Int, Text};
 ghost use Rattle.sqlite.specs.Held.{state};
 ghost use Rattle.society_rows.specs.declared.fault.RowFault.TheVariants.{Unread};
-ghost use Rattle.society_rows.specs.Effects.{Writes, IsWhole, LeavesFirst};
-ghost use Rattle.society_rows.specs.Faults.{IsTold};
+ghost use Rattle.society_rows.specs.Effects.{Writes, IsWhole, LeavesFirst, OnlyFails, OnlyFailsInside};
 ghost use Rattle.society_rows.specs.Forms.{IsRead, return_forms};
 ghost use Rattle.society_rows.specs.Layout.{returns};
 ghost use Rattle.society_rows.specs.Reads.{Lists, ListsKeys, Reads, has_key};
 ghost use Rattle.society_rows.specs.Rows.{return_values};
-ghost use Rattle.society_rows.specs.Stored.{Adds};
+ghost use Rattle.society_rows.specs.Stored.{HasLayout, Adds};
 
 use crate::reading::{bytes, text, whole};
 use crate::statement::{run, select};
@@ -53,7 +52,7 @@ pub fn add_return<S: Alter>(
     ensures written { Writes (state S.Store tx.old.conn.now) (state S.Store tx.new.conn.now) result
         (Adds returns (return_values row.now ∷ [])) }
     ensures whole { IsWhole (state S.Store tx.old.conn.now) (state S.Store tx.new.conn.now) result }
-    ensures told { IfErr result IsTold }
+    ensures told { OnlyFails (state S.Store tx.old.conn.now) (state S.Store tx.new.conn.now) result }
 {
     run(
         tx,
@@ -76,7 +75,7 @@ pub fn add_returns<S: Alter>(
         (Adds returns (map return_values rows.now)) }
     ensures left { LeavesFirst (state S.Store tx.old.conn.now) (state S.Store tx.new.conn.now) result
         (λ count. Adds returns (map return_values (take count rows.now))) }
-    ensures told { IfErr result IsTold }
+    ensures told { OnlyFailsInside HasLayout (state S.Store tx.old.conn.now) (state S.Store tx.new.conn.now) result }
 {
     for row in rows {
         add_return(tx, row)?;
@@ -89,7 +88,7 @@ pub fn all_returns<S: Alter>(tx: &mut Transaction<'_, S>) -> Result<Vec<Row>, Ro
     ensures same_reference { tx.new.conn.ghost_name ≡ tx.old.conn.ghost_name }
     ensures read { Reads (state S.Store tx.old.conn.now) (state S.Store tx.new.conn.now) result
         (λ db rows. Lists returns (λ _. true) 2 db rows.items) }
-    ensures told { IfErr result IsTold }
+    ensures told { OnlyFails (state S.Store tx.old.conn.now) (state S.Store tx.new.conn.now) result }
 {
     all_rows(tx, TableName::Returns)
 }
@@ -103,7 +102,7 @@ pub fn return_at<S: Alter>(
     ensures same_reference { tx.new.conn.ghost_name ≡ tx.old.conn.ghost_name }
     ensures read { Reads (state S.Store tx.old.conn.now) (state S.Store tx.new.conn.now) result
         (λ db rows. Lists returns (has_key (Text reporter.now ∷ Int (pos number) ∷ [])) 2 db rows.items) }
-    ensures told { IfErr result IsTold }
+    ensures told { OnlyFails (state S.Store tx.old.conn.now) (state S.Store tx.new.conn.now) result }
 {
     select(
         tx,
@@ -121,7 +120,7 @@ pub fn return_known<S: Alter>(
     ensures same_reference { tx.new.conn.ghost_name ≡ tx.old.conn.ghost_name }
     ensures read { Reads (state S.Store tx.old.conn.now) (state S.Store tx.new.conn.now) result
         (λ db rows. ListsKeys returns (has_key (Text reporter.now ∷ Int (pos number) ∷ [])) 2 db rows.items) }
-    ensures told { IfErr result IsTold }
+    ensures told { OnlyFails (state S.Store tx.old.conn.now) (state S.Store tx.new.conn.now) result }
 {
     select(
         tx,

@@ -1,10 +1,10 @@
 //! One statement in a transaction.
-ghost use Rattle.std.specs.Prelude.{◌≡◌, IsTrue, IfErr};
+ghost use Rattle.std.specs.Prelude.{◌≡◌, false, IsTrue, IfErr, OnOk};
 ghost use Rattle.sqlite.specs.Held.{state};
 ghost use Rattle.sqlite.specs.State.{HasCleanDisk, Survives};
 ghost use Rattle.sqlite.specs.Values.{bound};
 ghost use Rattle.society_rows.specs.Effects.{RanAs};
-ghost use Rattle.society_rows.specs.Faults.{IsTold};
+ghost use Rattle.society_rows.specs.Faults.{IsFailure};
 ghost use Rattle.society_rows.specs.Reads.{Selected};
 
 use crate::RowFault;
@@ -21,7 +21,8 @@ pub(crate) fn run<S: Alter>(
     ensures ran { HasCleanDisk (state S.Store tx.new.conn.now) → IsTrue (state S.Store tx.old.conn.now).in_transaction
         → RanAs sql.now (bound params.now) (state S.Store tx.old.conn.now) (state S.Store tx.new.conn.now) result }
     ensures survives { Survives (state S.Store tx.old.conn.now) (state S.Store tx.new.conn.now) (λ _. ⊥) }
-    ensures told { IfErr result IsTold }
+    ensures ended { (state S.Store tx.old.conn.now).in_transaction ≡ false → IfErr result IsFailure }
+    ensures within { OnOk result (IsTrue (state S.Store tx.old.conn.now).in_transaction) }
 {
     tx.execute(sql, params)?;
     Ok(())
@@ -37,7 +38,6 @@ pub(crate) fn select<S: Alter>(
     ensures selected { HasCleanDisk (state S.Store tx.new.conn.now) → Selected sql.now (bound params.now) (state S.Store tx.old.conn.now)
         (state S.Store tx.new.conn.now) result }
     ensures survives { Survives (state S.Store tx.old.conn.now) (state S.Store tx.new.conn.now) (λ _. ⊥) }
-    ensures told { IfErr result IsTold }
 {
     Ok(tx.query_all(sql, params)?)
 }

@@ -1,7 +1,7 @@
 //! The tables by name, and the query that shows all rows of each.
-ghost use Rattle.std.specs.Prelude.{◌≡◌, true, IfErr};
+ghost use Rattle.std.specs.Prelude.{◌≡◌, true};
 ghost use Rattle.sqlite.specs.Held.{state};
-ghost use Rattle.society_rows.specs.Faults.{IsTold};
+ghost use Rattle.society_rows.specs.Effects.{OnlyFails};
 ghost use Rattle.society_rows.specs.Reads.{Lists, Reads};
 ghost use Rattle.society_rows.specs.TableNames.{table_called, key_width, listing_text};
 
@@ -72,7 +72,7 @@ pub fn all_rows<S: Alter>(
     ensures same_reference { tx.new.conn.ghost_name ≡ tx.old.conn.ghost_name }
     ensures read { Reads (state S.Store tx.old.conn.now) (state S.Store tx.new.conn.now) result
         (λ db rows. Lists (table_called table) (λ _. true) (key_width table) db rows.items) }
-    ensures told { IfErr result IsTold }
+    ensures told { OnlyFails (state S.Store tx.old.conn.now) (state S.Store tx.new.conn.now) result }
 {
     select(tx, listing(table), &[])
 }

@@ -1,6 +1,8 @@
-use Rattle.std.proofs.Common.{w64, FitsSigned, sym, subst}
+use Rattle.std.proofs.Common.{w64, FitsSigned, sym, subst, arith}
 use Rattle.std.proofs.lemmas.Int.{to_z-of_z}
 use Rattle.sqlite.specs.Held.{state}
+use Rattle.sqlite.specs.State.{HasCleanDisk}
+use Rattle.society_rows.specs.Stored.{HasLayout}
 use Rattle.society_rows.proofs.UnitLemmas.{sums_units, told_refuses}
 use Rattle.society_rows.proofs.balances.add_units.Goals as goal
 
@@ -13,4 +15,8 @@ returns-clause-written g c =
     c.in_ok-before.ensures.read sum.0 sum.1 (rw (to_z-of_z w64 c.in-Some.sum small) at c.put_balance.ensures.written)
 
 pub returns-clause-cause : goal.returns-clause-cause
-returns-clause-cause g c = λ clean has. told_refuses c.args.account.now c.args.units (state g.S.Store c.args.tx.now.conn.now).now.trees c.put_balance.result c.put_balance.ensures.told
+returns-clause-cause g c = λ clean has.
+    let old = state g.S.Store c.args.tx.now.conn.now in
+    let early : HasCleanDisk (state g.S.Store c.units_of.new.tx.conn.now) = omega (arith, c.put_balance.ensures.written.survives.clean) in
+    let still = (c.in_ok-before.ensures.read.same early has).0.now_is in
+    told_refuses c.args.account.now c.args.units old.now.trees c.put_balance.result (c.put_balance.ensures.told clean (subst HasLayout (sym still) has))

@@ -22,7 +22,7 @@ returns-in-len1-clause-read g c =
 
 pub returns-in_err-rows-clause-cause : goal.returns-in_err-rows-clause-cause
 returns-in_err-rows-clause-cause g c = λ clean has.
-    handed_on c.in_err-rows.field-0.0 c.from_residual.result (HidesUnits c.args.account.now (state g.S.Store c.args.tx.now.conn.now).now.trees) c.from_residual.ensures.1 (inl c.in_err-rows.ensures.told)
+    handed_on c.in_err-rows.field-0.0 c.from_residual.result (HidesUnits c.args.account.now (state g.S.Store c.args.tx.now.conn.now).now.trees) c.from_residual.ensures.1 (inl (c.in_err-rows.ensures.told clean has))
 
 pub returns-in_err-from_row-in-len1-clause-cause : goal.returns-in_err-from_row-in-len1-clause-cause
 returns-in_err-from_row-in-len1-clause-cause g c = λ clean has.

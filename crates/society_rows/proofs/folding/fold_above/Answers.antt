@@ -3,12 +3,12 @@ use Rattle.sqlite_value.specs.declared.value.Value.TheVariants.{Int, Text}
 use Rattle.sqlite.specs.Held.{state}
 use Rattle.society_rows.specs.Layout.{transmissions}
 use Rattle.society_rows.specs.Reads.{Lists, is_above}
-use Rattle.society_rows.proofs.RowFolds.{first_listed, lists_alone, whole_listed}
+use Rattle.society_rows.proofs.RowFolds.{query_asked, first_listed, lists_alone, whole_listed}
 use Rattle.society_rows.proofs.TransmissionTable.{transmissions_above_text, transmissions_above_is, transmissions_above_lists}
 use Rattle.society_rows.proofs.folding.fold_above.Goals as goal
 
 pub fold_shown-requires : goal.fold_shown-requires
-fold_shown-requires g c = transmissions_above_is.plain
+fold_shown-requires g c = (query_asked _ transmissions_above_is)
 
 pub returns-clause-taken : goal.returns-clause-taken
 returns-clause-taken g c =

@@ -1,7 +1,7 @@
 use Rattle.std.proofs.Common.{◌∙◌, ◌+◌, length, refl, sym, ap, arith}
 use Rattle.society_rows.specs.declared.fault.RowFault.TheVariants.{Unread}
 use Rattle.society_rows.proofs.RowFolds.{err_as}
-use Rattle.society_rows.proofs.RunFolds.{none_there, one_there, runs_to_first, runs_on, run_doubled, run_ends, run_fills, run_overflows, run_refused}
+use Rattle.society_rows.proofs.RunFolds.{none_there, one_there, runs_to_first, runs_on, run_doubled, run_ends, run_fills, run_overflows, run_refused, run_told}
 use Rattle.society_rows.proofs.folding.fold_run.Goals as goal
 
 pub loop-number-init : goal.loop-number-init
@@ -43,3 +43,8 @@ returns-in_ok-take-in-len1-clause-told g c =
     c.loop-number.auto.number c.loop-number.invariant.taken c.in_ok-rows.rows c.in_ok-rows.ensures.read c.row-item.result c.take.new.self
     (sym c.as_slice.ensures.value ∙ one_there _ c.row-item.result c.in-len1.len_at_least c.in-len1.len_below c.row-item.is) c.in_ok-take-in-len1.ensures.taken in
     run_fills g.S.Store g.F.RowFold.step g.F.RowFold.refusal c.args.sender.now c.args.tx.now.conn.now c.transmission_at.new.tx.conn.now c.args.first (c.loop-number.number + 1) c.args.into.now c.take.new.self (omega (arith, c.loop-number-test.true, c.ranges.first.fits)) on
+
+pub returns-in_err-rows-clause-told : goal.returns-in_err-rows-clause-told
+returns-in_err-rows-clause-told g c =
+    run_told g.S.Store g.F.RowFold.step c.args.sender.now c.args.tx.now.conn.now c.loop-number.tx.conn.now c.transmission_at.new.tx.conn.now c.args.first c.loop-number.number c.args.into.now c.loop-number.into
+    c.loop-number.auto.number c.loop-number.invariant.taken g.F.RowFold.refusal c.in_err-rows.field-0.0 c.from_residual.result c.from_residual.ensures.1 c.in_err-rows.ensures.read.survives c.in_err-rows.ensures.told

@@ -2,12 +2,12 @@ use Rattle.std.proofs.Common.{[], true}
 use Rattle.sqlite.specs.Held.{state}
 use Rattle.society_rows.specs.Reads.{Lists}
 use Rattle.society_rows.specs.TableNames.{table_called, key_width, listing_text}
-use Rattle.society_rows.proofs.Listings.{first_called, is_plain, lists_called}
+use Rattle.society_rows.proofs.Listings.{first_called, is_asked, lists_called}
 use Rattle.society_rows.proofs.RowFolds.{first_listed, lists_alone}
 use Rattle.society_rows.proofs.folding.fold_table.Goals as goal
 
 pub fold_shown-requires : goal.fold_shown-requires
-fold_shown-requires g c = rw c.listing.ensures (is_plain c.args.table)
+fold_shown-requires g c = rw c.listing.ensures (is_asked c.args.table)
 
 pub returns-clause-taken : goal.returns-clause-taken
 returns-clause-taken g c =

@@ -6,6 +6,7 @@ use Rattle.society_rows.specs.Rows.{office_values}
 use Rattle.society_rows.specs.Stored.{HasLayout, Adds}
 use Rattle.society_rows.proofs.Effects.{writes_then}
 use Rattle.society_rows.proofs.OfficeTable.{begins}
+use Rattle.society_rows.proofs.Told.{tells_then}
 use Rattle.society_rows.proofs.layout.begin_book.Goals as goal
 
 pub returns-clause-begun : goal.returns-clause-begun
@@ -13,3 +14,8 @@ returns-clause-begun g c =
     let row = office_values c.args.office.now in
     writes_then IsBare HasLayout (state g.S.Store c.args.tx.now.conn.now) (state g.S.Store c.lay_out.new.tx.conn.now) (state g.S.Store c.add_office.new.tx.conn.now) tt c.add_office.result (λ _. IsEmptyBook)
     (Adds office (row ∷ [])) (λ _. Begins row) (λ d e h. h.layout) (λ d e f none more. begins row e f none more) c.in_ok-lay_out.ensures.made c.add_office.ensures.written
+
+pub returns-clause-told : goal.returns-clause-told
+returns-clause-told g c =
+    tells_then IsBare HasLayout (state g.S.Store c.args.tx.now.conn.now) (state g.S.Store c.lay_out.new.tx.conn.now) (state g.S.Store c.add_office.new.tx.conn.now) c.in_ok-lay_out.ensures.made (λ d e h. h.layout)
+    c.add_office.result c.add_office.ensures.written.survives c.add_office.ensures.told

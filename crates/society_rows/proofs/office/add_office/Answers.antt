@@ -1,11 +1,12 @@
-use Rattle.std.proofs.Common.{pos, [], ◌∷◌}
+use Rattle.std.proofs.Common.{pos, [], ◌∷◌, refl}
 use Rattle.sqlite_value.specs.declared.value.Value.TheVariants.{Int, Text}
 use Rattle.sqlite.specs.Held.{state}
 use Rattle.society_rows.specs.Layout.{office}
 use Rattle.society_rows.specs.Rows.{office_values}
 use Rattle.society_rows.specs.Stored.{HasLayout, Adds}
 use Rattle.society_rows.proofs.Effects.{writes_by}
-use Rattle.society_rows.proofs.OfficeTable.{insert_text, adds_office}
+use Rattle.society_rows.proofs.OfficeTable.{insert_text, adds_office, settled, insert_is}
+use Rattle.society_rows.proofs.Told.{insert_tells}
 use Rattle.society_rows.proofs.office.add_office.Goals as goal
 
 pub returns-clause-written : goal.returns-clause-written
@@ -16,3 +17,10 @@ returns-clause-written g c =
     writes_by HasLayout old new insert_text (Int (pos row.society) ∷ Int (pos row.territory) ∷ Text row.name.now ∷ []) c.run.result (Adds office (office_values row ∷ []))
     (λ clean inside. rw (c.to_sql.ensures, c.to_sql-2.ensures) at (c.run.ensures.ran clean inside)) c.run.ensures.survives
     (λ count. adds_office (pos row.society) (pos row.territory) row.name.now old new count)
+
+pub returns-clause-told : goal.returns-clause-told
+returns-clause-told g c =
+    let row = c.args.row.now in
+    let old = state g.S.Store c.args.tx.now.conn.now in
+    let new = state g.S.Store c.run.new.tx.conn.now in
+    insert_tells insert_text settled insert_is (Int (pos row.society) ∷ Int (pos row.territory) ∷ Text row.name.now ∷ []) refl old new c.run.result c.run.ensures.ended (λ clean inside. rw (c.to_sql.ensures, c.to_sql-2.ensures) at (c.run.ensures.ran clean inside))

@@ -1,10 +1,11 @@
-use Rattle.std.proofs.Common.{[], ◌∷◌, pos}
+use Rattle.std.proofs.Common.{[], ◌∷◌, pos, refl}
 use Rattle.sqlite.specs.Held.{state}
 use Rattle.society_rows.specs.Layout.{pool_returns}
 use Rattle.society_rows.specs.Rows.{pool_return_values}
 use Rattle.society_rows.specs.Stored.{HasLayout, Adds}
 use Rattle.society_rows.proofs.Effects.{writes_by}
-use Rattle.society_rows.proofs.PoolReturnTable.{insert_text, adds_row}
+use Rattle.society_rows.proofs.PoolReturnTable.{insert_text, adds_row, settled, insert_is}
+use Rattle.society_rows.proofs.Told.{insert_tells}
 use Rattle.society_rows.proofs.pool_returns.add_pool_return.Goals as goal
 
 pub returns-clause-written : goal.returns-clause-written
@@ -14,3 +15,10 @@ returns-clause-written g c =
     let new = state g.S.Store c.run.new.tx.conn.now in
     writes_by HasLayout old new insert_text (pool_return_values row) c.run.result (Adds pool_returns (pool_return_values row ∷ [])) (λ clean inside. rw (c.to_sql.ensures, c.to_sql-2.ensures) at (c.run.ensures.ran clean inside)) c.run.ensures.survives
     (λ count. adds_row row.reporter.now (pos row.number) (pos row.pool) old new count)
+
+pub returns-clause-told : goal.returns-clause-told
+returns-clause-told g c =
+    let row = c.args.row.now in
+    let old = state g.S.Store c.args.tx.now.conn.now in
+    let new = state g.S.Store c.run.new.tx.conn.now in
+    insert_tells insert_text settled insert_is (pool_return_values row) refl old new c.run.result c.run.ensures.ended (λ clean inside. rw (c.to_sql.ensures, c.to_sql-2.ensures) at (c.run.ensures.ran clean inside))

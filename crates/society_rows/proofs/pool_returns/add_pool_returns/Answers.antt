@@ -1,10 +1,9 @@
 use Rattle.std.proofs.Common.{◌∙◌, map, take, refl}
 use Rattle.sqlite.specs.Held.{state}
-use Rattle.society_rows.specs.Faults.{IsTold}
 use Rattle.society_rows.specs.Layout.{pool_returns}
-use Rattle.society_rows.specs.Stored.{Adds}
+use Rattle.society_rows.specs.Stored.{HasLayout, Adds}
 use Rattle.society_rows.specs.Rows.{pool_return_values}
-use Rattle.society_rows.proofs.Effects.{handed_on}
+use Rattle.society_rows.proofs.Told.{tells_after}
 use Rattle.society_rows.proofs.ListWrites.{adds_first, adds_next, adds_fails, leaves_first}
 use Rattle.society_rows.proofs.pool_returns.add_pool_returns.Goals as goal
 
@@ -28,5 +27,5 @@ returns-in_err-add_pool_return g c =
       written = written;
       left = leaves_first (state g.S.Store c.args.tx.now.conn.now) (state g.S.Store c.loop-row.tx.conn.now) (state g.S.Store c.add_pool_return.new.tx.conn.now) (λ count. Adds pool_returns (map pool_return_values (take count c.args.rows.now))) c.loop-row.row-index
           c.in_err-add_pool_return.field-0.0 c.from_residual.result c.loop-row.invariant.written c.in_err-add_pool_return.ensures.written.survives c.in_err-add_pool_return.ensures.whole;
-      told = handed_on c.in_err-add_pool_return.field-0.0 c.from_residual.result IsTold c.from_residual.ensures.1 c.in_err-add_pool_return.ensures.told;
+      told = tells_after HasLayout HasLayout (state g.S.Store c.args.tx.now.conn.now) (state g.S.Store c.loop-row.tx.conn.now) (state g.S.Store c.add_pool_return.new.tx.conn.now) c.loop-row.invariant.written (λ d e h. h.layout) c.in_err-add_pool_return.field-0.0 c.from_residual.result c.from_residual.ensures.1 c.in_err-add_pool_return.ensures.written.survives c.in_err-add_pool_return.ensures.told;
     }

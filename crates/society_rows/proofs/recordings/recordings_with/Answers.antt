@@ -1,10 +1,11 @@
-use Rattle.std.proofs.Common.{[], ◌∷◌}
+use Rattle.std.proofs.Common.{[], ◌∷◌, refl}
 use Rattle.sqlite_value.specs.declared.value.Value.TheVariants.{Text}
 use Rattle.sqlite.specs.Held.{state}
 use Rattle.society_rows.specs.Layout.{recordings}
 use Rattle.society_rows.specs.Reads.{Lists, has_at}
 use Rattle.society_rows.proofs.Queries.{reads_by}
 use Rattle.society_rows.proofs.RecordingTable.{recordings_with_text, recordings_with_is, recordings_with_lists}
+use Rattle.society_rows.proofs.Told.{query_tells}
 use Rattle.society_rows.proofs.recordings.recordings_with.Goals as goal
 
 pub returns-clause-read : goal.returns-clause-read
@@ -13,3 +14,9 @@ returns-clause-read g c =
     let new = state g.S.Store c.select.new.tx.conn.now in
     reads_by recordings_with_text (Text c.args.isrc.now ∷ []) old new c.select.result (λ db rows. Lists recordings (has_at 3 (Text c.args.isrc.now)) 4 db rows.items) recordings_with_is.plain (λ clean. c.select.ensures.selected clean) c.select.ensures.survives
     (λ rows. recordings_with_lists c.args.isrc.now old new rows.items)
+
+pub returns-clause-told : goal.returns-clause-told
+returns-clause-told g c =
+    let old = state g.S.Store c.args.tx.now.conn.now in
+    let new = state g.S.Store c.select.new.tx.conn.now in
+    query_tells recordings_with_is (Text c.args.isrc.now ∷ []) refl old new c.select.result c.select.ensures.selected

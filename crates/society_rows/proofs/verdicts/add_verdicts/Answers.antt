@@ -1,10 +1,10 @@
 use Rattle.std.proofs.Common.{◌∙◌, map, refl, rules}
 use Rattle.std.specs.Slice.Iter.{chunks_rest}
 use Rattle.sqlite.specs.Held.{state}
-use Rattle.society_rows.specs.Faults.{IsTold}
 use Rattle.society_rows.specs.Layout.{verdicts}
 use Rattle.society_rows.specs.Rows.{verdict_values}
-use Rattle.society_rows.proofs.Effects.{handed_on}
+use Rattle.society_rows.specs.Stored.{HasLayout}
+use Rattle.society_rows.proofs.Told.{tells_after}
 use Rattle.society_rows.proofs.ListWrites.{some_first, some_next, some_fails, some_left, some_all}
 use Rattle.society_rows.proofs.verdicts.add_verdicts.Goals as goal
 
@@ -40,7 +40,7 @@ returns-in_err-add_part g c =
           c.from_residual.ensures.0 c.in_err-add_part.ensures.written;
       left = some_left verdicts verdict_values c.args.rows.now _ old on new c.loop-part.invariant.some c.in_err-add_part.field-0.0 c.from_residual.result c.in_err-add_part.ensures.written.survives
           c.in_err-add_part.ensures.whole;
-      told = handed_on c.in_err-add_part.field-0.0 c.from_residual.result IsTold c.from_residual.ensures.1 c.in_err-add_part.ensures.told;
+      told = tells_after HasLayout HasLayout old on new c.loop-part.invariant.some.written (λ d e h. h.layout) c.in_err-add_part.field-0.0 c.from_residual.result c.from_residual.ensures.1 c.in_err-add_part.ensures.written.survives c.in_err-add_part.ensures.told;
     }
 
 pub returns-clause-written : goal.returns-clause-written

@@ -1,0 +1,123 @@
+-- Errors that SQLite tells as failures.
+use Rattle.std.proofs.Common.{◌≡◌, ℕ, true, false, ◌||◌, ◌&&◌, is_some, true≢false, List, length, Option, Some, None, Result, Ok, Err, refl, sym, ap, subst, subst₂, ◌∙◌, append-nil, inl, inr, arith}
+use Rattle.sqlite_value.specs.Order.{Row}
+use Rattle.sqlite_trees.specs.declared.error.StoreError.{StoreError}
+use Rattle.sqlite_trees.specs.declared.error.StoreError.TheVariants as store
+use Rattle.sqlite_schema.specs.declared.command.Command.{Command}
+use Rattle.sqlite_schema.specs.declared.command.Command.TheVariants.{Select}
+use Rattle.sqlite_schema.specs.declared.command.Returning.{Returning}
+use Rattle.sqlite_schema.specs.declared.program.Program.{Program}
+use Rattle.sqlite_schema.specs.declared.schema.Schema.{Schema}
+use Rattle.sqlite_resolve.specs.declared.compiled.Compiled.{Compiled}
+use Rattle.sqlite_resolve.specs.declared.error.CompileError.{CompileError}
+use Rattle.sqlite.specs.declared.error.Error.{Error}
+use Rattle.sqlite.specs.declared.error.Error.TheVariants.{SqliteFailure}
+use Rattle.sqlite.specs.declared.error.ErrorCode.{ErrorCode}
+use Rattle.sqlite.specs.declared.error.ErrorCode.TheVariants as code
+use Rattle.sqlite.specs.Clock.{timed}
+use Rattle.sqlite.specs.Does.{Does}
+use Rattle.sqlite.specs.Effect.{Database, is_query, RefusesQuery, RefusesToRead}
+use Rattle.sqlite.specs.Listing.{understood}
+use Rattle.sqlite.specs.State.{State, mode_of, text_of, store_error, Fails, FailsToShow, FailsToQuery, IsMisplaced, IsNoStatement, IsNotRun, RunsCommand, ExecutesIn, ExecutesInside, is_pragma, shows_rows}
+use Rattle.sqlite.proofs.Callers.{IsPlain, command_of, statement_of}
+use Rattle.society_rows.specs.declared.fault.RowFault.{RowFault}
+use Rattle.society_rows.specs.Faults.{fault_of, IsFailure}
+
+-- SQLite told it as a failure
+abbrev pub IsCoded : Error → Type 0
+IsCoded e = (code : ErrorCode) × (e ≡ SqliteFailure code)
+
+-- the text is one statement, and has so many parameters
+abbrev pub IsSingle : List ℕ → ℕ → Result Compiled CompileError → Type 0
+IsSingle text count (Ok c) = (c.tail ≡ length text) × (length c.names ≡ count)
+IsSingle text count (Err e) = ⊥
+
+failure_of : (c : ErrorCode) → IsFailure (fault_of (SqliteFailure c))
+failure_of code.OutOfMemory = inl refl
+failure_of c = inr (c, refl)
+
+pub failure_told : (fault : RowFault) (e : Error) → fault ≡ fault_of e → IsCoded e → IsFailure fault
+failure_told fault e is coded = subst IsFailure (sym (is ∙ ap fault_of coded.1)) (failure_of coded.0)
+
+store_coded : (cause : StoreError) → IsCoded (store_error cause)
+store_coded store.OutOfMemory = (code.OutOfMemory, refl)
+store_coded store.Io = (code.SystemIoFailure, refl)
+store_coded store.Corrupt = (code.DatabaseCorrupt, refl)
+store_coded store.Full = (code.DiskFull, refl)
+store_coded store.Broken = (code.Closed, refl)
+store_coded store.Unstorable = (code.TooBig, refl)
+
+pub fails_coded : (old new : State) (TooBig : Type 0) (e : Error) → Fails old new TooBig e → IsCoded e
+fails_coded old new TooBig e h = let told = store_coded h.0 in (told.0, h.1 ∙ told.1)
+
+pub refused_coded : (limit : Option ℕ) (db : Database) (q : Program) (params : Row) (e : Error) → RefusesQuery limit db q params e → IsCoded e
+refused_coded limit db q params e (inl h) = (code.TypeMismatch, h.0)
+refused_coded limit db q params e (inr (inl h)) = (code.IntegerOverflow, h.0)
+refused_coded limit db q params e (inr (inr h)) = (code.OperationInterrupted, h.0)
+
+read_coded : (limit : Option ℕ) (command : Command) (db : Database) (params : Row) (e : Error) → is_query command ≡ true → RefusesToRead limit command db params e → IsCoded e
+read_coded limit (Select q names) db params e asks h = refused_coded limit db q params e h
+read_coded limit _ db params e asks h = absurd (true≢false (sym asks))
+
+misplaced_coded : (s : State) (command : Command) (e : Error) → IsMisplaced s command e → IsCoded e
+misplaced_coded s command e (inl h) = (code.TransactionState, h.0)
+misplaced_coded s command e (inr h) = (code.NoSuchSavepoint, h.0)
+
+command_coded : (old new : State) (text : List ℕ) (c : Compiled) (params : Row) (e : Error)
+    → (Does old.step_limit (mode_of old) params old.now (text_of text c) c.returning c.command (Err (Some e)) → IsCoded e) → RunsCommand old new text c params (Err e) → IsCoded e
+command_coded old new text c params e does (inr failed) = fails_coded old new _ e failed
+command_coded old new text c params e does (inl (inl misplaced, same)) = misplaced_coded old c.command e misplaced
+command_coded old new text c params e does (inl (inr done, same)) = does done.1
+
+silent : (k : Command) (r : Option Returning) → is_query k ≡ false → is_pragma k ≡ false → r ≡ None → (is_query k || (true && (is_pragma k || is_some r))) ≡ false
+silent k r query pragma none = rw (query, pragma, none)
+
+-- ---- one text, known under a schema
+
+module _ (schema : Schema) (text : List ℕ) (params : Row) (old new : State) (has : old.now.schema ≡ schema) (plain : IsPlain (understood schema text))
+    (single : IsSingle text (length params) (understood schema text)) where
+  known : (r : Result Compiled CompileError) → understood old.now.schema text ≡ r → understood schema text ≡ r
+  known r is = sym (ap (λ s. understood s text) has) ∙ is
+
+  no_statement : (e : Error) → IsNoStatement old text params e → IsCoded e
+  no_statement e (inl h) = absurd (subst (IsSingle text (length params)) (known (Err h.0) h.1) single)
+  no_statement e (inr h) =
+      let one = subst (IsSingle text (length params)) (known (Ok h.0) h.1) single in
+      elim h.2 [
+        | inl more ↦ absurd (more.0 (omega (arith, one.0)))
+        | inr rest ↦ elim rest [ inl count ↦ absurd (count.0 (sym one.1)) | inr clock ↦ (code.NoClock, clock.1) ]
+      ]
+
+  not_run : (e : Error) → IsNotRun old new text params e → IsCoded e
+  unfolding IsNotRun
+  not_run e (inl h) = no_statement e h.0
+  not_run e (inr h) = fails_coded old new ⊥ e h
+
+  -- a query errs by a failure alone
+  pub query_coded : is_query (command_of (understood schema text)) ≡ true → (e : Error) → FailsToQuery text params old new e → IsCoded e
+  unfolding FailsToQuery
+  query_coded query e (inl h) = not_run e h
+  query_coded query e (inr h) =
+      let is = known (Ok h.0) h.1.is in
+      let full = timed params h.0.formats h.1.now in
+      let bare = (subst IsPlain is plain).0 in
+      let refused = subst (FailsToShow old new text h.0 full e) bare h.2 in
+      read_coded old.step_limit h.0.command refused.0 full e (sym (ap (λ r. is_query (command_of r)) is) ∙ query) refused.2
+
+  -- a statement that shows no rows errs by a failure alone, if its command does
+  pub statement_coded : (command : Command) → command_of (understood schema text) ≡ command → is_query command ≡ false → is_pragma command ≡ false
+      → ((e : Error) → Does old.step_limit (mode_of old) params old.now (statement_of text (understood schema text)) None command (Err (Some e)) → IsCoded e)
+      → (e : Error) → ExecutesInside 0 text params old new (Err e) → IsCoded e
+  unfolding ExecutesIn
+  statement_coded command named query pragma does e (inr ended) = (code.TransactionState, ended.1)
+  statement_coded command named query pragma does e (inl (inl none, left)) = not_run e none
+  statement_coded command named query pragma does e (inl (inr h, left)) =
+      let is = known (Ok h.0) h.1.is in
+      let full = timed params h.0.formats h.1.now in
+      let bare = subst IsPlain is plain in
+      let this : h.0.command ≡ command = sym (ap command_of is) ∙ named in
+      let quiet : shows_rows false h.0 ≡ false = silent h.0.command h.0.returning (ap is_query this ∙ query) (ap is_pragma this ∙ pragma) bare.0 in
+      let ran : RunsCommand old new text h.0 full (Err e) = rw quiet at h.2 in
+      command_coded old new text h.0 full e
+      (λ d. does e (subst₂ (λ k t. Does old.step_limit (mode_of old) params old.now t None k (Err (Some e))) this (sym (ap (statement_of text) is)) (rw (bare.0, bare.1, append-nil params) at d)))
+      ran
