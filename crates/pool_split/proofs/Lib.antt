@@ -4,4 +4,5 @@ pub mod Thresholds
 pub mod Parts
 pub mod Units
 pub mod Whole
+pub mod Neighbours
 mod Worked

@@ -1,5 +1,5 @@
 -- The credits of a pool: who is credited how much of its amount, and for which recording.
-use Rattle.std.specs.Prelude.{ℕ, ◌≤◌, List, [], ◌∷◌, Option, Some, None, ⊤, map, sum}
+use Rattle.std.specs.Prelude.{ℕ, ◌≤◌, All, List, [], ◌∷◌, Option, Some, None, ⊤, map, sum}
 use Rattle.std.specs.Cmp.Lexicographic.{slice_cmp}
 use Rattle.std.specs.List.{flat_map, zip}
 use Rattle.std.specs.List.Sorted.{IsStrictlySortedBy}
@@ -61,3 +61,9 @@ Ascend claims = IsStrictlySortedBy (slice_cmp nat_cmp) (map (λ claim. claim.isr
 pub record IsPayable (claim : Claim) : Type 0 where
   pub points : 1 ≤ claim.points
   pub holders : HasWeights claim.holders
+
+-- claims can be paid: they ascend by ISRC, each can be paid, and their points come to at most 10 to the 18 in all
+pub record ArePayable (claims : List Claim) : Type 0 where
+  pub ascending : Ascend claims
+  pub payable : All IsPayable claims
+  pub points : sum (points_claimed claims) ≤ 1000000000000000000

@@ -4,11 +4,13 @@
 mod claim;
 mod crediting;
 pub mod laws;
+mod payable;
 mod splitting;
 mod threshold;
 
 pub use claim::{Claim, Credit, Holders};
 pub use crediting::credits;
+pub use payable::are_payable;
 pub use splitting::split;
 
 #[cfg(test)]

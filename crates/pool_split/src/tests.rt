@@ -117,3 +117,72 @@ fn shares_of_one_work(rt: HostRuntime) -> Result<(), Fail> {
     assert!(rt; nobody.account == Account::Unclaimed && publisher.account != writer.account);
     Ok(())
 }
+
+/// Whether two claims of recordings without owners can be paid.
+fn is_payable_pair(texts: [&[u8]; 2], points: [u64; 2]) -> Result<bool, Fail> {
+    let claims = [
+        Claim {
+            isrc: isrc(texts[0])?,
+            points: points[0],
+            holders: None,
+        },
+        Claim {
+            isrc: isrc(texts[1])?,
+            points: points[1],
+            holders: None,
+        },
+    ];
+    Ok(are_payable(&claims))
+}
+
+/// Whether a claim for two holders with these weights can be paid.
+fn is_payable_with(alloc: Global, weights: [u64; 2]) -> Result<bool, Fail> {
+    let mut holders = Vec::new(alloc);
+    for weight in weights {
+        holders.push(Holder {
+            account: Account::Unclaimed,
+            weight,
+        })?;
+    }
+    let claims = [Claim {
+        isrc: isrc(b"ATABC2600001")?,
+        points: 1,
+        holders: Some(Holders::from_vec(holders)),
+    }];
+    Ok(are_payable(&claims))
+}
+
+#[test]
+fn claims_that_can_be_paid(rt: HostRuntime) -> Result<(), Fail> {
+    assert!(rt; are_payable(&[]));
+    let first: &[u8] = b"ATABC2600001";
+    let second: &[u8] = b"GBXYZ2600002";
+    let most = 1_000_000_000_000_000_000;
+    for (texts, points, payable, why) in [
+        ([first, second], [1, 300], true, "a good list"),
+        ([first, second], [most - 1, 1], true, "points at the limit"),
+        ([first, second], [most, 1], false, "points above the limit"),
+        ([first, second], [1, 0], false, "a claim with no points"),
+        ([first, first], [1, 1], false, "two claims of one ISRC"),
+        ([second, first], [1, 1], false, "ISRCs that descend"),
+    ] {
+        assert_eq!(rt; is_payable_pair(texts, points)?, payable, "{why}");
+    }
+    Ok(())
+}
+
+#[test]
+fn holders_that_can_be_paid(rt: HostRuntime) -> Result<(), Fail> {
+    for (weights, payable, why) in [
+        ([5000, 0], true, "a good claim"),
+        ([0, 0], false, "weights of 0"),
+        (
+            [600_000_000_000_000_000, 600_000_000_000_000_000],
+            false,
+            "weights above the limit",
+        ),
+    ] {
+        assert_eq!(rt; is_payable_with(rt.alloc(), weights)?, payable, "{why}");
+    }
+    Ok(())
+}
