@@ -26,7 +26,7 @@ module _ {S X : Type 0} (g : Ghosts S) (old : Held S) (later new : State) (x : X
       survives_begin g old new (λ db. IsTrue (state g old).is_open × (HasLayout (state g old).now → Change (state g old).now.trees db))
       (survives_then (state g (record old { in_transaction = true })) later new (λ _. ⊥) (λ db. db ≡ later.now.trees) (λ db. IsTrue (state g old).is_open × (HasLayout (state g old).now → Change (state g old).now.trees db))
       (λ clean db never. absurd never)
-      (λ clean db same. (does.answered (clean_later clean), λ has. subst (λ (trees : Trees). Change (state g old).now.trees trees) (sym same) (comes clean has).0))
+      (λ clean db same. (does.answered (clean_later clean) refl, λ has. subst (λ (trees : Trees). Change (state g old).now.trees trees) (sym same) (comes clean has).0))
       does.does.survives commits)
 
   -- once it is committed, it is there
@@ -37,8 +37,8 @@ module _ {S X : Type 0} (g : Ghosts S) (old : Held S) (later new : State) (x : X
       subst HasLayout (sym (shows clean).now_is) (does.does.layout (clean_later clean) refl has),
     );
     says = λ clean has. (comes clean has).1;
-    settled = λ clean. (does.answered (clean_later clean), (shows clean).now_is ∙ sym (shows clean).committed_is);
-    was_open = λ clean is_open. does.answered (clean_later clean);
+    settled = λ clean. (does.answered (clean_later clean) refl, (shows clean).now_is ∙ sym (shows clean).committed_is);
+    was_open = λ clean is_open. does.answered (clean_later clean) refl;
     neither = λ clean is_open. tt;
     survives = alone_survives;
   }

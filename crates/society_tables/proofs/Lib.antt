@@ -38,3 +38,4 @@ pub mod AloneLemmas
 pub mod RunBooks
 pub mod PoolWrites
 pub mod PoolHolds
+pub mod Payments

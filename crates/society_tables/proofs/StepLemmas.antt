@@ -143,5 +143,14 @@ looks_as old new x r A B first follows = does_as old new x r _ (λ before after 
 pub does_open_then : {X Y : Type 0} (old mid new : State) (x : X) (r : Result Y RowFault) (A : Database → Database → X → Type 0) (B C : Database → Database → Y → Type 0) → DoesOpen old mid (Ok x) A → Does mid new r B → ((y : Y) → A old.now mid.now x → B mid.now new.now y → C old.now new.now y) → DoesOpen old new r C
 does_open_then old mid new x r A B C first second follows = record {
   does = does_then old mid new x r A B C first.does second follows;
-  answered = λ clean. on_ok r (first.answered (was_clean mid new second.survives clean));
+  answered = λ clean inside. on_ok r (first.answered (was_clean mid new second.survives clean) inside);
 }
+
+-- statements, and then others that an open connection alone answers
+pub does_then_open : {X Y : Type 0} (old mid new : State) (x : X) (r : Result Y RowFault) (A : Database → Database → X → Type 0) (B C : Database → Database → Y → Type 0) → Does old mid (Ok x) A → DoesOpen mid new r B → ((y : Y) → A old.now mid.now x → B mid.now new.now y → C old.now new.now y) → DoesOpen old new r C
+does_then_open old mid new x r A B C first second follows =
+    let was = was_clean mid new second.does.survives in
+    record {
+      does = does_then old mid new x r A B C first second.does follows;
+      answered = λ clean inside. on_both r (first.kept (was clean) inside).was_open (second.answered clean (first.inside (was clean) inside));
+    }

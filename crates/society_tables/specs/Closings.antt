@@ -1,5 +1,5 @@
 -- What is written of a pool that is closed.
-use Rattle.std.specs.Prelude.{ℕ, ◌≡◌, ◌≢◌, List, [], ◌∷◌, ◌++◌, IsPermutation}
+use Rattle.std.specs.Prelude.{ℕ, ◌≡◌, ◌≢◌, List, [], ◌∷◌, ◌++◌, None, IsPermutation}
 use Rattle.std.specs.List.{AllByRecursion}
 use Rattle.sqlite_trees.specs.Tree.{Trees}
 use Rattle.sqlite_value.specs.Order.{Row}
@@ -7,7 +7,13 @@ use Rattle.society_rows.specs.Layout as layout
 use Rattle.society_rows.specs.Layout.{all_tables}
 use Rattle.society_rows.specs.Stored.{Adds, rows_in}
 use Rattle.pool_split.specs.declared.claim.Credit.{Credit}
+use Rattle.share_rules.specs.declared.office.Office.{Office}
+use Rattle.society_core.specs.Answers.{close_refusal}
+use Rattle.society_core.specs.Book.{Book, order_at, with_pool}
+use Rattle.society_core.specs.Candidates.{ReachesCut}
 use Rattle.society_core.specs.Orders.{Order}
+use Rattle.society_core.specs.Pools.{credits_of}
+use Rattle.society_tables.specs.Kept.{HoldsBook}
 use Rattle.society_tables.specs.Shown.{AddsEach, Closes}
 use Rattle.sqlite.specs.Effect.{Database}
 
@@ -30,3 +36,12 @@ PaysOut lines credits old new = (mid : Database) × Adds layout.credits lines ol
 abbrev pub ClosesWith : ℕ → Order → List Credit → Database → Database → Type 0
 ClosesWith pool order credits old new =
     Closes pool order credits old.trees new.trees × (mid : Database) × (mid.trees layout.balances.tree ≡ old.trees layout.balances.tree) × AddsEach credits mid new
+
+-- the tables of an office that hold a book in which the cut of an order is reached pay these credits by it
+abbrev pub PaysBy : Office → Order → Trees → List Credit → Type 0
+PaysBy office order db credits = (book : Book) → HoldsBook office book db → ReachesCut book order → credits ≡ credits_of office book order
+
+-- tables of an office that held a book in which a pool is not closed, and in which nothing refuses its order, hold the book with the pool
+abbrev pub ClosesPool : Office → ℕ → Order → Trees → Trees → Type 0
+ClosesPool office pool order old new =
+    (book : Book) → HoldsBook office book old → order_at book pool ≡ None → close_refusal book order ≡ None → HoldsBook office (with_pool book pool order) new

@@ -24,7 +24,7 @@ pub record Does {X : Type 0} (old new : State) (result : Result X RowFault) (Say
 -- statements of which an answer comes from an open connection alone
 pub record DoesOpen {X : Type 0} (old new : State) (result : Result X RowFault) (Says : Database → Database → X → Type 0) : Type 0 where
   pub does : Does old new result Says
-  pub answered : HasCleanDisk new → OnOk result (IsTrue old.is_open)
+  pub answered : HasCleanDisk new → IsTrue old.in_transaction → OnOk result (IsTrue old.is_open)
 
 -- readings: the database is as it was, and its rows say this
 abbrev pub Looks : {X : Type 0} → State → State → Result X RowFault → (Trees → X → Type 0) → Type 0

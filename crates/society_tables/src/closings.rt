@@ -8,7 +8,7 @@ ghost use Rattle.society_tables.specs.Closings.{AddsOrder, ClosesWith, PaysOut};
 ghost use Rattle.society_tables.specs.DerivedRows.{credit_row};
 ghost use Rattle.work_ids.specs.Account.{account_text};
 ghost use Rattle.society_tables.specs.Shown.{AddsEach};
-ghost use Rattle.society_tables.specs.Steps.{Does};
+ghost use Rattle.society_tables.specs.Steps.{Does, DoesOpen};
 
 use crate::outcomes::column_of;
 use crate::pools::{NO_ISRC, text_of};
@@ -148,7 +148,7 @@ fn add_cut<S: Alter>(
     cuts: &[PoolCutRow<'_>],
 ) -> Result<(), RowFault>
     ensures same_reference { tx.new.conn.ghost_name ≡ tx.old.conn.ghost_name }
-    ensures does { Does (state S.Store tx.old.conn.now) (state S.Store tx.new.conn.now) result
+    ensures does { DoesOpen (state S.Store tx.old.conn.now) (state S.Store tx.new.conn.now) result
         (λ before after _. AddsOrder (pool_values pool.now) (map pool_cut_values cuts.now) [] before.trees after.trees) }
 {
     add_pool(tx, pool)?;
@@ -163,7 +163,7 @@ fn add_order<S: Alter>(
     paid: &[PoolReturnRow<'_>],
 ) -> Result<(), RowFault>
     ensures same_reference { tx.new.conn.ghost_name ≡ tx.old.conn.ghost_name }
-    ensures does { Does (state S.Store tx.old.conn.now) (state S.Store tx.new.conn.now) result
+    ensures does { DoesOpen (state S.Store tx.old.conn.now) (state S.Store tx.new.conn.now) result
         (λ before after _. AddsOrder (pool_values pool.now) (map pool_cut_values cuts.now) (map pool_return_values paid.now) before.trees after.trees) }
 {
     add_cut(tx, pool, cuts)?;
@@ -194,7 +194,7 @@ pub(crate) fn write_pool<S: Alter>(
     credits: &[Credit],
 ) -> Result<(), RowFault>
     ensures same_reference { tx.new.conn.ghost_name ≡ tx.old.conn.ghost_name }
-    ensures does { Does (state S.Store tx.old.conn.now) (state S.Store tx.new.conn.now) result
+    ensures does { DoesOpen (state S.Store tx.old.conn.now) (state S.Store tx.new.conn.now) result
         (λ before after _. ClosesWith pool order.now credits.now before after) }
 {
     let cuts = cut_rows(alloc, pool, order.cut())?;

@@ -4,9 +4,11 @@
 mod acknowledgements;
 mod arrivals;
 mod closings;
+mod cut_works;
 mod fault;
 mod orders;
 mod outcomes;
+mod paying;
 mod pools;
 mod returns;
 mod run;

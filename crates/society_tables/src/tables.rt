@@ -2,10 +2,10 @@
 ghost use Rattle.std.specs.Prelude.{◌≡◌, ◌<◌, ◌^◌, ◌&&◌, IfOk, IsTrue, None, ⊤, false, option_map};
 ghost use Rattle.sqlite.specs.Held.{state};
 ghost use Rattle.sqlite.specs.Steps.{over_memory};
-ghost use Rattle.society_core.specs.Answers.{known_as, known_with_front, payment_in, pool_known_as, return_known_as, shown_in};
+ghost use Rattle.society_core.specs.Answers.{close_refusal, known_as, known_with_front, payment_in, pool_known_as, return_known_as, shown_in};
 ghost use Rattle.cwr_files.specs.FileFault.{file_fault};
 ghost use Rattle.perf_returns.specs.Returns.{return_fault};
-ghost use Rattle.society_core.specs.Book.{ack, body_at, empty_book, front, held, order_at, return_at, shown_verdicts, with_return, with_transmission};
+ghost use Rattle.society_core.specs.Book.{ack, body_at, empty_book, front, held, order_at, return_at, shown_verdicts, with_pool, with_return, with_transmission};
 ghost use Rattle.society_core.specs.Pools.{balance, credits_of};
 ghost use Rattle.society_core.specs.Requests.{Stands, shown_of, standing_of};
 ghost use Rattle.society_core.specs.State.{Addition, Question};
@@ -16,6 +16,7 @@ use crate::acknowledgements::ack_of;
 use crate::arrivals::arrive;
 use crate::fault::told;
 use crate::orders::known_pool_of;
+use crate::paying::close;
 use crate::pools::{balance_of, pool_credits};
 use crate::returns::{known_return_of, payment_of, write_return};
 use crate::senders::{front_of, known_of, status_of, verdicts_of};
@@ -249,6 +250,25 @@ impl<S: Alter> Tables<S> {
             body,
         };
         let answer = write_return(&mut self.conn, &row);
+        told(&mut self.failures, answer)
+    }
+
+    /// Closes a pool that is not closed by an order that nothing refuses. After an error the book is as before.
+    pub fn add_pool(
+        &mut self,
+        alloc: Global,
+        pool: PoolNumber,
+        order: &PoolOrder,
+    ) -> Result<(), StoreFault>
+        requires free { IsTrue ((state S.Store self.old.conn).is_clean && (state S.Store self.old.conn).is_open) → order_at (book_of (state S.Store self.old.conn).now.trees) pool ≡ None }
+        requires right { IsTrue ((state S.Store self.old.conn).is_clean && (state S.Store self.old.conn).is_open) → close_refusal (book_of (state S.Store self.old.conn).now.trees) order.now ≡ None }
+        ensures { Addition (tables_state self.old.office (state S.Store self.old.conn) self.old.failures) (tables_state self.new.office (state S.Store self.new.conn) self.new.failures)
+            (with_pool (book_of (state S.Store self.old.conn).now.trees) pool order.now) result (λ _. ⊤) }
+    {
+        if self.failures == u64::MAX {
+            return Err(StoreFault::Refused);
+        }
+        let answer = close(alloc, &mut self.conn, &self.office, pool, order);
         told(&mut self.failures, answer)
     }
 }

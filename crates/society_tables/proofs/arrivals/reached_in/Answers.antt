@@ -16,5 +16,5 @@ returns-clause-looks g c =
       does = looks_as old new _ c.shown_reached.result _ _ (looks_of old new (Ok _) _ c.in_ok-rows.ensures.read)
           (λ lists. by_book (λ office book reached. HasReached office book c.args.sender.now reached.front reached.works) _ c.shown_reached.result (λ o b holds. c.shown_reached.ensures (front b c.args.sender.now) (works_to o b c.args.sender.now)
           (subst (ShowReached (front b c.args.sender.now) (works_to o b c.args.sender.now)) (sym c.as_slice.ensures.value) (reached_found o b _ holds c.args.sender.now _ lists))));
-      answered = λ clean. on_ok c.shown_reached.result (c.in_ok-rows.ensures.read.was_open clean);
+      answered = λ clean inside. on_ok c.shown_reached.result (c.in_ok-rows.ensures.read.was_open clean);
     }

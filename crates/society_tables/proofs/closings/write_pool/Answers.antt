@@ -2,7 +2,7 @@ use Rattle.std.proofs.Common.{◌∙◌, ap, map, w64}
 use Rattle.std.proofs.lemmas.Int.{to_z-of_z}
 use Rattle.sqlite.specs.Held.{state}
 use Rattle.society_tables.proofs.PoolWrites.{closes_by}
-use Rattle.society_tables.proofs.StepLemmas.{does_then}
+use Rattle.society_tables.proofs.StepLemmas.{does_open_then}
 use Rattle.society_tables.proofs.closings.write_pool.Goals as goal
 
 pub returns-clause-does : goal.returns-clause-does
@@ -11,7 +11,7 @@ returns-clause-does g c =
     let mid = state g.S.Store c.add_order.new.tx.conn.now in
     let new = state g.S.Store c.pay_out.new.tx.conn.now in
     let lines = c.in_ok-lines.ensures (ap (map (λ t. t.items)) c.as_slice.ensures.value ∙ c.in_ok-texts.ensures) in
-    does_then old mid new _ c.pay_out.result _ _ _
+    does_open_then old mid new _ c.pay_out.result _ _ _
     (rw (to_z-of_z w64 c.in_ok-column_of.field-0 c.in_ok-column_of.ensures.range, c.in_ok-column_of.ensures.value, c.amount.ensures.value, c.as_slice-2.ensures.value, c.as_slice-3.ensures.value, c.in_ok-cuts.ensures, c.in_ok-paid.ensures, c.cut.ensures.value, c.returns.ensures.value) at c.in_ok-add_order.ensures.does)
     (rw (c.as_slice-4.ensures.value, lines) at c.pay_out.ensures.does)
     (λ y ordered paid. closes_by c.args.pool c.args.order.now c.args.credits.now old.now mid.now paid.0 new.now ordered paid.1 paid.2)
