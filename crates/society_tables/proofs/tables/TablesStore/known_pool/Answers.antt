@@ -1,7 +1,7 @@
 use Rattle.std.proofs.Common.{◌≡◌}
 use Rattle.society_core.specs.Answers.{pool_known_as}
 use Rattle.society_tables.proofs.QuestionLemmas.{below_greatest, one_known, question_by, still_rests}
-use Rattle.society_tables.proofs.tables.Tables.known_pool.Goals as goal
+use Rattle.society_tables.proofs.tables.TablesStore.known_pool.Goals as goal
 
 pub invariant_of-self-clause-rests : goal.invariant_of-self-clause-rests
 invariant_of-self-clause-rests g c = still_rests _ _ _ _ _ c.args.self.now.rests c.known_pool_of-answer.ensures.asked

@@ -1,7 +1,7 @@
 use Rattle.std.proofs.Common.{◌≡◌, option_map}
 use Rattle.society_core.specs.Book.{shown_verdicts}
 use Rattle.society_tables.proofs.QuestionLemmas.{below_greatest, one_judgment, question_by, still_rests}
-use Rattle.society_tables.proofs.tables.Tables.verdicts.Goals as goal
+use Rattle.society_tables.proofs.tables.TablesStore.verdicts.Goals as goal
 
 pub invariant_of-self-clause-rests : goal.invariant_of-self-clause-rests
 invariant_of-self-clause-rests g c = still_rests _ _ _ _ _ c.args.self.now.rests c.verdicts_of-answer.ensures.asked

@@ -10,7 +10,7 @@ use Rattle.society_tables.proofs.AddLemmas.{addition, any_told, one_truth, rests
 use Rattle.society_tables.proofs.KeyRows.{refilled_by}
 use Rattle.society_tables.proofs.QuestionLemmas.{below_greatest}
 use Rattle.society_tables.proofs.ReturnAdds.{return_added}
-use Rattle.society_tables.proofs.tables.Tables.add_return.Goals as goal
+use Rattle.society_tables.proofs.tables.TablesStore.add_return.Goals as goal
 
 pub invariant_of-self-clause-rests : goal.invariant_of-self-clause-rests
 invariant_of-self-clause-rests g c =

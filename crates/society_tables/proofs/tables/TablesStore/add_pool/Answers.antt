@@ -5,7 +5,7 @@ use Rattle.society_tables.specs.BookRows.{book_of}
 use Rattle.society_tables.specs.Closings.{ClosesPool}
 use Rattle.society_tables.proofs.AddLemmas.{addition, one_truth, rests_after}
 use Rattle.society_tables.proofs.QuestionLemmas.{below_greatest}
-use Rattle.society_tables.proofs.tables.Tables.add_pool.Goals as goal
+use Rattle.society_tables.proofs.tables.TablesStore.add_pool.Goals as goal
 
 pub invariant_of-self-clause-rests : goal.invariant_of-self-clause-rests
 invariant_of-self-clause-rests g c =

@@ -1,11 +1,12 @@
 use Rattle.std.proofs.Common.{◌≡◌}
 use Rattle.society_core.specs.Book.{front}
 use Rattle.society_tables.proofs.QuestionLemmas.{below_greatest, one_number, question_by, still_rests}
-use Rattle.society_tables.proofs.tables.Tables.front.Goals as goal
+use Rattle.society_tables.proofs.tables.TablesStore.front.Goals as goal
 
 pub invariant_of-self-clause-rests : goal.invariant_of-self-clause-rests
 invariant_of-self-clause-rests g c = still_rests _ _ _ _ _ c.args.self.now.rests c.front_of-answer.ensures.asked
 
 pub returns : goal.returns
-returns g c =
-    question_by (λ o b n. n ≡ front b c.args.sender.now) _ _ _ _ _ _ c.told.result c.args.self.now.rests (rw (c.as_bytes.ensures.bytes) at c.front_of-answer.ensures.asked) (λ b n. one_number n _) (below_greatest _ c.args.self.now.small c.if-self.false) c.told.ensures
+returns g c = record {
+  question = question_by (λ o b n. n ≡ front b c.args.sender.now) _ _ _ _ _ _ c.told.result c.args.self.now.rests (rw (c.as_bytes.ensures.bytes) at c.front_of-answer.ensures.asked) (λ b n. one_number n _) (below_greatest _ c.args.self.now.small c.if-self.false) c.told.ensures;
+}

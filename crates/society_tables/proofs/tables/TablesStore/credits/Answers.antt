@@ -2,7 +2,7 @@ use Rattle.std.proofs.Common.{◌≡◌, option_map}
 use Rattle.society_core.specs.Book.{order_at}
 use Rattle.society_core.specs.Pools.{credits_of}
 use Rattle.society_tables.proofs.QuestionLemmas.{below_greatest, one_payout, question_by, still_rests}
-use Rattle.society_tables.proofs.tables.Tables.credits.Goals as goal
+use Rattle.society_tables.proofs.tables.TablesStore.credits.Goals as goal
 
 pub invariant_of-self-clause-rests : goal.invariant_of-self-clause-rests
 invariant_of-self-clause-rests g c = still_rests _ _ _ _ _ c.args.self.now.rests c.pool_credits-answer.ensures.asked

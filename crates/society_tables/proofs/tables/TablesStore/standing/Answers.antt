@@ -2,7 +2,7 @@ use Rattle.std.proofs.Common.{◌≡◌, ap₂}
 use Rattle.society_core.specs.Book.{front, held}
 use Rattle.society_core.specs.Requests.{Stands}
 use Rattle.society_tables.proofs.QuestionLemmas.{below_greatest, one_list, one_number, pairs_alone, question_as, question_by, still_rests}
-use Rattle.society_tables.proofs.tables.Tables.standing.Goals as goal
+use Rattle.society_tables.proofs.tables.TablesStore.standing.Goals as goal
 
 pub invariant_of-self-clause-rests : goal.invariant_of-self-clause-rests
 invariant_of-self-clause-rests g c = still_rests _ _ _ _ _ c.args.self.now.rests c.status_of-answer.ensures.asked

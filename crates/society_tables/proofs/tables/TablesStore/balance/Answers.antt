@@ -1,7 +1,7 @@
 use Rattle.std.proofs.Common.{◌≡◌}
 use Rattle.society_core.specs.Pools.{balance}
 use Rattle.society_tables.proofs.QuestionLemmas.{below_greatest, one_number, question_by, still_rests}
-use Rattle.society_tables.proofs.tables.Tables.balance.Goals as goal
+use Rattle.society_tables.proofs.tables.TablesStore.balance.Goals as goal
 
 pub invariant_of-self-clause-rests : goal.invariant_of-self-clause-rests
 invariant_of-self-clause-rests g c = still_rests _ _ _ _ _ c.args.self.now.rests c.balance_of-answer.ensures.asked

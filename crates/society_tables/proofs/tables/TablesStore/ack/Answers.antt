@@ -1,7 +1,7 @@
 use Rattle.std.proofs.Common.{◌≡◌, option_map}
 use Rattle.society_core.specs.Book.{ack}
 use Rattle.society_tables.proofs.QuestionLemmas.{below_greatest, one_text, question_own, still_rests}
-use Rattle.society_tables.proofs.tables.Tables.ack.Goals as goal
+use Rattle.society_tables.proofs.tables.TablesStore.ack.Goals as goal
 
 pub invariant_of-self-clause-rests : goal.invariant_of-self-clause-rests
 invariant_of-self-clause-rests g c = still_rests _ _ _ _ _ c.args.self.now.rests c.ack_of-answer.ensures.asked
