@@ -3,7 +3,8 @@ ghost use Rattle.society.specs.Replays.{Replays, BreaksOff, fault_name};
 
 use http_desk::{Counted, DeskFault, FaultKind, serve};
 use share_rules::Office;
-use society_core::{Desk, PlainStore};
+use society_core::Desk;
+use society_tables::Tables;
 use std::alloc::Global;
 use std::io::{Read, Write};
 
@@ -16,7 +17,7 @@ pub const SERVED: u8 = 0;
 /// Status of a stream that broke off.
 pub const BROKEN_OFF: u8 = 1;
 
-/// Serves what a reader gives at an office to which nothing has come, over a book in memory: the answers go to
+/// Serves what a reader gives at an office to which nothing has come, over tables in memory: the answers go to
 /// `out`. Answers the exit status: 0 where the input was served to its end; 1 where the reader or the writer
 /// failed, the turns ran out or memory was refused at the start, with one line on `err`.
 pub fn replay<R: Read, W: Write, E: Write>(
@@ -33,7 +34,15 @@ pub fn replay<R: Read, W: Write, E: Write>(
     ensures broken_off { result ≡ 1
         → BreaksOff office.now R.remaining W.contents reader.old reader.new out.old out.new }
 {
-    let mut desk = Desk::new(PlainStore::new(alloc, office));
+    let Ok(tables) = Tables::in_memory(alloc, office) else {
+        let fault = DeskFault {
+            kind: FaultKind::Memory,
+            requests: 0,
+        };
+        report(err, &fault);
+        return BROKEN_OFF;
+    };
+    let mut desk = Desk::new(tables);
     match serve(alloc, &mut desk, reader, out, TURNS) {
         Ok(_) => SERVED,
         Err(fault) => {

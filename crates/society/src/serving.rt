@@ -7,13 +7,15 @@ use crate::replay::{BROKEN_OFF, SERVED};
 use crate::words::Place;
 use http_desk::Counted;
 use share_rules::Office;
-use society_core::{Desk, PlainStore};
+use society_core::Desk;
+use society_tables::Tables;
 use std::alloc::Global;
 use std::io::Write;
 use std::net::{Ipv4Addr, Net, TcpListener, TcpStream};
 
 /// Listens on this machine at a port, prints `listening`, and serves so many connections at an office to which nothing has
-/// come, over a book in memory. Answers the exit status: 0, or 1 with one line on `err` where it cannot listen or accept.
+/// come, over tables in memory. Answers the exit status: 0, or 1 with one line on `err` where memory is refused for the
+/// tables, or it cannot listen or accept.
 pub fn serve_office<N: Net<Listener = TcpListener, Stream = TcpStream>, W: Write, E: Write>(
     net: &N,
     alloc: Global,
@@ -24,14 +26,17 @@ pub fn serve_office<N: Net<Listener = TcpListener, Stream = TcpStream>, W: Write
 ) -> u8
     ensures status { (result ≡ 0) ⊎ (result ≡ 1) }
     ensures served { result ≡ 0 → ServesOffice office.now W.contents out.old out.new place.connections }
-    // Nothing is printed where it cannot listen; else fewer connections came.
+    // Nothing is printed where it has no tables or cannot listen; else fewer connections came.
     ensures broken_off { result ≡ 1 → StopsServing office.now W.contents out.old out.new place.connections }
 {
+    let Ok(tables) = Tables::in_memory(alloc, office) else {
+        return break_off(err, "out of memory");
+    };
     let Ok(listener) = TcpListener::bind(net, (Ipv4Addr::LOCALHOST, place.port)) else {
         return break_off(err, "cannot listen");
     };
     print(out, b"listening\n");
-    let mut desk = Desk::new(PlainStore::new(alloc, office));
+    let mut desk = Desk::new(tables);
     match serve_connections(alloc, &mut desk, &listener, place.connections, out) {
         Ok(()) => SERVED,
         Err(AcceptFault) => break_off(err, "cannot accept"),
