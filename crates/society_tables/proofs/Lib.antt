@@ -38,3 +38,9 @@ pub mod AloneLemmas
 pub mod RunBooks
 pub mod PoolWrites
 pub mod PoolHolds
+pub mod CutRows
+pub mod CutNames
+pub mod CutCandidates
+pub mod CutNotes
+pub mod CutChoices
+pub mod CutShown

@@ -8,3 +8,4 @@ pub mod Outcomes
 pub mod Steps
 pub mod Faults
 pub mod Closings
+pub mod CutWorks
