@@ -39,3 +39,9 @@ pub mod RunBooks
 pub mod PoolWrites
 pub mod PoolHolds
 pub mod Payments
+pub mod CutRows
+pub mod CutNames
+pub mod CutCandidates
+pub mod CutNotes
+pub mod CutChoices
+pub mod CutShown

@@ -89,7 +89,7 @@ module _ (o : Office) (b : Book) (s : List ℕ) where
   abbrev pub sent : ℕ → Transmission
   sent n = transmission_in (unwrap_or (body_at b s n) [])
 
-  line_push : (n : ℕ) → line_to (suc n) ≡ line_to n ++ judged_in o (sent (suc n)) ∷ []
+  pub line_push : (n : ℕ) → line_to (suc n) ≡ line_to n ++ judged_in o (sent (suc n)) ∷ []
   line_push n = map_push (judged_in o) (transmissions_to b s n) (sent (suc n))
 
   -- it has so many transmissions
@@ -224,7 +224,7 @@ module _ (s w : List ℕ) (back : IsBack w) where
           (sym is.ordinal ∙ ap (λ (z : List ℕ). ordinal_of z (t.judged ∷ judged_of past)) (same ∙ one))
       by_case false e = refl
 
-  one_by : (past : List Placed) (n p : ℕ) (x : Judged) (v : Verdict) → HasBack x → verdict_of (judged_of past) x ≡ v →
+  pub one_by : (past : List Placed) (n p : ℕ) (x : Judged) (v : Verdict) → HasBack x → verdict_of (judged_of past) x ≡ v →
       filter (is_of_work w) (version_told s (placed_at n p x) v) ≡ cond (is_version w past (placed_at n p x)) (version_row s w (version_of w past (placed_at n p x)) ∷ []) []
   one_by past n p x (Rejected f) ok e =
       let no_more = refused (judged_of past) x f e in
@@ -303,7 +303,7 @@ left_again y k =
     ap (λ (m : ℕ). take m (xs ++ blanks)) kept ∙ take_at xs blanks n refl
 
 -- a transaction's work number is read back
-number_back : (x : Transaction) → IsBack (filled_number x)
+pub number_back : (x : Transaction) → IsBack (filled_number x)
 number_back x =
     let number = submitter_number (first_work x.records) in
     ap (fill 14) (left_again number (14 - length (without_trailing_blanks number)))
@@ -353,7 +353,7 @@ tested s w row h =
     (ap (λ v. equal Binary v (Text s)) h.0 ∙ texts_equal (text_at 0 row) s)
     (last_truth (equal Binary (column row 1) (Text (without_trailing_blanks w))) ∙ ap (λ v. equal Binary v (Text (without_trailing_blanks w))) h.1 ∙ texts_equal (text_at 1 row) (without_trailing_blanks w) ∙ either_way (text_at 1 row) (without_trailing_blanks w))
 
-all_tested : (s w : List ℕ) (rows : List Row) → AllByRecursion HasTexts rows → AllByRecursion (λ row. has_key (Text s ∷ Text (without_trailing_blanks w) ∷ []) row ≡ (is_named s row && is_of_work w row)) rows
+pub all_tested : (s w : List ℕ) (rows : List Row) → AllByRecursion HasTexts rows → AllByRecursion (λ row. has_key (Text s ∷ Text (without_trailing_blanks w) ∷ []) row ≡ (is_named s row && is_of_work w row)) rows
 all_tested s w [] h = tt
 all_tested s w (row ∷ rows) h = (tested s w row h.0, all_tested s w rows h.1)
 
@@ -362,7 +362,7 @@ module _ (o : Office) (b : Book) (db : Trees) (holds : HoldsBook o b db) (s w : 
   abbrev pub line_at_front : List Placed
   line_at_front = placed_line (line_to o b s (front b s))
 
-  told_all : (q : List ℕ) → AllByRecursion HasTexts (told_to_front tells_version o b q)
+  pub told_all : (q : List ℕ) → AllByRecursion HasTexts (told_to_front tells_version o b q)
   told_all q = subst (AllByRecursion HasTexts) (sym (told_line o b q (front b q))) (rows_texts q (placed_line (line_to o b q (front b q))))
 
   -- what is found is the row of the last version of the work at the front
@@ -387,13 +387,16 @@ module _ (o : Office) (b : Book) (db : Trees) (holds : HoldsBook o b db) (s w : 
 
 -- ---- the version at the front
 
--- the last version of the line up to the front is the version at the front
-pub front_version : (o : Office) (b : Book) (s w : List ℕ) → last_version w (placed_line (line_to o b s (front b s))) ≡ version_in o b s w (front b s)
+-- the last version of the line up to a cut is the version at the cut
+pub cut_line : (o : Office) (b : Book) (s w : List ℕ) (cut : ℕ) → last_version w (placed_line (line_to o b s cut)) ≡ version_in o b s w cut
 unfolding work_at
-front_version o b s w =
-    let f = front b s in
-    let within : length (line_to o b s f) ≤ f = omega (arith, length_line o b s f) in
-    ap (λ (l : List (List Judged)). last_version w (placed_line l)) (sym (take_all f (line_to o b s f) within))
+cut_line o b s w cut =
+    let within : length (line_to o b s cut) ≤ cut = omega (arith, length_line o b s cut) in
+    ap (λ (l : List (List Judged)). last_version w (placed_line l)) (sym (take_all cut (line_to o b s cut) within))
+
+-- so is that up to the front
+pub front_version : (o : Office) (b : Book) (s w : List ℕ) → last_version w (placed_line (line_to o b s (front b s))) ≡ version_in o b s w (front b s)
+front_version o b s w = cut_line o b s w (front b s)
 
 shows : (s w : List ℕ) (v : Option WorkVersion) → ShowVersion v (row_of_some (version_row s w) v)
 shows s w None = refl
@@ -406,18 +409,24 @@ version_shows o b db holds s w back found is =
     subst (λ v. ShowVersion v found) (front_version o b s w)
     (subst (ShowVersion (last_version w line)) (sym (last_found o b db holds s w back found is)) (shows s w (last_version w line)))
 
+ok_same : (x y : List ℕ) → ◌≡◌ {A = Result (List ℕ) IdFault} (Ok x) (Ok y) → x ≡ y
+ok_same x y e = cc
+
+-- a work number that a text spells is the text, filled with blanks
+pub filled_of : (w text : List ℕ) → work_number_of text ≡ Ok w → fill 14 (without_trailing_blanks text) ≡ w
+filled_of w text spelt = by_length (nat_le 1 (length (without_trailing_blanks text)) && nat_le (length (without_trailing_blanks text)) 14) (list_all is_printable (without_trailing_blanks text)) spelt
+  where
+    by_length : (a c : Bool) → cond a (cond c (Ok (fill 14 (without_trailing_blanks text))) (Err Character)) (Err Length) ≡ Ok w → fill 14 (without_trailing_blanks text) ≡ w
+    by_length true true e = ok_same (fill 14 (without_trailing_blanks text)) w e
+    by_length true false e = absurd (let x = e in cc)
+    by_length false c e = absurd (let x = e in cc)
+
+-- blanks at the end are left once
+pub left_once : (y : List ℕ) → without_trailing_blanks (without_trailing_blanks y) ≡ without_trailing_blanks y
+left_once y = ap without_trailing_blanks (sym (append-nil (without_trailing_blanks y))) ∙ left_again y 0
+
 -- a work number that its text spells is read back
 pub back_by : (w text : List ℕ) → text ≡ without_trailing_blanks w → work_number_of text ≡ Ok w → IsBack w
 back_by w text is back =
-    let again : without_trailing_blanks (without_trailing_blanks w) ≡ without_trailing_blanks w = ap without_trailing_blanks (sym (append-nil (without_trailing_blanks w))) ∙ left_again w 0 in
-    let same : without_trailing_blanks text ≡ without_trailing_blanks w = ap without_trailing_blanks is ∙ again in
-    ap (fill 14) (sym same)
-    ∙ by_length (nat_le 1 (length (without_trailing_blanks text)) && nat_le (length (without_trailing_blanks text)) 14) (list_all is_printable (without_trailing_blanks text)) back
-  where
-    of_ok : (x y : List ℕ) → ◌≡◌ {A = Result (List ℕ) IdFault} (Ok x) (Ok y) → x ≡ y
-    of_ok x y e = cc
-
-    by_length : (a c : Bool) → cond a (cond c (Ok (fill 14 (without_trailing_blanks text))) (Err Character)) (Err Length) ≡ Ok w → fill 14 (without_trailing_blanks text) ≡ w
-    by_length true true e = of_ok (fill 14 (without_trailing_blanks text)) w e
-    by_length true false e = absurd (let x = e in cc)
-    by_length false c e = absurd (let x = e in cc)
+    let same : without_trailing_blanks text ≡ without_trailing_blanks w = ap without_trailing_blanks is ∙ left_once w in
+    ap (fill 14) (sym same) ∙ filled_of w text back

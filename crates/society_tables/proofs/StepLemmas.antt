@@ -23,7 +23,7 @@ was_clean : (mid new : State) → Survives mid new (λ _. ⊥) → HasCleanDisk 
 was_clean mid new survives clean = (let fell = survives.clean in omega (clean, fell, arith))
 
 -- what follows of an answer that may be an error
-more : {X : Type 0} (r : Result X RowFault) {P Q : X → Type 0} → ((x : X) → P x → Q x) → IfOk r P → IfOk r Q
+pub more : {X E : Type 0} (r : Result X E) {P Q : X → Type 0} → ((x : X) → P x → Q x) → IfOk r P → IfOk r Q
 more (Ok x) follows h = follows x h
 more (Err e) follows h = tt
 

@@ -9,3 +9,4 @@ pub mod Steps
 pub mod Faults
 pub mod Closings
 pub mod Laws
+pub mod CutWorks

@@ -3,9 +3,11 @@
 
 mod acknowledgements;
 mod arrivals;
+mod chosen;
 mod closings;
 mod cut_works;
 mod fault;
+mod named_works;
 mod orders;
 mod outcomes;
 mod paying;

@@ -20,7 +20,7 @@ use work_ids::{SenderKey, TransmissionNumber, WorkNumber};
 use works_core::WorkVersion;
 
 /// The version that a row is; `Unread` where it is none.
-fn version_of(row: &Row) -> Result<WorkVersion, RowFault>
+pub(crate) fn version_of(row: &Row) -> Result<WorkVersion, RowFault>
     ensures { IfOk result (λ version. version ≡ version_shown row.now) }
 {
     let row = VersionRow::from_row(row)?;
