@@ -1,8 +1,10 @@
 pub mod Adds
+pub mod Alike
 pub mod Answers
 pub mod AskedRows
 pub mod BalanceTable
 pub mod Booleans
+pub mod Called
 pub mod Casts
 pub mod Columns
 pub mod Creates
@@ -18,6 +20,7 @@ pub mod ListWrites
 pub mod Listings
 pub mod NewBooks
 pub mod OfficeTable
+pub mod OneChecks
 pub mod Parts
 pub mod PoolCutTable
 pub mod PoolReturnTable

@@ -1,6 +1,7 @@
 pub mod Balances
 pub mod Effects
 pub mod Faults
+pub mod Finding
 pub mod Folds
 pub mod Forms
 pub mod KeyLaws

@@ -9,6 +9,7 @@
 mod balances;
 mod credits;
 mod fault;
+mod finding;
 mod folding;
 mod fronts;
 mod keys;
@@ -21,6 +22,7 @@ mod questions;
 mod reading;
 mod recordings;
 mod returns;
+mod shapes;
 mod statement;
 mod tables;
 mod transmissions;
@@ -32,6 +34,7 @@ pub use balances::{
 };
 pub use credits::{CreditRow, add_credit, add_credits, all_credits, credits_of};
 pub use fault::RowFault;
+pub use finding::{Found, layout_found};
 pub use folding::{RowFold, fold_above, fold_run, fold_table};
 pub use fronts::{FrontRow, all_fronts, front_at, put_front, put_fronts};
 pub use keys::keys_are_values;

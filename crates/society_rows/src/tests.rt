@@ -9,6 +9,7 @@ use std::test::Fail;
 
 mod asked;
 mod in_file;
+mod layouts;
 mod listed;
 
 const SENDER: &[u8] = b"PB000000012";

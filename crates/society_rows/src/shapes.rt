@@ -1,0 +1,270 @@
+//! Whether what a schema has is what layout 2 has.
+ghost use Rattle.std.specs.Prelude.{◌≡◌, ◌≢◌, ◌↔◌, ℕ, List, [], ◌∷◌, map, pos, if◌then◌else◌, slice_index_or, true, IsTrue, MatchOption};
+ghost use Rattle.std.specs.Borrow.{Bor};
+ghost use Rattle.sqlite_value.specs.Keys.{plain};
+ghost use Rattle.sqlite_value.specs.declared.value.Value.TheVariants.{Null, Int};
+ghost use Rattle.sqlite_schema.specs.declared.schema.Kind.{Kind};
+ghost use Rattle.sqlite_schema.specs.Code.{term_in};
+ghost use Rattle.society_rows.specs.Layout.{column_of, refers, keyed_table, numbered_table};
+ghost use Rattle.society_rows.specs.Finding.{is_one, is_same};
+ghost use Rattle.society_rows.specs.declared.shapes.Parent.{Parent};
+
+use sqlite_items::Items;
+use sqlite_schema::code::{Op, Terms};
+use sqlite_schema::schema::{Action, Column, Index, Kind, Reference, Stamps, Table};
+use sqlite_sql::ops::{BinaryOp, CompareOp};
+use sqlite_value::keys::{Collation, Order};
+use sqlite_value::value::{Bytes, Value};
+
+/// The columns that refer to those of a parent.
+#[derive(Clone, Copy, Debug)]
+pub(crate) struct Parent<'a> {
+    pub(crate) columns: &'a [usize],
+    pub(crate) parent: &'a str,
+    pub(crate) parent_columns: &'a [&'a str],
+}
+
+/// Whether a column has this name, holds this kind of value and no NULL, and has no default.
+fn is_column(column: &Column, name: &str, kind: Kind) -> bool
+    ensures { IsTrue result ↔ (column.now ≡ column_of kind name.now) }
+{
+    column.name.as_slice() == name.as_bytes()
+        && column.kind == kind
+        && column.is_strict
+        && column.not_null
+        && matches!(column.default, Value::Null)
+        && column.collation == Collation::Binary
+}
+
+/// Whether columns have these names and kinds, in their order.
+fn are_columns(columns: &[Column], forms: &[(&str, Kind)]) -> bool
+    ensures { IsTrue result ↔ (columns.now ≡ map (λ (f : Bor (List ℕ) × Kind). column_of f.1 f.0.now) forms.now) }
+{
+    if columns.len() != forms.len() {
+        return false;
+    }
+    for at in 0..forms.len() {
+        if !is_column(&columns[at], forms[at].0, forms[at].1) {
+            return false;
+        }
+    }
+    true
+}
+
+/// Whether a name is this one.
+fn is_name(name: &Bytes, form: &str) -> bool
+    ensures { IsTrue result ↔ (name.now ≡ form.now) }
+{
+    name.as_slice() == form.as_bytes()
+}
+
+/// Whether names are these, in their order.
+fn are_names(names: &[Bytes], forms: &[&str]) -> bool
+    ensures { IsTrue result ↔ (names.now ≡ map (λ (f : Bor (List ℕ)). f.now) forms.now) }
+{
+    if names.len() != forms.len() {
+        return false;
+    }
+    for at in 0..forms.len() {
+        if !is_name(&names[at], forms[at]) {
+            return false;
+        }
+    }
+    true
+}
+
+/// Whether a reference is from these columns to those of this parent, and does nothing where the parent changes.
+fn is_reference(reference: &Reference, form: &Parent<'_>) -> bool
+    ensures { IsTrue result ↔ (reference.now ≡ refers form.now.columns.now form.now.parent.now (map (λ (f : Bor (List ℕ)). f.now) form.now.parent_columns.now)) }
+{
+    reference.columns.as_slice() == form.columns
+        && reference.parent.as_slice() == form.parent.as_bytes()
+        && are_names(reference.parent_columns.as_slice(), form.parent_columns)
+        && reference.on_delete == Action::NoAction
+        && reference.on_update == Action::NoAction
+        && !reference.is_deferred
+}
+
+/// Whether references are these, in their order.
+fn are_references(references: &[Reference], forms: &[Parent<'_>]) -> bool
+    ensures { IsTrue result ↔ (references.now ≡ map (λ (p : Parent). refers p.columns.now p.parent.now (map (λ (f : Bor (List ℕ)). f.now) p.parent_columns.now)) forms.now) }
+{
+    if references.len() != forms.len() {
+        return false;
+    }
+    for at in 0..forms.len() {
+        if !is_reference(&references[at], &forms[at]) {
+            return false;
+        }
+    }
+    true
+}
+
+/// Whether places are these, in their order.
+fn are_places(places: &Items<usize>, forms: &[usize]) -> bool
+    ensures { IsTrue result ↔ (places.now ≡ forms.now) }
+{
+    places.as_slice() == forms
+}
+
+/// Whether there is this one key.
+fn is_only_key(keys: &[Items<usize>], key: &[usize]) -> bool
+    ensures { IsTrue result ↔ (keys.now ≡ key.now ∷ []) }
+{
+    match keys {
+        [only] => are_places(only, key),
+        _ => false,
+    }
+}
+
+/// Whether there is one order, that of the bytes.
+fn is_only_plain(orders: &[Order]) -> bool
+    ensures { IsTrue result ↔ (orders.now ≡ plain ∷ []) }
+{
+    match orders {
+        [only] => *only == Order::PLAIN,
+        _ => false,
+    }
+}
+
+/// Whether there is no expression.
+fn is_no_term(terms: &Terms) -> bool
+    ensures { IsTrue result ↔ (terms.now ≡ []) }
+{
+    terms.roots.is_empty()
+}
+
+/// Whether no default reads the time.
+fn is_unstamped(stamps: &Stamps) -> bool
+    ensures { IsTrue result ↔ (stamps.now ≡ record { places = []; terms = []; formats = [] }) }
+{
+    stamps.places.is_empty() && is_no_term(&stamps.terms) && stamps.formats.is_empty()
+}
+
+/// The places of what the node at a place compares, if it asks whether two values are the same.
+fn compared(ops: &[Op], at: usize) -> Option<(usize, usize)>
+    ensures { MatchOption result ((a : ℕ) → (b : ℕ) → slice_index_or ops.now at (Op.Literal Null) ≢ Op.Binary is_same a b)
+        (λ p. slice_index_or ops.now at (Op.Literal Null) ≡ Op.Binary is_same p.0 p.1) }
+{
+    match ops.get(at) {
+        Some(Op::Binary(op, first, second)) => {
+            if *op == BinaryOp::Compare(CompareOp::Eq, Collation::Binary) {
+                Some((*first, *second))
+            } else {
+                None
+            }
+        }
+        _ => None,
+    }
+}
+
+/// Whether the node at a place is the first column of a row.
+fn is_first(ops: &[Op], at: usize) -> bool
+    ensures { IsTrue result ↔ (slice_index_or ops.now at (Op.Literal Null) ≡ Op.Column 1 0) }
+{
+    match ops.get(at) {
+        Some(Op::Column(slot, place)) => *slot == 1 && *place == 0,
+        _ => false,
+    }
+}
+
+/// Whether the node at a place is the number 1.
+fn is_number(ops: &[Op], at: usize) -> bool
+    ensures { IsTrue result ↔ (slice_index_or ops.now at (Op.Literal Null) ≡ Op.Literal (Int (pos 1))) }
+{
+    match ops.get(at) {
+        Some(Op::Literal(Value::Int(n))) => *n == 1,
+        _ => false,
+    }
+}
+
+/// Whether the expression at a root says that the first column is 1.
+fn says_one(ops: &[Op], root: usize) -> bool
+    ensures { IsTrue result ↔ (term_in ops.now root ≡ is_one) }
+{
+    // An expression of three nodes is read two deep.
+    if ops.len() < 2 {
+        return false;
+    }
+    match compared(ops, root) {
+        Some((first, second)) => is_first(ops, first) && is_number(ops, second),
+        None => false,
+    }
+}
+
+/// Whether the one expression says that the first column is 1.
+fn is_only_one(terms: &Terms) -> bool
+    ensures { IsTrue result ↔ (terms.now ≡ is_one ∷ []) }
+{
+    match terms.roots.as_slice() {
+        [root] => says_one(terms.nodes.as_slice(), *root),
+        _ => false,
+    }
+}
+
+/// Whether a table is under a key of its own columns, by their places from 1, and has these columns and references.
+pub(crate) fn is_keyed(
+    table: &Table,
+    name: &str,
+    tree: u32,
+    columns: &[(&str, Kind)],
+    key: &[usize],
+    parents: &[Parent<'_>],
+) -> bool
+    ensures { IsTrue result ↔ (table.now ≡ keyed_table name.now tree (map (λ (f : Bor (List ℕ) × Kind). column_of f.1 f.0.now) columns.now) key.now
+        (map (λ (p : Parent). refers p.columns.now p.parent.now (map (λ (f : Bor (List ℕ)). f.now) p.parent_columns.now)) parents.now)) }
+{
+    table.name.as_slice() == name.as_bytes()
+        && table.tree == tree
+        && are_columns(table.columns.as_slice(), columns)
+        && table.key.is_none()
+        && table.primary.as_slice() == key
+        && is_only_key(table.uniques.as_slice(), key)
+        && is_only_plain(table.orders.as_slice())
+        && is_no_term(&table.checks)
+        && are_references(table.references.as_slice(), parents)
+        && table.computed.is_empty()
+        && is_unstamped(&table.stamps)
+        && !table.is_counted
+}
+
+/// Whether a table's first column is its rowid, and it has these columns and this many checks, which say that the first is 1.
+pub(crate) fn is_numbered(
+    table: &Table,
+    name: &str,
+    tree: u32,
+    columns: &[(&str, Kind)],
+    one: bool,
+) -> bool
+    ensures { IsTrue result ↔ (table.now ≡ numbered_table name.now tree (map (λ (f : Bor (List ℕ) × Kind). column_of f.1 f.0.now) columns.now) (if one then is_one ∷ [] else [])) }
+{
+    let checked = if one {
+        is_only_one(&table.checks)
+    } else {
+        is_no_term(&table.checks)
+    };
+    checked
+        && table.name.as_slice() == name.as_bytes()
+        && table.tree == tree
+        && are_columns(table.columns.as_slice(), columns)
+        && table.key == Some(0)
+        && table.primary.as_slice() == [0].as_slice()
+        && table.uniques.is_empty()
+        && table.orders.is_empty()
+        && table.references.is_empty()
+        && table.computed.is_empty()
+        && is_unstamped(&table.stamps)
+        && !table.is_counted
+}
+
+/// Whether an index is the one that SQLite makes for the key of a table, under this name and over these places.
+pub(crate) fn is_guard(index: &Index, name: &str, tree: u32, table: u32, key: &[usize]) -> bool
+    ensures { IsTrue result ↔ (index.now ≡ record { name = name.now; tree = tree; table = table; columns = key.now; order = plain; is_unique = true }) }
+{
+    index.name.as_slice() == name.as_bytes()
+        && index.tree == tree
+        && index.table == table
+        && index.columns.as_slice() == key
+        && index.order == Order::PLAIN
+        && index.is_unique
+}
