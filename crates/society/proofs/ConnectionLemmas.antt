@@ -30,7 +30,7 @@ run_append o b (q ∷ qs) (r ∷ rs) c ps ss d first run = (first.0, first.1, ru
 run_append o b [] (r ∷ rs) c ps ss d first run = absurd first
 run_append o b (q ∷ qs) [] c ps ss d first run = absurd first
 
-nothing_answered : (state : State) → AreAnswered [] [] state state
+pub nothing_answered : (state : State) → AreAnswered [] [] state state
 nothing_answered state = record {
   each = refl;
   office = refl;
@@ -74,7 +74,7 @@ appends_on (Some zs) None c xs ys first then = absurd first
 appends_on (Some zs) (Some ws) None xs ys first then = absurd then
 appends_on (Some zs) (Some ws) (Some vs) xs ys first then = then ∙ ap (λ (l : List ℕ). l ++ ys) first ∙ append_assoc zs xs ys
 
-appends_nothing : (a : Option (List ℕ)) → Appends a a []
+pub appends_nothing : (a : Option (List ℕ)) → Appends a a []
 appends_nothing None = tt
 appends_nothing (Some zs) = sym (append-nil zs)
 

@@ -2,5 +2,6 @@ pub mod ConnectionLemmas
 pub mod OptionLemmas
 pub mod RefusalLemmas
 pub mod ReplayLemmas
+pub mod TableLemmas
 pub mod WordLemmas
 pub mod Worked

@@ -1,8 +1,10 @@
-//! The rows of money on the desk: returns, pools at a cut, credits and balances.
+//! The rows of money on the desk over tables in memory: returns, pools at a cut, credits and balances.
 use crate::samples::{F1, F3, changed, f2};
 use pool_split::Credit;
 use share_rules::Office;
-use society_core::{Desk, OrderError, PlainStore, PoolOrder, Receipt, Refusal, ReturnKey};
+use society_core::{Desk, OrderError, PoolOrder, Receipt, Refusal, ReturnKey};
+use society_tables::Tables;
+use sqlite::MemStore;
 use std::alloc::Global;
 use std::process::Abort;
 use std::test::Fail;
@@ -16,9 +18,10 @@ const FIRST: &[u8] = b"PB000000012";
 
 const SECOND: &[u8] = b"PB000000034";
 
-fn new_desk(alloc: Global) -> Result<Desk<PlainStore>, Fail> {
+fn new_desk(alloc: Global) -> Result<Desk<Tables<MemStore>>, Fail> {
     let office = Office::new(900, 40, b"EXAMPLE SOCIETY").ok_or("an office")?;
-    Ok(Desk::new(PlainStore::new(alloc, &office)))
+    let tables = Tables::in_memory(alloc, &office).ok().ok_or("memory")?;
+    Ok(Desk::new(tables))
 }
 
 fn sender(bytes: &[u8]) -> Result<SenderKey, &'static str> {
@@ -38,7 +41,7 @@ fn pool(number: u32) -> Result<PoolNumber, &'static str> {
 /// Puts a transmission that is taken.
 fn put(
     alloc: Global,
-    desk: &mut Desk<PlainStore>,
+    desk: &mut Desk<Tables<MemStore>>,
     from: &[u8],
     number: u32,
     body: &[u8],
@@ -72,7 +75,7 @@ fn order(alloc: Global, amount: u64, cut: u64, returns: &[u64]) -> Result<PoolOr
 fn check_credits(
     rt: &impl Abort,
     alloc: Global,
-    desk: &mut Desk<PlainStore>,
+    desk: &mut Desk<Tables<MemStore>>,
     number: u32,
     wanted: &[(&[u8], &[u8], u64)],
 ) -> Result<(), Fail> {
@@ -101,7 +104,7 @@ fn check_credits(
 fn check_balances(
     rt: &impl Abort,
     alloc: Global,
-    desk: &mut Desk<PlainStore>,
+    desk: &mut Desk<Tables<MemStore>>,
     wanted: &[(&[u8], u64)],
 ) -> Result<(), Fail> {
     for (account, units) in wanted {
@@ -112,7 +115,7 @@ fn check_balances(
 }
 
 /// F1, F3 under 1, 2, a return, F3 under 3, and a pool of 1,001 units at cut 3.
-fn closed_at_a_cut(rt: &impl Abort, alloc: Global) -> Result<Desk<PlainStore>, Fail> {
+fn closed_at_a_cut(rt: &impl Abort, alloc: Global) -> Result<Desk<Tables<MemStore>>, Fail> {
     let mut desk = new_desk(alloc)?;
     put(alloc, &mut desk, FIRST, 1, F1)?;
     put(alloc, &mut desk, FIRST, 2, F3)?;

@@ -150,7 +150,10 @@ fn put_return(
     let Ok(Known::Absent) = known else {
         return Err(Fail::new("a free key"));
     };
-    tables.add_return(key, body).ok().ok_or("an addition")?;
+    tables
+        .add_return(alloc, key, body)
+        .ok()
+        .ok_or("an addition")?;
     Ok(())
 }
 

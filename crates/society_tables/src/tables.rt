@@ -82,11 +82,7 @@ impl<S: Alter> Store for Tables<S> {
         told(&mut self.failures, answer)
     }
 
-    fn standing(
-        &mut self,
-        alloc: Global,
-        sender: &SenderKey,
-    ) -> Result<SenderStatus, StoreFault> {
+    fn standing(&mut self, alloc: Global, sender: &SenderKey) -> Result<SenderStatus, StoreFault> {
         if self.failures == u64::MAX {
             return Err(StoreFault::Refused);
         }
@@ -184,7 +180,12 @@ impl<S: Alter> Store for Tables<S> {
         told(&mut self.failures, answer)
     }
 
-    fn add_return(&mut self, _alloc: Global, key: &ReturnKey, body: &[u8]) -> Result<(), StoreFault> {
+    fn add_return(
+        &mut self,
+        _alloc: Global,
+        key: &ReturnKey,
+        body: &[u8],
+    ) -> Result<(), StoreFault> {
         if self.failures == u64::MAX {
             return Err(StoreFault::Refused);
         }

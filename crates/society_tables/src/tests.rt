@@ -1,7 +1,7 @@
 //! The store over tables in memory, asked before anything has come.
 use crate::Tables;
 use share_rules::Office;
-use society_core::{Known, KnownTransmission, Payment, PoolOrder, ReturnKey};
+use society_core::{Known, KnownTransmission, Payment, PoolOrder, ReturnKey, Store};
 use sqlite::MemStore;
 use std::alloc::Global;
 use std::test::Fail;

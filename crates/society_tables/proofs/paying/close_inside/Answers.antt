@@ -22,9 +22,9 @@ returns-clause-does g c =
     does_then_open old mid new c.in_ok-credits.credits c.write_pool.result _ _ _ c.in_ok-credits.ensures.looks (rw (c.value.ensures.value, c.deref.ensures.value) at c.write_pool.ensures.does)
     (λ y pays closes. (
       (λ b holds free unrefused.
-      let entry = entry_of_close b pool order (from_one 99999 pool c.value.ensures.limits.0 c.value.ensures.limits.1) unrefused in
-      let same = pays.1 b holds (cut_reached b pool order entry) in
-      pool_holds o b pool order free entry old.now new.now holds c.in_ok-credits.ensures.kept (no_payer b order unrefused)
-      (subst (λ (db : Database). ClosesWith pool order (credits_of o b order) db new.now) pays.0 (subst (λ (cs : List Credit). ClosesWith pool order cs mid.now new.now) same closes))),
+          let entry = entry_of_close b pool order (from_one 99999 pool c.value.ensures.limits.0 c.value.ensures.limits.1) unrefused in
+          let same = pays.1 b holds (cut_reached b pool order entry) in
+          pool_holds o b pool order free entry old.now new.now holds c.in_ok-credits.ensures.kept (no_payer b order unrefused)
+          (subst (λ (db : Database). ClosesWith pool order (credits_of o b order) db new.now) pays.0 (subst (λ (cs : List Credit). ClosesWith pool order cs mid.now new.now) same closes))),
       tt,
     ))
