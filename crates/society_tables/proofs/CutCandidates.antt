@@ -1,5 +1,5 @@
 -- Candidates of the works that are chosen stand for the versions at a cut.
-use Rattle.std.proofs.Common.{◌≡◌, ◌∙◌, ◌≤◌, ◌+◌, ◌++◌, ℕ, suc, Bool, true, false, cond, List, [], ◌∷◌, Option, Some, None, Result, Ok, Err, length, refl, ap, ap₂, append_assoc, ◌==◌, sym, subst, arith, map, slice_get}
+use Rattle.std.proofs.Common.{◌≡◌, ◌∙◌, ◌≤◌, ◌+◌, ◌++◌, ℕ, suc, Bool, true, false, cond, List, [], ◌∷◌, Option, Some, None, Result, Ok, Err, length, refl, ap, ap₂, append_assoc, ◌==◌, sym, subst, arith, map, slice_get, IfOk, OnOk}
 use Rattle.std.proofs.lemmas.Bool.{false≢true}
 use Rattle.std.proofs.lemmas.List.{append-nil}
 use Rattle.std.proofs.lemmas.List.Elements.{filter-append}
@@ -17,6 +17,9 @@ use Rattle.society_core.specs.Owners.{CutWork, cut_work, is_at, is_version_at, n
 use Rattle.society_core.specs.Pools.{holders_of}
 use Rattle.society_core.specs.declared.claim_list.Candidate.{Candidate}
 use Rattle.society_core.specs.declared.transmission_key.TransmissionKey.{TransmissionKey}
+use Rattle.society_rows.specs.declared.fault.RowFault.{RowFault}
+use Rattle.society_tables.specs.Shown.{ShowBody}
+use Rattle.sqlite_value.specs.Order.{Row}
 use Rattle.society_tables.specs.CutWorks.{ChoosesNaming, chosen_at, is_chosen, works_chosen}
 use Rattle.society_tables.specs.declared.chosen.Chosen.{Chosen}
 use Rattle.work_ids.specs.declared.fault.IdFault.{IdFault}
@@ -118,3 +121,8 @@ module _ (office : Office) (book : Book) (key : TransmissionKey) (of_these : Lis
   absent_adds number old within absent =
       chosen_adds number old old within
       (subst (λ (ws : List CutWork). Adds office of_these ws old old) (sym (none_chosen chosen key.sender number (transactions_sent book key.sender number) right.transmissions absent)) (adds_none office of_these old))
+
+-- what follows of whatever rows show follows of an answer as a whole
+pub shown_all : (r : Result (Unit {0}) RowFault) (rows : List Row) (P : Option (List ℕ) → Type 0) → ((kept : Option (List ℕ)) → ShowBody kept rows → OnOk r (P kept)) → IfOk r (λ _. (kept : Option (List ℕ)) → ShowBody kept rows → P kept)
+shown_all (Err fault) rows P h = tt
+shown_all (Ok x) rows P h = h

@@ -44,4 +44,3 @@ pub mod CutNames
 pub mod CutCandidates
 pub mod CutNotes
 pub mod CutChoices
-pub mod CutShown

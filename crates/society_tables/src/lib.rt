@@ -23,4 +23,6 @@ pub use tables::Tables;
 #[cfg(test)]
 mod arrival_tests;
 #[cfg(test)]
+mod cut_tests;
+#[cfg(test)]
 mod tests;

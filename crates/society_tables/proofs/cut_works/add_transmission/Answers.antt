@@ -7,8 +7,7 @@ use Rattle.society_core.specs.Keys.{transmission_key}
 use Rattle.society_core.specs.Points.{is_tallied}
 use Rattle.society_tables.specs.CutWorks.{works_chosen}
 use Rattle.society_tables.specs.Shown.{ShowBody}
-use Rattle.society_tables.proofs.CutCandidates.{absent_adds, chosen_adds}
-use Rattle.society_tables.proofs.CutShown.{shown_all}
+use Rattle.society_tables.proofs.CutCandidates.{absent_adds, chosen_adds, shown_all}
 use Rattle.society_tables.proofs.KeyRows.{transmission_shows}
 use Rattle.society_tables.proofs.StepLemmas.{looks_as, looks_of, more, nothing}
 use Rattle.society_tables.proofs.cut_works.add_transmission.Goals as goal
