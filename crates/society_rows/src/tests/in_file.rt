@@ -83,12 +83,16 @@ fn read_all<S: Alter>(conn: &mut Connection<S>, alloc: Global) -> Result<String,
     Ok(text)
 }
 
+fn fill<S: Alter>(conn: &mut Connection<S>) -> Result<(), RowFault> {
+    begin(conn)?;
+    write_all(conn)
+}
+
 fn written(alloc: Global) -> Result<Memory, RowFault>
     ensures { IfOk result (λ db. IsTrue (memory_is_usable db)) }
 {
     let mut conn = open(alloc, Memory::new(alloc))?;
-    begin(&mut conn)?;
-    write_all(&mut conn)?;
+    fill(&mut conn)?;
     close(conn)
 }
 
