@@ -1,5 +1,5 @@
 -- The transmissions of a sender, one number after another.
-use Rattle.std.proofs.Common.{IsTrue, ◌≡◌, ◌∙◌, ℕ, suc, pos, ◌+◌, ◌^◌, ◌<◌, ◌≤◌, length, List, [], ◌∷◌, ◌++◌, get_or, Vec, Result, Ok, Err, IfErr, IsErrAnd, sym, ap, subst, refl, inl, inr, arith}
+use Rattle.std.proofs.Common.{IsTrue, ◌≡◌, ◌∙◌, ℕ, suc, pos, ◌+◌, ◌^◌, ◌<◌, ◌≤◌, length, List, [], ◌∷◌, ◌++◌, Vec, Result, Ok, Err, IfErr, IsErrAnd, sym, ap, subst, refl, inl, inr, arith}
 use Rattle.std.specs.declared.alloc.Global.{Global}
 use Rattle.std.proofs.lemmas.Bool.{cases_lt}
 use Rattle.std.proofs.lemmas.List.{length-append}
@@ -169,13 +169,8 @@ run_fills g step refusal sender old new first number begun now all run =
     let gone = run.gone in
     record { why = inr (inr (refl, λ clean has. inr (record { rows = gone.rows; each = gone.these.1 clean has; full = gone.these.0 ∙ all }))) }
 
--- no row, and one
+-- no row
 
 pub none_there : (rows : List Row) → length rows < 1 → rows ≡ []
 none_there [] short = refl
 none_there (r ∷ rows) short = absurd (omega arith)
-
-pub one_there : (rows : List Row) (r : Row) → 1 ≤ length rows → length rows < 2 → r ≡ get_or rows 0 r → rows ≡ r ∷ []
-one_there [] r long short is = absurd (omega arith)
-one_there (x ∷ []) r long short is = ap (λ z. z ∷ []) (sym is)
-one_there (x ∷ y ∷ rows) r long short is = absurd (omega arith)

@@ -6,22 +6,19 @@ ghost use Rattle.society_rows.specs.declared.fault.RowFault.TheVariants.{Memory}
 use sqlite::{Error, ErrorCode};
 use std::alloc::{AllocError, AllocFailed};
 
-/// Why a statement gave no rows or wrote none.
+/// Why a statement gave no rows or wrote none: memory ran out; the statement doesn't fit the schema; a value has
+/// another form than its column's (`Unread`); a sum of units doesn't fit 64 bits; or SQLite refused the statement, or
+/// the store failed, as it said (`Refused`).
 #[derive(Clone, Copy, Debug, PartialEq, Eq, Drop, thiserror::Error)]
 pub enum RowFault {
-    /// Memory ran out.
     #[error("out of memory")]
     Memory,
-    /// The statement does not fit the schema.
     #[error("the statement does not fit the schema")]
     Schema,
-    /// A value has another form than its column's.
     #[error("a value of another form")]
     Unread,
-    /// A sum of units doesn't fit 64 bits.
     #[error("more units than 64 bits hold")]
     Overflow,
-    /// SQLite refused the statement, or the store failed: as it said.
     #[error("the database refused")]
     Refused(Error),
 }

@@ -71,7 +71,8 @@ fn told(alloc: Global, rows: Vec<Row>) -> Result<String, AllocError> {
     Ok(text)
 }
 
-// These have no clause, so that the proof of a test does not carry the state of each call.
+// These have no clause, so that the proof of a test does not carry the state of each call, and are over any store:
+// over a store by its name each of them takes a minute to prove, and so a second.
 
 fn write_book<S: Alter>(tx: &mut Transaction<'_, S>) -> Result<(), RowFault> {
     let two = TransmissionRow {
@@ -393,21 +394,21 @@ fn rows_are_read_typed(rt: HostRuntime) -> Result<(), Fail> {
     Ok(())
 }
 
-fn more(tx: &mut Transaction<'_, MemStore>, account: &[u8], units: i64) -> Result<(), RowFault> {
+fn more<S: Alter>(tx: &mut Transaction<'_, S>, account: &[u8], units: i64) -> Result<(), RowFault> {
     add_units(tx, account, units)
 }
 
-fn sums(tx: &mut Transaction<'_, MemStore>) -> Result<(), RowFault> {
+fn sums<S: Alter>(tx: &mut Transaction<'_, S>) -> Result<(), RowFault> {
     more(tx, b"UNCLAIMED", 5)?;
     more(tx, b"UNCLAIMED", -2)?;
     more(tx, b"I00000000199", i64::MAX)
 }
 
-fn one_more(tx: &mut Transaction<'_, MemStore>) -> Result<(), RowFault> {
+fn one_more<S: Alter>(tx: &mut Transaction<'_, S>) -> Result<(), RowFault> {
     more(tx, b"I00000000199", 1)
 }
 
-fn read_balances(tx: &mut Transaction<'_, MemStore>, alloc: Global) -> Result<String, RowFault> {
+fn read_balances<S: Alter>(tx: &mut Transaction<'_, S>, alloc: Global) -> Result<String, RowFault> {
     Ok(told(alloc, all_balances(tx)?)?)
 }
 

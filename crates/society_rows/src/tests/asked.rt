@@ -30,7 +30,7 @@ fn committed(alloc: Global) -> Result<Connection<MemStore>, RowFault> {
     Ok(conn)
 }
 
-fn commit_book(conn: &mut Connection<MemStore>) -> Result<(), RowFault> {
+fn commit_book<S: Alter>(conn: &mut Connection<S>) -> Result<(), RowFault> {
     if !conn.is_autocommit() {
         return Err(RowFault::Unread);
     }
@@ -42,19 +42,19 @@ fn commit_book(conn: &mut Connection<MemStore>) -> Result<(), RowFault> {
     Ok(())
 }
 
-fn count_of(conn: &mut Connection<MemStore>, table: TableName) -> Result<u64, RowFault> {
+fn count_of<S: Alter>(conn: &mut Connection<S>, table: TableName) -> Result<u64, RowFault> {
     let mut count = Count { rows: 0 };
     fold_table(conn, table, &mut count)?;
     Ok(count.rows)
 }
 
-fn count_above(conn: &mut Connection<MemStore>, number: u32) -> Result<u64, RowFault> {
+fn count_above<S: Alter>(conn: &mut Connection<S>, number: u32) -> Result<u64, RowFault> {
     let mut count = Count { rows: 0 };
     fold_above(conn, SENDER, number, &mut count)?;
     Ok(count.rows)
 }
 
-fn run_from(conn: &mut Connection<MemStore>, first: u32) -> Result<u64, RowFault> {
+fn run_from<S: Alter>(conn: &mut Connection<S>, first: u32) -> Result<u64, RowFault> {
     if !conn.is_autocommit() {
         return Err(RowFault::Unread);
     }
@@ -64,8 +64,8 @@ fn run_from(conn: &mut Connection<MemStore>, first: u32) -> Result<u64, RowFault
     Ok(count.rows)
 }
 
-fn told_of(
-    conn: &mut Connection<MemStore>,
+fn told_of<S: Alter>(
+    conn: &mut Connection<S>,
     alloc: Global,
     question: Question<'_>,
 ) -> Result<String, RowFault> {

@@ -31,19 +31,19 @@ fn close(conn: Filed) -> Result<Memory, RowFault>
     }
 }
 
-fn write_orders(tx: &mut Transaction<'_, FileStore<Memory>>) -> Result<(), RowFault> {
+fn write_orders<S: Alter>(tx: &mut Transaction<'_, S>) -> Result<(), RowFault> {
     write_book(tx)?;
     write_pools(tx)?;
     write_balances(tx)
 }
 
-fn write_derived(tx: &mut Transaction<'_, FileStore<Memory>>) -> Result<(), RowFault> {
+fn write_derived<S: Alter>(tx: &mut Transaction<'_, S>) -> Result<(), RowFault> {
     write_works(tx)?;
     write_verdicts(tx)?;
     write_fronts(tx)
 }
 
-fn write_all(conn: &mut Filed) -> Result<(), RowFault> {
+fn write_all<S: Alter>(conn: &mut Connection<S>) -> Result<(), RowFault> {
     if !conn.is_autocommit() {
         return Err(RowFault::Unread);
     }
@@ -54,27 +54,18 @@ fn write_all(conn: &mut Filed) -> Result<(), RowFault> {
     Ok(())
 }
 
-fn read_office(
-    tx: &mut Transaction<'_, FileStore<Memory>>,
-    alloc: Global,
-) -> Result<String, RowFault> {
+fn read_office<S: Alter>(tx: &mut Transaction<'_, S>, alloc: Global) -> Result<String, RowFault> {
     Ok(told(alloc, all_offices(tx)?)?)
 }
 
-fn read_orders(
-    tx: &mut Transaction<'_, FileStore<Memory>>,
-    alloc: Global,
-) -> Result<String, RowFault> {
+fn read_orders<S: Alter>(tx: &mut Transaction<'_, S>, alloc: Global) -> Result<String, RowFault> {
     let mut text = read_office(tx, alloc)?;
     text.push_str(read_book(tx, alloc)?.as_str())?;
     text.push_str(read_pools(tx, alloc)?.as_str())?;
     Ok(text)
 }
 
-fn read_derived(
-    tx: &mut Transaction<'_, FileStore<Memory>>,
-    alloc: Global,
-) -> Result<String, RowFault> {
+fn read_derived<S: Alter>(tx: &mut Transaction<'_, S>, alloc: Global) -> Result<String, RowFault> {
     let mut text = read_works(tx, alloc)?;
     text.push_str(read_verdicts(tx, alloc)?.as_str())?;
     text.push_str(read_fronts(tx, alloc)?.as_str())?;
@@ -82,7 +73,7 @@ fn read_derived(
 }
 
 /// Every table, as it is told.
-fn read_all(conn: &mut Filed, alloc: Global) -> Result<String, RowFault> {
+fn read_all<S: Alter>(conn: &mut Connection<S>, alloc: Global) -> Result<String, RowFault> {
     if !conn.is_autocommit() {
         return Err(RowFault::Unread);
     }
@@ -92,12 +83,16 @@ fn read_all(conn: &mut Filed, alloc: Global) -> Result<String, RowFault> {
     Ok(text)
 }
 
+fn fill<S: Alter>(conn: &mut Connection<S>) -> Result<(), RowFault> {
+    begin(conn)?;
+    write_all(conn)
+}
+
 fn written(alloc: Global) -> Result<Memory, RowFault>
     ensures { IfOk result (λ db. IsTrue (memory_is_usable db)) }
 {
     let mut conn = open(alloc, Memory::new(alloc))?;
-    begin(&mut conn)?;
-    write_all(&mut conn)?;
+    fill(&mut conn)?;
     close(conn)
 }
 

@@ -2,18 +2,18 @@
 
 use super::*;
 
-fn run_text(conn: &mut Connection<MemStore>, sql: &str) -> Result<(), RowFault> {
+fn run_text<S: Alter>(conn: &mut Connection<S>, sql: &str) -> Result<(), RowFault> {
     conn.execute(sql, &[])?;
     Ok(())
 }
 
-fn with_balances(conn: &mut Connection<MemStore>, sql: &str) -> Result<Found, RowFault> {
+fn with_balances<S: Alter>(conn: &mut Connection<S>, sql: &str) -> Result<Found, RowFault> {
     run_text(conn, "DROP TABLE balances")?;
     run_text(conn, sql)?;
     Ok(layout_found(conn))
 }
 
-fn with_more(conn: &mut Connection<MemStore>) -> Result<Found, RowFault> {
+fn with_more<S: Alter>(conn: &mut Connection<S>) -> Result<Found, RowFault> {
     run_text(conn, "CREATE TABLE more (number INTEGER NOT NULL) STRICT")?;
     Ok(layout_found(conn))
 }

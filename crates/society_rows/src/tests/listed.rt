@@ -43,39 +43,39 @@ fn credit(line: u32) -> CreditRow<'static> {
     }
 }
 
-fn write_three_verdicts(tx: &mut Transaction<'_, MemStore>) -> Result<(), RowFault> {
+fn write_three_verdicts<S: Alter>(tx: &mut Transaction<'_, S>) -> Result<(), RowFault> {
     add_verdicts(tx, &[verdict(2), verdict(0), verdict(1)])
 }
 
-fn write_three_versions(tx: &mut Transaction<'_, MemStore>) -> Result<(), RowFault> {
+fn write_three_versions<S: Alter>(tx: &mut Transaction<'_, S>) -> Result<(), RowFault> {
     add_versions(tx, &[version(2), version(0), version(1)])
 }
 
-fn write_three_recordings(tx: &mut Transaction<'_, MemStore>) -> Result<(), RowFault> {
+fn write_three_recordings<S: Alter>(tx: &mut Transaction<'_, S>) -> Result<(), RowFault> {
     add_recordings(tx, &[recording(2), recording(0), recording(1)])
 }
 
-fn write_three_credits(tx: &mut Transaction<'_, MemStore>) -> Result<(), RowFault> {
+fn write_three_credits<S: Alter>(tx: &mut Transaction<'_, S>) -> Result<(), RowFault> {
     add_credits(tx, &[credit(2), credit(0), credit(1)])
 }
 
-fn write_none(tx: &mut Transaction<'_, MemStore>) -> Result<(), RowFault> {
+fn write_none<S: Alter>(tx: &mut Transaction<'_, S>) -> Result<(), RowFault> {
     add_verdicts(tx, &[])
 }
 
-fn write_one_twice(tx: &mut Transaction<'_, MemStore>) -> Result<(), RowFault> {
+fn write_one_twice<S: Alter>(tx: &mut Transaction<'_, S>) -> Result<(), RowFault> {
     add_verdicts(tx, &[verdict(3), verdict(4), verdict(5), verdict(3)])
 }
 
-fn verdicts(tx: &mut Transaction<'_, MemStore>, alloc: Global) -> Result<String, RowFault> {
+fn verdicts<S: Alter>(tx: &mut Transaction<'_, S>, alloc: Global) -> Result<String, RowFault> {
     Ok(told(alloc, all_verdicts(tx)?)?)
 }
 
-fn works(tx: &mut Transaction<'_, MemStore>, alloc: Global) -> Result<String, RowFault> {
+fn works<S: Alter>(tx: &mut Transaction<'_, S>, alloc: Global) -> Result<String, RowFault> {
     read_works(tx, alloc)
 }
 
-fn credits(tx: &mut Transaction<'_, MemStore>, alloc: Global) -> Result<String, RowFault> {
+fn credits<S: Alter>(tx: &mut Transaction<'_, S>, alloc: Global) -> Result<String, RowFault> {
     Ok(told(alloc, credits_of(tx, 7)?)?)
 }
 

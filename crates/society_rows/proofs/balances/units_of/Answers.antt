@@ -3,7 +3,8 @@ use Rattle.std.proofs.lemmas.Int.{to_z-of_z}
 use Rattle.sqlite.specs.Held.{state}
 use Rattle.society_rows.specs.Balances.{HasUnits, HidesUnits}
 use Rattle.society_rows.proofs.Effects.{handed_on}
-use Rattle.society_rows.proofs.RunFolds.{none_there, one_there}
+use Rattle.society_rows.proofs.Alike.{only_one}
+use Rattle.society_rows.proofs.RunFolds.{none_there}
 use Rattle.society_rows.proofs.UnitLemmas.{no_units, one_balance, reads_inside, two_rows, unread_row}
 use Rattle.society_rows.proofs.balances.units_of.Goals as goal
 
@@ -18,7 +19,7 @@ returns-in-len1-clause-read g c =
     rw (to_z-of_z w64 units c.in_ok-from_row-in-len1.ensures.range)
     (reads_inside (state g.S.Store c.args.tx.now.conn.now) (state g.S.Store c.balance_at.new.tx.conn.now) c.in_ok-rows.rows (Ok units) _ (HasUnits c.args.account.now) c.in_ok-rows.ensures.read
     (λ db. one_balance c.args.account.now c.in_ok-from_row-in-len1.field-0.account.now units db c.in_ok-rows.rows.items c.row-item.result
-    (sym c.as_slice.ensures.value ∙ one_there _ c.row-item.result c.in-len1.len_at_least c.in-len1.len_below c.row-item.is) c.in_ok-from_row-in-len1.ensures.value))
+    (sym c.as_slice.ensures.value ∙ only_one _ c.row-item.result c.in-len1.len_at_least c.in-len1.len_below c.row-item.is) c.in_ok-from_row-in-len1.ensures.value))
 
 pub returns-in_err-rows-clause-cause : goal.returns-in_err-rows-clause-cause
 returns-in_err-rows-clause-cause g c = λ clean has.
@@ -30,7 +31,7 @@ returns-in_err-from_row-in-len1-clause-cause g c = λ clean has.
     handed_on c.in_err-from_row-in-len1.field-0.0 c.from_residual-in_err-from_row-in-len1.result (HidesUnits c.args.account.now db) c.from_residual-in_err-from_row-in-len1.ensures.1
     (inr (
       c.in_err-from_row-in-len1.ensures.fault,
-      unread_row c.args.account.now db c.in_ok-rows.rows.items c.row-item.result (sym c.as_slice.ensures.value ∙ one_there _ c.row-item.result c.in-len1.len_at_least c.in-len1.len_below c.row-item.is)
+      unread_row c.args.account.now db c.in_ok-rows.rows.items c.row-item.result (sym c.as_slice.ensures.value ∙ only_one _ c.row-item.result c.in-len1.len_at_least c.in-len1.len_below c.row-item.is)
           (λ of. let is = c.in_err-from_row-in-len1.ensures.read of in absurd cc) (c.in_ok-rows.ensures.read.found clean has),
     ))
 

@@ -1,7 +1,8 @@
 use Rattle.std.proofs.Common.{◌∙◌, ◌+◌, length, refl, sym, ap, arith}
 use Rattle.society_rows.specs.declared.fault.RowFault.TheVariants.{Unread}
 use Rattle.society_rows.proofs.RowFolds.{err_as}
-use Rattle.society_rows.proofs.RunFolds.{none_there, one_there, runs_to_first, runs_on, run_doubled, run_ends, run_fills, run_overflows, run_refused, run_told}
+use Rattle.society_rows.proofs.Alike.{only_one}
+use Rattle.society_rows.proofs.RunFolds.{none_there, runs_to_first, runs_on, run_doubled, run_ends, run_fills, run_overflows, run_refused, run_told}
 use Rattle.society_rows.proofs.folding.fold_run.Goals as goal
 
 pub loop-number-init : goal.loop-number-init
@@ -17,7 +18,7 @@ loop-number-preserved g c = record {
   same_reference = c.transmission_at.ensures.same_reference ∙ c.loop-number.invariant.same_reference;
   taken = runs_on g.S.Store g.F.RowFold.step c.args.sender.now c.args.tx.now.conn.now c.loop-number.tx.conn.now c.transmission_at.new.tx.conn.now c.args.first c.loop-number.number c.args.into.now c.loop-number.into
       c.loop-number.auto.number c.loop-number.invariant.taken c.in_ok-rows.rows c.in_ok-rows.ensures.read c.row-item.result c.take.new.self
-      (sym c.as_slice.ensures.value ∙ one_there _ c.row-item.result c.in-len1.len_at_least c.in-len1.len_below c.row-item.is) c.in_ok-take-in-len1.ensures.taken;
+      (sym c.as_slice.ensures.value ∙ only_one _ c.row-item.result c.in-len1.len_at_least c.in-len1.len_below c.row-item.is) c.in_ok-take-in-len1.ensures.taken;
 }
 
 pub returns-clause-taken : goal.returns-clause-taken
@@ -29,7 +30,7 @@ pub returns-in_err-take-in-len1-clause-told : goal.returns-in_err-take-in-len1-c
 returns-in_err-take-in-len1-clause-told g c =
     run_refused g.S.Store g.F.RowFold.step c.args.sender.now c.args.tx.now.conn.now c.loop-number.tx.conn.now c.transmission_at.new.tx.conn.now c.args.first c.loop-number.number c.args.into.now c.loop-number.into
     c.loop-number.auto.number c.loop-number.invariant.taken c.in_ok-rows.rows c.in_ok-rows.ensures.read c.row-item.result g.F.RowFold.refusal c.from_residual-in_err-take-in-len1.result
-    (sym c.as_slice.ensures.value ∙ one_there _ c.row-item.result c.in-len1.len_at_least c.in-len1.len_below c.row-item.is)
+    (sym c.as_slice.ensures.value ∙ only_one _ c.row-item.result c.in-len1.len_at_least c.in-len1.len_below c.row-item.is)
     (err_as c.from_residual-in_err-take-in-len1.result c.in_err-take-in-len1.field-0.0 _ c.from_residual-in_err-take-in-len1.ensures.1 c.in_err-take-in-len1.ensures.told)
 
 pub returns-in_default-clause-told : goal.returns-in_default-clause-told
@@ -41,7 +42,7 @@ pub returns-in_ok-take-in-len1-clause-told : goal.returns-in_ok-take-in-len1-cla
 returns-in_ok-take-in-len1-clause-told g c =
     let on = runs_on g.S.Store g.F.RowFold.step c.args.sender.now c.args.tx.now.conn.now c.loop-number.tx.conn.now c.transmission_at.new.tx.conn.now c.args.first c.loop-number.number c.args.into.now c.loop-number.into
     c.loop-number.auto.number c.loop-number.invariant.taken c.in_ok-rows.rows c.in_ok-rows.ensures.read c.row-item.result c.take.new.self
-    (sym c.as_slice.ensures.value ∙ one_there _ c.row-item.result c.in-len1.len_at_least c.in-len1.len_below c.row-item.is) c.in_ok-take-in-len1.ensures.taken in
+    (sym c.as_slice.ensures.value ∙ only_one _ c.row-item.result c.in-len1.len_at_least c.in-len1.len_below c.row-item.is) c.in_ok-take-in-len1.ensures.taken in
     run_fills g.S.Store g.F.RowFold.step g.F.RowFold.refusal c.args.sender.now c.args.tx.now.conn.now c.transmission_at.new.tx.conn.now c.args.first (c.loop-number.number + 1) c.args.into.now c.take.new.self (omega (arith, c.loop-number-test.true, c.ranges.first.fits)) on
 
 pub returns-in_err-rows-clause-told : goal.returns-in_err-rows-clause-told
