@@ -1,10 +1,10 @@
 -- Works that are noted: by a row, by a list of rows, and by the rows of a recording.
-use Rattle.std.proofs.Common.{◌≡◌, ◌∙◌, ◌||◌, Bool, true, false, cond, ℕ, List, [], ◌∷◌, Option, Some, Result, Ok, Err, IfOk, OnOk, is_some, refl, ap, ap₂, ◌&&◌, sym, subst, filter, bytes_eq}
+use Rattle.std.proofs.Common.{◌≡◌, ◌∙◌, ◌||◌, Bool, true, false, cond, ℕ, List, [], ◌∷◌, Option, Some, is_some, refl, ap, ap₂, ◌&&◌, sym, subst, filter, bytes_eq}
 use Rattle.std.proofs.lemmas.Bool.{false≢true}
 use Rattle.std.proofs.lemmas.List.Sorted.{IsPermutation-sym}
 use Rattle.std.proofs.lemmas.Slice.Eq.{bytes_eq-Decides}
 use Rattle.std.specs.BTreeMap as tree
-use Rattle.std.specs.BTreeSet.{BTreeSet, contains}
+use Rattle.std.specs.BTreeSet.{BTreeSet, IsFromIterResult, contains}
 use Rattle.std.specs.List.{AllByRecursion, list_all, list_any}
 use Rattle.std.specs.Ordering.{eq_by_cmp}
 use Rattle.std.proofs.lemmas.Map.Text.{is_eq-slice_cmp}
@@ -13,8 +13,7 @@ use Rattle.society_core.specs.declared.transmission_key.TransmissionKey.{Transmi
 use Rattle.society_rows.specs.Layout as layout
 use Rattle.society_rows.specs.Reads.{Lists, has_at}
 use Rattle.society_rows.specs.Stored.{rows_in}
-use Rattle.society_rows.specs.declared.fault.RowFault.{RowFault}
-use Rattle.society_tables.specs.CutWorks.{IsNoted, NotesMore, NotesRecording, NotesRecordings, has_work, is_noted, notes_of_sender}
+use Rattle.society_tables.specs.CutWorks.{IsNoted, NotesMore, NotesRecording, NotesRecordings, NotesWanted, has_work, is_noted, notes_of_sender}
 use Rattle.society_tables.specs.Columns.{text_at}
 use Rattle.society_tables.specs.declared.named_works.NamedWorks.{NamedWorks}
 use Rattle.sqlite_trees.proofs.ListLemmas.{all-permutation, all_weaker}
@@ -50,22 +49,33 @@ all_passing p P (row ∷ rows) all = by_case (p row) refl all (all_passing p P r
     by_case true e here later = ((λ is. here.0), later here.1)
     by_case false e here later = ((λ is. absurd (false≢true (sym e ∙ is))), later here)
 
--- the works of all rows that a recording has are noted
-pub recording_noted : (r : Result (Unit {0}) RowFault) (db : Trees) (isrc : List ℕ) (old new : NamedWorks) (found shown : List Row) → Lists layout.recordings (has_at 3 (Text isrc)) 4 db found → shown ≡ found → OnOk r (NotesMore old new) → OnOk r (AllByRecursion (IsNoted new) shown) → IfOk r (λ _. NotesMore old new × NotesRecording db isrc new)
-recording_noted (Err fault) db isrc old new found shown lists same more noted = tt
-recording_noted (Ok x) db isrc old new found shown lists same more noted =
-    let rows = rows_in layout.recordings db in
-    let passes = has_at 3 (Text isrc) in
-    (more, all_passing passes (IsNoted new) rows (all-permutation (IsNoted new) found (filter passes rows) (IsPermutation-sym (filter passes rows) found lists.rows) (subst (AllByRecursion (IsNoted new)) same noted)))
+-- a row whose work is noted still is
+wanted_still : (wanted : BTreeSet (List ℕ)) (old new : NamedWorks) → NotesMore old new → (row : Row) → NotesWanted wanted old row → NotesWanted wanted new row
+wanted_still wanted old new more row notes = λ isrc is at. noted_still old new more row (notes isrc is at)
 
--- so of the recordings so far and one more
-pub recordings_noted : (db : Trees) (known after : List ℕ → Bool) (isrc : List ℕ) (old new : NamedWorks) → ((q : List ℕ) → after q ≡ (known q || bytes_eq q isrc)) → NotesRecordings db known old → NotesMore old new → NotesRecording db isrc new → NotesRecordings db after new
-recordings_noted db known after isrc old new next before more here = λ q is. by_case q (known q) refl (bytes_eq q isrc) refl (sym (next q) ∙ is)
-  where
-    by_case : (q : List ℕ) (a : Bool) → known q ≡ a → (b : Bool) → bytes_eq q isrc ≡ b → (a || b) ≡ true → NotesRecording db q new
-    by_case q true is b e h = recording_still old new more db q (before q is)
-    by_case q false is true e h = subst (λ (x : List ℕ). NotesRecording db x new) (sym ((bytes_eq-Decides q isrc).0 e)) here
-    by_case q false is false e h = absurd (false≢true h)
+pub all_wanted_still : (wanted : BTreeSet (List ℕ)) (old new : NamedWorks) → NotesMore old new → (rows : List Row) → AllByRecursion (NotesWanted wanted old) rows → AllByRecursion (NotesWanted wanted new) rows
+all_wanted_still wanted old new more rows all = all_weaker (NotesWanted wanted old) (NotesWanted wanted new) (wanted_still wanted old new more) rows all
+
+-- a row whose text can't be wanted
+pub unwanted : (wanted : BTreeSet (List ℕ)) (named : NamedWorks) (row values : Row) (text : List ℕ) (may : Bool) → values ≡ row → ((isrc : List ℕ) → has_at 3 (Text isrc) values ≡ true → text ≡ isrc) → (contains bytes_cmp wanted text ≡ true → may ≡ true) → may ≡ false → NotesWanted wanted named row
+unwanted wanted named row values text may same is_text wants refused = λ isrc is at.
+    absurd (false≢true (sym refused ∙ wants (subst (λ (x : List ℕ). contains bytes_cmp wanted x ≡ true) (sym (is_text isrc (subst (λ (r : Row). has_at 3 (Text isrc) r ≡ true) (sym same) at))) is)))
+
+-- bytes are among some as keys where they are among them
+pub any_bytes : (x : List ℕ) (xs : List (List ℕ)) → list_any (bytes_eq x) xs ≡ list_any (eq_by_cmp bytes_cmp x) xs
+any_bytes x [] = refl
+any_bytes x (y ∷ ys) = ap₂ (λ (a b : Bool). a || b) (sym (is_eq-slice_cmp x y)) (any_bytes x ys)
+
+-- a recording that is one of some is in their set
+in_set : (recordings : List (List ℕ)) (wanted : BTreeSet (List ℕ)) → IsFromIterResult bytes_cmp recordings wanted → (isrc : List ℕ) → list_any (bytes_eq isrc) recordings ≡ true → contains bytes_cmp wanted isrc ≡ true
+in_set recordings wanted made isrc is = made.0 isrc ∙ sym (any_bytes isrc recordings) ∙ is
+
+-- once the rows of all recordings were gone over, the works of those that are wanted are noted
+pub wanted_noted : (db : Trees) (recordings : List (List ℕ)) (wanted : BTreeSet (List ℕ)) (named : NamedWorks) (found shown : List Row) → IsFromIterResult bytes_cmp recordings wanted → Lists layout.recordings (λ _. true) 4 db found → shown ≡ found → AllByRecursion (NotesWanted wanted named) shown → NotesRecordings db (λ isrc. list_any (bytes_eq isrc) recordings) named
+wanted_noted db recordings wanted named found shown made lists same all isrc is =
+    let rows = rows_in layout.recordings db in
+    let each = all_passing (λ _. true) (NotesWanted wanted named) rows (all-permutation (NotesWanted wanted named) found (filter (λ _. true) rows) (IsPermutation-sym (filter (λ _. true) rows) found lists.rows) (subst (AllByRecursion (NotesWanted wanted named)) same all)) in
+    all_weaker (λ row. true ≡ true → NotesWanted wanted named row) (λ row. has_at 3 (Text isrc) row ≡ true → IsNoted named row) (λ row notes at. notes refl isrc (in_set recordings wanted made isrc is) at) rows each
 
 or_later : (b c : Bool) → c ≡ true → (b || c) ≡ true
 or_later true c e = refl
@@ -117,8 +127,3 @@ put_some true same true x o is e = refl
 put_some true same false x o is e = is
 put_some false same true x o is e = e
 put_some false same false x o is e = e ∙ is
-
--- bytes are among some as keys where they are among them
-pub any_bytes : (x : List ℕ) (xs : List (List ℕ)) → list_any (bytes_eq x) xs ≡ list_any (eq_by_cmp bytes_cmp x) xs
-any_bytes x [] = refl
-any_bytes x (y ∷ ys) = ap₂ (λ (a b : Bool). a || b) (sym (is_eq-slice_cmp x y)) (any_bytes x ys)

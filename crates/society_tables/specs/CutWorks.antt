@@ -51,6 +51,10 @@ pub record NotesMore (old new : NamedWorks) : Type 0 where
   pub senders : (sender : List ℕ) → notes_of_sender new sender ≡ notes_of_sender old sender
   pub works : (sender work : List ℕ) → is_noted old sender work ≡ true → is_noted new sender work ≡ true
 
+-- the work of a row of one of these recordings is noted, where works of its sender are
+abbrev pub NotesWanted : BTreeSet (List ℕ) → NamedWorks → Row → Type 0
+NotesWanted wanted named row = (isrc : List ℕ) → contains bytes_cmp wanted isrc ≡ true → has_at 3 (Text isrc) row ≡ true → IsNoted named row
+
 -- each work is noted that names a recording in the tables, in whichever of its versions
 abbrev pub NotesRecording : Trees → List ℕ → NamedWorks → Type 0
 NotesRecording db isrc named = AllByRecursion (λ row. has_at 3 (Text isrc) row ≡ true → IsNoted named row) (rows_in layout.recordings db)

@@ -1,12 +1,16 @@
 //! The works that name some recordings, in whichever of their versions.
 ghost use Rattle.std.specs.Prelude.{◌≡◌, List, ℕ, true, IfOk, OnOk, bytes_eq};
+ghost use Rattle.std.specs.BTreeSet.{IsFromIterResult, contains};
 ghost use Rattle.std.specs.List.{AllByRecursion, list_any};
+ghost use Rattle.society_core.specs.Keys.{bytes_cmp};
+ghost use Rattle.society_rows.specs.Rows.{recording_values};
 ghost use Rattle.sqlite.specs.Held.{state};
-ghost use Rattle.society_tables.specs.CutWorks.{IsNoted, NotesMore, NotesRecording, NotesRecordings, is_noted, notes_of_sender};
+ghost use Rattle.society_tables.specs.CutWorks.{IsNoted, NotesMore, NotesRecordings, NotesWanted, is_noted, notes_of_sender};
 ghost use Rattle.society_tables.specs.Steps.{Looks};
 
+use crate::run::distinct_isrcs;
 use society_core::TransmissionKey;
-use society_rows::{Question, RecordingRow, RowFault, answer};
+use society_rows::{RecordingRow, RowFault, TableName, all_rows};
 use sqlite::{Alter, Row, Transaction};
 use std::alloc::{AllocError, Global};
 use std::collections::{BTreeMap, BTreeSet};
@@ -41,12 +45,11 @@ impl NamedWorks {
         Ok(())
     }
 
-    /// Notes the work of a row of a recording; `Unread` where it has no sender or no work number.
-    fn note_row(&mut self, row: &Row) -> Result<(), RowFault>
+    /// Notes the work of a recording; `Unread` where it has no sender or no work number.
+    fn note_recording(&mut self, row: &RecordingRow<'_>) -> Result<(), RowFault>
         ensures more { OnOk result (NotesMore self.old self.new) }
-        ensures noted { OnOk result (IsNoted self.new row.now) }
+        ensures noted { OnOk result (IsNoted self.new (recording_values row.now)) }
     {
-        let row = RecordingRow::from_row(row)?;
         let Ok(sender) = SenderKey::from_bytes(row.sender) else {
             return Err(RowFault::Unread);
         };
@@ -57,13 +60,25 @@ impl NamedWorks {
         Ok(())
     }
 
-    /// Notes the works of rows of recordings; `Unread` where one has no sender or no work number.
-    fn note_rows(&mut self, rows: &[Row]) -> Result<(), RowFault>
+    /// Notes the work of a row of a recording that is wanted; `Unread` where it has no sender or no work number.
+    fn note_row(&mut self, row: &Row, wanted: &BTreeSet<Isrc>) -> Result<(), RowFault>
         ensures more { OnOk result (NotesMore self.old self.new) }
-        ensures noted { OnOk result (AllByRecursion (IsNoted self.new) rows.now) }
+        ensures noted { OnOk result (NotesWanted wanted.now self.new row.now) }
+    {
+        let row = RecordingRow::from_row(row)?;
+        if !may_be(wanted, row.isrc) {
+            return Ok(());
+        }
+        self.note_recording(&row)
+    }
+
+    /// Notes the works of those rows of recordings that are wanted; `Unread` where one has no sender or no work number.
+    fn note_rows(&mut self, rows: &[Row], wanted: &BTreeSet<Isrc>) -> Result<(), RowFault>
+        ensures more { OnOk result (NotesMore self.old self.new) }
+        ensures noted { OnOk result (AllByRecursion (NotesWanted wanted.now self.new) rows.now) }
     {
         for row in rows {
-            self.note_row(row)?;
+            self.note_row(row, wanted)?;
         }
         Ok(())
     }
@@ -83,18 +98,22 @@ impl NamedWorks {
     }
 }
 
-/// Notes the works that name a recording.
-fn note_recording<S: Alter>(
-    tx: &mut Transaction<'_, S>,
-    isrc: &Isrc,
-    named: &mut NamedWorks,
-) -> Result<(), RowFault>
-    ensures same_reference { tx.new.conn.ghost_name ≡ tx.old.conn.ghost_name }
-    ensures looks { Looks (state S.Store tx.old.conn.now) (state S.Store tx.new.conn.now) result
-        (λ db _. NotesMore named.old named.new × NotesRecording db isrc.now named.new) }
+/// The set of some recordings.
+fn set_of(alloc: Global, recordings: &[Isrc]) -> Result<BTreeSet<Isrc>, AllocError>
+    ensures { IfOk result (IsFromIterResult bytes_cmp recordings.now) }
 {
-    let rows = answer(tx, Question::RecordingsWith(isrc.as_bytes()))?;
-    named.note_rows(rows.as_slice())
+    let list = Vec::from_slice(alloc, recordings)?;
+    distinct_isrcs(alloc, list)
+}
+
+/// Whether a text may be one of these recordings: it is one of them, or is no ISRC as the tables keep it.
+fn may_be(wanted: &BTreeSet<Isrc>, text: &[u8]) -> bool
+    ensures { contains bytes_cmp wanted.now text.now ≡ true → result ≡ true }
+{
+    match Isrc::from_text(text) {
+        Ok(isrc) => isrc.as_bytes() != text || wanted.contains(&isrc),
+        Err(_) => true,
+    }
 }
 
 /// The works of the senders of a cut that name one of these recordings, in whichever of their versions.
@@ -110,8 +129,9 @@ pub(crate) fn named_works<S: Alter>(
         × NotesRecordings db (λ isrc. list_any (bytes_eq isrc) recordings.now) named) }
 {
     let mut named = NamedWorks::of_cut(alloc, cut)?;
-    for isrc in recordings {
-        note_recording(tx, isrc, &mut named)?;
-    }
+    let wanted = set_of(alloc, recordings)?;
+    // The key of this table does not begin with the recording, so one pass over it serves them all.
+    let rows = all_rows(tx, TableName::Recordings)?;
+    named.note_rows(rows.as_slice(), &wanted)?;
     Ok(named)
 }

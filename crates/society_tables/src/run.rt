@@ -36,7 +36,7 @@ impl Model for Noted {
 }
 
 /// The set of some ISRCs.
-fn distinct_isrcs(alloc: Global, list: Vec<Isrc>) -> Result<BTreeSet<Isrc>, AllocError>
+pub(crate) fn distinct_isrcs(alloc: Global, list: Vec<Isrc>) -> Result<BTreeSet<Isrc>, AllocError>
     ensures { IfOk result (IsFromIterResult bytes_cmp list.items) }
 {
     list.into_iter().collect(alloc)

@@ -1,8 +1,8 @@
 use Rattle.std.proofs.Common.{◌≡◌, ◌∙◌, ◌+◌, ◌++◌, ◌∷◌, [], ap, subst, sym, take}
 use Rattle.std.proofs.lemmas.List.{take_more}
 use Rattle.std.specs.List.{AllByRecursion}
-use Rattle.society_tables.specs.CutWorks.{IsNoted}
-use Rattle.society_tables.proofs.CutNotes.{all_noted_still, notes_then}
+use Rattle.society_tables.specs.CutWorks.{NotesWanted}
+use Rattle.society_tables.proofs.CutNotes.{all_wanted_still, notes_then}
 use Rattle.society_tables.proofs.named_works.NamedWorks.note_rows.Goals as goal
 use Rattle.sqlite_keyed.proofs.ListLemmas.{all-append}
 use Rattle.sqlite_value.specs.Order.{Row}
@@ -16,5 +16,5 @@ loop-row-preserved c =
     let next : take (c.loop-row.row-index + 1) rows ≡ so_far ++ row ∷ [] = take_more rows c.loop-row.row-index row c.loop-row-test.true ∙ ap (λ (r : Row). so_far ++ r ∷ []) (sym c.row-item.is) in
     record {
       more = notes_then c.args.self.now c.loop-row.self named c.loop-row.invariant.more c.in_ok-note_row.ensures.more;
-      noted = subst (AllByRecursion (IsNoted named)) (sym next) (all-append (IsNoted named) so_far (row ∷ []) (all_noted_still c.loop-row.self named c.in_ok-note_row.ensures.more so_far c.loop-row.invariant.noted) (c.in_ok-note_row.ensures.noted, tt));
+      noted = subst (AllByRecursion (NotesWanted c.args.wanted.now named)) (sym next) (all-append (NotesWanted c.args.wanted.now named) so_far (row ∷ []) (all_wanted_still c.args.wanted.now c.loop-row.self named c.in_ok-note_row.ensures.more so_far c.loop-row.invariant.noted) (c.in_ok-note_row.ensures.noted, tt));
     }
