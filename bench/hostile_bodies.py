@@ -541,4 +541,5 @@ def main():
     print(f"over {LIMIT} s: " + (", ".join(slow) or "none"))
 
 
-main()
+if __name__ == "__main__":
+    main()
