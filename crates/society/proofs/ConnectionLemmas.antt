@@ -19,7 +19,7 @@ use Rattle.society_core.specs.Requests.{Query, Reply}
 use Rattle.society_core.specs.Runs.{Run}
 use Rattle.society_core.specs.State.{Rises, State}
 use Rattle.society.proofs.ReplayLemmas.{from_nothing}
-use Rattle.society.specs.Connections.{Brings, Connection, IsCounted, Prints, ServesConnections, ServesOffice, connection_line, connection_lines, parts_of, replies_of, requests_of}
+use Rattle.society.specs.Connections.{Brings, Connection, IsCounted, Prints, ServesConnections, ServesOffice, ServesStore, connection_line, connection_lines, parts_of, replies_of, requests_of}
 
 -- ---- a run goes on by a run
 
@@ -173,14 +173,27 @@ brings state remaining contents desk new_desk reader new_reader writer new_write
   clean = clean;
 }
 
--- what was served at an office to which nothing had come, behind `listening`
-pub serves_office : {W : Type 0} (office : Office) (contents : W → Option (List ℕ)) (old new : State) (first out new_out : Counted W) (count : ℕ)
-    → old.office ≡ office → old.book ≡ empty_book → IsTrue new.is_clean → Prints contents first out (codes "listening\n")
-    → ServesConnections contents old new out new_out count → ServesOffice office contents first new_out count
-serves_office office contents old new first out new_out count same empty clean listening s = record {
+-- what was served over a store, behind `listening`
+pub serves_store : {S W : Type 0} (state : S → State) (store begun ended : S) (contents : W → Option (List ℕ)) (first out new_out : Counted W) (count : ℕ)
+    → begun ≡ store → Prints contents first out (codes "listening\n") → ServesConnections contents (state begun) (state ended) out new_out count
+    → ServesStore state store contents first new_out count
+serves_store state store begun ended contents first out new_out count same listening s = record {
+  ended = ended;
   connections = s.connections;
   number = s.number;
   counted = s.counted;
-  answers = from_nothing office old new (parts_of s.connections) (replies_of s.connections) same empty clean s.answers;
+  answers = subst (λ (b : State). AreAnswered (parts_of s.connections) (replies_of s.connections) b (state ended)) (ap state same) s.answers;
   printed = prints_on contents first out new_out (codes "listening\n") (connection_lines 1 s.connections) listening s.printed;
+}
+
+-- what is served over a store to which nothing had come, and that is clean at the end, is served at its office
+pub serves_office : {S W : Type 0} (state : S → State) (begun : S) (office : Office) (contents : W → Option (List ℕ)) (out new_out : Counted W) (count : ℕ)
+    → (state begun).office ≡ office → (state begun).book ≡ empty_book → ((store : S) → IsTrue (state store).is_clean)
+    → ServesStore state begun contents out new_out count → ServesOffice office contents out new_out count
+serves_office state begun office contents out new_out count same empty clean s = record {
+  connections = s.connections;
+  number = s.number;
+  counted = s.counted;
+  answers = from_nothing office (state begun) (state s.ended) (parts_of s.connections) (replies_of s.connections) same empty (clean s.ended) s.answers;
+  printed = s.printed;
 }

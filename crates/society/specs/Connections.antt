@@ -85,6 +85,20 @@ abbrev pub StopsServing : {W : Type 0} → Office → (W → Option (List ℕ)) 
 StopsServing office contents out new_out connections =
     (new_out ≡ out) ⊎ ((count : ℕ) × (count < connections) × ServesOffice office contents out new_out count)
 
+-- so many connections were served over a store; `listening` was printed before, and a line for each
+pub record ServesStore {S : Type 0} (state : S → State) (begun : S) {W : Type 0} (contents : W → Option (List ℕ)) (out new_out : Counted W) (count : ℕ) : Type 0 where
+  pub ended : S
+  pub connections : List Connection
+  pub number : length connections ≡ count
+  pub counted : AllByRecursion IsCounted connections
+  pub answers : AreAnswered (parts_of connections) (replies_of connections) (state begun) (state ended)
+  pub printed : Prints contents out new_out (codes "listening\n" ++ connection_lines 1 connections)
+
+-- serving over a store ended early: it could not listen, and printed nothing; or fewer connections came
+abbrev pub StopsServingStore : {S : Type 0} → (S → State) → S → {W : Type 0} → (W → Option (List ℕ)) → Counted W → Counted W → ℕ → Type 0
+StopsServingStore state begun contents out new_out connections =
+    (new_out ≡ out) ⊎ ((count : ℕ) × (count < connections) × ServesStore state begun contents out new_out count)
+
 -- fewer connections than were asked for were served
 abbrev pub StopsEarly : {W : Type 0} → (W → Option (List ℕ)) → State → State → Counted W → Counted W → ℕ → Type 0
 StopsEarly contents old new out new_out connections =

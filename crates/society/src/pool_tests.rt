@@ -1,8 +1,8 @@
-//! The rows of money on the desk over tables in memory: returns, pools at a cut, credits and balances.
+//! The rows of money on the desk, each over tables in memory and over the plain store: returns, pools at a cut, credits and balances.
 use crate::samples::{F1, F3, changed, f2};
 use pool_split::Credit;
 use share_rules::Office;
-use society_core::{Desk, OrderError, PoolOrder, Receipt, Refusal, ReturnKey};
+use society_core::{Desk, OrderError, PlainStore, PoolOrder, Receipt, Refusal, ReturnKey, Store};
 use society_tables::Tables;
 use sqlite::MemStore;
 use std::alloc::Global;
@@ -18,10 +18,17 @@ const FIRST: &[u8] = b"PB000000012";
 
 const SECOND: &[u8] = b"PB000000034";
 
-fn new_desk(alloc: Global) -> Result<Desk<Tables<MemStore>>, Fail> {
-    let office = Office::new(900, 40, b"EXAMPLE SOCIETY").ok_or("an office")?;
-    let tables = Tables::in_memory(alloc, &office).ok().ok_or("memory")?;
+fn office() -> Result<Office, &'static str> {
+    Office::new(900, 40, b"EXAMPLE SOCIETY").ok_or("an office")
+}
+
+fn desk_over_tables(alloc: Global) -> Result<Desk<Tables<MemStore>>, Fail> {
+    let tables = Tables::in_memory(alloc, &office()?).ok().ok_or("memory")?;
     Ok(Desk::new(tables))
+}
+
+fn plain_desk(alloc: Global) -> Result<Desk<PlainStore>, Fail> {
+    Ok(Desk::new(PlainStore::new(alloc, &office()?)))
 }
 
 fn sender(bytes: &[u8]) -> Result<SenderKey, &'static str> {
@@ -39,9 +46,9 @@ fn pool(number: u32) -> Result<PoolNumber, &'static str> {
 }
 
 /// Puts a transmission that is taken.
-fn put(
+fn put<S: Store>(
     alloc: Global,
-    desk: &mut Desk<Tables<MemStore>>,
+    desk: &mut Desk<S>,
     from: &[u8],
     number: u32,
     body: &[u8],
@@ -72,10 +79,10 @@ fn order(alloc: Global, amount: u64, cut: u64, returns: &[u64]) -> Result<PoolOr
 }
 
 /// Checks the credits of a pool: recording, account and units of each.
-fn check_credits(
+fn check_credits<S: Store>(
     rt: &impl Abort,
     alloc: Global,
-    desk: &mut Desk<Tables<MemStore>>,
+    desk: &mut Desk<S>,
     number: u32,
     wanted: &[(&[u8], &[u8], u64)],
 ) -> Result<(), Fail> {
@@ -101,10 +108,10 @@ fn check_credits(
 }
 
 /// Checks what accounts have come to.
-fn check_balances(
+fn check_balances<S: Store>(
     rt: &impl Abort,
     alloc: Global,
-    desk: &mut Desk<Tables<MemStore>>,
+    desk: &mut Desk<S>,
     wanted: &[(&[u8], u64)],
 ) -> Result<(), Fail> {
     for (account, units) in wanted {
@@ -115,10 +122,13 @@ fn check_balances(
 }
 
 /// F1, F3 under 1, 2, a return, F3 under 3, and a pool of 1,001 units at cut 3.
-fn closed_at_a_cut(rt: &impl Abort, alloc: Global) -> Result<Desk<Tables<MemStore>>, Fail> {
-    let mut desk = new_desk(alloc)?;
-    put(alloc, &mut desk, FIRST, 1, F1)?;
-    put(alloc, &mut desk, FIRST, 2, F3)?;
+fn close_at_a_cut<S: Store>(
+    rt: &impl Abort,
+    alloc: Global,
+    desk: &mut Desk<S>,
+) -> Result<(), Fail> {
+    put(alloc, desk, FIRST, 1, F1)?;
+    put(alloc, desk, FIRST, 2, F3)?;
     assert!(rt; desk.put_return(alloc, &key(1)?, TEN_PLAYS) == Ok(Receipt::New));
     let first = order(alloc, 1_001, 3, &[1])?;
     let waits = Refusal::Cut {
@@ -126,9 +136,9 @@ fn closed_at_a_cut(rt: &impl Abort, alloc: Global) -> Result<Desk<Tables<MemStor
         front: 2,
     };
     assert!(rt; desk.close_pool(alloc, pool(7)?, &first) == Err(waits));
-    put(alloc, &mut desk, FIRST, 3, F3)?;
+    put(alloc, desk, FIRST, 3, F3)?;
     assert!(rt; desk.close_pool(alloc, pool(7)?, &first) == Ok(Receipt::New));
-    Ok(desk)
+    Ok(())
 }
 
 /// What its accounts have come to then, and one that has no credit.
@@ -146,44 +156,73 @@ const SHARED: &[(&[u8], &[u8], u64)] = &[
     (b"ATABC2600001", b"UNCLAIMED", 0),
 ];
 
-#[test]
-fn pool_closed_at_a_cut(rt: HostRuntime) -> Result<(), Fail> {
-    let alloc = rt.alloc();
-    let mut desk = closed_at_a_cut(&rt, alloc)?;
+fn check_pool_closed_at_a_cut<S: Store>(
+    rt: &impl Abort,
+    alloc: Global,
+    desk: &mut Desk<S>,
+) -> Result<(), Fail> {
+    close_at_a_cut(rt, alloc, desk)?;
     let same = order(alloc, 1_001, 3, &[1])?;
     let other = order(alloc, 1_002, 3, &[1])?;
     assert!(rt; desk.close_pool(alloc, pool(7)?, &same) == Ok(Receipt::Repeated));
     assert!(rt; desk.close_pool(alloc, pool(7)?, &other) == Err(Refusal::Reused));
-    check_credits(&rt, alloc, &mut desk, 7, SHARED)?;
+    check_credits(rt, alloc, desk, 7, SHARED)?;
     assert!(rt; matches!(desk.credits(alloc, pool(8)?), Err(Refusal::Unknown)));
-    check_balances(&rt, alloc, &mut desk, BALANCES)
+    check_balances(rt, alloc, desk, BALANCES)
+}
+
+#[test]
+fn pool_closed_at_a_cut(rt: HostRuntime) -> Result<(), Fail> {
+    let alloc = rt.alloc();
+    check_pool_closed_at_a_cut(&rt, alloc, &mut desk_over_tables(alloc)?)?;
+    check_pool_closed_at_a_cut(&rt, alloc, &mut plain_desk(alloc)?)
+}
+
+fn check_later_revision_changes_no_credit<S: Store>(
+    rt: &impl Abort,
+    alloc: Global,
+    desk: &mut Desk<S>,
+    early: &mut Desk<S>,
+) -> Result<(), Fail> {
+    let revision = f2(alloc)?;
+    close_at_a_cut(rt, alloc, desk)?;
+    put(alloc, desk, FIRST, 4, &revision)?;
+    check_credits(rt, alloc, desk, 7, SHARED)?;
+    check_balances(rt, alloc, desk, BALANCES)?;
+    put(alloc, early, FIRST, 1, F1)?;
+    put(alloc, early, FIRST, 2, &revision)?;
+    assert!(rt; early.put_return(alloc, &key(1)?, TEN_PLAYS) == Ok(Receipt::New));
+    assert!(rt;
+        early.close_pool(alloc, pool(7)?, &order(alloc, 1_001, 1, &[1])?) == Ok(Receipt::New)
+    );
+    check_credits(rt, alloc, early, 7, SHARED)
 }
 
 #[test]
 fn later_revision_changes_no_credit(rt: HostRuntime) -> Result<(), Fail> {
     let alloc = rt.alloc();
-    let revision = f2(alloc)?;
-    let mut desk = closed_at_a_cut(&rt, alloc)?;
-    put(alloc, &mut desk, FIRST, 4, &revision)?;
-    check_credits(&rt, alloc, &mut desk, 7, SHARED)?;
-    check_balances(&rt, alloc, &mut desk, BALANCES)?;
-    let mut early = new_desk(alloc)?;
-    put(alloc, &mut early, FIRST, 1, F1)?;
-    put(alloc, &mut early, FIRST, 2, &revision)?;
-    assert!(rt; early.put_return(alloc, &key(1)?, TEN_PLAYS) == Ok(Receipt::New));
-    assert!(rt;
-        early.close_pool(alloc, pool(7)?, &order(alloc, 1_001, 1, &[1])?) == Ok(Receipt::New)
-    );
-    check_credits(&rt, alloc, &mut early, 7, SHARED)
+    check_later_revision_changes_no_credit(
+        &rt,
+        alloc,
+        &mut desk_over_tables(alloc)?,
+        &mut desk_over_tables(alloc)?,
+    )?;
+    check_later_revision_changes_no_credit(
+        &rt,
+        alloc,
+        &mut plain_desk(alloc)?,
+        &mut plain_desk(alloc)?,
+    )
 }
 
-#[test]
-fn two_claimants(rt: HostRuntime) -> Result<(), Fail> {
-    let alloc = rt.alloc();
-    let mut desk = new_desk(alloc)?;
+fn check_two_claimants<S: Store>(
+    rt: &impl Abort,
+    alloc: Global,
+    desk: &mut Desk<S>,
+) -> Result<(), Fail> {
     let other = changed(alloc, F1, 5, b"000000034")?;
-    put(alloc, &mut desk, FIRST, 1, F1)?;
-    put(alloc, &mut desk, SECOND, 1, &other)?;
+    put(alloc, desk, FIRST, 1, F1)?;
+    put(alloc, desk, SECOND, 1, &other)?;
     let played = b"isrc,plays,seconds\nATABC2600001,1,100\nGBXYZ2600002,1,300\n";
     assert!(rt; desk.put_return(alloc, &key(1)?, played) == Ok(Receipt::New));
     let reporter = Reporter::from_bytes(b"RADIO1").ok().ok_or("a reporter")?;
@@ -197,9 +236,9 @@ fn two_claimants(rt: HostRuntime) -> Result<(), Fail> {
     .ok_or("an order")?;
     assert!(rt; desk.close_pool(alloc, pool(1)?, &both) == Ok(Receipt::New));
     check_credits(
-        &rt,
+        rt,
         alloc,
-        &mut desk,
+        desk,
         1,
         &[
             (b"ATABC2600001", b"UNCLAIMED", 3),
@@ -208,24 +247,28 @@ fn two_claimants(rt: HostRuntime) -> Result<(), Fail> {
     )?;
     assert!(rt; desk.put_return(alloc, &key(2)?, b"isrc,plays,seconds\n") == Ok(Receipt::New));
     assert!(rt; desk.close_pool(alloc, pool(2)?, &order(alloc, 0, 0, &[2])?) == Ok(Receipt::New));
-    check_credits(&rt, alloc, &mut desk, 2, &[(b"", b"UNCLAIMED", 0)])?;
+    check_credits(rt, alloc, desk, 2, &[(b"", b"UNCLAIMED", 0)])?;
     assert!(rt; desk.close_pool(alloc, pool(3)?, &order(alloc, 5, 0, &[])?) == Ok(Receipt::New));
-    check_credits(&rt, alloc, &mut desk, 3, &[(b"", b"UNCLAIMED", 5)])?;
-    check_balances(&rt, alloc, &mut desk, &[(b"UNCLAIMED", 15)])
+    check_credits(rt, alloc, desk, 3, &[(b"", b"UNCLAIMED", 5)])?;
+    check_balances(rt, alloc, desk, &[(b"UNCLAIMED", 15)])
 }
 
 #[test]
-fn splits(rt: HostRuntime) -> Result<(), Fail> {
+fn two_claimants(rt: HostRuntime) -> Result<(), Fail> {
     let alloc = rt.alloc();
-    let mut desk = new_desk(alloc)?;
-    put(alloc, &mut desk, FIRST, 1, F1)?;
+    check_two_claimants(&rt, alloc, &mut desk_over_tables(alloc)?)?;
+    check_two_claimants(&rt, alloc, &mut plain_desk(alloc)?)
+}
+
+fn check_splits<S: Store>(rt: &impl Abort, alloc: Global, desk: &mut Desk<S>) -> Result<(), Fail> {
+    put(alloc, desk, FIRST, 1, F1)?;
     let played = b"isrc,plays,seconds\nATABC2600001,1,1\nATABC2600002,1,1\nATABC2600003,1,1\n";
     assert!(rt; desk.put_return(alloc, &key(1)?, played) == Ok(Receipt::New));
     assert!(rt; desk.close_pool(alloc, pool(1)?, &order(alloc, 10, 1, &[1])?) == Ok(Receipt::New));
     check_credits(
-        &rt,
+        rt,
         alloc,
-        &mut desk,
+        desk,
         1,
         &[
             (b"ATABC2600001", b"I00000000199", 2),
@@ -238,9 +281,9 @@ fn splits(rt: HostRuntime) -> Result<(), Fail> {
     let great = order(alloc, 1_000_000_000_000, 1, &[])?;
     assert!(rt; desk.close_pool(alloc, pool(2)?, &great) == Ok(Receipt::New));
     check_balances(
-        &rt,
+        rt,
         alloc,
-        &mut desk,
+        desk,
         &[
             (b"I00000000199", 2),
             (b"I00000000295", 2),
@@ -250,9 +293,18 @@ fn splits(rt: HostRuntime) -> Result<(), Fail> {
 }
 
 #[test]
-fn return_paid_once(rt: HostRuntime) -> Result<(), Fail> {
+fn splits(rt: HostRuntime) -> Result<(), Fail> {
     let alloc = rt.alloc();
-    let mut desk = closed_at_a_cut(&rt, alloc)?;
+    check_splits(&rt, alloc, &mut desk_over_tables(alloc)?)?;
+    check_splits(&rt, alloc, &mut plain_desk(alloc)?)
+}
+
+fn check_return_paid_once<S: Store>(
+    rt: &impl Abort,
+    alloc: Global,
+    desk: &mut Desk<S>,
+) -> Result<(), Fail> {
+    close_at_a_cut(rt, alloc, desk)?;
     let again = desk.close_pool(alloc, pool(8)?, &order(alloc, 5, 0, &[1])?);
     let paid = Refusal::ReturnPaid {
         key: key(1)?,
@@ -265,21 +317,23 @@ fn return_paid_once(rt: HostRuntime) -> Result<(), Fail> {
 }
 
 #[test]
-fn points_of_one_recording(rt: HostRuntime) -> Result<(), Fail> {
+fn return_paid_once(rt: HostRuntime) -> Result<(), Fail> {
     let alloc = rt.alloc();
-    let mut desk = new_desk(alloc)?;
+    check_return_paid_once(&rt, alloc, &mut desk_over_tables(alloc)?)?;
+    check_return_paid_once(&rt, alloc, &mut plain_desk(alloc)?)
+}
+
+fn check_points_of_one_recording<S: Store>(
+    rt: &impl Abort,
+    alloc: Global,
+    desk: &mut Desk<S>,
+) -> Result<(), Fail> {
     let played = b"isrc,plays,seconds\nat-abc-26-00001,1,60\nATABC2600001,2,30\n";
     assert!(rt; desk.put_return(alloc, &key(1)?, played) == Ok(Receipt::New));
     assert!(rt; desk.put_return(alloc, &key(1)?, played) == Ok(Receipt::Repeated));
     assert!(rt; desk.put_return(alloc, &key(1)?, TEN_PLAYS) == Err(Refusal::Reused));
     assert!(rt; desk.close_pool(alloc, pool(1)?, &order(alloc, 5, 0, &[1])?) == Ok(Receipt::New));
-    check_credits(
-        &rt,
-        alloc,
-        &mut desk,
-        1,
-        &[(b"ATABC2600001", b"UNCLAIMED", 5)],
-    )?;
+    check_credits(rt, alloc, desk, 1, &[(b"ATABC2600001", b"UNCLAIMED", 5)])?;
     let none = b"isrc,plays,seconds\nATABC2600001,0,60\n";
     match desk.put_return(alloc, &key(2)?, none) {
         Err(Refusal::Csv(fault)) => {
@@ -289,6 +343,13 @@ fn points_of_one_recording(rt: HostRuntime) -> Result<(), Fail> {
         }
         _ => Err(Fail::from("a return fault")),
     }
+}
+
+#[test]
+fn points_of_one_recording(rt: HostRuntime) -> Result<(), Fail> {
+    let alloc = rt.alloc();
+    check_points_of_one_recording(&rt, alloc, &mut desk_over_tables(alloc)?)?;
+    check_points_of_one_recording(&rt, alloc, &mut plain_desk(alloc)?)
 }
 
 #[test]

@@ -1,13 +1,13 @@
 //! The office as a server on this machine.
 ghost use Rattle.std.specs.Prelude.{◌≡◌, ◌⊎◌};
-ghost use Rattle.society.specs.Connections.{ServesOffice, StopsServing};
+ghost use Rattle.society.specs.Connections.{ServesOffice, ServesStore, StopsServing, StopsServingStore};
 
 use crate::connections::{AcceptFault, print, serve_connections};
 use crate::replay::{BROKEN_OFF, SERVED};
 use crate::words::Place;
 use http_desk::Counted;
 use share_rules::Office;
-use society_core::Desk;
+use society_core::{Desk, Store};
 use society_tables::Tables;
 use std::alloc::Global;
 use std::io::Write;
@@ -32,11 +32,28 @@ pub fn serve_office<N: Net<Listener = TcpListener, Stream = TcpStream>, W: Write
     let Ok(tables) = Tables::in_memory(alloc, office) else {
         return break_off(err, "out of memory");
     };
+    serve_store(net, alloc, tables, place, out, err)
+}
+
+/// Listens on this machine at a port, prints `listening`, and serves so many connections over a store. Answers the exit
+/// status: 0, or 1 with one line on `err` where it cannot listen or accept.
+pub fn serve_store<
+    N: Net<Listener = TcpListener, Stream = TcpStream>,
+    S: Store + Drop,
+    W: Write,
+    E: Write,
+>(net: &N, alloc: Global, store: S, place: Place, out: &mut Counted<W>, err: &mut E) -> u8
+    ensures status { (result ≡ 0) ⊎ (result ≡ 1) }
+    ensures served { result ≡ 0 → ServesStore S.state store W.contents out.old out.new place.connections }
+    // Nothing is printed where it cannot listen; else fewer connections came.
+    ensures broken_off { result ≡ 1
+        → StopsServingStore S.state store W.contents out.old out.new place.connections }
+{
     let Ok(listener) = TcpListener::bind(net, (Ipv4Addr::LOCALHOST, place.port)) else {
         return break_off(err, "cannot listen");
     };
     print(out, b"listening\n");
-    let mut desk = Desk::new(tables);
+    let mut desk = Desk::new(store);
     match serve_connections(alloc, &mut desk, &listener, place.connections, out) {
         Ok(()) => SERVED,
         Err(AcceptFault) => break_off(err, "cannot accept"),

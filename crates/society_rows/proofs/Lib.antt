@@ -33,6 +33,7 @@ pub mod Refusals
 pub mod ReturnTable
 pub mod RowFolds
 pub mod RunFolds
+pub mod RowidQueries
 pub mod Rowids
 pub mod Texts
 pub mod Told

@@ -49,3 +49,18 @@ listing_text name.Versions = codes "SELECT sender, work, revision, number, place
 listing_text name.Recordings = codes "SELECT sender, work, revision, isrc FROM recordings ORDER BY sender, work, revision, isrc"
 listing_text name.Credits = codes "SELECT pool, line, isrc, account, units FROM credits ORDER BY pool, line"
 listing_text name.Balances = codes "SELECT account, units FROM balances ORDER BY account"
+
+-- the query that shows the rowid of every row, in any order
+abbrev pub rowids_text : TableName → List ℕ
+rowids_text name.Office = codes "SELECT rowid FROM office"
+rowids_text name.Transmissions = codes "SELECT rowid FROM transmissions"
+rowids_text name.Returns = codes "SELECT rowid FROM returns"
+rowids_text name.Pools = codes "SELECT rowid FROM pools"
+rowids_text name.PoolCuts = codes "SELECT rowid FROM pool_cuts"
+rowids_text name.PoolReturns = codes "SELECT rowid FROM pool_returns"
+rowids_text name.Fronts = codes "SELECT rowid FROM fronts"
+rowids_text name.Verdicts = codes "SELECT rowid FROM verdicts"
+rowids_text name.Versions = codes "SELECT rowid FROM versions"
+rowids_text name.Recordings = codes "SELECT rowid FROM recordings"
+rowids_text name.Credits = codes "SELECT rowid FROM credits"
+rowids_text name.Balances = codes "SELECT rowid FROM balances"

@@ -14,6 +14,7 @@ mod folding;
 mod fronts;
 mod keys;
 mod layout;
+mod numbering;
 mod office;
 mod pool_cuts;
 mod pool_returns;
@@ -39,6 +40,7 @@ pub use folding::{RowFold, fold_above, fold_run, fold_table};
 pub use fronts::{FrontRow, all_fronts, front_at, put_front, put_fronts};
 pub use keys::keys_are_values;
 pub use layout::create;
+pub use numbering::are_numbered;
 pub use office::{LAYOUT, OfficeRow, all_offices};
 pub use pool_cuts::{PoolCutRow, add_pool_cut, add_pool_cuts, all_pool_cuts, cuts_of};
 pub use pool_returns::{

@@ -424,3 +424,32 @@ fn units_are_added_unless_they_overflow(rt: HostRuntime) -> Result<(), Fail> {
     );
     Ok(())
 }
+
+fn is_numbered<S: Alter>(tx: &mut Transaction<'_, S>, table: TableName) -> Result<bool, RowFault> {
+    are_numbered(tx, table)
+}
+
+fn is_book_numbered<S: Alter>(tx: &mut Transaction<'_, S>) -> Result<bool, RowFault> {
+    Ok(
+        is_numbered(tx, TableName::Office)?
+            && is_numbered(tx, TableName::Transmissions)?
+            && is_numbered(tx, TableName::Pools)?,
+    )
+}
+
+fn are_fronts_numbered<S: Alter>(tx: &mut Transaction<'_, S>) -> Result<bool, RowFault> {
+    Ok(is_numbered(tx, TableName::Fronts)? && is_numbered(tx, TableName::Balances)?)
+}
+
+#[test]
+fn rows_that_were_written_are_numbered(rt: HostRuntime) -> Result<(), Fail> {
+    let mut conn = book(rt.alloc())?;
+    let mut tx = conn.transaction();
+    write_book(&mut tx)?;
+    write_pools(&mut tx)?;
+    write_fronts(&mut tx)?;
+    write_balances(&mut tx)?;
+    assert!(rt; is_book_numbered(&mut tx)?);
+    assert!(rt; are_fronts_numbered(&mut tx)?);
+    Ok(())
+}

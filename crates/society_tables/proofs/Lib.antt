@@ -44,3 +44,6 @@ pub mod CutNames
 pub mod CutCandidates
 pub mod CutNotes
 pub mod CutChoices
+pub mod OpenLemmas
+pub mod SameTables
+pub mod OpenedLemmas

@@ -10,3 +10,4 @@ pub mod Faults
 pub mod Closings
 pub mod Laws
 pub mod CutWorks
+pub mod Opening

@@ -5,24 +5,31 @@ mod acknowledgements;
 mod arrivals;
 mod chosen;
 mod closings;
+mod comparing;
 mod cut_works;
 mod fault;
 mod named_works;
+mod open_fault;
+mod opening;
 mod orders;
 mod outcomes;
 mod paying;
 mod pools;
+mod rebuilding;
 mod returns;
 mod run;
 mod senders;
 mod tables;
 mod works;
 
+pub use open_fault::OpenFault;
 pub use tables::Tables;
 
 #[cfg(test)]
 mod arrival_tests;
 #[cfg(test)]
 mod cut_tests;
+#[cfg(test)]
+mod open_tests;
 #[cfg(test)]
 mod tests;

@@ -225,6 +225,22 @@ impl<S: Alter> Tables<S> {
     }
 }
 
+impl<S: Alter> Tables<S> {
+    /// The tables of an office that lie behind a connection.
+    pub(crate) fn over(conn: Connection<S>, office: &Office) -> Tables<S>
+        requires idle { conn.in_transaction ≡ false }
+        requires rests { ∥ Rests office.now (state S.Store conn) ∥₁ }
+        ensures same { result.conn ≡ conn }
+        ensures office { result.office ≡ office.now }
+    {
+        Tables {
+            office: *office,
+            conn,
+            failures: 0,
+        }
+    }
+}
+
 impl Tables<MemStore> {
     /// The tables of an office to which nothing has come, in memory.
     pub fn in_memory(alloc: Global, office: &Office) -> Result<Tables<MemStore>, RowFault>

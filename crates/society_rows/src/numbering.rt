@@ -1,0 +1,63 @@
+//! The rowids of the rows.
+ghost use Rattle.std.specs.Prelude.{◌≡◌, ◌↔◌, IsTrue};
+ghost use Rattle.std.specs.List.{list_all};
+ghost use Rattle.sqlite.specs.Held.{state};
+ghost use Rattle.sqlite_value.specs.Order.{column};
+ghost use Rattle.sqlite_trees.specs.View.{is_int};
+ghost use Rattle.society_rows.specs.Effects.{OnlyFails};
+ghost use Rattle.society_rows.specs.Reads.{Reads};
+ghost use Rattle.society_rows.specs.Stored.{AreNumbered};
+ghost use Rattle.society_rows.specs.TableNames.{table_called, rowids_text};
+
+use crate::statement::select;
+use crate::{RowFault, TableName};
+use sqlite::{Alter, Row, Transaction};
+use sqlite_value::value::ValueRef;
+
+/// The query that shows the rowid of every row of a table.
+fn rowids(table: TableName) -> &'static str
+    ensures { result.now ≡ rowids_text table }
+{
+    match table {
+        TableName::Office => "SELECT rowid FROM office",
+        TableName::Transmissions => "SELECT rowid FROM transmissions",
+        TableName::Returns => "SELECT rowid FROM returns",
+        TableName::Pools => "SELECT rowid FROM pools",
+        TableName::PoolCuts => "SELECT rowid FROM pool_cuts",
+        TableName::PoolReturns => "SELECT rowid FROM pool_returns",
+        TableName::Fronts => "SELECT rowid FROM fronts",
+        TableName::Verdicts => "SELECT rowid FROM verdicts",
+        TableName::Versions => "SELECT rowid FROM versions",
+        TableName::Recordings => "SELECT rowid FROM recordings",
+        TableName::Credits => "SELECT rowid FROM credits",
+        TableName::Balances => "SELECT rowid FROM balances",
+    }
+}
+
+/// Whether the first value of a row is a whole number.
+fn begins_whole(row: &Row) -> bool
+    ensures { result ≡ is_int (column row.now 0) }
+{
+    matches!(row.get_ref(0), Ok(ValueRef::Int(_)))
+}
+
+/// Whether the first value of each row is a whole number.
+fn begin_whole(rows: &[Row]) -> bool
+    ensures { result ≡ list_all (λ r. is_int (column r 0)) rows.now }
+{
+    rows.iter().all(|row| begins_whole(row))
+}
+
+/// Whether each row of a table has a whole number as its rowid, as every row has that SQLite wrote.
+pub fn are_numbered<S: Alter>(
+    tx: &mut Transaction<'_, S>,
+    table: TableName,
+) -> Result<bool, RowFault>
+    ensures same_reference { tx.new.conn.ghost_name ≡ tx.old.conn.ghost_name }
+    ensures read { Reads (state S.Store tx.old.conn.now) (state S.Store tx.new.conn.now) result
+        (λ db yes. IsTrue yes ↔ AreNumbered (table_called table) db) }
+    ensures told { OnlyFails (state S.Store tx.old.conn.now) (state S.Store tx.new.conn.now) result }
+{
+    let rows = select(tx, rowids(table), &[])?;
+    Ok(begin_whole(&rows))
+}

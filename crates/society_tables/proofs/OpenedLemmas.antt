@@ -1,0 +1,113 @@
+-- What an opening does, by what the database was found to be.
+use Rattle.std.proofs.Common.{◌≡◌, ◌∙◌, ◌⊎◌, ◌&&◌, ⊎_elim, inl, inr, Bool, true, false, Result, Ok, Err, IsTrue, OnOk, OnErr, length, refl, ap, sym, subst, arith}
+use Rattle.std.proofs.lemmas.Bool.{false≢true}
+use Rattle.std.proofs.Math.Logic.{∥∥₁_map}
+use Rattle.share_rules.specs.declared.office.Office.{Office}
+use Rattle.sqlite_schema.specs.declared.schema.Schema.{Schema}
+use Rattle.sqlite.specs.Effect.{Database}
+use Rattle.sqlite.specs.State.{HasCleanDisk, State, Survives}
+use Rattle.sqlite_trees.specs.Tree.{Trees}
+use Rattle.society_core.specs.Book.{empty_book}
+use Rattle.society_rows.specs.Layout.{layout, no_schema, written_out}
+use Rattle.society_rows.specs.NewBook.{Begins, IsBare, IsNewBook}
+use Rattle.society_rows.specs.Stored.{HasLayout}
+use Rattle.society_tables.specs.BookRows.{book_of}
+use Rattle.society_tables.specs.Kept.{Holds, IsAtRest, Rests, office_row}
+use Rattle.society_tables.specs.Opening.{HoldsOne, Inspects, IsOpenable, Opens, ShowsAs, SurvivesOpening}
+use Rattle.society_tables.specs.declared.open_fault.OpenFault.{OpenFault}
+use Rattle.society_tables.proofs.AskLemmas.{clean_is, first_true, second_true}
+use Rattle.society_tables.proofs.EmptyTables.{begun_book, begun_rests}
+
+-- what an answer says, by the answer
+on_ok : {X : Type 0} (r : Result X OpenFault) {P : Type 0} → P → OnOk r P
+on_ok (Ok x) h = h
+on_ok (Err e) h = tt
+
+on_err : {X : Type 0} (r : Result X OpenFault) {P : Type 0} → P → OnErr r P
+on_err (Ok x) h = tt
+on_err (Err e) h = h
+
+-- a database is not both bare and of the layout
+not_both : (s : Schema) → s ≡ no_schema → s ≡ layout → ⊥
+unfolding layout written_out
+not_both s bare has =
+    let e : 0 ≡ 12 = ap (λ (z : Schema). length z.tables) (sym bare ∙ has) in
+    omega (e, arith)
+
+-- what is so of some where a truth holds is so of one that needs it
+rests_from : (b : Bool) (P : Type 0) → (IsTrue b → ∥ P ∥₁) → ∥ (IsTrue b → P) ∥₁
+rests_from true P h = ∥∥₁_map (h refl) (λ p _. p)
+rests_from false P h = ∣ (λ is. absurd (false≢true is)) ∣₁
+
+module _ (o : Office) (old new : State) (r : Result (Unit {0}) OpenFault) (settled : IsTrue old.is_open → old.now ≡ old.committed) where
+  -- a database that had no table
+  pub opens_begun : IsBare old.now → (HasCleanDisk new → IsBare old.now → OnOk r (Begins (office_row o) new.now × (new.now ≡ new.committed))) → (HasCleanDisk new → OnErr r (ShowsAs old.committed new)) → SurvivesOpening o old new → Opens o old new r
+  opens_begun bare created neither crash = record {
+    rests = rests_by r (λ clean. created clean bare);
+    begun = λ clean is_open was. book_by r (created clean bare);
+    audited = λ clean is_open has. absurd (not_both old.now.schema bare (subst HasLayout (sym (settled is_open)) has));
+    known = λ clean is_open. on_ok r (inl (subst IsBare (settled is_open) bare));
+    unchanged = neither;
+    crash = crash;
+  }
+    where
+      rests_by : (z : Result (Unit {0}) OpenFault) → (HasCleanDisk new → OnOk z (Begins (office_row o) new.now × (new.now ≡ new.committed))) → OnOk z ∥ Rests o new ∥₁
+      rests_by (Ok x) made = ∣ (λ live. begun_rests o (office_row o) new refl (made (clean_is new.is_clean (first_true new.is_clean new.is_open live))).0 (made (clean_is new.is_clean (first_true new.is_clean new.is_open live))).1) ∣₁
+      rests_by (Err e) made = tt
+
+      book_by : (z : Result (Unit {0}) OpenFault) → OnOk z (Begins (office_row o) new.now × (new.now ≡ new.committed)) → OnOk z (book_of new.now.trees ≡ empty_book)
+      book_by (Ok x) made = begun_book o (office_row o) new.now refl made.0
+      book_by (Err e) made = tt
+
+  -- one of layout 2 that was audited
+  pub opens_audited : HasLayout old.now → Inspects old new r (λ db _. HoldsOne o db) → Opens o old new r
+  opens_audited has inspected = record {
+    rests = rests_by r (λ clean. inspected.found clean has);
+    begun = λ clean is_open bare. absurd (not_both old.now.schema (subst IsBare (sym (settled is_open)) bare) has);
+    audited = λ clean is_open was. held_by r (settled is_open) (inspected.found clean has) (inspected.undone clean);
+    known = λ clean is_open. on_ok r (inr (subst HasLayout (settled is_open) has));
+    unchanged = λ clean. on_err r (inspected.undone clean);
+    crash = record {
+      clean = inspected.survives.clean;
+      shield = inspected.survives.shield;
+      counts = inspected.survives.counts;
+      limit = inspected.survives.limit;
+      closes = inspected.survives.closes;
+      crash = λ clean db left. ⊎_elim (λ (before : old.may_leave db). inl before) (λ (never : ⊥). absurd never) (inspected.survives.crash clean db left);
+    };
+  }
+    where
+      same_now : HasCleanDisk new → IsTrue new.is_open → new.now ≡ old.now
+      same_now clean is_open = (inspected.undone clean is_open).0 ∙ sym (settled (inspected.was_open clean is_open))
+
+      at_rest : IsTrue (new.is_clean && new.is_open) → Holds o old.now.trees → IsAtRest o new
+      at_rest live holds =
+          let clean = clean_is new.is_clean (first_true new.is_clean new.is_open live) in
+          let is_open = second_true new.is_clean new.is_open live in
+          let undone = inspected.undone clean is_open in
+          record {
+            same = undone.0 ∙ sym undone.1;
+            kept = record {
+              layout = subst HasLayout (sym (same_now clean is_open)) has;
+              holds = subst (λ (db : Database). Holds o db.trees) (sym (same_now clean is_open)) holds;
+            };
+          }
+
+      rests_by : (z : Result (Unit {0}) OpenFault) → (HasCleanDisk new → OnOk z (HoldsOne o old.now.trees)) → OnOk z ∥ Rests o new ∥₁
+      rests_by (Ok x) found = rests_from (new.is_clean && new.is_open) (IsAtRest o new) (λ live. ∥∥₁_map (found (clean_is new.is_clean (first_true new.is_clean new.is_open live))) (at_rest live))
+      rests_by (Err e) found = tt
+
+      held_by : (z : Result (Unit {0}) OpenFault) → old.now ≡ old.committed → OnOk z (HoldsOne o old.now.trees) → ShowsAs old.committed new → OnOk z (HoldsOne o old.committed.trees × ShowsAs old.committed new)
+      held_by (Ok x) same found shows = (subst (λ (db : Database). HoldsOne o db.trees) same found, shows)
+      held_by (Err e) same found shows = tt
+
+-- one that has something else
+pub opens_other : (o : Office) (s : State) (told : OpenFault) → (IsTrue s.is_open → s.now ≡ s.committed) → Opens o s s (Err told)
+opens_other o s told settled = record {
+  rests = tt;
+  begun = λ clean is_open bare. tt;
+  audited = λ clean is_open has. tt;
+  known = λ clean is_open. tt;
+  unchanged = λ clean is_open. (settled is_open, refl);
+  crash = record { clean = omega arith; shield = λ h. h; counts = omega arith; limit = refl; closes = λ clean is. inl is; crash = λ clean db h. inl h };
+}

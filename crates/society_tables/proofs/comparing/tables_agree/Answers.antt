@@ -1,0 +1,39 @@
+use Rattle.std.proofs.Common.{◌∙◌, Ok, List, arith, get_or, refl, subst, IsPermutation}
+use Rattle.std.proofs.lemmas.List.{take_all}
+use Rattle.sqlite.specs.Effect.{Database}
+use Rattle.sqlite.specs.Held.{state}
+use Rattle.sqlite.specs.Steps.{over_memory}
+use Rattle.society_rows.specs.Stored.{HasLayout, rows_in}
+use Rattle.society_rows.specs.TableNames.{table_called}
+use Rattle.society_rows.specs.declared.tables.TableName.{TableName}
+use Rattle.society_rows.specs.declared.tables.TableName.TheVariants as name
+use Rattle.society_tables.specs.Opening.{Agree, other_names}
+use Rattle.society_tables.proofs.OpenLemmas.{as_inspected, inspected_then}
+use Rattle.society_tables.proofs.SameTables.{agree_more}
+use Rattle.society_tables.proofs.comparing.tables_agree.Goals as goal
+
+pub loop-table-preserved : goal.loop-table-preserved
+loop-table-preserved g c =
+    let old = state g.S.Store c.args.conn.now in
+    let one = (state over_memory c.args.memory.now).now.trees in
+    let x : TableName = get_or other_names c.loop-table.table-index name.Office in
+    record {
+      same = c.table_agrees-in-loop-table.ensures.same ∙ c.loop-table.invariant.same;
+      idle = c.table_agrees-in-loop-table.ensures.idle;
+      idle_memory = c.table_agrees-in-loop-table.ensures.idle_memory;
+      agree = inspected_then old (state g.S.Store c.loop-table.conn) (state g.S.Store c.table_agrees-in-loop-table.new.conn) tt (Ok tt) _ _ _
+          (λ is_open. c.is_autocommit-settled.ensures.settled (rw (c.is_autocommit-settled.ensures.value, c.requires.ours) refl) is_open)
+          c.loop-table.invariant.agree c.in_ok-table_agrees-2.ensures.agree
+          (λ y before here has. (
+            (before has).0,
+            agree_more other_names c.loop-table.table-index name.Office x one old.now.trees (omega (arith, c.loop-table-test.true)) refl (before has).1
+                (subst (λ (m : Database). HasLayout m → IsPermutation (rows_in (table_called x) m.trees) (rows_in (table_called x) old.now.trees)) c.loop-table.invariant.same here has),
+          ));
+    }
+
+pub returns-clause-agree : goal.returns-clause-agree
+returns-clause-agree g c =
+    let old = state g.S.Store c.args.conn.now in
+    let one = (state over_memory c.args.memory.now).now.trees in
+    as_inspected _ _ (Ok tt) _ _ c.loop-table.invariant.agree
+    (λ y before has. ((before has).0, subst (λ (names : List TableName). Agree names one old.now.trees) (take_all c.loop-table.table-index other_names c.loop-table-test.false) (before has).1))

@@ -1,0 +1,10 @@
+use Rattle.std.proofs.Common.{refl}
+use Rattle.std.proofs.Math.Logic.{∥∥₁_map}
+use Rattle.society_tables.proofs.OpenLemmas.{as_inspected}
+use Rattle.society_tables.proofs.SameTables.{holds_likewise}
+use Rattle.society_tables.proofs.opening.agrees_with.Goals as goal
+
+pub returns-clause-agree : goal.returns-clause-agree
+returns-clause-agree g c =
+    as_inspected _ _ c.tables_agree.result _ _ (rw c.into_connection-memory.ensures.same at c.tables_agree.ensures.agree)
+    (λ x agree numbered. ∥∥₁_map c.args.tables.rests (λ r. holds_likewise c.args.tables.office _ _ (r refl).kept.holds (agree (r refl).kept.layout) numbered))

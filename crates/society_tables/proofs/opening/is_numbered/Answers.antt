@@ -1,0 +1,15 @@
+use Rattle.std.proofs.Common.{◌↔◌, IsTrue, rules}
+use Rattle.sqlite.specs.Held.{state}
+use Rattle.society_rows.specs.Questions.{Asks}
+use Rattle.society_rows.specs.Stored.{AreNumbered}
+use Rattle.society_rows.specs.TableNames.{table_called}
+use Rattle.society_rows.proofs.AskedRows.{asks_by}
+use Rattle.society_tables.proofs.opening.is_numbered.Goals as goal
+
+pub returns-clause-asked : goal.returns-clause-asked
+returns-clause-asked g c =
+    let mid = state g.S.Store c.are_numbered-yes.new.tx.conn.now in
+    let new = state g.S.Store c.rollback.new.self.0 in
+    let done : Asks (state g.S.Store c.args.conn.now) new c.are_numbered-yes.result (λ db yes. IsTrue yes ↔ AreNumbered (table_called c.args.table) db) =
+    asks_by g.S.Store c.args.conn.now mid new c.are_numbered-yes.result _ (rw c.transaction-tx.ensures.begun at c.are_numbered-yes.ensures.read) c.rollback.ensures.undone c.rollback.ensures.survives in
+    search rules

@@ -1,0 +1,7 @@
+use Rattle.std.proofs.Common.{refl}
+use Rattle.society_tables.proofs.OpenLemmas.{inspected_then}
+use Rattle.society_tables.proofs.rebuilding.money_from.Goals as goal
+
+pub returns-clause-asked : goal.returns-clause-asked
+returns-clause-asked g c =
+    inspected_then _ _ _ _ c.pools_from.result _ _ _ (λ is_open. c.is_autocommit-settled.ensures.settled (rw (c.is_autocommit-settled.ensures.value, c.requires) refl) is_open) c.in_ok-returns_from.ensures.asked c.pools_from.ensures.asked (λ y a b. tt)

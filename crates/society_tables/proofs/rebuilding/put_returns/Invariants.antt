@@ -1,0 +1,6 @@
+use Rattle.std.proofs.Common.{◌≡◌}
+use Rattle.society_tables.proofs.rebuilding.put_returns.Given as goal
+
+-- the office stays
+abbrev pub invariant-loop-row : goal.invariant-loop-row
+invariant-loop-row l = l.desk.office ≡ l.fn.desk.office

@@ -1,0 +1,145 @@
+//! Tables beside those of another database.
+ghost use Rattle.std.specs.Prelude.{◌≡◌, IfOk, IsTrue, IsPermutation, false, true};
+ghost use Rattle.sqlite.specs.Held.{state};
+ghost use Rattle.sqlite.specs.Steps.{over_memory};
+ghost use Rattle.society_rows.specs.Questions.{Asks};
+ghost use Rattle.society_rows.specs.Reads.{Lists};
+ghost use Rattle.society_rows.specs.Stored.{HasLayout, rows_in};
+ghost use Rattle.society_rows.specs.TableNames.{key_width, table_called};
+ghost use Rattle.society_tables.specs.Opening.{Agree, Inspects, every_name};
+
+use crate::OpenFault;
+use society_rows::{RowFault, TableName, all_rows};
+use sqlite::{Alter, Connection, MemStore, Row};
+use sqlite_value::order::is_same;
+
+/// The tables after the first.
+const OTHER_TABLES: [TableName; 11] = [
+    TableName::Transmissions,
+    TableName::Returns,
+    TableName::Pools,
+    TableName::PoolCuts,
+    TableName::PoolReturns,
+    TableName::Fronts,
+    TableName::Verdicts,
+    TableName::Versions,
+    TableName::Recordings,
+    TableName::Credits,
+    TableName::Balances,
+];
+
+/// All rows of a table, by its key, read in a transaction that is rolled back.
+fn listed<S: Alter>(conn: &mut Connection<S>, table: TableName) -> Result<Vec<Row>, RowFault>
+    requires { conn.old.in_transaction ≡ false }
+    ensures asked { Asks (state S.Store conn.old) (state S.Store conn.new) result
+        (λ db rows. Lists (table_called table) (λ _. true) (key_width table) db rows.items) }
+    ensures idle { conn.new.in_transaction ≡ false }
+{
+    let mut tx = conn.transaction();
+    let rows = all_rows(&mut tx, table);
+    tx.rollback();
+    rows
+}
+
+/// All rows of a table, by its key.
+pub(crate) fn rows_of_table<S: Alter>(
+    conn: &mut Connection<S>,
+    table: TableName,
+) -> Result<Vec<Row>, OpenFault>
+    requires { conn.old.in_transaction ≡ false }
+    ensures asked { Inspects (state S.Store conn.old) (state S.Store conn.new) result
+        (λ db rows. Lists (table_called table) (λ _. true) (key_width table) db rows.items) }
+    ensures idle { conn.new.in_transaction ≡ false }
+{
+    Ok(listed(conn, table)?)
+}
+
+/// All rows of a table in memory, whose database stays as it is.
+fn rows_in_memory(
+    memory: &mut Connection<MemStore>,
+    table: TableName,
+) -> Result<Vec<Row>, OpenFault>
+    requires { memory.old.in_transaction ≡ false }
+    ensures rows { HasLayout (state over_memory memory.old).now → IfOk result (λ rows.
+        Lists (table_called table) (λ _. true) (key_width table) (state over_memory memory.old).now.trees rows.items) }
+    ensures same { (state over_memory memory.new).now ≡ (state over_memory memory.old).now }
+    ensures idle { memory.new.in_transaction ≡ false }
+{
+    let _settled = memory.is_autocommit();
+    rows_of_table(memory, table)
+}
+
+/// Whether two rows have the same values.
+fn is_same_row(row: &Row, other: &Row) -> bool
+    ensures { IsTrue result → row.now ≡ other.now }
+{
+    if row.column_count() != other.column_count() {
+        return false;
+    }
+    for at in 0..row.column_count() {
+        let (Ok(value), Ok(beside)) = (row.get_ref(at), other.get_ref(at)) else {
+            return false;
+        };
+        if !is_same(value, beside) {
+            return false;
+        }
+    }
+    true
+}
+
+/// Whether two lists have the same rows.
+fn are_same_rows(rows: &[Row], others: &[Row]) -> bool
+    ensures { IsTrue result → rows.now ≡ others.now }
+{
+    if rows.len() != others.len() {
+        return false;
+    }
+    for at in 0..rows.len() {
+        if !is_same_row(&rows[at], &others[at]) {
+            return false;
+        }
+    }
+    true
+}
+
+/// That a table has the rows that it has in memory; else `Damaged`.
+fn table_agrees<S: Alter>(
+    conn: &mut Connection<S>,
+    memory: &mut Connection<MemStore>,
+    table: TableName,
+) -> Result<(), OpenFault>
+    requires ours { conn.old.in_transaction ≡ false }
+    requires theirs { memory.old.in_transaction ≡ false }
+    ensures agree { Inspects (state S.Store conn.old) (state S.Store conn.new) result
+        (λ db _. HasLayout (state over_memory memory.old).now → IsPermutation (rows_in (table_called table) (state over_memory memory.old).now.trees) (rows_in (table_called table) db)) }
+    ensures same { (state over_memory memory.new).now ≡ (state over_memory memory.old).now }
+    ensures idle { conn.new.in_transaction ≡ false }
+    ensures idle_memory { memory.new.in_transaction ≡ false }
+{
+    let rows = rows_of_table(conn, table)?;
+    let others = rows_in_memory(memory, table)?;
+    if are_same_rows(rows.as_slice(), others.as_slice()) {
+        Ok(())
+    } else {
+        Err(OpenFault::Damaged)
+    }
+}
+
+/// That each table has the rows that it has in memory; else `Damaged`.
+pub(crate) fn tables_agree<S: Alter>(
+    conn: &mut Connection<S>,
+    memory: &mut Connection<MemStore>,
+) -> Result<(), OpenFault>
+    requires ours { conn.old.in_transaction ≡ false }
+    requires theirs { memory.old.in_transaction ≡ false }
+    ensures agree { Inspects (state S.Store conn.old) (state S.Store conn.new) result
+        (λ db _. HasLayout (state over_memory memory.old).now → Agree every_name (state over_memory memory.old).now.trees db) }
+    ensures idle { conn.new.in_transaction ≡ false }
+{
+    let _settled = conn.is_autocommit();
+    table_agrees(conn, memory, TableName::Office)?;
+    for table in OTHER_TABLES {
+        table_agrees(conn, memory, table)?;
+    }
+    Ok(())
+}

@@ -1,0 +1,216 @@
+//! How a database is opened as an office's tables.
+ghost use Rattle.std.specs.Prelude.{◌≡◌, ◌↔◌, IsTrue, IfErr, IfOk, MatchResult, OnErr, OnOk, ⊤, false};
+ghost use Rattle.sqlite.specs.Held.{state};
+ghost use Rattle.sqlite.specs.State.{HasCleanDisk, Survives};
+ghost use Rattle.society_core.specs.Book.{empty_book};
+ghost use Rattle.society_rows.specs.Layout.{balances, fronts};
+ghost use Rattle.society_rows.specs.NewBook.{Begins, IsBare, IsNewBook};
+ghost use Rattle.society_rows.specs.Questions.{Asks};
+ghost use Rattle.society_rows.specs.Stored.{AreNumbered, HasLayout};
+ghost use Rattle.society_rows.specs.TableNames.{table_called};
+ghost use Rattle.society_tables.specs.Kept.{office_row};
+ghost use Rattle.society_tables.specs.Opening.{HoldsOne, Inspects, IsOpenable, Opens, ShowsAs, SurvivesOpening};
+
+use crate::comparing::{rows_of_table, tables_agree};
+use crate::rebuilding::rebuild;
+use crate::{OpenFault, Tables};
+use share_rules::Office;
+use society_core::Store;
+use society_rows::{Found, OfficeRow, RowFault, TableName, are_numbered, create, layout_found};
+use sqlite::{Alter, Connection, MemStore, Row};
+use std::alloc::Global;
+
+/// That the rows of offices are the one row of this office; `Schema` where it cannot be read.
+fn is_office(rows: &[Row], office: &Office) -> Result<(), OpenFault> {
+    let [row] = rows else {
+        return Err(OpenFault::Schema);
+    };
+    let Ok(row) = OfficeRow::from_row(row) else {
+        return Err(OpenFault::Schema);
+    };
+    if row.society == u32::from(office.society)
+        && row.territory == u32::from(office.territory)
+        && row.name == office.name()
+    {
+        Ok(())
+    } else {
+        Err(OpenFault::OtherOffice)
+    }
+}
+
+/// That the tables are those of this office.
+fn office_agrees<S: Alter>(conn: &mut Connection<S>, office: &Office) -> Result<(), OpenFault>
+    requires { conn.old.in_transaction ≡ false }
+    ensures asked { Inspects (state S.Store conn.old) (state S.Store conn.new) result (λ _ _. ⊤) }
+    ensures idle { conn.new.in_transaction ≡ false }
+{
+    let rows = rows_of_table(conn, TableName::Office)?;
+    is_office(rows.as_slice(), office)
+}
+
+/// Whether each row of a table has a whole number as its rowid, read in a transaction that is rolled back.
+fn is_numbered<S: Alter>(conn: &mut Connection<S>, table: TableName) -> Result<bool, RowFault>
+    requires { conn.old.in_transaction ≡ false }
+    ensures asked { Asks (state S.Store conn.old) (state S.Store conn.new) result
+        (λ db yes. IsTrue yes ↔ AreNumbered (table_called table) db) }
+    ensures idle { conn.new.in_transaction ≡ false }
+{
+    let mut tx = conn.transaction();
+    let yes = are_numbered(&mut tx, table);
+    tx.rollback();
+    yes
+}
+
+/// That each row of a table has a whole number as its rowid; else `Damaged`.
+fn has_numbers<S: Alter>(conn: &mut Connection<S>, table: TableName) -> Result<(), OpenFault>
+    requires { conn.old.in_transaction ≡ false }
+    ensures asked { Inspects (state S.Store conn.old) (state S.Store conn.new) result (λ db _. AreNumbered (table_called table) db) }
+    ensures idle { conn.new.in_transaction ≡ false }
+{
+    if is_numbered(conn, table)? {
+        Ok(())
+    } else {
+        Err(OpenFault::Damaged)
+    }
+}
+
+/// That what is put over another row has a whole number as its rowid.
+fn fronts_and_balances_numbered<S: Alter>(conn: &mut Connection<S>) -> Result<(), OpenFault>
+    requires { conn.old.in_transaction ≡ false }
+    ensures asked { Inspects (state S.Store conn.old) (state S.Store conn.new) result
+        (λ db _. AreNumbered fronts db × AreNumbered balances db) }
+    ensures idle { conn.new.in_transaction ≡ false }
+{
+    let _settled = conn.is_autocommit();
+    has_numbers(conn, TableName::Fronts)?;
+    has_numbers(conn, TableName::Balances)
+}
+
+/// That the tables hold what these tables in memory hold.
+fn agrees_with<S: Alter>(
+    conn: &mut Connection<S>,
+    tables: Tables<MemStore>,
+) -> Result<(), OpenFault>
+    requires { conn.old.in_transaction ≡ false }
+    ensures agree { Inspects (state S.Store conn.old) (state S.Store conn.new) result
+        (λ db _. AreNumbered fronts db × AreNumbered balances db → HoldsOne (⟦<Tables<MemStore> as Store>⟧.state tables).office db) }
+    ensures idle { conn.new.in_transaction ≡ false }
+{
+    let mut memory = tables.into_connection();
+    tables_agree(conn, &mut memory)
+}
+
+/// That the tables hold what their own rows make of an empty book.
+fn holds_own<S: Alter>(
+    alloc: Global,
+    conn: &mut Connection<S>,
+    office: &Office,
+) -> Result<(), OpenFault>
+    requires { conn.old.in_transaction ≡ false }
+    ensures agree { Inspects (state S.Store conn.old) (state S.Store conn.new) result
+        (λ db _. AreNumbered fronts db × AreNumbered balances db → HoldsOne office.now db) }
+    ensures idle { conn.new.in_transaction ≡ false }
+{
+    let _settled = conn.is_autocommit();
+    let tables = rebuild(alloc, conn, office)?;
+    agrees_with(conn, tables)
+}
+
+/// That the tables hold what their own rows make of an empty book, and can be written.
+fn is_whole<S: Alter>(
+    alloc: Global,
+    conn: &mut Connection<S>,
+    office: &Office,
+) -> Result<(), OpenFault>
+    requires { conn.old.in_transaction ≡ false }
+    ensures whole { Inspects (state S.Store conn.old) (state S.Store conn.new) result (λ db _. HoldsOne office.now db) }
+    ensures idle { conn.new.in_transaction ≡ false }
+{
+    let _settled = conn.is_autocommit();
+    fronts_and_balances_numbered(conn)?;
+    holds_own(alloc, conn, office)
+}
+
+/// That the tables are this office's, and whole.
+fn audit<S: Alter>(
+    alloc: Global,
+    conn: &mut Connection<S>,
+    office: &Office,
+) -> Result<(), OpenFault>
+    requires { conn.old.in_transaction ≡ false }
+    ensures whole { Inspects (state S.Store conn.old) (state S.Store conn.new) result (λ db _. HoldsOne office.now db) }
+    ensures idle { conn.new.in_transaction ≡ false }
+{
+    let _settled = conn.is_autocommit();
+    office_agrees(conn, office)?;
+    is_whole(alloc, conn, office)
+}
+
+/// Makes the tables of an office to which nothing has come.
+fn begin<S: Alter>(conn: &mut Connection<S>, office: &Office) -> Result<(), OpenFault>
+    requires { conn.old.in_transaction ≡ false }
+    ensures created { HasCleanDisk (state S.Store conn.new) → IsBare (state S.Store conn.old).now
+        → OnOk result (Begins (office_row office.now) (state S.Store conn.new).now
+        × ((state S.Store conn.new).now ≡ (state S.Store conn.new).committed)) }
+    ensures neither { HasCleanDisk (state S.Store conn.new) → OnErr result (ShowsAs (state S.Store conn.old).committed (state S.Store conn.new)) }
+    ensures idle { conn.new.in_transaction ≡ false }
+    ensures crash { Survives (state S.Store conn.old) (state S.Store conn.new)
+        (λ db. IsBare (state S.Store conn.old).now → IsNewBook (office_row office.now) db) }
+{
+    let row = OfficeRow {
+        society: u32::from(office.society),
+        territory: u32::from(office.territory),
+        name: office.name(),
+    };
+    create(conn, &row)?;
+    Ok(())
+}
+
+/// Makes a database an office's tables, or leaves it as it is.
+fn prepare<S: Alter>(
+    alloc: Global,
+    conn: &mut Connection<S>,
+    office: &Office,
+) -> Result<(), OpenFault>
+    requires { conn.old.in_transaction ≡ false }
+    ensures opens { Opens office.now (state S.Store conn.old) (state S.Store conn.new) result }
+    ensures idle { conn.new.in_transaction ≡ false }
+{
+    let _settled = conn.is_autocommit();
+    match layout_found(conn) {
+        Found::Nothing => begin(conn, office),
+        Found::Layout => audit(alloc, conn, office),
+        Found::Other => Err(OpenFault::Schema),
+    }
+}
+
+impl<S: Alter> Tables<S> {
+    /// The tables of an office in a database, which gets them where it has no table, index or view.
+    ///
+    /// Where it has those of layout 2 they are audited: they have to be this office's, and exactly what the requests that
+    /// they keep make of an empty book. The audit changes no row. `Schema` where there is something else, or no office that can
+    /// be read; `OtherOffice` where the tables are another office's; `Damaged` where they are not what they should be; `Memory`
+    /// and `Store` where memory or the database failed. After a fault the connection comes back, in no transaction, and the
+    /// database is as it was committed.
+    pub fn open(
+        alloc: Global,
+        connection: Connection<S>,
+        office: &Office,
+    ) -> Result<Tables<S>, (OpenFault, Connection<S>)>
+        requires { connection.in_transaction ≡ false }
+        ensures office { IfOk result (λ t. (⟦<Tables<S> as Store>⟧.state t).office ≡ office.now) }
+        ensures begun { IfOk result (λ t. HasCleanDisk (state S.Store t.conn) → IsTrue (state S.Store connection).is_open → IsBare (state S.Store connection).committed → (⟦<Tables<S> as Store>⟧.state t).book ≡ empty_book) }
+        ensures audited { IfOk result (λ t. HasCleanDisk (state S.Store t.conn) → IsTrue (state S.Store connection).is_open → HasLayout (state S.Store connection).committed
+            → HoldsOne office.now (state S.Store connection).committed.trees × ShowsAs (state S.Store connection).committed (state S.Store t.conn)) }
+        ensures known { IfOk result (λ t. HasCleanDisk (state S.Store t.conn) → IsTrue (state S.Store connection).is_open → IsOpenable (state S.Store connection).committed) }
+        ensures unchanged { IfErr result (λ e. HasCleanDisk (state S.Store e.1) → ShowsAs (state S.Store connection).committed (state S.Store e.1)) }
+        ensures idle { IfErr result (λ e. e.1.in_transaction ≡ false) }
+        ensures crash { MatchResult result (λ t. SurvivesOpening office.now (state S.Store connection) (state S.Store t.conn)) (λ e. SurvivesOpening office.now (state S.Store connection) (state S.Store e.1)) }
+    {
+        let mut conn = connection;
+        match prepare(alloc, &mut conn, office) {
+            Ok(()) => Ok(Tables::over(conn, office)),
+            Err(fault) => Err((fault, conn)),
+        }
+    }
+}

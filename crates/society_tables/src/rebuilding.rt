@@ -1,0 +1,320 @@
+//! The book of a database's own rows, built anew in memory.
+ghost use Rattle.std.specs.Prelude.{◌≡◌, IfOk, ⊤, false};
+ghost use Rattle.sqlite.specs.Held.{state};
+ghost use Rattle.society_tables.specs.Opening.{Inspects};
+
+use crate::comparing::rows_of_table;
+use crate::{OpenFault, Tables};
+use share_rules::Office;
+use society_core::{Desk, OrderError, PoolOrder, Refusal, ReturnKey, Store};
+use society_rows::{PoolCutRow, PoolReturnRow, PoolRow, ReturnRow, TableName, TransmissionRow};
+use sqlite::{Alter, Connection, MemStore, Row};
+use std::alloc::Global;
+use work_ids::{PoolNumber, Reporter, ReturnNumber, SenderKey, TransmissionNumber};
+
+/// A desk over tables in memory, to which the requests of a book come again.
+pub(crate) type Anew = Desk<Tables<MemStore>>;
+
+/// Want of memory, or damage where the desk refuses.
+fn fault_of_refusal(refusal: Refusal) -> OpenFault {
+    match refusal {
+        Refusal::Unavailable => OpenFault::Memory,
+        _ => OpenFault::Damaged,
+    }
+}
+
+/// Puts the transmission of a row.
+fn put_transmission(alloc: Global, desk: &mut Anew, row: &Row) -> Result<(), OpenFault>
+    ensures { (⟦<Tables<MemStore> as Store>⟧.state desk.new).office ≡ (⟦<Tables<MemStore> as Store>⟧.state desk.old).office }
+{
+    let Ok(row) = TransmissionRow::from_row(row) else {
+        return Err(OpenFault::Damaged);
+    };
+    let Ok(sender) = SenderKey::from_bytes(row.sender) else {
+        return Err(OpenFault::Damaged);
+    };
+    let Some(number) = TransmissionNumber::from_u32(row.number) else {
+        return Err(OpenFault::Damaged);
+    };
+    match desk.put_transmission(alloc, &sender, number, row.body) {
+        Ok(_) => Ok(()),
+        Err(refusal) => Err(fault_of_refusal(refusal)),
+    }
+}
+
+/// Puts the return of a row.
+fn put_return(alloc: Global, desk: &mut Anew, row: &Row) -> Result<(), OpenFault>
+    ensures { (⟦<Tables<MemStore> as Store>⟧.state desk.new).office ≡ (⟦<Tables<MemStore> as Store>⟧.state desk.old).office }
+{
+    let Ok(row) = ReturnRow::from_row(row) else {
+        return Err(OpenFault::Damaged);
+    };
+    let Ok(reporter) = Reporter::from_bytes(row.reporter) else {
+        return Err(OpenFault::Damaged);
+    };
+    let Some(number) = ReturnNumber::from_u32(row.number) else {
+        return Err(OpenFault::Damaged);
+    };
+    let key = ReturnKey { reporter, number };
+    match desk.put_return(alloc, &key, row.body) {
+        Ok(_) => Ok(()),
+        Err(refusal) => Err(fault_of_refusal(refusal)),
+    }
+}
+
+/// The senders and the numbers of a pool's cut, out of the rows of all cuts.
+fn cut_among(alloc: Global, rows: &[Row], pool: u32) -> Result<Vec<(SenderKey, u64)>, OpenFault> {
+    let mut cut = Vec::new(alloc);
+    for row in rows {
+        let Ok(row) = PoolCutRow::from_row(row) else {
+            return Err(OpenFault::Damaged);
+        };
+        if row.pool == pool {
+            let Ok(sender) = SenderKey::from_bytes(row.sender) else {
+                return Err(OpenFault::Damaged);
+            };
+            cut.push((sender, u64::from(row.number)))?;
+        }
+    }
+    Ok(cut)
+}
+
+/// The reporters and the numbers of the returns that a pool pays, out of the rows of all that are paid.
+fn returns_among(
+    alloc: Global,
+    rows: &[Row],
+    pool: u32,
+) -> Result<Vec<(Reporter, u64)>, OpenFault> {
+    let mut returns = Vec::new(alloc);
+    for row in rows {
+        let Ok(row) = PoolReturnRow::from_row(row) else {
+            return Err(OpenFault::Damaged);
+        };
+        if row.pool == pool {
+            let Ok(reporter) = Reporter::from_bytes(row.reporter) else {
+                return Err(OpenFault::Damaged);
+            };
+            returns.push((reporter, u64::from(row.number)))?;
+        }
+    }
+    Ok(returns)
+}
+
+/// The order of an amount, a cut and returns.
+fn order_with(
+    alloc: Global,
+    amount: i64,
+    cut: &[(SenderKey, u64)],
+    returns: &[(Reporter, u64)],
+) -> Result<PoolOrder, OpenFault> {
+    let Ok(amount) = u64::try_from(amount) else {
+        return Err(OpenFault::Damaged);
+    };
+    match PoolOrder::new(alloc, amount, cut, returns) {
+        Ok(order) => Ok(order),
+        Err(OrderError::Memory) => Err(OpenFault::Memory),
+        Err(OrderError::Order(_)) => Err(OpenFault::Damaged),
+    }
+}
+
+/// Closes a pool by its order.
+fn close_with(
+    alloc: Global,
+    desk: &mut Anew,
+    pool: PoolNumber,
+    order: &PoolOrder,
+) -> Result<(), OpenFault>
+    ensures { (⟦<Tables<MemStore> as Store>⟧.state desk.new).office ≡ (⟦<Tables<MemStore> as Store>⟧.state desk.old).office }
+{
+    match desk.close_pool(alloc, pool, order) {
+        Ok(_) => Ok(()),
+        Err(refusal) => Err(fault_of_refusal(refusal)),
+    }
+}
+
+/// Closes the pool of a row, with the rows of all cuts and of all returns that are paid.
+fn close_pool(
+    alloc: Global,
+    desk: &mut Anew,
+    row: &Row,
+    cuts: &[Row],
+    paid: &[Row],
+) -> Result<(), OpenFault>
+    ensures { (⟦<Tables<MemStore> as Store>⟧.state desk.new).office ≡ (⟦<Tables<MemStore> as Store>⟧.state desk.old).office }
+{
+    let Ok(row) = PoolRow::from_row(row) else {
+        return Err(OpenFault::Damaged);
+    };
+    let Some(pool) = PoolNumber::from_u32(row.pool) else {
+        return Err(OpenFault::Damaged);
+    };
+    let cut = cut_among(alloc, cuts, row.pool)?;
+    let returns = returns_among(alloc, paid, row.pool)?;
+    let order = order_with(alloc, row.amount, cut.as_slice(), returns.as_slice())?;
+    close_with(alloc, desk, pool, &order)
+}
+
+/// Puts the transmissions of rows.
+fn put_transmissions(alloc: Global, desk: &mut Anew, rows: &[Row]) -> Result<(), OpenFault>
+    ensures { (⟦<Tables<MemStore> as Store>⟧.state desk.new).office ≡ (⟦<Tables<MemStore> as Store>⟧.state desk.old).office }
+{
+    for row in rows {
+        put_transmission(alloc, desk, row)?;
+    }
+    Ok(())
+}
+
+/// Puts the returns of rows.
+fn put_returns(alloc: Global, desk: &mut Anew, rows: &[Row]) -> Result<(), OpenFault>
+    ensures { (⟦<Tables<MemStore> as Store>⟧.state desk.new).office ≡ (⟦<Tables<MemStore> as Store>⟧.state desk.old).office }
+{
+    for row in rows {
+        put_return(alloc, desk, row)?;
+    }
+    Ok(())
+}
+
+/// Closes the pools of rows, with the rows of all cuts and of all returns that are paid.
+fn close_pools(
+    alloc: Global,
+    desk: &mut Anew,
+    rows: &[Row],
+    cuts: &[Row],
+    paid: &[Row],
+) -> Result<(), OpenFault>
+    ensures { (⟦<Tables<MemStore> as Store>⟧.state desk.new).office ≡ (⟦<Tables<MemStore> as Store>⟧.state desk.old).office }
+{
+    for row in rows {
+        close_pool(alloc, desk, row, cuts, paid)?;
+    }
+    Ok(())
+}
+
+/// Puts the transmissions of a database.
+fn transmissions_from<S: Alter>(
+    alloc: Global,
+    conn: &mut Connection<S>,
+    desk: &mut Anew,
+) -> Result<(), OpenFault>
+    requires { conn.old.in_transaction ≡ false }
+    ensures asked { Inspects (state S.Store conn.old) (state S.Store conn.new) result (λ _ _. ⊤) }
+    ensures idle { conn.new.in_transaction ≡ false }
+    ensures office { (⟦<Tables<MemStore> as Store>⟧.state desk.new).office ≡ (⟦<Tables<MemStore> as Store>⟧.state desk.old).office }
+{
+    let rows = rows_of_table(conn, TableName::Transmissions)?;
+    put_transmissions(alloc, desk, rows.as_slice())
+}
+
+/// Puts the returns of a database.
+fn returns_from<S: Alter>(
+    alloc: Global,
+    conn: &mut Connection<S>,
+    desk: &mut Anew,
+) -> Result<(), OpenFault>
+    requires { conn.old.in_transaction ≡ false }
+    ensures asked { Inspects (state S.Store conn.old) (state S.Store conn.new) result (λ _ _. ⊤) }
+    ensures idle { conn.new.in_transaction ≡ false }
+    ensures office { (⟦<Tables<MemStore> as Store>⟧.state desk.new).office ≡ (⟦<Tables<MemStore> as Store>⟧.state desk.old).office }
+{
+    let rows = rows_of_table(conn, TableName::Returns)?;
+    put_returns(alloc, desk, rows.as_slice())
+}
+
+/// Closes the pools of a database, with the rows of all cuts.
+fn pools_with_cuts<S: Alter>(
+    alloc: Global,
+    conn: &mut Connection<S>,
+    desk: &mut Anew,
+    rows: &[Row],
+    cuts: &[Row],
+) -> Result<(), OpenFault>
+    requires { conn.old.in_transaction ≡ false }
+    ensures asked { Inspects (state S.Store conn.old) (state S.Store conn.new) result (λ _ _. ⊤) }
+    ensures idle { conn.new.in_transaction ≡ false }
+    ensures office { (⟦<Tables<MemStore> as Store>⟧.state desk.new).office ≡ (⟦<Tables<MemStore> as Store>⟧.state desk.old).office }
+{
+    let paid = rows_of_table(conn, TableName::PoolReturns)?;
+    close_pools(alloc, desk, rows, cuts, paid.as_slice())
+}
+
+/// Closes the pools of a database.
+fn pools_of_rows<S: Alter>(
+    alloc: Global,
+    conn: &mut Connection<S>,
+    desk: &mut Anew,
+    rows: &[Row],
+) -> Result<(), OpenFault>
+    requires { conn.old.in_transaction ≡ false }
+    ensures asked { Inspects (state S.Store conn.old) (state S.Store conn.new) result (λ _ _. ⊤) }
+    ensures idle { conn.new.in_transaction ≡ false }
+    ensures office { (⟦<Tables<MemStore> as Store>⟧.state desk.new).office ≡ (⟦<Tables<MemStore> as Store>⟧.state desk.old).office }
+{
+    let _settled = conn.is_autocommit();
+    let cuts = rows_of_table(conn, TableName::PoolCuts)?;
+    pools_with_cuts(alloc, conn, desk, rows, cuts.as_slice())
+}
+
+/// Closes the pools of a database.
+fn pools_from<S: Alter>(
+    alloc: Global,
+    conn: &mut Connection<S>,
+    desk: &mut Anew,
+) -> Result<(), OpenFault>
+    requires { conn.old.in_transaction ≡ false }
+    ensures asked { Inspects (state S.Store conn.old) (state S.Store conn.new) result (λ _ _. ⊤) }
+    ensures idle { conn.new.in_transaction ≡ false }
+    ensures office { (⟦<Tables<MemStore> as Store>⟧.state desk.new).office ≡ (⟦<Tables<MemStore> as Store>⟧.state desk.old).office }
+{
+    let _settled = conn.is_autocommit();
+    let rows = rows_of_table(conn, TableName::Pools)?;
+    pools_of_rows(alloc, conn, desk, rows.as_slice())
+}
+
+/// Puts the returns of a database, and closes its pools.
+fn money_from<S: Alter>(
+    alloc: Global,
+    conn: &mut Connection<S>,
+    desk: &mut Anew,
+) -> Result<(), OpenFault>
+    requires { conn.old.in_transaction ≡ false }
+    ensures asked { Inspects (state S.Store conn.old) (state S.Store conn.new) result (λ _ _. ⊤) }
+    ensures idle { conn.new.in_transaction ≡ false }
+    ensures office { (⟦<Tables<MemStore> as Store>⟧.state desk.new).office ≡ (⟦<Tables<MemStore> as Store>⟧.state desk.old).office }
+{
+    let _settled = conn.is_autocommit();
+    returns_from(alloc, conn, desk)?;
+    pools_from(alloc, conn, desk)
+}
+
+/// Puts the requests of a database's own rows, in the order of their keys.
+fn requests_from<S: Alter>(
+    alloc: Global,
+    conn: &mut Connection<S>,
+    desk: &mut Anew,
+) -> Result<(), OpenFault>
+    requires { conn.old.in_transaction ≡ false }
+    ensures asked { Inspects (state S.Store conn.old) (state S.Store conn.new) result (λ _ _. ⊤) }
+    ensures idle { conn.new.in_transaction ≡ false }
+    ensures office { (⟦<Tables<MemStore> as Store>⟧.state desk.new).office ≡ (⟦<Tables<MemStore> as Store>⟧.state desk.old).office }
+{
+    let _settled = conn.is_autocommit();
+    transmissions_from(alloc, conn, desk)?;
+    money_from(alloc, conn, desk)
+}
+
+/// Tables in memory to which the requests of a database's own rows have come.
+pub(crate) fn rebuild<S: Alter>(
+    alloc: Global,
+    conn: &mut Connection<S>,
+    office: &Office,
+) -> Result<Tables<MemStore>, OpenFault>
+    requires { conn.old.in_transaction ≡ false }
+    ensures asked { Inspects (state S.Store conn.old) (state S.Store conn.new) result (λ _ _. ⊤) }
+    ensures idle { conn.new.in_transaction ≡ false }
+    ensures office { IfOk result (λ t. (⟦<Tables<MemStore> as Store>⟧.state t).office ≡ office.now) }
+{
+    let _settled = conn.is_autocommit();
+    let mut desk = Desk::new(Tables::in_memory(alloc, office)?);
+    requests_from(alloc, conn, &mut desk)?;
+    Ok(desk.into_store())
+}
