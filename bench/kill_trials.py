@@ -4,8 +4,9 @@
 usage: bench/kill_trials.py [--program PROGRAM] [--kills N] [--port N] [--seed N] [FILE]
 
 One peer sends files of works (in order, behind gaps, again), returns and orders that close pools, and keeps of each request the
-status of its answer. After each start every request that was answered is sent again: it must be answered 200, since it is there.
-The request that was cut off may be there or not. FILE (a new one in a directory of its own) is kept if a trial fails.
+status of its answer. After each start the last 200 requests that were answered are sent again, and 200 others: they must be answered
+200, since they are there; after the last start all of them. The request that was cut off may be there or not. FILE is a new one in a
+directory of its own where none is named, and is kept.
 """
 import argparse
 import http.client
@@ -22,6 +23,7 @@ import table_times
 from hostile_bodies import HERE
 
 ADDED = (201, 202)
+SAMPLE = 200
 SENDERS = [f"PB{k:09d}" for k in range(1, 6)]
 
 
@@ -76,6 +78,11 @@ def load(port, chance, fronts, counts, answered):
         answered.append((path, body))
 
 
+def sample(chance, answered):
+    """The last requests and as many others."""
+    return answered[-SAMPLE:] + chance.sample(answered[:-SAMPLE], min(SAMPLE, len(answered[:-SAMPLE])))
+
+
 def checked(port, requests):
     """How many requests are there: each is sent again and answered 200."""
     office = http.client.HTTPConnection("127.0.0.1", port, timeout=60)
@@ -114,9 +121,9 @@ def main():
     counts = {"return": 0, "paid": 0, "pool": 0} | {it: 0 for it in SENDERS}
     for kill in range(words.kills):
         server, seconds = started(words.program, words.port, path)
-        there = checked(words.port, answered)
-        print(f"start {kill + 1}: {seconds:.2f} s, {there} answered requests there, {pathlib.Path(path).stat().st_size:,} bytes", flush=True)
-        killer = subprocess.Popen([sys.executable, "-c", f"import os, time; time.sleep({chance.uniform(0.05, 1.5)}); os.kill({server.pid}, 9)"])
+        there = checked(words.port, sample(chance, answered))
+        print(f"start {kill + 1}: {seconds:.2f} s, {there} of {len(answered)} answered requests asked, {pathlib.Path(path).stat().st_size:,} bytes", flush=True)
+        killer = subprocess.Popen([sys.executable, "-c", f"import os, time; time.sleep({chance.uniform(0.02, 0.4)}); os.kill({server.pid}, 9)"])
         cut = load(words.port, chance, fronts, counts, answered)
         killer.wait()
         server.wait()

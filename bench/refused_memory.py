@@ -6,7 +6,8 @@ usage: bench/refused_memory.py [PROGRAM]     (crates/society/out/society; `bin/s
 For each row below a server is started over and over; the k-th allocation of its process is refused, k = 1, 2, ..
 until a run in which none was. Each request comes over a connection of its own. It gets the row's answer, or, once at most, an
 answer 503 or a line 'memory fault after 0 requests'; it is then sent again, and it and all later ones get the row's answers.
-The allocations before the server listens end the program with status 1 and one line instead. `cc` compiles the refusal.
+Each server is given a database of its own, a file that is not there yet. The allocations before it listens end the program with
+status 1 and one line instead, whose file then opens as a new office. `cc` compiles the refusal.
 """
 import contextlib
 import os
@@ -22,7 +23,7 @@ HERE = pathlib.Path(__file__).resolve().parent.parent
 PROGRAM = str(HERE / "crates/society/out/society")
 WORDS = ["--society", "900", "--territory", "40", "--name", "EXAMPLE SOCIETY"]
 BUSY = b'{"error":"busy"}'
-MEMORY = ("society: memory fault after 0 requests\n", "society: out of memory\n")
+MEMORY = ("society: memory fault after 0 requests\n", "society: database memory\n", "society: database store\n")
 
 # The C library's allocations, counted; the one with the number REFUSE_AT is refused, and a file is made that says so.
 REFUSAL = r"""
@@ -152,7 +153,10 @@ class Server:
     def __init__(self, program, library, told, k):
         self.told, self.port = told, free_port()
         told.unlink(missing_ok=True)
-        words = [program, "serve", "--port", str(self.port), "--connections", "1000000", *WORDS]
+        database = told.parent / "office.db"
+        for left in told.parent.glob("office.db*"):
+            left.unlink()
+        words = [program, "serve", "--db", str(database), "--port", str(self.port), "--connections", "1000000", *WORDS]
         env = {"LD_PRELOAD": library, "REFUSE_AT": str(k), "REFUSE_TOLD": str(told)}
         self.process = subprocess.Popen(words, env=env, stdout=subprocess.PIPE, stderr=subprocess.PIPE)
 

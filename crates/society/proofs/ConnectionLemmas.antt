@@ -14,12 +14,11 @@ use Rattle.http_desk.specs.declared.counted.Counted.{Counted}
 use Rattle.http_desk.specs.declared.fault.DeskFault.{DeskFault}
 use Rattle.share_rules.specs.declared.office.Office.{Office}
 use Rattle.society_core.proofs.HeadlineLemmas.{holds_what_came}
-use Rattle.society_core.specs.Book.{Book, empty_book}
+use Rattle.society_core.specs.Book.{Book}
 use Rattle.society_core.specs.Requests.{Query, Reply}
 use Rattle.society_core.specs.Runs.{Run}
 use Rattle.society_core.specs.State.{Rises, State}
-use Rattle.society.proofs.ReplayLemmas.{from_nothing}
-use Rattle.society.specs.Connections.{Brings, Connection, IsCounted, Prints, ServesConnections, ServesOffice, ServesStore, connection_line, connection_lines, parts_of, replies_of, requests_of}
+use Rattle.society.specs.Connections.{Brings, Connection, IsCounted, Prints, ServesConnections, ServesStore, connection_line, connection_lines, parts_of, replies_of, requests_of}
 
 -- ---- a run goes on by a run
 
@@ -184,16 +183,4 @@ serves_store state store begun ended contents first out new_out count same liste
   counted = s.counted;
   answers = subst (λ (b : State). AreAnswered (parts_of s.connections) (replies_of s.connections) b (state ended)) (ap state same) s.answers;
   printed = prints_on contents first out new_out (codes "listening\n") (connection_lines 1 s.connections) listening s.printed;
-}
-
--- what is served over a store to which nothing had come, and that is clean at the end, is served at its office
-pub serves_office : {S W : Type 0} (state : S → State) (begun : S) (office : Office) (contents : W → Option (List ℕ)) (out new_out : Counted W) (count : ℕ)
-    → (state begun).office ≡ office → (state begun).book ≡ empty_book → ((store : S) → IsTrue (state store).is_clean)
-    → ServesStore state begun contents out new_out count → ServesOffice office contents out new_out count
-serves_office state begun office contents out new_out count same empty clean s = record {
-  connections = s.connections;
-  number = s.number;
-  counted = s.counted;
-  answers = from_nothing office (state begun) (state s.ended) (parts_of s.connections) (replies_of s.connections) same empty (clean s.ended) s.answers;
-  printed = s.printed;
 }

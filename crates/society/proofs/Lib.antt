@@ -1,4 +1,5 @@
 pub mod ConnectionLemmas
+pub mod DatabaseLemmas
 pub mod OptionLemmas
 pub mod RefusalLemmas
 pub mod ReplayLemmas

@@ -1,5 +1,5 @@
 -- What the options of the program give, and what its words are read as.
-use Rattle.std.proofs.Common.{◌≡◌, ◌∙◌, ◌^◌, ◌<◌, ◌&&◌, ap, ℕ, Bool, Option, List, true, false, refl, subst, [], ◌∷◌, Some, None, Result, Ok, Err, nat_lt, option_and_then, option_map}
+use Rattle.std.proofs.Common.{◌≡◌, ◌≢◌, ◌⊎◌, ◌∙◌, inl, inr, sym, ◌^◌, ◌<◌, ◌&&◌, ap, ℕ, Bool, Option, List, true, false, refl, subst, [], ◌∷◌, Some, None, Result, Ok, Err, nat_lt, option_and_then, option_map}
 use Rattle.std.proofs.lemmas.Bool.{ltb-true, lt-ltb}
 use Rattle.std.specs.Char.{digit_value}
 use Rattle.std.specs.List.{list_all}
@@ -7,16 +7,19 @@ use Rattle.std.specs.Str.Parse.{AllDigits, IsNumeral, ParsesUnsigned, digits_val
 use Rattle.clap.proofs.WalkLemmas.{both, one_text-rows}
 use Rattle.clap.specs.Matches.{ReadsOne, one_text, subcommand_name_of}
 use Rattle.clap.specs.Simple.{subcommand_rows, subcommand_rows_of}
+use Rattle.clap.specs.declared.error.kind.ErrorKind.{ErrorKind}
+use Rattle.clap.specs.declared.error.kind.ErrorKind.TheVariants.{DisplayHelp, OutOfMemory}
 use Rattle.clap.specs.declared.parser.matches.ArgMatches.{ArgMatches}
 use Rattle.clap.specs.declared.parser.matches.ArgMatches.TheViews.{out-ArgMatches, out-SubCommand}
 use Rattle.clap.specs.declared.parser.matches.SubCommand.{SubCommand}
 use Rattle.std.specs.Box.{box_value}
-use Rattle.std.specs.Prelude.{Box}
+use Rattle.std.specs.Prelude.{Box, IfOk, IsErr}
+use Rattle.std.specs.Borrow.{Bor}
 use Rattle.clap.specs.ValueTests.{is_numeral}
 use Rattle.clap.specs.Walk.{Row, Text, rows_of}
 use Rattle.clap.specs.declared.parser.matches.Found.{Found}
 use Rattle.share_rules.specs.declared.office.Office.{Office}
-use Rattle.society.specs.Words.{Asked, AsksFor, AsksHelp, AsksReplay, AsksServe, AsksToServe, HasBadName, HasBadWords, IsReadAs, IsWrong, number_given, number_of, serving}
+use Rattle.society.specs.Words.{Asked, AsksFor, AsksHelp, AsksReplay, AsksServe, AsksToServe, HasBadName, HasBadWords, IsReadAs, IsRefusedAs, IsWrong, number_given, number_of, serving}
 use Rattle.society.specs.declared.words.Place.{Place}
 use Rattle.society.specs.declared.words.Words.{Words}
 use Rattle.society.specs.declared.words.Words.TheVariants as words
@@ -77,83 +80,93 @@ not_entered m named = none_from (out-ArgMatches m).subcommand named
 -- words that are read as a replay ask for one
 pub asks_for : (a : Asked) (office : Office) → IsReadAs a (words.Replay office) → AsksFor a office
 asks_for (AsksReplay society territory name) office reads = reads
-asks_for (AsksServe place society territory name) office reads = absurd reads
+asks_for (AsksServe path place society territory name) office reads = absurd reads
 asks_for AsksHelp office reads = absurd reads
 asks_for HasBadName office reads = absurd reads
 asks_for HasBadWords office reads = absurd reads
 
 -- words that are read so as to serve ask for it
-pub asks_to_serve : (a : Asked) (place : Place) (office : Office) → IsReadAs a (words.Serve place office) → AsksToServe a place office
-asks_to_serve (AsksReplay society territory name) place office reads = absurd reads
-asks_to_serve (AsksServe asked society territory name) place office reads = reads
-asks_to_serve AsksHelp place office reads = absurd reads
-asks_to_serve HasBadName place office reads = absurd reads
-asks_to_serve HasBadWords place office reads = absurd reads
+pub asks_to_serve : (a : Asked) (path : Bor Text) (place : Place) (office : Office) → IsReadAs a (words.Serve path place office) → AsksToServe a path.now place office
+asks_to_serve (AsksReplay society territory name) path place office reads = absurd reads
+asks_to_serve (AsksServe asked there society territory name) path place office reads = reads
+asks_to_serve AsksHelp path place office reads = absurd reads
+asks_to_serve HasBadName path place office reads = absurd reads
+asks_to_serve HasBadWords path place office reads = absurd reads
 
 -- words that are read so as to be done are not wrong, and ask for no help
 pub replay_not_wrong : (a : Asked) (office : Office) → IsReadAs a (words.Replay office) → IsWrong a → ⊥
 replay_not_wrong (AsksReplay society territory name) office reads wrong = wrong
-replay_not_wrong (AsksServe place society territory name) office reads wrong = wrong
+replay_not_wrong (AsksServe path place society territory name) office reads wrong = wrong
 replay_not_wrong AsksHelp office reads wrong = wrong
 replay_not_wrong HasBadName office reads wrong = reads
 replay_not_wrong HasBadWords office reads wrong = reads
 
-pub serve_not_wrong : (a : Asked) (place : Place) (office : Office) → IsReadAs a (words.Serve place office) → IsWrong a → ⊥
-serve_not_wrong (AsksReplay society territory name) place office reads wrong = wrong
-serve_not_wrong (AsksServe asked society territory name) place office reads wrong = wrong
-serve_not_wrong AsksHelp place office reads wrong = wrong
-serve_not_wrong HasBadName place office reads wrong = reads
-serve_not_wrong HasBadWords place office reads wrong = reads
+pub serve_not_wrong : (a : Asked) (path : Bor Text) (place : Place) (office : Office) → IsReadAs a (words.Serve path place office) → IsWrong a → ⊥
+serve_not_wrong (AsksReplay society territory name) path place office reads wrong = wrong
+serve_not_wrong (AsksServe asked there society territory name) path place office reads wrong = wrong
+serve_not_wrong AsksHelp path place office reads wrong = wrong
+serve_not_wrong HasBadName path place office reads wrong = reads
+serve_not_wrong HasBadWords path place office reads wrong = reads
 
 pub read_no_help : (a : Asked) (read : Words) → IsReadAs a read → a ≡ AsksHelp → ⊥
 read_no_help a read reads help = no_help read (subst (λ (b : Asked). IsReadAs b read) help reads)
   where
     no_help : (read : Words) → IsReadAs AsksHelp read → ⊥
     no_help (words.Replay office) reads = reads
-    no_help (words.Serve place office) reads = reads
+    no_help (words.Serve path place office) reads = reads
     no_help words.BadName reads = reads
     no_help words.BadWords reads = reads
 
 -- words with a name that is none, and words that are none, are wrong
 pub name_is_wrong : (a : Asked) → IsReadAs a words.BadName → IsWrong a
 name_is_wrong (AsksReplay society territory name) reads = absurd reads
-name_is_wrong (AsksServe place society territory name) reads = absurd reads
+name_is_wrong (AsksServe path place society territory name) reads = absurd reads
 name_is_wrong AsksHelp reads = absurd reads
 name_is_wrong HasBadName reads = reads
 name_is_wrong HasBadWords reads = absurd reads
 
 pub words_are_wrong : (a : Asked) → IsReadAs a words.BadWords → IsWrong a
 words_are_wrong (AsksReplay society territory name) reads = absurd reads
-words_are_wrong (AsksServe place society territory name) reads = absurd reads
+words_are_wrong (AsksServe path place society territory name) reads = absurd reads
 words_are_wrong AsksHelp reads = absurd reads
 words_are_wrong HasBadName reads = absurd reads
 words_are_wrong HasBadWords reads = reads
 
--- words of a replay, at a place
-pub replay_served : (place : Place) (office : Office) (a : Asked) → IsReadAs a (words.Replay office) → IsReadAs (serving (Some place) a) (words.Serve place office)
-replay_served place office (AsksReplay society territory name) reads = (refl, reads)
-replay_served place office (AsksServe other society territory name) reads = absurd reads
-replay_served place office AsksHelp reads = absurd reads
-replay_served place office HasBadName reads = absurd reads
-replay_served place office HasBadWords reads = absurd reads
+-- words of a replay, over a database and at a place
+pub replay_served : (path : Bor Text) (place : Place) (office : Office) (a : Asked) → IsReadAs a (words.Replay office)
+    → IsReadAs (serving (Some path.now) (Some place) a) (words.Serve path place office)
+replay_served path place office (AsksReplay society territory name) reads = (refl, refl, reads)
+replay_served path place office (AsksServe asked there society territory name) reads = absurd reads
+replay_served path place office AsksHelp reads = absurd reads
+replay_served path place office HasBadName reads = absurd reads
+replay_served path place office HasBadWords reads = absurd reads
 
-pub serve_served : (place other : Place) (office : Office) (a : Asked) → IsReadAs a (words.Serve other office) → IsReadAs (serving (Some place) a) (words.Serve other office)
-serve_served place other office (AsksReplay society territory name) reads = absurd reads
-serve_served place other office (AsksServe asked society territory name) reads = reads
-serve_served place other office AsksHelp reads = absurd reads
-serve_served place other office HasBadName reads = absurd reads
-serve_served place other office HasBadWords reads = absurd reads
+pub serve_served : (path opened : Bor Text) (place other : Place) (office : Office) (a : Asked) → IsReadAs a (words.Serve opened other office)
+    → IsReadAs (serving (Some path.now) (Some place) a) (words.Serve opened other office)
+serve_served path opened place other office (AsksReplay society territory name) reads = absurd reads
+serve_served path opened place other office (AsksServe asked there society territory name) reads = reads
+serve_served path opened place other office AsksHelp reads = absurd reads
+serve_served path opened place other office HasBadName reads = absurd reads
+serve_served path opened place other office HasBadWords reads = absurd reads
 
-pub name_served : (place : Place) (a : Asked) → IsReadAs a words.BadName → IsReadAs (serving (Some place) a) words.BadName
-name_served place (AsksReplay society territory name) reads = absurd reads
-name_served place (AsksServe asked society territory name) reads = absurd reads
-name_served place AsksHelp reads = absurd reads
-name_served place HasBadName reads = reads
-name_served place HasBadWords reads = absurd reads
+pub name_served : (path : Bor Text) (place : Place) (a : Asked) → IsReadAs a words.BadName → IsReadAs (serving (Some path.now) (Some place) a) words.BadName
+name_served path place (AsksReplay society territory name) reads = absurd reads
+name_served path place (AsksServe asked there society territory name) reads = absurd reads
+name_served path place AsksHelp reads = absurd reads
+name_served path place HasBadName reads = reads
+name_served path place HasBadWords reads = absurd reads
 
-pub words_served : (place : Place) (a : Asked) → IsReadAs a words.BadWords → IsReadAs (serving (Some place) a) words.BadWords
-words_served place (AsksReplay society territory name) reads = absurd reads
-words_served place (AsksServe asked society territory name) reads = absurd reads
-words_served place AsksHelp reads = absurd reads
-words_served place HasBadName reads = absurd reads
-words_served place HasBadWords reads = reads
+pub words_served : (path : Bor Text) (place : Place) (a : Asked) → IsReadAs a words.BadWords → IsReadAs (serving (Some path.now) (Some place) a) words.BadWords
+words_served path place (AsksReplay society territory name) reads = absurd reads
+words_served path place (AsksServe asked there society territory name) reads = absurd reads
+words_served path place AsksHelp reads = absurd reads
+words_served path place HasBadName reads = absurd reads
+words_served path place HasBadWords reads = reads
+
+-- words that are refused are answered with 0 where they ask for help alone
+pub refused_served : {E : Type 0} (X Y : Type 0) (a : Asked) (kind : ErrorKind) (result : Result ℕ E) → IsRefusedAs a kind → (kind ≡ OutOfMemory → IsErr result)
+    → (kind ≢ DisplayHelp → IfOk result (λ status. (status ≡ 2) × Y)) → IfOk result (λ status. status ≡ 0 → (a ≡ AsksHelp) ⊎ X)
+refused_served X Y a kind (Err e) refused memory wrong = tt
+refused_served X Y a kind (Ok status) (inl none) memory wrong = (let no : false ≡ true = memory none in cc)
+refused_served X Y a kind (Ok status) (inr (inl (help, is))) memory wrong = λ zero. inl is
+refused_served X Y a kind (Ok status) (inr (inr (other, is))) memory wrong = λ zero. (let two : status ≡ 2 = (wrong other).0 in cc)

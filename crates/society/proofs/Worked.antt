@@ -101,34 +101,42 @@ no_help_command : asked (codes "society" ∷ codes "help" ∷ []) ≡ HasBadWord
 unfolding clap_on_literals
 no_help_command = refl
 
-serve : asked (codes "society" ∷ codes "serve" ∷ codes "--port" ∷ codes "8080" ∷ codes "--connections" ∷ codes "1000000" ∷ codes "--society" ∷ codes "900" ∷ codes "--territory" ∷ codes "40" ∷ codes "--name" ∷ codes "X" ∷ []) ≡ AsksServe (record { port = 8080; connections = 1000000 }) 900 40 (codes "X")
+serve : asked (codes "society" ∷ codes "serve" ∷ codes "--db" ∷ codes "office.db" ∷ codes "--port" ∷ codes "8080" ∷ codes "--connections" ∷ codes "1000000" ∷ codes "--society" ∷ codes "900" ∷ codes "--territory" ∷ codes "40" ∷ codes "--name" ∷ codes "X" ∷ []) ≡ AsksServe (codes "office.db") (record { port = 8080; connections = 1000000 }) 900 40 (codes "X")
 unfolding clap_on_literals
 serve = refl
 
-serve_turned : asked (codes "society" ∷ codes "serve" ∷ codes "--name" ∷ codes "X" ∷ codes "--connections" ∷ codes "7" ∷ codes "--society" ∷ codes "900" ∷ codes "--port" ∷ codes "65535" ∷ codes "--territory" ∷ codes "40" ∷ []) ≡ AsksServe (record { port = 65535; connections = 7 }) 900 40 (codes "X")
+serve_turned : asked (codes "society" ∷ codes "serve" ∷ codes "--name" ∷ codes "X" ∷ codes "--connections" ∷ codes "7" ∷ codes "--society" ∷ codes "900" ∷ codes "--port" ∷ codes "65535" ∷ codes "--db=office.db" ∷ codes "--territory" ∷ codes "40" ∷ []) ≡ AsksServe (codes "office.db") (record { port = 65535; connections = 7 }) 900 40 (codes "X")
 unfolding clap_on_literals
 serve_turned = refl
 
-no_port : asked (codes "society" ∷ codes "serve" ∷ codes "--port" ∷ codes "0" ∷ codes "--connections" ∷ codes "1" ∷ codes "--society" ∷ codes "900" ∷ codes "--territory" ∷ codes "40" ∷ codes "--name" ∷ codes "X" ∷ []) ≡ HasBadWords
+no_port : asked (codes "society" ∷ codes "serve" ∷ codes "--db" ∷ codes "office.db" ∷ codes "--port" ∷ codes "0" ∷ codes "--connections" ∷ codes "1" ∷ codes "--society" ∷ codes "900" ∷ codes "--territory" ∷ codes "40" ∷ codes "--name" ∷ codes "X" ∷ []) ≡ HasBadWords
 unfolding clap_on_literals
 no_port = refl
 
-past_the_ports : asked (codes "society" ∷ codes "serve" ∷ codes "--port" ∷ codes "65536" ∷ codes "--connections" ∷ codes "1" ∷ codes "--society" ∷ codes "900" ∷ codes "--territory" ∷ codes "40" ∷ codes "--name" ∷ codes "X" ∷ []) ≡ HasBadWords
+past_the_ports : asked (codes "society" ∷ codes "serve" ∷ codes "--db" ∷ codes "office.db" ∷ codes "--port" ∷ codes "65536" ∷ codes "--connections" ∷ codes "1" ∷ codes "--society" ∷ codes "900" ∷ codes "--territory" ∷ codes "40" ∷ codes "--name" ∷ codes "X" ∷ []) ≡ HasBadWords
 unfolding clap_on_literals
 past_the_ports = refl
 
-no_connections : asked (codes "society" ∷ codes "serve" ∷ codes "--port" ∷ codes "8080" ∷ codes "--connections" ∷ codes "0" ∷ codes "--society" ∷ codes "900" ∷ codes "--territory" ∷ codes "40" ∷ codes "--name" ∷ codes "X" ∷ []) ≡ HasBadWords
+no_connections : asked (codes "society" ∷ codes "serve" ∷ codes "--db" ∷ codes "office.db" ∷ codes "--port" ∷ codes "8080" ∷ codes "--connections" ∷ codes "0" ∷ codes "--society" ∷ codes "900" ∷ codes "--territory" ∷ codes "40" ∷ codes "--name" ∷ codes "X" ∷ []) ≡ HasBadWords
 unfolding clap_on_literals
 no_connections = refl
 
-too_many_connections : asked (codes "society" ∷ codes "serve" ∷ codes "--port" ∷ codes "8080" ∷ codes "--connections" ∷ codes "1000001" ∷ codes "--society" ∷ codes "900" ∷ codes "--territory" ∷ codes "40" ∷ codes "--name" ∷ codes "X" ∷ []) ≡ HasBadWords
+too_many_connections : asked (codes "society" ∷ codes "serve" ∷ codes "--db" ∷ codes "office.db" ∷ codes "--port" ∷ codes "8080" ∷ codes "--connections" ∷ codes "1000001" ∷ codes "--society" ∷ codes "900" ∷ codes "--territory" ∷ codes "40" ∷ codes "--name" ∷ codes "X" ∷ []) ≡ HasBadWords
 unfolding clap_on_literals
 too_many_connections = refl
 
-serve_without_a_port : asked (codes "society" ∷ codes "serve" ∷ codes "--connections" ∷ codes "1" ∷ codes "--society" ∷ codes "900" ∷ codes "--territory" ∷ codes "40" ∷ codes "--name" ∷ codes "X" ∷ []) ≡ HasBadWords
+serve_without_a_port : asked (codes "society" ∷ codes "serve" ∷ codes "--db" ∷ codes "office.db" ∷ codes "--connections" ∷ codes "1" ∷ codes "--society" ∷ codes "900" ∷ codes "--territory" ∷ codes "40" ∷ codes "--name" ∷ codes "X" ∷ []) ≡ HasBadWords
 unfolding clap_on_literals
 serve_without_a_port = refl
 
 replay_at_a_port : asked (codes "society" ∷ codes "replay" ∷ codes "--port" ∷ codes "8080" ∷ codes "--society" ∷ codes "900" ∷ codes "--territory" ∷ codes "40" ∷ codes "--name" ∷ codes "X" ∷ []) ≡ HasBadWords
 unfolding clap_on_literals
 replay_at_a_port = refl
+
+serve_without_a_database : asked (codes "society" ∷ codes "serve" ∷ codes "--port" ∷ codes "8080" ∷ codes "--connections" ∷ codes "1" ∷ codes "--society" ∷ codes "900" ∷ codes "--territory" ∷ codes "40" ∷ codes "--name" ∷ codes "X" ∷ []) ≡ HasBadWords
+unfolding clap_on_literals
+serve_without_a_database = refl
+
+replay_over_a_database : asked (codes "society" ∷ codes "replay" ∷ codes "--db" ∷ codes "office.db" ∷ codes "--society" ∷ codes "900" ∷ codes "--territory" ∷ codes "40" ∷ codes "--name" ∷ codes "X" ∷ []) ≡ HasBadWords
+unfolding clap_on_literals
+replay_over_a_database = refl

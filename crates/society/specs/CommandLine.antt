@@ -27,10 +27,11 @@ with_office command =
 abbrev pub replay_command : App
 replay_command = with_office (new_app (codes "replay"))
 
--- `serve`, with a port of 1 to 65,535, a count of connections of 1 to 1,000,000, and an office (profile)
+-- `serve`, with the path of a database, a port of 1 to 65,535, a count of connections of 1 to 1,000,000, and an office (profile)
 abbrev pub serve_command : App
 serve_command =
-    with_office (with_rule (with_rule (new_app (codes "serve")) (number_option (codes "port") 1 65535)) (number_option (codes "connections") 1 1000000))
+    let database = with_rule (new_app (codes "serve")) (required_option (codes "db")) in
+    with_office (with_rule (with_rule database (number_option (codes "port") 1 65535)) (number_option (codes "connections") 1 1000000))
 
 -- the program: one of its two commands is to be given; no command is named `help`
 abbrev pub command_line : App

@@ -9,9 +9,15 @@ use Rattle.http_desk.specs.declared.connection.Served.{Served}
 use Rattle.http_desk.specs.declared.counted.Counted.{Counted}
 use Rattle.http_desk.specs.declared.fault.DeskFault.{DeskFault}
 use Rattle.share_rules.specs.declared.office.Office.{Office}
+use Rattle.sqlite.specs.State as connection
+use Rattle.society_core.specs.Book.{empty_book}
 use Rattle.society_core.specs.Requests.{Reply}
 use Rattle.society_core.specs.State.{Rises, State}
-use Rattle.society.specs.Replays.{AnswersFromNothing, fault_name}
+use Rattle.society_rows.specs.NewBook.{IsBare}
+use Rattle.society_rows.specs.Stored.{HasLayout}
+use Rattle.society_tables.specs.BookRows.{book_of}
+use Rattle.society_tables.specs.Opening.{HoldsOne, IsOpenable}
+use Rattle.society.specs.Replays.{fault_name}
 
 -- how many requests a connection brought, by what it came to
 abbrev pub requests_of : Result Served DeskFault → ℕ
@@ -72,19 +78,6 @@ pub record ServesConnections {W : Type 0} (contents : W → Option (List ℕ)) (
   pub answers : AreAnswered (parts_of connections) (replies_of connections) old new
   pub printed : Prints contents out new_out (connection_lines 1 connections)
 
--- so many connections were served at an office to which nothing had come; `listening` was printed before, and a line for each
-pub record ServesOffice {W : Type 0} (office : Office) (contents : W → Option (List ℕ)) (out new_out : Counted W) (count : ℕ) : Type 0 where
-  pub connections : List Connection
-  pub number : length connections ≡ count
-  pub counted : AllByRecursion IsCounted connections
-  pub answers : AnswersFromNothing office (parts_of connections) (replies_of connections)
-  pub printed : Prints contents out new_out (codes "listening\n" ++ connection_lines 1 connections)
-
--- serving ended early: it could not listen, and printed nothing; or fewer connections came
-abbrev pub StopsServing : {W : Type 0} → Office → (W → Option (List ℕ)) → Counted W → Counted W → ℕ → Type 0
-StopsServing office contents out new_out connections =
-    (new_out ≡ out) ⊎ ((count : ℕ) × (count < connections) × ServesOffice office contents out new_out count)
-
 -- so many connections were served over a store; `listening` was printed before, and a line for each
 pub record ServesStore {S : Type 0} (state : S → State) (begun : S) {W : Type 0} (contents : W → Option (List ℕ)) (out new_out : Counted W) (count : ℕ) : Type 0 where
   pub ended : S
@@ -98,6 +91,39 @@ pub record ServesStore {S : Type 0} (state : S → State) (begun : S) {W : Type 
 abbrev pub StopsServingStore : {S : Type 0} → (S → State) → S → {W : Type 0} → (W → Option (List ℕ)) → Counted W → Counted W → ℕ → Type 0
 StopsServingStore state begun contents out new_out connections =
     (new_out ≡ out) ⊎ ((count : ℕ) × (count < connections) × ServesStore state begun contents out new_out count)
+
+-- What a store shows that is opened over what a connection was found with: it is the office's; where there was no table its book is
+-- empty, and where there were those of layout 2 they held a sound book with what is derived from it, and that is its book.
+pub record IsOver (office : Office) (found : connection.State) (begun : State) : Type 0 where
+  pub office_is : begun.office ≡ office
+  pub known : IsTrue found.is_open → IsTrue begun.is_clean → IsOpenable found.committed
+  pub bare : IsTrue found.is_open → IsTrue begun.is_clean → IsBare found.committed → begun.book ≡ empty_book
+  pub kept : IsTrue found.is_open → IsTrue begun.is_clean → HasLayout found.committed
+      → HoldsOne office found.committed.trees × (begun.book ≡ book_of found.committed.trees)
+
+-- what a connection shows of a file that was opened: over a disk that tells the truth it is open, and shows what the files recovered to
+abbrev pub IsFound : connection.State → Type 0
+IsFound s = connection.HasCleanDisk s → connection.Opens s × connection.IsLive s
+
+-- so many connections were served over a store that was opened over what a connection was found with
+abbrev pub ServesDatabase : {S : Type 0} → (S → State) → Office → connection.State → {W : Type 0} → (W → Option (List ℕ)) → Counted W → Counted W → ℕ → Type 0
+ServesDatabase {S} state office found contents out new_out count =
+    (begun : S) × IsOver office found (state begun) × ServesStore state begun contents out new_out count
+
+-- serving so ended early: nothing was printed, or fewer connections came
+abbrev pub StopsServingDatabase : {S : Type 0} → (S → State) → Office → connection.State → {W : Type 0} → (W → Option (List ℕ)) → Counted W → Counted W → ℕ → Type 0
+StopsServingDatabase state office found contents out new_out connections =
+    (new_out ≡ out) ⊎ ((count : ℕ) × (count < connections) × ServesDatabase state office found contents out new_out count)
+
+-- so many connections were served over a database that was opened so
+abbrev pub ServesOpened : {C S : Type 0} → (C → connection.State) → (connection.State → Type 0) → (S → State) → Office → {W : Type 0} → (W → Option (List ℕ)) → Counted W → Counted W → ℕ → Type 0
+ServesOpened {C} show MayOpen state office contents out new_out count =
+    (conn : C) × MayOpen (show conn) × ServesDatabase state office (show conn) contents out new_out count
+
+-- serving so ended early: the database was not opened, and nothing was printed; or fewer connections came
+abbrev pub StopsServingOpened : {C S : Type 0} → (C → connection.State) → (connection.State → Type 0) → (S → State) → Office → {W : Type 0} → (W → Option (List ℕ)) → Counted W → Counted W → ℕ → Type 0
+StopsServingOpened show MayOpen state office contents out new_out connections =
+    (new_out ≡ out) ⊎ ((count : ℕ) × (count < connections) × ServesOpened show MayOpen state office contents out new_out count)
 
 -- fewer connections than were asked for were served
 abbrev pub StopsEarly : {W : Type 0} → (W → Option (List ℕ)) → State → State → Counted W → Counted W → ℕ → Type 0

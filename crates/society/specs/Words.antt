@@ -28,10 +28,10 @@ number_of bits text =
 abbrev pub number_given : ℕ → Text → List Row → Option ℕ
 number_given bits option rows = option_and_then (number_of bits) (one_of option rows)
 
--- what words ask for: to replay at the office with this society, territory and name, or to serve connections there at a place; to be told of the words; else the name is none, or the words are none that the program knows
+-- what words ask for: to replay at the office with this society, territory and name, or to serve connections there at a place, over the database of a path; to be told of the words; else the name is none, or the words are none that the program knows
 pub data Asked : Type 0 where
   AsksReplay : ℕ → ℕ → Text → Asked
-  AsksServe : Place → ℕ → ℕ → Text → Asked
+  AsksServe : Text → Place → ℕ → ℕ → Text → Asked
   AsksHelp : Asked
   HasBadName : Asked
   HasBadWords : Asked
@@ -57,18 +57,23 @@ place_at None connections = None
 abbrev pub place_of : List Row → Option Place
 place_of rows = place_at (number_given 16 (codes "port") rows) (number_given 32 (codes "connections") rows)
 
--- to serve at a place, where the rest asks for a replay
-abbrev pub serving : Option Place → Asked → Asked
-serving (Some place) (AsksReplay society territory name) = AsksServe place society territory name
-serving (Some place) (AsksServe other society territory name) = AsksServe other society territory name
-serving (Some place) AsksHelp = AsksHelp
-serving (Some place) HasBadName = HasBadName
-serving (Some place) HasBadWords = HasBadWords
-serving None asked = HasBadWords
+-- to serve the database of a path at a place, where the rest asks for a replay
+abbrev pub serving : Option Text → Option Place → Asked → Asked
+serving (Some path) (Some place) (AsksReplay society territory name) = AsksServe path place society territory name
+serving (Some path) (Some place) (AsksServe other there society territory name) = AsksServe other there society territory name
+serving (Some path) (Some place) AsksHelp = AsksHelp
+serving (Some path) (Some place) HasBadName = HasBadName
+serving (Some path) (Some place) HasBadWords = HasBadWords
+serving (Some path) None asked = HasBadWords
+serving None place asked = HasBadWords
+
+-- what options of `serve` ask for
+abbrev pub asked_serve : List Row → Asked
+asked_serve rows = serving (first_of (codes "db") rows) (place_of rows) (asked_office rows)
 
 -- what a command asks for with its options
 abbrev pub asked_command : Text → List Row → Asked
-asked_command command rows = if bytes_eq command (codes "serve") then serving (place_of rows) (asked_office rows) else asked_office rows
+asked_command command rows = if bytes_eq command (codes "serve") then asked_serve rows else asked_office rows
 
 -- what words ask for that the command line takes, by the command in them
 abbrev pub asked_in : Option (Text × List Row) → Asked
@@ -92,7 +97,7 @@ asked words = asked_by (fault_of command_line words) (subcommand_of command_line
 -- the program's reading of the words is what they ask for
 abbrev pub IsReadAs : Asked → Words → Type 0
 IsReadAs (AsksReplay society territory name) (words.Replay office) = IsOfficeOf society territory name office
-IsReadAs (AsksServe place society territory name) (words.Serve read office) = (read ≡ place) × IsOfficeOf society territory name office
+IsReadAs (AsksServe path place society territory name) (words.Serve opened read office) = (opened.now ≡ path) × (read ≡ place) × IsOfficeOf society territory name office
 IsReadAs HasBadName words.BadName = Unit {0}
 IsReadAs HasBadWords words.BadWords = Unit {0}
 IsReadAs _ _ = ⊥
@@ -106,18 +111,18 @@ abbrev pub AsksFor : Asked → Office → Type 0
 AsksFor (AsksReplay society territory name) office = IsOfficeOf society territory name office
 AsksFor _ office = ⊥
 
--- the words ask to serve at this place and this office
-abbrev pub AsksToServe : Asked → Place → Office → Type 0
-AsksToServe (AsksServe asked society territory name) place office = (place ≡ asked) × IsOfficeOf society territory name office
-AsksToServe _ place office = ⊥
+-- the words ask to serve the database of this path at this place and this office
+abbrev pub AsksToServe : Asked → Text → Place → Office → Type 0
+AsksToServe (AsksServe asked there society territory name) path place office = (path ≡ asked) × (place ≡ there) × IsOfficeOf society territory name office
+AsksToServe _ path place office = ⊥
 
 -- the words ask for a replay at an office of which this holds
 abbrev pub StartsReplay : Asked → (Office → Type 0) → Type 0
 StartsReplay asked Holds = (office : Office) × AsksFor asked office × Holds office
 
--- the words ask to serve at a place and an office of which this holds
-abbrev pub StartsServing : Asked → (Place → Office → Type 0) → Type 0
-StartsServing asked Holds = (place : Place) × (office : Office) × AsksToServe asked place office × Holds place office
+-- the words ask to serve the database of a path at a place and an office of which this holds
+abbrev pub StartsServing : Asked → (Text → Place → Office → Type 0) → Type 0
+StartsServing asked Holds = (path : Text) × (place : Place) × (office : Office) × AsksToServe asked path place office × Holds path place office
 
 -- the words are wrong, or the name is
 abbrev pub IsWrong : Asked → Type 0

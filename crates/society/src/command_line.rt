@@ -45,6 +45,9 @@ fn replay_command<'a>(alloc: Global) -> Result<Command<'a>, AllocError>
 fn serve_command<'a>(alloc: Global) -> Result<Command<'a>, AllocError>
     ensures { IfOk result (λ r. (app_of r ≡ serve_command) × ((fields_of r).has_globals ≡ false)) }
 {
+    let database = required(alloc, "db", "PATH").help(
+        "File of the office's database, made where there is none",
+    );
     let port = required(alloc, "port", "N")
         .value_parser(value_parser!(u16).range(1..=MAX_PORT))
         .help("Port of this machine, 1 to 65535");
@@ -53,6 +56,7 @@ fn serve_command<'a>(alloc: Global) -> Result<Command<'a>, AllocError>
         .help("Connections to serve, one after another, 1 to 1000000");
     let command = Command::new(alloc, "serve")
         .about("Listen on this machine and answer the requests of connections")
+        .arg(database)?
         .arg(port)?
         .arg(connections)?;
     with_office(alloc, command)

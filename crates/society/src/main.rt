@@ -1,5 +1,6 @@
 //! The program: `society replay --society N --territory N --name TEXT` serves standard input to standard output over a book
-//! in memory; `society serve --port N --connections N` and the same serves connections on this machine; `--help` tells both.
+//! in memory; `society serve --db PATH --port N --connections N` and the same serves connections on this machine over the database
+//! at a path; `--help` tells both.
 #![tactic(auto)]
 
 #[cfg(test)]
@@ -8,6 +9,8 @@ mod command_line;
 #[cfg(test)]
 mod connection_tests;
 mod connections;
+#[cfg(test)]
+mod database_tests;
 #[cfg(test)]
 mod day_tests;
 #[cfg(test)]
@@ -18,6 +21,7 @@ mod hostile_tests;
 mod http_tests;
 #[cfg(test)]
 mod limit_tests;
+mod opening;
 #[cfg(test)]
 mod pool_tests;
 mod replay;

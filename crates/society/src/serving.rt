@@ -1,39 +1,15 @@
 //! The office as a server on this machine.
 ghost use Rattle.std.specs.Prelude.{◌≡◌, ◌⊎◌};
-ghost use Rattle.society.specs.Connections.{ServesOffice, ServesStore, StopsServing, StopsServingStore};
+ghost use Rattle.society.specs.Connections.{ServesStore, StopsServingStore};
 
 use crate::connections::{AcceptFault, print, serve_connections};
 use crate::replay::{BROKEN_OFF, SERVED};
 use crate::words::Place;
 use http_desk::Counted;
-use share_rules::Office;
 use society_core::{Desk, Store};
-use society_tables::Tables;
 use std::alloc::Global;
 use std::io::Write;
 use std::net::{Ipv4Addr, Net, TcpListener, TcpStream};
-
-/// Listens on this machine at a port, prints `listening`, and serves so many connections at an office to which nothing has
-/// come, over tables in memory. Answers the exit status: 0, or 1 with one line on `err` where memory is refused for the
-/// tables, or it cannot listen or accept.
-pub fn serve_office<N: Net<Listener = TcpListener, Stream = TcpStream>, W: Write, E: Write>(
-    net: &N,
-    alloc: Global,
-    office: &Office,
-    place: Place,
-    out: &mut Counted<W>,
-    err: &mut E,
-) -> u8
-    ensures status { (result ≡ 0) ⊎ (result ≡ 1) }
-    ensures served { result ≡ 0 → ServesOffice office.now W.contents out.old out.new place.connections }
-    // Nothing is printed where it has no tables or cannot listen; else fewer connections came.
-    ensures broken_off { result ≡ 1 → StopsServing office.now W.contents out.old out.new place.connections }
-{
-    let Ok(tables) = Tables::in_memory(alloc, office) else {
-        return break_off(err, "out of memory");
-    };
-    serve_store(net, alloc, tables, place, out, err)
-}
 
 /// Listens on this machine at a port, prints `listening`, and serves so many connections over a store. Answers the exit
 /// status: 0, or 1 with one line on `err` where it cannot listen or accept.

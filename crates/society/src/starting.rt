@@ -2,17 +2,20 @@
 ghost use Rattle.std.specs.Prelude.{◌≡◌, ◌≢◌, ◌⊎◌, IfOk, IsErr, OnErr, map, string_bytes};
 ghost use Rattle.clap.specs.Words.{kind_of};
 ghost use Rattle.clap.specs.declared.error.kind.ErrorKind.TheVariants.{DisplayHelp, OutOfMemory};
-ghost use Rattle.society.specs.Connections.{ServesOffice, StopsServing};
+ghost use Rattle.sqlite.specs.Held.{state};
+ghost use Rattle.society.specs.Connections.{ServesOpened, StopsServingOpened};
 ghost use Rattle.society.specs.Replays.{Replays, BreaksOff};
 ghost use Rattle.society.specs.Words.{IsWrong, StartsReplay, StartsServing, AsksHelp, asked, status_without};
 
 use crate::connections::print;
+use crate::opening::{OpenDatabase, serve_file};
 use crate::replay::{BROKEN_OFF, SERVED, replay, report};
-use crate::serving::serve_office;
 use crate::words::{Words, words_in};
 use clap::Error;
 use clap::error::ErrorKind as ClapKind;
 use http_desk::{Counted, DeskFault, FaultKind};
+use society_core::Store;
+use society_tables::Tables;
 use std::alloc::Global;
 use std::io::{self, ErrorKind, Read, Write};
 use std::net::{Net, TcpListener, TcpStream};
@@ -29,11 +32,17 @@ pub enum NoWords {
     Memory,
 }
 
-/// Does what the program's words ask for: replays the reader at the office that they name, or serves connections there, or
-/// tells of the words on `out`; where they are wrong, says so on `err` and reads and writes nothing else. Answers the exit
-/// status: that of `replay` or of `serve_office`, 0 for help, 2 for wrong words; else memory was refused for the words.
-pub fn start<N: Net<Listener = TcpListener, Stream = TcpStream>, R: Read, W: Write, E: Write>(
-    net: &N,
+/// Does what the program's words ask for: replays the reader at the office that they name, or serves connections there over the
+/// database that they name, or tells of the words on `out`; where they are wrong, says so on `err` and reads and writes nothing
+/// else. Answers the exit status: that of `replay` or of `serve_file`, 0 for help, 2 for wrong words; else memory was refused for
+/// the words.
+pub fn start<
+    H: Net<Listener = TcpListener, Stream = TcpStream> + OpenDatabase,
+    R: Read,
+    W: Write,
+    E: Write,
+>(
+    host: &H,
     alloc: Global,
     words: &[String],
     reader: &mut Counted<R>,
@@ -50,17 +59,19 @@ pub fn start<N: Net<Listener = TcpListener, Stream = TcpStream>, R: Read, W: Wri
     ensures served { IfOk result (λ status. status ≡ 0 → (asked (map string_bytes words.now) ≡ AsksHelp)
         ⊎ (StartsReplay (asked (map string_bytes words.now)) (λ office.
         Replays office R.remaining W.contents reader.old out.old out.new)
-        ⊎ StartsServing (asked (map string_bytes words.now)) (λ place office.
-        ServesOffice office W.contents out.old out.new place.connections))) }
+        ⊎ StartsServing (asked (map string_bytes words.now)) (λ path place office.
+        ServesOpened (state H.Medium.Store) (H.may_open path) ⟦<Tables<H::Medium> as Store>⟧.state office W.contents out.old out.new place.connections))) }
     ensures broken_off { IfOk result (λ status. status ≡ 1
         → StartsReplay (asked (map string_bytes words.now)) (λ office.
         BreaksOff office R.remaining W.contents reader.old reader.new out.old out.new)
-        ⊎ StartsServing (asked (map string_bytes words.now)) (λ place office.
-        StopsServing office W.contents out.old out.new place.connections)) }
+        ⊎ StartsServing (asked (map string_bytes words.now)) (λ path place office.
+        StopsServingOpened (state H.Medium.Store) (H.may_open path) ⟦<Tables<H::Medium> as Store>⟧.state office W.contents out.old out.new place.connections)) }
 {
     match words_in(alloc, words) {
         Ok(Words::Replay(office)) => Ok(replay(alloc, &office, reader, out, err)),
-        Ok(Words::Serve(place, office)) => Ok(serve_office(net, alloc, &office, place, out, err)),
+        Ok(Words::Serve(path, place, office)) => {
+            Ok(serve_file(host, alloc, path, place, &office, out, err))
+        }
         Ok(Words::BadName) => Ok(refuse(err, "bad name")),
         Ok(Words::BadWords) => Ok(refuse(err, "bad words")),
         Err(error) => explain(alloc, &error, out, err),

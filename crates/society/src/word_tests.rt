@@ -90,25 +90,25 @@ const WRONG: [Row; 28] = [
     (
         "serve|--society|900|--territory|40|--name|X",
         2,
-        "error: the following required arguments were not provided:\n  --port <N>\n  --connections <N>\n",
+        "error: the following required arguments were not provided:\n  --db <PATH>\n  --port <N>\n  --connections <N>\n",
     ),
     (
-        "serve|--port|0|--connections|1|--society|900|--territory|40|--name|X",
+        "serve|--db|F|--port|0|--connections|1|--society|900|--territory|40|--name|X",
         2,
         "error: invalid value '0' for '--port <N>': 0 is not in 1..=65535\n",
     ),
     (
-        "serve|--port|65536|--connections|1|--society|900|--territory|40|--name|X",
+        "serve|--db|F|--port|65536|--connections|1|--society|900|--territory|40|--name|X",
         2,
         "error: invalid value '65536' for '--port <N>': 65536 is not in 1..=65535\n",
     ),
     (
-        "serve|--port|1|--connections|0|--society|900|--territory|40|--name|X",
+        "serve|--db|F|--port|1|--connections|0|--society|900|--territory|40|--name|X",
         2,
         "error: invalid value '0' for '--connections <N>': 0 is not in 1..=1000000\n",
     ),
     (
-        "serve|--port|1|--connections|1000001|--society|900|--territory|40|--name|X",
+        "serve|--db|F|--port|1|--connections|1000001|--society|900|--territory|40|--name|X",
         2,
         "error: invalid value '1000001' for '--connections <N>': 1000001 is not in 1..=1000000\n",
     ),
@@ -123,32 +123,32 @@ const WRONG: [Row; 28] = [
         "error: the argument '--name <TEXT>' cannot be used multiple times\n",
     ),
     (
-        "serve|--port|1|--port|1|--connections|1|--society|900|--territory|40|--name|X",
+        "serve|--db|F|--port|1|--port|1|--connections|1|--society|900|--territory|40|--name|X",
         2,
         "error: the argument '--port <N>' cannot be used multiple times\n",
     ),
     (
-        "serve|--port|1|--connections|1|--connections|1|--society|900|--territory|40|--name|X",
+        "serve|--db|F|--port|1|--connections|1|--connections|1|--society|900|--territory|40|--name|X",
         2,
         "error: the argument '--connections <N>' cannot be used multiple times\n",
     ),
     (
-        "serve|--connections|1|--society|900|--territory|40|--name|X",
+        "serve|--db|F|--connections|1|--society|900|--territory|40|--name|X",
         2,
         "error: the following required arguments were not provided:\n  --port <N>\n",
     ),
     (
-        "serve|--port|1|--society|900|--territory|40|--name|X",
+        "serve|--db|F|--port|1|--society|900|--territory|40|--name|X",
         2,
         "error: the following required arguments were not provided:\n  --connections <N>\n",
     ),
     (
-        "serve|--port||--connections|1|--society|900|--territory|40|--name|X",
+        "serve|--db|F|--port||--connections|1|--society|900|--territory|40|--name|X",
         2,
         "error: invalid value '' for '--port <N>': cannot parse integer from empty string\n",
     ),
     (
-        "serve|--port|1|--connections|1|--society|900|--territory|40|--name",
+        "serve|--db|F|--port|1|--connections|1|--society|900|--territory|40|--name",
         2,
         "error: a value is required for '--name <TEXT>' but none was supplied\n",
     ),
@@ -181,9 +181,10 @@ Options:
 /// What `serve --help` tells.
 const SERVE_HELP: &str = "Listen on this machine and answer the requests of connections
 
-Usage: society serve --port <N> --connections <N> --society <N> --territory <N> --name <TEXT>
+Usage: society serve --db <PATH> --port <N> --connections <N> --society <N> --territory <N> --name <TEXT>
 
 Options:
+      --db <PATH>        File of the office's database, made where there is none
       --port <N>         Port of this machine, 1 to 65535
       --connections <N>  Connections to serve, one after another, 1 to 1000000
       --society <N>      Number of the society, 1 to 999
@@ -258,7 +259,7 @@ fn a_port_that_is_taken(rt: HostRuntime) -> Result<(), Fail> {
     let listener = TcpListener::bind(&rt, (Ipv4Addr::LOCALHOST, 0))?;
     let port = listener.local_addr()?.port();
     let words = format!(in alloc;
-        "serve|--port|{port}|--connections|1|--society|900|--territory|40|--name|X"
+        "serve|--db|F|--port|{port}|--connections|1|--society|900|--territory|40|--name|X"
     )?;
     let (out, err, told) = started(&rt, words.as_str())?;
     assert_eq!(rt; told, 1);

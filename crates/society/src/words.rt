@@ -1,6 +1,6 @@
 ghost use Rattle.std.specs.Prelude.{◌≡◌, IfErr, IfOk, Some, map, string_bytes};
 ghost use Rattle.clap.specs.Words.{found_of, kind_of, rows_of};
-ghost use Rattle.society.specs.Words.{Asked, IsReadAs, IsRefusedAs, asked, asked_at, asked_command, asked_office, number_given, place_of, serving};
+ghost use Rattle.society.specs.Words.{Asked, IsReadAs, IsRefusedAs, asked, asked_at, asked_command, asked_office, asked_serve, number_given, place_of, serving};
 
 use crate::command_line::command_line;
 use clap::{ArgMatches, Error};
@@ -18,11 +18,11 @@ pub struct Place {
 
 /// What the program's words ask for.
 #[derive(Debug)]
-pub enum Words {
+pub enum Words<'a> {
     /// To replay standard input at this office.
     Replay(Office),
-    /// To serve connections at this office.
-    Serve(Place, Office),
+    /// To serve connections at this office, over the database of a path.
+    Serve(&'a str, Place, Office),
     /// The office's name is none.
     BadName,
     /// Nothing that the program knows.
@@ -44,7 +44,7 @@ fn long_number(options: &ArgMatches<'_>, option: &str) -> Option<u32>
 }
 
 /// To replay at the office with these numbers and this name, where there is such an office.
-fn replay_at(society: u16, territory: u16, name: &str) -> Words
+fn replay_at<'a>(society: u16, territory: u16, name: &str) -> Words<'a>
     ensures { IsReadAs (asked_at (Some society) (Some territory) (Some name.now)) result }
 {
     match Office::new(society, territory, name.as_bytes()) {
@@ -54,7 +54,7 @@ fn replay_at(society: u16, territory: u16, name: &str) -> Words
 }
 
 /// To replay at the office that options name.
-fn office_in(options: &ArgMatches<'_>) -> Words
+fn office_in<'a>(options: &ArgMatches<'_>) -> Words<'a>
     ensures { IsReadAs (asked_office (rows_of (found_of options.now))) result }
 {
     let Some(society) = short_number(options, "society") else {
@@ -78,36 +78,47 @@ fn place_in(options: &ArgMatches<'_>) -> Option<Place>
     Some(Place { port, connections })
 }
 
-/// To serve at this place, where the words ask for a replay.
-fn serve_at(place: Place, words: Words) -> Words
-    ensures { (a : Asked) → IsReadAs a words → IsReadAs (serving (Some place) a) result }
+/// To serve the database of a path at this place, where the words ask for a replay.
+fn serve_at<'a>(path: &'a str, place: Place, words: Words<'a>) -> Words<'a>
+    ensures { (a : Asked) → IsReadAs a words.entry → IsReadAs (serving (Some path.entry.now) (Some place) a) result }
 {
     match words {
-        Words::Replay(office) => Words::Serve(place, office),
-        Words::Serve(other, office) => Words::Serve(other, office),
+        Words::Replay(office) => Words::Serve(path, place, office),
+        Words::Serve(other, there, office) => Words::Serve(other, there, office),
         Words::BadName => Words::BadName,
         Words::BadWords => Words::BadWords,
     }
 }
 
-/// What a command asks for with these options.
-fn command_in(command: &str, options: &ArgMatches<'_>) -> Words
-    ensures { IsReadAs (asked_command command.now (rows_of (found_of options.now))) result }
+/// To serve as options say.
+fn serve_in<'a>(options: &ArgMatches<'a>) -> Words<'a>
+    ensures { IsReadAs (asked_serve (rows_of (found_of options.entry.now))) result }
 {
-    if command != "serve" {
-        return office_in(options);
-    }
+    let Some(path) = options.get_str("db") else {
+        return Words::BadWords;
+    };
     match place_in(options) {
-        Some(place) => serve_at(place, office_in(options)),
+        Some(place) => serve_at(path, place, office_in(options)),
         None => Words::BadWords,
+    }
+}
+
+/// What a command asks for with these options.
+fn command_in<'a>(command: &str, options: &ArgMatches<'a>) -> Words<'a>
+    ensures { IsReadAs (asked_command command.now (rows_of (found_of options.entry.now))) result }
+{
+    if command == "serve" {
+        serve_in(options)
+    } else {
+        office_in(options)
     }
 }
 
 /// What the program's words ask for, its own name the first of them: what they give to the options of the command line.
 /// Else `clap` says why they are not taken, or tells of them, or memory was refused.
-pub fn words_in(alloc: Global, words: &[String]) -> Result<Words, Error>
-    ensures ok { IfOk result (IsReadAs (asked (map string_bytes words.now))) }
-    ensures err { IfErr result (λ e. IsRefusedAs (asked (map string_bytes words.now)) (kind_of e)) }
+pub fn words_in<'a>(alloc: Global, words: &'a [String]) -> Result<Words<'a>, Error>
+    ensures ok { IfOk result (IsReadAs (asked (map string_bytes words.entry.now))) }
+    ensures err { IfErr result (λ e. IsRefusedAs (asked (map string_bytes words.entry.now)) (kind_of e)) }
 {
     let matches = command_line(alloc)?.try_get_matches_from(words)?;
     match matches.subcommand() {
