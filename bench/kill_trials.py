@@ -1,7 +1,7 @@
 #!/usr/bin/env python3
 """Stops `society serve --db` with SIGKILL at random moments under load, starts it again and asks for what was answered.
 
-usage: bench/kill_trials.py [--program PROGRAM] [--kills N] [--port N] [--seed N] [FILE]
+usage: bench/kill_trials.py [--program PROGRAM] [--kills N] [--port N] [--seed N] [--longest SECONDS] [FILE]
 
 One peer sends files of works (in order, behind gaps, again), returns and orders that close pools, and keeps of each request the
 status of its answer. After each start the last 200 requests that were answered are sent again, and 200 others: they must be answered
@@ -46,7 +46,7 @@ def next_request(chance, fronts, counts):
         rows = table_times.rows(counts["return"], 20)
         body = table_times.RETURN + b"".join(b"%s,%d,%d\n" % (table_times.isrc(k), plays, seconds) for k, plays, seconds in rows)
         return f"/v1/returns/RADIO1/{counts['return']}", body
-    if kind < 0.15 and counts["return"] > counts["paid"]:
+    if kind < 0.11 and counts["return"] > counts["paid"]:
         counts["paid"], counts["pool"] = counts["paid"] + 1, counts["pool"] + 1
         body = b'{"amount":100000,"cut":[],"returns":[["RADIO1",%d]]}' % counts["paid"]
         return f"/v1/pools/{counts['pool']}", body
@@ -114,6 +114,7 @@ def main():
     words.add_argument("--kills", type=int, default=20)
     words.add_argument("--port", type=int, default=8089)
     words.add_argument("--seed", type=int, default=1)
+    words.add_argument("--longest", type=float, default=0.4, help="most seconds of load before a kill")
     words.add_argument("file", nargs="?")
     words = words.parse_args()
     path = words.file or os.path.join(tempfile.mkdtemp(), "office.db")
@@ -123,7 +124,7 @@ def main():
         server, seconds = started(words.program, words.port, path)
         there = checked(words.port, sample(chance, answered))
         print(f"start {kill + 1}: {seconds:.2f} s, {there} of {len(answered)} answered requests asked, {pathlib.Path(path).stat().st_size:,} bytes", flush=True)
-        killer = subprocess.Popen([sys.executable, "-c", f"import os, time; time.sleep({chance.uniform(0.02, 0.4)}); os.kill({server.pid}, 9)"])
+        killer = subprocess.Popen([sys.executable, "-c", f"import os, time; time.sleep({chance.uniform(0.005, words.longest)}); os.kill({server.pid}, 9)"])
         cut = load(words.port, chance, fronts, counts, answered)
         killer.wait()
         server.wait()

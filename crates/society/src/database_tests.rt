@@ -1,4 +1,6 @@
 //! The office over a database that is a file.
+ghost use Rattle.std.specs.Prelude.{⊤};
+
 use crate::day_tests::{ANSWERS, DAY};
 use crate::opening::{OpenDatabase, serve_file};
 use crate::replay::TURNS;
@@ -39,6 +41,7 @@ fn a_day_over_a_file(rt: HostRuntime) -> Result<(), Fail> {
 }
 
 /// A host with one peer, which sends one request where the office listens.
+#[derive(Drop)]
 struct Host<'a> {
     rt: &'a HostRuntime,
 }

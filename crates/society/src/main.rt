@@ -10,6 +10,8 @@ mod command_line;
 mod connection_tests;
 mod connections;
 #[cfg(test)]
+mod damage_tests;
+#[cfg(test)]
 mod database_tests;
 #[cfg(test)]
 mod day_tests;
@@ -21,14 +23,20 @@ mod hostile_tests;
 mod http_tests;
 #[cfg(test)]
 mod limit_tests;
+#[cfg(test)]
+mod listing;
 mod opening;
 #[cfg(test)]
 mod pool_tests;
 mod replay;
 #[cfg(test)]
+mod row_tests;
+#[cfg(test)]
 mod samples;
 mod serving;
 mod starting;
+#[cfg(test)]
+mod steps;
 #[cfg(test)]
 mod streams;
 #[cfg(test)]
