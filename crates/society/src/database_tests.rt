@@ -17,12 +17,24 @@ use std::net::{Net, SocketAddr, TcpListener, TcpStream};
 use std::process::Abort;
 use std::test::Fail;
 
+/// A desk over the database at a path, opened as the office's.
+fn opened(rt: &HostRuntime, path: &str) -> Result<Desk<Tables<FileStore<FileFrom<Wary>>>>, Fail> {
+    let Ok(connection) = rt.open_database(path) else {
+        return Err(Fail::new("a file"));
+    };
+    if !connection.is_autocommit() {
+        return Err(Fail::new("no transaction"));
+    }
+    match Tables::open(rt.alloc(), connection, &office()?) {
+        Ok(tables) => Ok(Desk::new(tables)),
+        Err((fault, _)) => Err(Fail::from(fault)),
+    }
+}
+
 /// Opens the database at a path as the office's and answers requests over it.
 fn answered(rt: &HostRuntime, path: &str, input: &[u8]) -> Result<Vec<u8>, Fail> {
     let alloc = rt.alloc();
-    let connection = rt.open_database(path).map_err(|_| "a file")?;
-    let tables = Tables::open(alloc, connection, &office()?).map_err(|_| "an office")?;
-    let mut desk = Desk::new(tables);
+    let mut desk = opened(rt, path)?;
     let mut reader = Counted::new(input);
     let mut out = Counted::new(Vec::<u8>::new(alloc));
     serve(alloc, &mut desk, &mut reader, &mut out, TURNS).map_err(|_| "a stream")?;
