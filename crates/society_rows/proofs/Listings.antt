@@ -13,7 +13,7 @@ use Rattle.society_rows.specs.Folds.{IsAsked}
 use Rattle.society_rows.specs.Layout.{layout}
 use Rattle.society_rows.specs.Reads.{Lists, Selected}
 use Rattle.society_rows.specs.Stored.{HasLayout}
-use Rattle.society_rows.specs.TableNames.{table_called, key_width, listing_text}
+use Rattle.society_rows.specs.TableNames.{table_called, listing_width, listing_text}
 use Rattle.society_rows.proofs.RowFolds.{query_asked, whole_listed}
 use Rattle.society_rows.proofs.Told.{query_tells}
 use Rattle.society_rows.proofs.OfficeTable.{all_offices_is, all_offices_lists}
@@ -43,7 +43,7 @@ is_plain name.Recordings = all_recordings_is.plain
 is_plain name.Credits = all_credits_is.plain
 is_plain name.Balances = all_balances_is.plain
 
-pub lists_called : (table : TableName) (old new : State) (rows : List Row) → HasLayout old.now → Shown (listing_text table) [] old new rows → Lists (table_called table) (λ _. true) (key_width table) old.now.trees rows
+pub lists_called : (table : TableName) (old new : State) (rows : List Row) → HasLayout old.now → Shown (listing_text table) [] old new rows → Lists (table_called table) (λ _. true) (listing_width table) old.now.trees rows
 lists_called name.Office = all_offices_lists
 lists_called name.Transmissions = all_transmissions_lists
 lists_called name.Returns = all_returns_lists
@@ -88,16 +88,16 @@ listing_tells name.Balances = query_tells all_balances_is [] refl
 
 -- what such a query shows first is the first of the table's rows
 pub first_called : (table : TableName) (old new : State) (rows : List Row) → HasLayout old.now → Begins (listing_text table) [] old rows × IsUnchanged old new
-    → (after : List Row) × Lists (table_called table) (λ _. true) (key_width table) old.now.trees (rows ++ after)
-first_called name.Office old new = whole_listed _ _ _ all_offices_is [] old new (Lists (table_called name.Office) (λ _. true) (key_width name.Office)) (all_offices_lists old new)
-first_called name.Transmissions old new = whole_listed _ _ _ all_transmissions_is [] old new (Lists (table_called name.Transmissions) (λ _. true) (key_width name.Transmissions)) (all_transmissions_lists old new)
-first_called name.Returns old new = whole_listed _ _ _ all_returns_is [] old new (Lists (table_called name.Returns) (λ _. true) (key_width name.Returns)) (all_returns_lists old new)
-first_called name.Pools old new = whole_listed _ _ _ all_pools_is [] old new (Lists (table_called name.Pools) (λ _. true) (key_width name.Pools)) (all_pools_lists old new)
-first_called name.PoolCuts old new = whole_listed _ _ _ all_pool_cuts_is [] old new (Lists (table_called name.PoolCuts) (λ _. true) (key_width name.PoolCuts)) (all_pool_cuts_lists old new)
-first_called name.PoolReturns old new = whole_listed _ _ _ all_pool_returns_is [] old new (Lists (table_called name.PoolReturns) (λ _. true) (key_width name.PoolReturns)) (all_pool_returns_lists old new)
-first_called name.Fronts old new = whole_listed _ _ _ all_fronts_is [] old new (Lists (table_called name.Fronts) (λ _. true) (key_width name.Fronts)) (all_fronts_lists old new)
-first_called name.Verdicts old new = whole_listed _ _ _ all_verdicts_is [] old new (Lists (table_called name.Verdicts) (λ _. true) (key_width name.Verdicts)) (all_verdicts_lists old new)
-first_called name.Versions old new = whole_listed _ _ _ all_versions_is [] old new (Lists (table_called name.Versions) (λ _. true) (key_width name.Versions)) (all_versions_lists old new)
-first_called name.Recordings old new = whole_listed _ _ _ all_recordings_is [] old new (Lists (table_called name.Recordings) (λ _. true) (key_width name.Recordings)) (all_recordings_lists old new)
-first_called name.Credits old new = whole_listed _ _ _ all_credits_is [] old new (Lists (table_called name.Credits) (λ _. true) (key_width name.Credits)) (all_credits_lists old new)
-first_called name.Balances old new = whole_listed _ _ _ all_balances_is [] old new (Lists (table_called name.Balances) (λ _. true) (key_width name.Balances)) (all_balances_lists old new)
+    → (after : List Row) × Lists (table_called table) (λ _. true) (listing_width table) old.now.trees (rows ++ after)
+first_called name.Office old new = whole_listed _ _ _ all_offices_is [] old new (Lists (table_called name.Office) (λ _. true) (listing_width name.Office)) (all_offices_lists old new)
+first_called name.Transmissions old new = whole_listed _ _ _ all_transmissions_is [] old new (Lists (table_called name.Transmissions) (λ _. true) (listing_width name.Transmissions)) (all_transmissions_lists old new)
+first_called name.Returns old new = whole_listed _ _ _ all_returns_is [] old new (Lists (table_called name.Returns) (λ _. true) (listing_width name.Returns)) (all_returns_lists old new)
+first_called name.Pools old new = whole_listed _ _ _ all_pools_is [] old new (Lists (table_called name.Pools) (λ _. true) (listing_width name.Pools)) (all_pools_lists old new)
+first_called name.PoolCuts old new = whole_listed _ _ _ all_pool_cuts_is [] old new (Lists (table_called name.PoolCuts) (λ _. true) (listing_width name.PoolCuts)) (all_pool_cuts_lists old new)
+first_called name.PoolReturns old new = whole_listed _ _ _ all_pool_returns_is [] old new (Lists (table_called name.PoolReturns) (λ _. true) (listing_width name.PoolReturns)) (all_pool_returns_lists old new)
+first_called name.Fronts old new = whole_listed _ _ _ all_fronts_is [] old new (Lists (table_called name.Fronts) (λ _. true) (listing_width name.Fronts)) (all_fronts_lists old new)
+first_called name.Verdicts old new = whole_listed _ _ _ all_verdicts_is [] old new (Lists (table_called name.Verdicts) (λ _. true) (listing_width name.Verdicts)) (all_verdicts_lists old new)
+first_called name.Versions old new = whole_listed _ _ _ all_versions_is [] old new (Lists (table_called name.Versions) (λ _. true) (listing_width name.Versions)) (all_versions_lists old new)
+first_called name.Recordings old new = whole_listed _ _ _ all_recordings_is [] old new (Lists (table_called name.Recordings) (λ _. true) (listing_width name.Recordings)) (all_recordings_lists old new)
+first_called name.Credits old new = whole_listed _ _ _ all_credits_is [] old new (Lists (table_called name.Credits) (λ _. true) (listing_width name.Credits)) (all_credits_lists old new)
+first_called name.Balances old new = whole_listed _ _ _ all_balances_is [] old new (Lists (table_called name.Balances) (λ _. true) (listing_width name.Balances)) (all_balances_lists old new)

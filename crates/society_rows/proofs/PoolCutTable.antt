@@ -54,23 +54,26 @@ project = col 1 1 ∷ col 1 2 ∷ col 1 3 ∷ []
 abbrev order : List (Term × Key)
 order = (col 1 1, ascending Binary) ∷ (col 1 2, ascending Binary) ∷ []
 
+abbrev whole_order : List (Term × Key)
+whole_order = (col 1 1, ascending Binary) ∷ (col 1 2, ascending Binary) ∷ (col 1 3, ascending Binary) ∷ []
+
 abbrev shown_names : List (List ℕ)
 shown_names = codes "pool" ∷ codes "sender" ∷ codes "number" ∷ []
 
 abbrev pub all_pool_cuts_text : List ℕ
-all_pool_cuts_text = codes "SELECT pool, sender, number FROM pool_cuts ORDER BY pool, sender"
+all_pool_cuts_text = codes "SELECT pool, sender, number FROM pool_cuts ORDER BY pool, sender, number"
 
-pub all_pool_cuts_is : IsQuery all_pool_cuts_text 0 (picked 6 ([]) project order) shown_names
+pub all_pool_cuts_is : IsQuery all_pool_cuts_text 0 (picked 6 ([]) project whole_order) shown_names
 unfolding understood everything written_out
 all_pool_cuts_is = record { command = refl; plain = (refl, refl); unlisted = refl; single = (refl, refl) }
 
-all_pool_cuts_listing : IsListing pool_cuts ([]) project order ([]) (λ _. true) 2
+all_pool_cuts_listing : IsListing pool_cuts ([]) project whole_order ([]) (λ _. true) 3
 unfolding written_out
 all_pool_cuts_listing = record { shows = λ r. refl; tests = λ r. refl; orders = λ a b. refl }
 
-pub all_pool_cuts_lists : (old new : State) (rows : List Row) → HasLayout old.now → Shown all_pool_cuts_text ([]) old new rows → Lists pool_cuts (λ _. true) 2 old.now.trees rows
+pub all_pool_cuts_lists : (old new : State) (rows : List Row) → HasLayout old.now → Shown all_pool_cuts_text ([]) old new rows → Lists pool_cuts (λ _. true) 3 old.now.trees rows
 unfolding written_out
-all_pool_cuts_lists = lists_by pool_cuts all_pool_cuts_text ([]) project order shown_names all_pool_cuts_is ([]) (λ _. true) 2 all_pool_cuts_listing
+all_pool_cuts_lists = lists_by pool_cuts all_pool_cuts_text ([]) project whole_order shown_names all_pool_cuts_is ([]) (λ _. true) 3 all_pool_cuts_listing
 
 abbrev pub cuts_of_text : List ℕ
 cuts_of_text = codes "SELECT pool, sender, number FROM pool_cuts WHERE pool = ?1 ORDER BY pool, sender"

@@ -56,23 +56,26 @@ project = col 1 1 ∷ col 1 2 ∷ col 1 3 ∷ []
 abbrev order : List (Term × Key)
 order = (col 1 1, ascending Binary) ∷ (col 1 2, ascending Binary) ∷ []
 
+abbrev whole_order : List (Term × Key)
+whole_order = (col 1 1, ascending Binary) ∷ (col 1 2, ascending Binary) ∷ (col 1 3, ascending Binary) ∷ []
+
 abbrev shown_names : List (List ℕ)
 shown_names = codes "reporter" ∷ codes "number" ∷ codes "pool" ∷ []
 
 abbrev pub all_pool_returns_text : List ℕ
-all_pool_returns_text = codes "SELECT reporter, number, pool FROM pool_returns ORDER BY reporter, number"
+all_pool_returns_text = codes "SELECT reporter, number, pool FROM pool_returns ORDER BY reporter, number, pool"
 
-pub all_pool_returns_is : IsQuery all_pool_returns_text 0 (picked 8 ([]) project order) shown_names
+pub all_pool_returns_is : IsQuery all_pool_returns_text 0 (picked 8 ([]) project whole_order) shown_names
 unfolding understood everything written_out
 all_pool_returns_is = record { command = refl; plain = (refl, refl); unlisted = refl; single = (refl, refl) }
 
-all_pool_returns_listing : IsListing pool_returns ([]) project order ([]) (λ _. true) 2
+all_pool_returns_listing : IsListing pool_returns ([]) project whole_order ([]) (λ _. true) 3
 unfolding written_out
 all_pool_returns_listing = record { shows = λ r. refl; tests = λ r. refl; orders = λ a b. refl }
 
-pub all_pool_returns_lists : (old new : State) (rows : List Row) → HasLayout old.now → Shown all_pool_returns_text ([]) old new rows → Lists pool_returns (λ _. true) 2 old.now.trees rows
+pub all_pool_returns_lists : (old new : State) (rows : List Row) → HasLayout old.now → Shown all_pool_returns_text ([]) old new rows → Lists pool_returns (λ _. true) 3 old.now.trees rows
 unfolding written_out
-all_pool_returns_lists = lists_by pool_returns all_pool_returns_text ([]) project order shown_names all_pool_returns_is ([]) (λ _. true) 2 all_pool_returns_listing
+all_pool_returns_lists = lists_by pool_returns all_pool_returns_text ([]) project whole_order shown_names all_pool_returns_is ([]) (λ _. true) 3 all_pool_returns_listing
 
 abbrev pub pool_return_at_text : List ℕ
 pool_return_at_text = codes "SELECT reporter, number, pool FROM pool_returns WHERE reporter = ?1 AND number = ?2 ORDER BY reporter, number"

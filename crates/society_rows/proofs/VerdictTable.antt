@@ -71,23 +71,26 @@ project = col 1 1 ∷ col 1 2 ∷ col 1 3 ∷ col 1 4 ∷ col 1 5 ∷ col 1 6 �
 abbrev order : List (Term × Key)
 order = (col 1 1, ascending Binary) ∷ (col 1 2, ascending Binary) ∷ (col 1 3, ascending Binary) ∷ []
 
+abbrev whole_order : List (Term × Key)
+whole_order = (col 1 1, ascending Binary) ∷ (col 1 2, ascending Binary) ∷ (col 1 3, ascending Binary) ∷ (col 1 4, ascending Binary) ∷ (col 1 5, ascending Binary) ∷ (col 1 6, ascending Binary) ∷ []
+
 abbrev shown_names : List (List ℕ)
 shown_names = codes "sender" ∷ codes "number" ∷ codes "place" ∷ codes "fault" ∷ codes "ordinal" ∷ codes "revision" ∷ []
 
 abbrev pub all_verdicts_text : List ℕ
-all_verdicts_text = codes "SELECT sender, number, place, fault, ordinal, revision FROM verdicts ORDER BY sender, number, place"
+all_verdicts_text = codes "SELECT sender, number, place, fault, ordinal, revision FROM verdicts ORDER BY sender, number, place, fault, ordinal, revision"
 
-pub all_verdicts_is : IsQuery all_verdicts_text 0 (picked 12 ([]) project order) shown_names
+pub all_verdicts_is : IsQuery all_verdicts_text 0 (picked 12 ([]) project whole_order) shown_names
 unfolding understood everything written_out
 all_verdicts_is = record { command = refl; plain = (refl, refl); unlisted = refl; single = (refl, refl) }
 
-all_verdicts_listing : IsListing verdicts ([]) project order ([]) (λ _. true) 3
+all_verdicts_listing : IsListing verdicts ([]) project whole_order ([]) (λ _. true) 6
 unfolding written_out
 all_verdicts_listing = record { shows = λ r. refl; tests = λ r. refl; orders = λ a b. refl }
 
-pub all_verdicts_lists : (old new : State) (rows : List Row) → HasLayout old.now → Shown all_verdicts_text ([]) old new rows → Lists verdicts (λ _. true) 3 old.now.trees rows
+pub all_verdicts_lists : (old new : State) (rows : List Row) → HasLayout old.now → Shown all_verdicts_text ([]) old new rows → Lists verdicts (λ _. true) 6 old.now.trees rows
 unfolding written_out
-all_verdicts_lists = lists_by verdicts all_verdicts_text ([]) project order shown_names all_verdicts_is ([]) (λ _. true) 3 all_verdicts_listing
+all_verdicts_lists = lists_by verdicts all_verdicts_text ([]) project whole_order shown_names all_verdicts_is ([]) (λ _. true) 6 all_verdicts_listing
 
 abbrev pub verdicts_of_text : List ℕ
 verdicts_of_text = codes "SELECT sender, number, place, fault, ordinal, revision FROM verdicts WHERE sender = ?1 AND number = ?2 ORDER BY sender, number, place"

@@ -71,23 +71,26 @@ project = col 1 1 ∷ col 1 2 ∷ col 1 3 ∷ col 1 4 ∷ col 1 5 ∷ col 1 6 �
 abbrev order : List (Term × Key)
 order = (col 1 1, ascending Binary) ∷ (col 1 2, ascending Binary) ∷ (col 1 3, ascending Binary) ∷ []
 
+abbrev whole_order : List (Term × Key)
+whole_order = (col 1 1, ascending Binary) ∷ (col 1 2, ascending Binary) ∷ (col 1 3, ascending Binary) ∷ (col 1 4, ascending Binary) ∷ (col 1 5, ascending Binary) ∷ (col 1 6, ascending Binary) ∷ []
+
 abbrev shown_names : List (List ℕ)
 shown_names = codes "sender" ∷ codes "work" ∷ codes "revision" ∷ codes "number" ∷ codes "place" ∷ codes "ordinal" ∷ []
 
 abbrev pub all_versions_text : List ℕ
-all_versions_text = codes "SELECT sender, work, revision, number, place, ordinal FROM versions ORDER BY sender, work, revision"
+all_versions_text = codes "SELECT sender, work, revision, number, place, ordinal FROM versions ORDER BY sender, work, revision, number, place, ordinal"
 
-pub all_versions_is : IsQuery all_versions_text 0 (picked 14 ([]) project order) shown_names
+pub all_versions_is : IsQuery all_versions_text 0 (picked 14 ([]) project whole_order) shown_names
 unfolding understood everything written_out
 all_versions_is = record { command = refl; plain = (refl, refl); unlisted = refl; single = (refl, refl) }
 
-all_versions_listing : IsListing versions ([]) project order ([]) (λ _. true) 3
+all_versions_listing : IsListing versions ([]) project whole_order ([]) (λ _. true) 6
 unfolding written_out
 all_versions_listing = record { shows = λ r. refl; tests = λ r. refl; orders = λ a b. refl }
 
-pub all_versions_lists : (old new : State) (rows : List Row) → HasLayout old.now → Shown all_versions_text ([]) old new rows → Lists versions (λ _. true) 3 old.now.trees rows
+pub all_versions_lists : (old new : State) (rows : List Row) → HasLayout old.now → Shown all_versions_text ([]) old new rows → Lists versions (λ _. true) 6 old.now.trees rows
 unfolding written_out
-all_versions_lists = lists_by versions all_versions_text ([]) project order shown_names all_versions_is ([]) (λ _. true) 3 all_versions_listing
+all_versions_lists = lists_by versions all_versions_text ([]) project whole_order shown_names all_versions_is ([]) (λ _. true) 6 all_versions_listing
 
 abbrev pub versions_of_text : List ℕ
 versions_of_text = codes "SELECT sender, work, revision, number, place, ordinal FROM versions WHERE sender = ?1 AND work = ?2 ORDER BY sender, work, revision"

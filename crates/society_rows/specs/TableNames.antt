@@ -20,34 +20,34 @@ table_called name.Recordings = recordings
 table_called name.Credits = credits
 table_called name.Balances = balances
 
--- how many of its first columns are its key
-abbrev pub key_width : TableName → ℕ
-key_width name.Office = 1
-key_width name.Transmissions = 2
-key_width name.Returns = 2
-key_width name.Pools = 1
-key_width name.PoolCuts = 2
-key_width name.PoolReturns = 2
-key_width name.Fronts = 1
-key_width name.Verdicts = 3
-key_width name.Versions = 3
-key_width name.Recordings = 4
-key_width name.Credits = 2
-key_width name.Balances = 1
+-- by how many of its first columns its rows are listed: those of its key, or all, so that rows which are listed alike are one
+abbrev pub listing_width : TableName → ℕ
+listing_width name.Office = 1
+listing_width name.Transmissions = 2
+listing_width name.Returns = 2
+listing_width name.Pools = 1
+listing_width name.PoolCuts = 3
+listing_width name.PoolReturns = 3
+listing_width name.Fronts = 1
+listing_width name.Verdicts = 6
+listing_width name.Versions = 6
+listing_width name.Recordings = 4
+listing_width name.Credits = 5
+listing_width name.Balances = 1
 
--- the query that shows every row, by its key
+-- the query that shows every row, by those columns
 abbrev pub listing_text : TableName → List ℕ
 listing_text name.Office = codes "SELECT one, layout, society, territory, name FROM office ORDER BY one"
 listing_text name.Transmissions = codes "SELECT sender, number, body FROM transmissions ORDER BY sender, number"
 listing_text name.Returns = codes "SELECT reporter, number, body FROM returns ORDER BY reporter, number"
 listing_text name.Pools = codes "SELECT pool, amount FROM pools ORDER BY pool"
-listing_text name.PoolCuts = codes "SELECT pool, sender, number FROM pool_cuts ORDER BY pool, sender"
-listing_text name.PoolReturns = codes "SELECT reporter, number, pool FROM pool_returns ORDER BY reporter, number"
+listing_text name.PoolCuts = codes "SELECT pool, sender, number FROM pool_cuts ORDER BY pool, sender, number"
+listing_text name.PoolReturns = codes "SELECT reporter, number, pool FROM pool_returns ORDER BY reporter, number, pool"
 listing_text name.Fronts = codes "SELECT sender, front, works FROM fronts ORDER BY sender"
-listing_text name.Verdicts = codes "SELECT sender, number, place, fault, ordinal, revision FROM verdicts ORDER BY sender, number, place"
-listing_text name.Versions = codes "SELECT sender, work, revision, number, place, ordinal FROM versions ORDER BY sender, work, revision"
+listing_text name.Verdicts = codes "SELECT sender, number, place, fault, ordinal, revision FROM verdicts ORDER BY sender, number, place, fault, ordinal, revision"
+listing_text name.Versions = codes "SELECT sender, work, revision, number, place, ordinal FROM versions ORDER BY sender, work, revision, number, place, ordinal"
 listing_text name.Recordings = codes "SELECT sender, work, revision, isrc FROM recordings ORDER BY sender, work, revision, isrc"
-listing_text name.Credits = codes "SELECT pool, line, isrc, account, units FROM credits ORDER BY pool, line"
+listing_text name.Credits = codes "SELECT pool, line, isrc, account, units FROM credits ORDER BY pool, line, isrc, account, units"
 listing_text name.Balances = codes "SELECT account, units FROM balances ORDER BY account"
 
 -- the query that shows the rowid of every row, in any order

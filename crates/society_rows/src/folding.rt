@@ -9,7 +9,7 @@ ghost use Rattle.sqlite.specs.Values.{bound};
 ghost use Rattle.society_rows.specs.Folds.{IsAsked, ReadsAlone, ReadsInside, HasTaken, IsRun, AreFirst, AreShownFirst, StopsOver, StopsRun};
 ghost use Rattle.society_rows.specs.Layout.{layout, transmissions};
 ghost use Rattle.society_rows.specs.Reads.{Lists, Reads, is_above};
-ghost use Rattle.society_rows.specs.TableNames.{table_called, key_width};
+ghost use Rattle.society_rows.specs.TableNames.{table_called, listing_width};
 
 use crate::tables::listing;
 use crate::{RowFault, TableName, transmission_at};
@@ -65,10 +65,10 @@ pub fn fold_table<S: Alter, F: RowFold>(
     into: &mut F,
 ) -> Result<(), RowFault>
     ensures taken { ReadsAlone (state S.Store conn.old) (state S.Store conn.new) result
-        (λ db _. HasTaken F.step (Lists (table_called table) (λ _. true) (key_width table) db) into.old into.new) }
+        (λ db _. HasTaken F.step (Lists (table_called table) (λ _. true) (listing_width table) db) into.old into.new) }
     ensures mode { conn.old.in_transaction ≡ false → conn.new.in_transaction ≡ false }
     ensures told { IfErr result (StopsOver F.step F.refusal (state S.Store conn.old) (state S.Store conn.new)
-        (AreFirst (state S.Store conn.old) (state S.Store conn.new) (Lists (table_called table) (λ _. true) (key_width table))) into.old) }
+        (AreFirst (state S.Store conn.old) (state S.Store conn.new) (Lists (table_called table) (λ _. true) (listing_width table))) into.old) }
 {
     fold_shown(conn, listing(table), &[], into)
 }

@@ -3,7 +3,7 @@ ghost use Rattle.std.specs.Prelude.{◌≡◌, true};
 ghost use Rattle.sqlite.specs.Held.{state};
 ghost use Rattle.society_rows.specs.Effects.{OnlyFails};
 ghost use Rattle.society_rows.specs.Reads.{Lists, Reads};
-ghost use Rattle.society_rows.specs.TableNames.{table_called, key_width, listing_text};
+ghost use Rattle.society_rows.specs.TableNames.{table_called, listing_width, listing_text};
 
 use crate::RowFault;
 use crate::statement::select;
@@ -26,7 +26,7 @@ pub enum TableName {
     Balances,
 }
 
-/// The query that shows all rows of a table, by its key.
+/// The query that shows all rows of a table, by its key; by all its columns where two rows of one key could not be told apart else.
 pub(crate) fn listing(table: TableName) -> &'static str
     ensures { result.now ≡ listing_text table }
 {
@@ -42,36 +42,36 @@ pub(crate) fn listing(table: TableName) -> &'static str
         }
         TableName::Pools => { "SELECT pool, amount FROM pools ORDER BY pool" }
         TableName::PoolCuts => {
-            "SELECT pool, sender, number FROM pool_cuts ORDER BY pool, sender"
+            "SELECT pool, sender, number FROM pool_cuts ORDER BY pool, sender, number"
         }
         TableName::PoolReturns => {
-            "SELECT reporter, number, pool FROM pool_returns ORDER BY reporter, number"
+            "SELECT reporter, number, pool FROM pool_returns ORDER BY reporter, number, pool"
         }
         TableName::Fronts => { "SELECT sender, front, works FROM fronts ORDER BY sender" }
         TableName::Verdicts => {
-            "SELECT sender, number, place, fault, ordinal, revision FROM verdicts ORDER BY sender, number, place"
+            "SELECT sender, number, place, fault, ordinal, revision FROM verdicts ORDER BY sender, number, place, fault, ordinal, revision"
         }
         TableName::Versions => {
-            "SELECT sender, work, revision, number, place, ordinal FROM versions ORDER BY sender, work, revision"
+            "SELECT sender, work, revision, number, place, ordinal FROM versions ORDER BY sender, work, revision, number, place, ordinal"
         }
         TableName::Recordings => {
             "SELECT sender, work, revision, isrc FROM recordings ORDER BY sender, work, revision, isrc"
         }
         TableName::Credits => {
-            "SELECT pool, line, isrc, account, units FROM credits ORDER BY pool, line"
+            "SELECT pool, line, isrc, account, units FROM credits ORDER BY pool, line, isrc, account, units"
         }
         TableName::Balances => { "SELECT account, units FROM balances ORDER BY account" }
     }
 }
 
-/// All rows of a table, by its key.
+/// All rows of a table, by its key, and then, where the list says so, by its other columns.
 pub fn all_rows<S: Alter>(
     tx: &mut Transaction<'_, S>,
     table: TableName,
 ) -> Result<Vec<Row>, RowFault>
     ensures same_reference { tx.new.conn.ghost_name ≡ tx.old.conn.ghost_name }
     ensures read { Reads (state S.Store tx.old.conn.now) (state S.Store tx.new.conn.now) result
-        (λ db rows. Lists (table_called table) (λ _. true) (key_width table) db rows.items) }
+        (λ db rows. Lists (table_called table) (λ _. true) (listing_width table) db rows.items) }
     ensures told { OnlyFails (state S.Store tx.old.conn.now) (state S.Store tx.new.conn.now) result }
 {
     select(tx, listing(table), &[])

@@ -148,7 +148,7 @@ pub fn add_versions<S: Alter>(
 pub fn all_versions<S: Alter>(tx: &mut Transaction<'_, S>) -> Result<Vec<Row>, RowFault>
     ensures same_reference { tx.new.conn.ghost_name ≡ tx.old.conn.ghost_name }
     ensures read { Reads (state S.Store tx.old.conn.now) (state S.Store tx.new.conn.now) result
-        (λ db rows. Lists versions (λ _. true) 3 db rows.items) }
+        (λ db rows. Lists versions (λ _. true) 6 db rows.items) }
     ensures told { OnlyFails (state S.Store tx.old.conn.now) (state S.Store tx.new.conn.now) result }
 {
     all_rows(tx, TableName::Versions)

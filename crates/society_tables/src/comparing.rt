@@ -5,7 +5,7 @@ ghost use Rattle.sqlite.specs.Steps.{over_memory};
 ghost use Rattle.society_rows.specs.Questions.{Asks};
 ghost use Rattle.society_rows.specs.Reads.{Lists};
 ghost use Rattle.society_rows.specs.Stored.{HasLayout, rows_in};
-ghost use Rattle.society_rows.specs.TableNames.{key_width, table_called};
+ghost use Rattle.society_rows.specs.TableNames.{listing_width, table_called};
 ghost use Rattle.society_tables.specs.Opening.{Agree, Inspects, every_name};
 
 use crate::OpenFault;
@@ -32,7 +32,7 @@ const OTHER_TABLES: [TableName; 11] = [
 fn listed<S: Alter>(conn: &mut Connection<S>, table: TableName) -> Result<Vec<Row>, RowFault>
     requires { conn.old.in_transaction ≡ false }
     ensures asked { Asks (state S.Store conn.old) (state S.Store conn.new) result
-        (λ db rows. Lists (table_called table) (λ _. true) (key_width table) db rows.items) }
+        (λ db rows. Lists (table_called table) (λ _. true) (listing_width table) db rows.items) }
     ensures idle { conn.new.in_transaction ≡ false }
 {
     let mut tx = conn.transaction();
@@ -48,7 +48,7 @@ pub(crate) fn rows_of_table<S: Alter>(
 ) -> Result<Vec<Row>, OpenFault>
     requires { conn.old.in_transaction ≡ false }
     ensures asked { Inspects (state S.Store conn.old) (state S.Store conn.new) result
-        (λ db rows. Lists (table_called table) (λ _. true) (key_width table) db rows.items) }
+        (λ db rows. Lists (table_called table) (λ _. true) (listing_width table) db rows.items) }
     ensures idle { conn.new.in_transaction ≡ false }
 {
     Ok(listed(conn, table)?)
@@ -61,7 +61,7 @@ fn rows_in_memory(
 ) -> Result<Vec<Row>, OpenFault>
     requires { memory.old.in_transaction ≡ false }
     ensures rows { HasLayout (state over_memory memory.old).now → IfOk result (λ rows.
-        Lists (table_called table) (λ _. true) (key_width table) (state over_memory memory.old).now.trees rows.items) }
+        Lists (table_called table) (λ _. true) (listing_width table) (state over_memory memory.old).now.trees rows.items) }
     ensures same { (state over_memory memory.new).now ≡ (state over_memory memory.old).now }
     ensures idle { memory.new.in_transaction ≡ false }
 {

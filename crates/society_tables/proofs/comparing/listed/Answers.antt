@@ -2,7 +2,7 @@ use Rattle.std.proofs.Common.{rules, true}
 use Rattle.sqlite.specs.Held.{state}
 use Rattle.society_rows.specs.Questions.{Asks}
 use Rattle.society_rows.specs.Reads.{Lists}
-use Rattle.society_rows.specs.TableNames.{key_width, table_called}
+use Rattle.society_rows.specs.TableNames.{listing_width, table_called}
 use Rattle.society_rows.proofs.AskedRows.{asks_by}
 use Rattle.society_tables.proofs.comparing.listed.Goals as goal
 
@@ -10,6 +10,6 @@ pub returns-clause-asked : goal.returns-clause-asked
 returns-clause-asked g c =
     let mid = state g.S.Store c.all_rows-rows.new.tx.conn.now in
     let new = state g.S.Store c.rollback.new.self.0 in
-    let done : Asks (state g.S.Store c.args.conn.now) new c.all_rows-rows.result (λ db rows. Lists (table_called c.args.table) (λ _. true) (key_width c.args.table) db rows.items) =
+    let done : Asks (state g.S.Store c.args.conn.now) new c.all_rows-rows.result (λ db rows. Lists (table_called c.args.table) (λ _. true) (listing_width c.args.table) db rows.items) =
     asks_by g.S.Store c.args.conn.now mid new c.all_rows-rows.result _ (rw c.transaction-tx.ensures.begun at c.all_rows-rows.ensures.read) c.rollback.ensures.undone c.rollback.ensures.survives in
     search rules
