@@ -45,5 +45,6 @@ pub mod CutCandidates
 pub mod CutNotes
 pub mod CutChoices
 pub mod OpenLemmas
+pub mod OpenTold
 pub mod SameTables
 pub mod OpenedLemmas

@@ -12,10 +12,9 @@ use Rattle.society_rows.specs.Questions.{Asks}
 use Rattle.society_rows.specs.Stored.{HasLayout}
 use Rattle.society_rows.specs.declared.fault.RowFault.{RowFault}
 use Rattle.society_tables.specs.Opening.{Inspects}
-use Rattle.society_tables.specs.declared.open_fault.OpenFault.{OpenFault}
 
 -- what is asked of the tables, with a fault as an opening tells it
-pub inspects_of : {X : Type 0} (old new : State) (x : X) (Found : Trees → X → Type 0) → Asks old new (Ok x) Found → Inspects old new (Ok x) Found
+pub inspects_of : {X E : Type 0} (old new : State) (x : X) (Found : Trees → X → Type 0) → Asks old new (Ok x) Found → Inspects {E = E} old new (Ok x) Found
 inspects_of old new x Found asked = record {
   found = asked.found;
   answered = asked.answered;
@@ -24,7 +23,7 @@ inspects_of old new x Found asked = record {
   survives = asked.survives;
 }
 
-pub inspects_not : {X Y : Type 0} (old new : State) (fault : RowFault) (told : OpenFault) (Found : Trees → X → Type 0) (IsFound : Trees → Y → Type 0) → Asks old new (Err fault) Found → Inspects {X = Y} old new (Err told) IsFound
+pub inspects_not : {X Y E : Type 0} (old new : State) (fault : RowFault) (told : E) (Found : Trees → X → Type 0) (IsFound : Trees → Y → Type 0) → Asks old new (Err fault) Found → Inspects {X = Y} old new (Err told) IsFound
 inspects_not old new fault told Found IsFound asked = record {
   found = λ clean has. tt;
   answered = λ clean. tt;
@@ -34,8 +33,8 @@ inspects_not old new fault told Found IsFound asked = record {
 }
 
 -- an answer that is worked out of what was found
-pub then_inspected : {X Y : Type 0} (old new : State) (x : X) (r : Result Y OpenFault) (Found : Trees → X → Type 0) (IsFound : Trees → Y → Type 0) → Inspects old new (Ok x) Found → (Found old.now.trees x → IfOk r (IsFound old.now.trees)) → Inspects old new r IsFound
-then_inspected {X} {Y} old new x r Found IsFound first finds = record {
+pub then_inspected : {X Y D E : Type 0} (old new : State) (x : X) (r : Result Y E) (Found : Trees → X → Type 0) (IsFound : Trees → Y → Type 0) → Inspects {E = D} old new (Ok x) Found → (Found old.now.trees x → IfOk r (IsFound old.now.trees)) → Inspects old new r IsFound
+then_inspected {X} {Y} {D} {E} old new x r Found IsFound first finds = record {
   found = λ clean has. finds (first.found clean has);
   answered = λ clean. on_ok r (first.answered clean);
   was_open = first.was_open;
@@ -43,12 +42,12 @@ then_inspected {X} {Y} old new x r Found IsFound first finds = record {
   survives = first.survives;
 }
   where
-    on_ok : (z : Result Y OpenFault) → IsTrue old.is_open → OnOk z (IsTrue old.is_open)
+    on_ok : (z : Result Y E) → IsTrue old.is_open → OnOk z (IsTrue old.is_open)
     on_ok (Ok y) h = h
     on_ok (Err fault) h = tt
 
 -- questions that failed
-pub failed_so : {X Y : Type 0} (old new : State) (fault told : OpenFault) (Found : Trees → X → Type 0) (IsFound : Trees → Y → Type 0) → Inspects {X = X} old new (Err fault) Found → Inspects {X = Y} old new (Err told) IsFound
+pub failed_so : {X Y D E : Type 0} (old new : State) (fault : D) (told : E) (Found : Trees → X → Type 0) (IsFound : Trees → Y → Type 0) → Inspects {X = X} old new (Err fault) Found → Inspects {X = Y} old new (Err told) IsFound
 failed_so old new fault told Found IsFound first = record {
   found = λ clean has. tt;
   answered = λ clean. tt;
@@ -58,7 +57,7 @@ failed_so old new fault told Found IsFound first = record {
 }
 
 -- a connection of which nothing was asked
-pub not_inspected : {X : Type 0} (s : State) (fault : OpenFault) (Found : Trees → X → Type 0) → (IsTrue s.is_open → s.now ≡ s.committed) → Inspects {X = X} s s (Err fault) Found
+pub not_inspected : {X E : Type 0} (s : State) (fault : E) (Found : Trees → X → Type 0) → (IsTrue s.is_open → s.now ≡ s.committed) → Inspects {X = X} s s (Err fault) Found
 not_inspected s fault Found settled = record {
   found = λ clean has. tt;
   answered = λ clean. tt;
@@ -68,8 +67,8 @@ not_inspected s fault Found settled = record {
 }
 
 -- one question after another
-pub inspected_then : {X Y : Type 0} (old mid new : State) (x : X) (r : Result Y OpenFault) (Found : Trees → X → Type 0) (IsFound : Trees → Y → Type 0) (Then : Trees → Y → Type 0) → (IsTrue old.is_open → old.now ≡ old.committed) → Inspects old mid (Ok x) Found → Inspects mid new r IsFound → ((y : Y) → Found old.now.trees x → IsFound old.now.trees y → Then old.now.trees y) → Inspects old new r Then
-inspected_then {X} {Y} old mid new x r Found IsFound Then settled first second finds = record {
+pub inspected_then : {X Y D E : Type 0} (old mid new : State) (x : X) (r : Result Y E) (Found : Trees → X → Type 0) (IsFound : Trees → Y → Type 0) (Then : Trees → Y → Type 0) → (IsTrue old.is_open → old.now ≡ old.committed) → Inspects {E = D} old mid (Ok x) Found → Inspects mid new r IsFound → ((y : Y) → Found old.now.trees x → IsFound old.now.trees y → Then old.now.trees y) → Inspects old new r Then
+inspected_then {X} {Y} {D} {E} old mid new x r Found IsFound Then settled first second finds = record {
   found = λ clean has. on_found r clean has (second.answered clean) (second.found clean);
   answered = λ clean. on_answered r clean (second.answered clean);
   was_open = λ clean is_open. first.was_open (clean_mid clean) (second.was_open clean is_open);
@@ -87,17 +86,27 @@ inspected_then {X} {Y} old mid new x r Found IsFound Then settled first second f
     same_db : HasCleanDisk new → IsTrue mid.is_open → mid.now ≡ old.now
     same_db clean is_open = (first.undone (clean_mid clean) is_open).0 ∙ sym (settled (first.was_open (clean_mid clean) is_open))
 
-    on_found : (z : Result Y OpenFault) → HasCleanDisk new → HasLayout old.now → OnOk z (IsTrue mid.is_open) → (HasLayout mid.now → IfOk z (IsFound mid.now.trees)) → IfOk z (Then old.now.trees)
+    on_found : (z : Result Y E) → HasCleanDisk new → HasLayout old.now → OnOk z (IsTrue mid.is_open) → (HasLayout mid.now → IfOk z (IsFound mid.now.trees)) → IfOk z (Then old.now.trees)
     on_found (Ok y) clean has is_open found =
         let same = same_db clean is_open in
         finds y (first.found (clean_mid clean) has) (subst (λ (db : Database). IsFound db.trees y) same (found (subst HasLayout (sym same) has)))
     on_found (Err fault) clean has is_open found = tt
 
-    on_answered : (z : Result Y OpenFault) → HasCleanDisk new → OnOk z (IsTrue mid.is_open) → OnOk z (IsTrue old.is_open)
+    on_answered : (z : Result Y E) → HasCleanDisk new → OnOk z (IsTrue mid.is_open) → OnOk z (IsTrue old.is_open)
     on_answered (Ok y) clean is_open = first.was_open (clean_mid clean) is_open
     on_answered (Err fault) clean h = tt
 
 -- what is found says also what follows from it
-pub as_inspected : {X : Type 0} (old new : State) (r : Result X OpenFault) (Found IsFound : Trees → X → Type 0) → Inspects old new r Found → ((x : X) → Found old.now.trees x → IsFound old.now.trees x) → Inspects old new r IsFound
+pub as_inspected : {X E : Type 0} (old new : State) (r : Result X E) (Found IsFound : Trees → X → Type 0) → Inspects old new r Found → ((x : X) → Found old.now.trees x → IsFound old.now.trees x) → Inspects old new r IsFound
 as_inspected old new (Ok x) Found IsFound first finds = then_inspected old new x (Ok x) Found IsFound first (finds x)
 as_inspected old new (Err fault) Found IsFound first finds = failed_so old new fault fault Found IsFound first
+
+-- an answer is told alike, whatever a fault would be
+pub same_answer : {X D E : Type 0} (old new : State) (x : X) (Found : Trees → X → Type 0) → Inspects {E = D} old new (Ok x) Found → Inspects {E = E} old new (Ok x) Found
+same_answer old new x Found first = record {
+  found = first.found;
+  answered = first.answered;
+  was_open = first.was_open;
+  undone = first.undone;
+  survives = first.survives;
+}

@@ -1,5 +1,5 @@
 -- What an opening does, by what the database was found to be.
-use Rattle.std.proofs.Common.{◌≡◌, ◌∙◌, ◌⊎◌, ◌&&◌, ⊎_elim, inl, inr, Bool, true, false, Result, Ok, Err, IsTrue, OnOk, OnErr, length, refl, ap, sym, subst, arith}
+use Rattle.std.proofs.Common.{◌≡◌, ◌∙◌, ◌⊎◌, ◌&&◌, ⊎_elim, inl, inr, Bool, true, false, Result, Ok, Err, IsTrue, OnOk, OnErr, IfErr, length, refl, ap, sym, subst, arith}
 use Rattle.std.proofs.lemmas.Bool.{false≢true}
 use Rattle.std.proofs.Math.Logic.{∥∥₁_map}
 use Rattle.share_rules.specs.declared.office.Office.{Office}
@@ -10,13 +10,15 @@ use Rattle.sqlite_trees.specs.Tree.{Trees}
 use Rattle.society_core.specs.Book.{empty_book}
 use Rattle.society_rows.specs.Layout.{layout, no_schema, written_out}
 use Rattle.society_rows.specs.NewBook.{Begins, IsBare, IsNewBook}
-use Rattle.society_rows.specs.Stored.{HasLayout}
+use Rattle.society_rows.specs.Layout.{office as layout_office}
+use Rattle.society_rows.specs.Stored.{HasLayout, rows_in}
 use Rattle.society_tables.specs.BookRows.{book_of}
 use Rattle.society_tables.specs.Kept.{Holds, IsAtRest, Rests, office_row}
-use Rattle.society_tables.specs.Opening.{HoldsOne, Inspects, IsOpenable, Opens, ShowsAs, SurvivesOpening}
+use Rattle.society_tables.specs.Opening.{HoldsOne, Inspects, IsOpenable, Opens, ShowsAs, SurvivesOpening, Tells, TellsOffice}
 use Rattle.society_tables.specs.declared.open_fault.OpenFault.{OpenFault}
 use Rattle.society_tables.proofs.AskLemmas.{clean_is, first_true, second_true}
 use Rattle.society_tables.proofs.EmptyTables.{begun_book, begun_rests}
+use Rattle.society_tables.proofs.OpenTold.{told_of_layout}
 
 -- what an answer says, by the answer
 on_ok : {X : Type 0} (r : Result X OpenFault) {P : Type 0} → P → OnOk r P
@@ -41,13 +43,14 @@ rests_from false P h = ∣ (λ is. absurd (false≢true is)) ∣₁
 
 module _ (o : Office) (old new : State) (r : Result (Unit {0}) OpenFault) (settled : IsTrue old.is_open → old.now ≡ old.committed) where
   -- a database that had no table
-  pub opens_begun : IsBare old.now → (HasCleanDisk new → IsBare old.now → OnOk r (Begins (office_row o) new.now × (new.now ≡ new.committed))) → (HasCleanDisk new → OnErr r (ShowsAs old.committed new)) → SurvivesOpening o old new → Opens o old new r
-  opens_begun bare created neither crash = record {
+  pub opens_begun : IsBare old.now → (HasCleanDisk new → IsBare old.now → OnOk r (Begins (office_row o) new.now × (new.now ≡ new.committed))) → (HasCleanDisk new → OnErr r (ShowsAs old.committed new)) → IfErr r (λ e. (db : Database) → Tells o db e) → SurvivesOpening o old new → Opens o old new r
+  opens_begun bare created neither failed crash = record {
     rests = rests_by r (λ clean. created clean bare);
     begun = λ clean is_open was. book_by r (created clean bare);
     audited = λ clean is_open has. absurd (not_both old.now.schema bare (subst HasLayout (sym (settled is_open)) has));
     known = λ clean is_open. on_ok r (inl (subst IsBare (settled is_open) bare));
     unchanged = neither;
+    told = λ clean is_open. told_by r failed;
     crash = crash;
   }
     where
@@ -55,18 +58,23 @@ module _ (o : Office) (old new : State) (r : Result (Unit {0}) OpenFault) (settl
       rests_by (Ok x) made = ∣ (λ live. begun_rests o (office_row o) new refl (made (clean_is new.is_clean (first_true new.is_clean new.is_open live))).0 (made (clean_is new.is_clean (first_true new.is_clean new.is_open live))).1) ∣₁
       rests_by (Err e) made = tt
 
+      told_by : (z : Result (Unit {0}) OpenFault) → IfErr z (λ e. (db : Database) → Tells o db e) → IfErr z (Tells o old.committed)
+      told_by (Ok x) failed = tt
+      told_by (Err e) failed = failed old.committed
+
       book_by : (z : Result (Unit {0}) OpenFault) → OnOk z (Begins (office_row o) new.now × (new.now ≡ new.committed)) → OnOk z (book_of new.now.trees ≡ empty_book)
       book_by (Ok x) made = begun_book o (office_row o) new.now refl made.0
       book_by (Err e) made = tt
 
   -- one of layout 2 that was audited
-  pub opens_audited : HasLayout old.now → Inspects old new r (λ db _. HoldsOne o db) → Opens o old new r
-  opens_audited has inspected = record {
+  pub opens_audited : HasLayout old.now → Inspects old new r (λ db _. HoldsOne o db) → (HasCleanDisk new → HasLayout old.now → IfErr r (TellsOffice o (rows_in layout_office old.now.trees))) → Opens o old new r
+  opens_audited has inspected told = record {
     rests = rests_by r (λ clean. inspected.found clean has);
     begun = λ clean is_open bare. absurd (not_both old.now.schema (subst IsBare (sym (settled is_open)) bare) has);
     audited = λ clean is_open was. held_by r (settled is_open) (inspected.found clean has) (inspected.undone clean);
     known = λ clean is_open. on_ok r (inr (subst HasLayout (settled is_open) has));
     unchanged = λ clean. on_err r (inspected.undone clean);
+    told = λ clean is_open. told_by r (settled is_open) (told clean has);
     crash = record {
       clean = inspected.survives.clean;
       shield = inspected.survives.shield;
@@ -97,17 +105,22 @@ module _ (o : Office) (old new : State) (r : Result (Unit {0}) OpenFault) (settl
       rests_by (Ok x) found = rests_from (new.is_clean && new.is_open) (IsAtRest o new) (λ live. ∥∥₁_map (found (clean_is new.is_clean (first_true new.is_clean new.is_open live))) (at_rest live))
       rests_by (Err e) found = tt
 
+      told_by : (z : Result (Unit {0}) OpenFault) → old.now ≡ old.committed → IfErr z (TellsOffice o (rows_in layout_office old.now.trees)) → IfErr z (Tells o old.committed)
+      told_by (Ok x) same says = tt
+      told_by (Err e) same says = subst (λ (db : Database). Tells o db e) same (told_of_layout o old.now e has (λ bare. not_both old.now.schema bare has) says)
+
       held_by : (z : Result (Unit {0}) OpenFault) → old.now ≡ old.committed → OnOk z (HoldsOne o old.now.trees) → ShowsAs old.committed new → OnOk z (HoldsOne o old.committed.trees × ShowsAs old.committed new)
       held_by (Ok x) same found shows = (subst (λ (db : Database). HoldsOne o db.trees) same found, shows)
       held_by (Err e) same found shows = tt
 
 -- one that has something else
-pub opens_other : (o : Office) (s : State) (told : OpenFault) → (IsTrue s.is_open → s.now ≡ s.committed) → Opens o s s (Err told)
-opens_other o s told settled = record {
+pub opens_other : (o : Office) (s : State) (told : OpenFault) → (IsTrue s.is_open → s.now ≡ s.committed) → Tells o s.now told → Opens o s s (Err told)
+opens_other o s told settled says = record {
   rests = tt;
   begun = λ clean is_open bare. tt;
   audited = λ clean is_open has. tt;
   known = λ clean is_open. tt;
   unchanged = λ clean is_open. (settled is_open, refl);
+  told = λ clean is_open. subst (λ (db : Database). Tells o db told) (settled is_open) says;
   crash = record { clean = omega arith; shield = λ h. h; counts = omega arith; limit = refl; closes = λ clean is. inl is; crash = λ clean db h. inl h };
 }

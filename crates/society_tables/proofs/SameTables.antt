@@ -51,7 +51,7 @@ pub holds_likewise : (o : Office) (one two : Trees) → Holds o one → Agree ev
 holds_likewise o one two holds agree numbered = holds_own o (book_of one) two (holds_as o (book_of one) one two holds agree numbered)
 
 -- every row passes a test that is always passed
-all_pass : (rows : List Row) → filter (λ _. true) rows ≡ rows
+pub all_pass : (rows : List Row) → filter (λ _. true) rows ≡ rows
 all_pass [] = refl
 all_pass (row ∷ rows) = ap (λ rest. row ∷ rest) (all_pass rows)
 

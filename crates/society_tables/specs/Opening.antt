@@ -1,10 +1,13 @@
 -- How a database is opened as an office's tables.
-use Rattle.std.specs.Prelude.{◌≡◌, ◌⊎◌, List, [], ◌∷◌, Result, Ok, Err, IsTrue, IsPermutation, OnOk, OnErr, IfOk}
+use Rattle.std.specs.Prelude.{◌≡◌, ◌≢◌, ◌⊎◌, List, [], ◌∷◌, Result, Ok, Err, IsTrue, IsPermutation, OnOk, OnErr, IfOk, IfErr}
 use Rattle.std.specs.List.{AllByRecursion}
 use Rattle.share_rules.specs.declared.office.Office.{Office}
 use Rattle.sqlite_trees.specs.Tree.{Trees}
 use Rattle.sqlite.specs.Effect.{Database}
 use Rattle.sqlite.specs.State as connection
+use Rattle.sqlite_value.specs.Order.{Row}
+use Rattle.society_rows.specs.Forms.{IsOfForms, office_forms}
+use Rattle.society_rows.specs.Layout as layout
 use Rattle.society_rows.specs.NewBook.{IsBare, IsNewBook}
 use Rattle.society_rows.specs.Stored.{HasLayout, rows_in}
 use Rattle.society_rows.specs.TableNames.{table_called}
@@ -15,16 +18,47 @@ use Rattle.society_rows.specs.declared.tables.TableName.TheVariants as name
 use Rattle.society_core.specs.Book.{empty_book}
 use Rattle.society_tables.specs.BookRows.{book_of}
 use Rattle.society_tables.specs.Kept.{Holds, Rests, office_row}
+use Rattle.society_tables.specs.declared.audit_fault.AuditFault.{AuditFault}
+use Rattle.society_tables.specs.declared.audit_fault.AuditFault.TheVariants as audit
 use Rattle.society_tables.specs.declared.open_fault.OpenFault.{OpenFault}
 use Rattle.society_tables.specs.declared.open_fault.OpenFault.TheVariants as fault
 
 -- want of memory, or else that the database failed
-abbrev pub fault_by : RowFault → OpenFault
-fault_by row.Memory = fault.Memory
-fault_by row.Schema = fault.Store
-fault_by row.Unread = fault.Store
-fault_by row.Overflow = fault.Store
-fault_by (row.Refused error) = fault.Store
+abbrev pub audit_fault_by : RowFault → AuditFault
+audit_fault_by row.Memory = audit.Memory
+audit_fault_by row.Schema = audit.Store
+audit_fault_by row.Unread = audit.Store
+audit_fault_by row.Overflow = audit.Store
+audit_fault_by (row.Refused error) = audit.Store
+
+-- why a database is not opened whose rows do not pass
+abbrev pub opened_by : AuditFault → OpenFault
+opened_by audit.Memory = fault.Memory
+opened_by audit.Store = fault.Store
+opened_by audit.Damaged = fault.Damaged
+
+-- one office is told of, by a row that can be read: one, layout 2, society, territory, name
+abbrev pub IsOneOffice : List Row → Type 0
+IsOneOffice [] = ⊥
+IsOneOffice (row ∷ []) = IsOfForms office_forms row
+IsOneOffice (row ∷ other ∷ rows) = ⊥
+
+-- what a fault says of the rows of offices: that no office can be read, that it is another, or that it is this one
+abbrev pub TellsOffice : Office → List Row → OpenFault → Type 0
+TellsOffice office rows fault.Memory = Unit {0}
+TellsOffice office rows fault.Store = Unit {0}
+TellsOffice office rows fault.Schema = ¬ IsOneOffice rows
+TellsOffice office rows fault.OtherOffice = IsOneOffice rows × (rows ≢ office_row office ∷ [])
+TellsOffice office rows fault.Damaged = rows ≡ office_row office ∷ []
+
+-- What a fault says of a database: `Schema` that it has tables, and not those of layout 2 with an office that can be read;
+-- `OtherOffice` that it has those of another office; `Damaged` that it has those of this office.
+abbrev pub Tells : Office → Database → OpenFault → Type 0
+Tells office db fault.Memory = Unit {0}
+Tells office db fault.Store = Unit {0}
+Tells office db fault.Schema = (¬ IsBare db) × (HasLayout db → TellsOffice office (rows_in layout.office db.trees) fault.Schema)
+Tells office db fault.OtherOffice = HasLayout db × TellsOffice office (rows_in layout.office db.trees) fault.OtherOffice
+Tells office db fault.Damaged = HasLayout db × TellsOffice office (rows_in layout.office db.trees) fault.Damaged
 
 -- the tables after the first, that of the office
 abbrev pub other_names : List TableName
@@ -45,7 +79,7 @@ ShowsAs db s = IsTrue s.is_open → (s.now ≡ db) × (s.committed ≡ db)
 
 -- Questions on a connection that is in no transaction: over layout 2 they find this, an answer comes from an open connection alone,
 -- they leave the last commit, and a crash leaves what it left before.
-pub record Inspects {X : Type 0} (old new : connection.State) (result : Result X OpenFault) (Found : Trees → X → Type 0) : Type 0 where
+pub record Inspects {X E : Type 0} (old new : connection.State) (result : Result X E) (Found : Trees → X → Type 0) : Type 0 where
   pub found : connection.HasCleanDisk new → HasLayout old.now → IfOk result (Found old.now.trees)
   pub answered : connection.HasCleanDisk new → OnOk result (IsTrue old.is_open)
   pub was_open : connection.HasCleanDisk new → IsTrue new.is_open → IsTrue old.is_open
@@ -65,11 +99,13 @@ abbrev pub SurvivesOpening : Office → connection.State → connection.State �
 SurvivesOpening office old new = connection.Survives old new (λ db. IsBare old.now → IsNewBook (office_row office) db)
 
 -- A database becomes an office's tables or is left as it is: one that had no table begins an empty book, one of layout 2 held a sound
--- book with what is derived from it and is shown as it was, and a crash leaves what it left before or the new book.
+-- book with what is derived from it and is shown as it was, a fault says what the database has, and a crash leaves what it left before or
+-- the new book.
 pub record Opens (office : Office) (old new : connection.State) (result : Result (Unit {0}) OpenFault) : Type 0 where
   pub rests : OnOk result ∥ Rests office new ∥₁
   pub begun : connection.HasCleanDisk new → IsTrue old.is_open → IsBare old.committed → OnOk result (book_of new.now.trees ≡ empty_book)
   pub audited : connection.HasCleanDisk new → IsTrue old.is_open → HasLayout old.committed → OnOk result (HoldsOne office old.committed.trees × ShowsAs old.committed new)
   pub known : connection.HasCleanDisk new → IsTrue old.is_open → OnOk result (IsOpenable old.committed)
   pub unchanged : connection.HasCleanDisk new → OnErr result (ShowsAs old.committed new)
+  pub told : connection.HasCleanDisk new → IsTrue old.is_open → IfErr result (Tells office old.committed)
   pub crash : SurvivesOpening office old new

@@ -8,7 +8,7 @@ ghost use Rattle.society_rows.specs.Stored.{HasLayout, rows_in};
 ghost use Rattle.society_rows.specs.TableNames.{listing_width, table_called};
 ghost use Rattle.society_tables.specs.Opening.{Agree, Inspects, every_name};
 
-use crate::OpenFault;
+use crate::audit_fault::AuditFault;
 use society_rows::{RowFault, TableName, all_rows};
 use sqlite::{Alter, Connection, MemStore, Row};
 use sqlite_value::order::is_same;
@@ -29,7 +29,10 @@ const OTHER_TABLES: [TableName; 11] = [
 ];
 
 /// All rows of a table, by its key, read in a transaction that is rolled back.
-fn listed<S: Alter>(conn: &mut Connection<S>, table: TableName) -> Result<Vec<Row>, RowFault>
+pub(crate) fn listed<S: Alter>(
+    conn: &mut Connection<S>,
+    table: TableName,
+) -> Result<Vec<Row>, RowFault>
     requires { conn.old.in_transaction ≡ false }
     ensures asked { Asks (state S.Store conn.old) (state S.Store conn.new) result
         (λ db rows. Lists (table_called table) (λ _. true) (listing_width table) db rows.items) }
@@ -45,7 +48,7 @@ fn listed<S: Alter>(conn: &mut Connection<S>, table: TableName) -> Result<Vec<Ro
 pub(crate) fn rows_of_table<S: Alter>(
     conn: &mut Connection<S>,
     table: TableName,
-) -> Result<Vec<Row>, OpenFault>
+) -> Result<Vec<Row>, AuditFault>
     requires { conn.old.in_transaction ≡ false }
     ensures asked { Inspects (state S.Store conn.old) (state S.Store conn.new) result
         (λ db rows. Lists (table_called table) (λ _. true) (listing_width table) db rows.items) }
@@ -58,7 +61,7 @@ pub(crate) fn rows_of_table<S: Alter>(
 fn rows_in_memory(
     memory: &mut Connection<MemStore>,
     table: TableName,
-) -> Result<Vec<Row>, OpenFault>
+) -> Result<Vec<Row>, AuditFault>
     requires { memory.old.in_transaction ≡ false }
     ensures rows { HasLayout (state over_memory memory.old).now → IfOk result (λ rows.
         Lists (table_called table) (λ _. true) (listing_width table) (state over_memory memory.old).now.trees rows.items) }
@@ -107,7 +110,7 @@ fn table_agrees<S: Alter>(
     conn: &mut Connection<S>,
     memory: &mut Connection<MemStore>,
     table: TableName,
-) -> Result<(), OpenFault>
+) -> Result<(), AuditFault>
     requires ours { conn.old.in_transaction ≡ false }
     requires theirs { memory.old.in_transaction ≡ false }
     ensures agree { Inspects (state S.Store conn.old) (state S.Store conn.new) result
@@ -121,7 +124,7 @@ fn table_agrees<S: Alter>(
     if are_same_rows(rows.as_slice(), others.as_slice()) {
         Ok(())
     } else {
-        Err(OpenFault::Damaged)
+        Err(AuditFault::Damaged)
     }
 }
 
@@ -129,7 +132,7 @@ fn table_agrees<S: Alter>(
 pub(crate) fn tables_agree<S: Alter>(
     conn: &mut Connection<S>,
     memory: &mut Connection<MemStore>,
-) -> Result<(), OpenFault>
+) -> Result<(), AuditFault>
     requires ours { conn.old.in_transaction ≡ false }
     requires theirs { memory.old.in_transaction ≡ false }
     ensures agree { Inspects (state S.Store conn.old) (state S.Store conn.new) result

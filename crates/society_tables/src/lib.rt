@@ -3,6 +3,7 @@
 
 mod acknowledgements;
 mod arrivals;
+mod audit_fault;
 mod chosen;
 mod closings;
 mod comparing;

@@ -1,10 +1,9 @@
 //! Why a database is not opened.
 ghost use Rattle.std.specs.Prelude.{◌≡◌};
-ghost use Rattle.society_tables.specs.Opening.{fault_by};
-ghost use Rattle.society_tables.specs.declared.open_fault.OpenFault.TheVariants.{Memory};
+ghost use Rattle.society_tables.specs.Opening.{audit_fault_by, opened_by};
 
+use crate::audit_fault::AuditFault;
 use society_rows::RowFault;
-use std::alloc::{AllocError, AllocFailed};
 
 /// Why a database is not opened as an office's tables.
 #[derive(Clone, Copy, Debug, PartialEq, Eq, thiserror::Error)]
@@ -27,28 +26,21 @@ pub enum OpenFault {
 }
 
 impl From<RowFault> for OpenFault {
-    ghost from_gives = { λ fault told. told ≡ fault_by fault };
+    ghost from_gives = { λ fault told. told ≡ opened_by (audit_fault_by fault) };
 
     fn from(fault: RowFault) -> OpenFault {
+        OpenFault::from(AuditFault::from(fault))
+    }
+}
+
+impl From<AuditFault> for OpenFault {
+    ghost from_gives = { λ fault told. told ≡ opened_by fault };
+
+    fn from(fault: AuditFault) -> OpenFault {
         match fault {
-            RowFault::Memory => OpenFault::Memory,
-            _ => OpenFault::Store,
+            AuditFault::Memory => OpenFault::Memory,
+            AuditFault::Store => OpenFault::Store,
+            AuditFault::Damaged => OpenFault::Damaged,
         }
-    }
-}
-
-impl From<AllocError> for OpenFault {
-    ghost from_gives = { λ _ told. told ≡ Memory };
-
-    fn from(_fault: AllocError) -> OpenFault {
-        OpenFault::Memory
-    }
-}
-
-impl<T: Drop> From<AllocFailed<T>> for OpenFault {
-    ghost from_gives = { λ _ told. told ≡ Memory };
-
-    fn from(_fault: AllocFailed<T>) -> OpenFault {
-        OpenFault::Memory
     }
 }

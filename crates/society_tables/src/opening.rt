@@ -1,17 +1,20 @@
 //! How a database is opened as an office's tables.
-ghost use Rattle.std.specs.Prelude.{◌≡◌, ◌↔◌, IsTrue, IfErr, IfOk, MatchResult, OnErr, OnOk, ⊤, false};
+ghost use Rattle.std.specs.Prelude.{[], ◌∷◌, ◌≡◌, ◌↔◌, IsTrue, IfErr, IfOk, MatchResult, OnErr, OnOk, false};
+ghost use Rattle.sqlite.specs.Effect.{Database};
 ghost use Rattle.sqlite.specs.Held.{state};
 ghost use Rattle.sqlite.specs.State.{HasCleanDisk, Survives};
 ghost use Rattle.society_core.specs.Book.{empty_book};
 ghost use Rattle.society_rows.specs.Layout.{balances, fronts};
+ghost use Rattle.society_rows.specs.Layout.{office as office_table};
 ghost use Rattle.society_rows.specs.NewBook.{Begins, IsBare, IsNewBook};
 ghost use Rattle.society_rows.specs.Questions.{Asks};
-ghost use Rattle.society_rows.specs.Stored.{AreNumbered, HasLayout};
+ghost use Rattle.society_rows.specs.Stored.{AreNumbered, HasLayout, rows_in};
 ghost use Rattle.society_rows.specs.TableNames.{table_called};
 ghost use Rattle.society_tables.specs.Kept.{office_row};
-ghost use Rattle.society_tables.specs.Opening.{HoldsOne, Inspects, IsOpenable, Opens, ShowsAs, SurvivesOpening};
+ghost use Rattle.society_tables.specs.Opening.{HoldsOne, Inspects, IsOpenable, Opens, ShowsAs, SurvivesOpening, Tells, TellsOffice};
 
-use crate::comparing::{rows_of_table, tables_agree};
+use crate::audit_fault::AuditFault;
+use crate::comparing::{listed, tables_agree};
 use crate::rebuilding::rebuild;
 use crate::{OpenFault, Tables};
 use share_rules::Office;
@@ -21,7 +24,10 @@ use sqlite::{Alter, Connection, MemStore, Row};
 use std::alloc::Global;
 
 /// That the rows of offices are the one row of this office; `Schema` where it cannot be read.
-fn is_office(rows: &[Row], office: &Office) -> Result<(), OpenFault> {
+fn is_office(rows: &[Row], office: &Office) -> Result<(), OpenFault>
+    ensures same { IfOk result (λ _. rows.now ≡ office_row office.now ∷ []) }
+    ensures told { IfErr result (TellsOffice office.now rows.now) }
+{
     let [row] = rows else {
         return Err(OpenFault::Schema);
     };
@@ -41,10 +47,12 @@ fn is_office(rows: &[Row], office: &Office) -> Result<(), OpenFault> {
 /// That the tables are those of this office.
 fn office_agrees<S: Alter>(conn: &mut Connection<S>, office: &Office) -> Result<(), OpenFault>
     requires { conn.old.in_transaction ≡ false }
-    ensures asked { Inspects (state S.Store conn.old) (state S.Store conn.new) result (λ _ _. ⊤) }
+    ensures asked { Inspects (state S.Store conn.old) (state S.Store conn.new) result (λ db _. rows_in office_table db ≡ office_row office.now ∷ []) }
+    ensures told { HasCleanDisk (state S.Store conn.new) → HasLayout (state S.Store conn.old).now
+        → IfErr result (TellsOffice office.now (rows_in office_table (state S.Store conn.old).now.trees)) }
     ensures idle { conn.new.in_transaction ≡ false }
 {
-    let rows = rows_of_table(conn, TableName::Office)?;
+    let rows = listed(conn, TableName::Office)?;
     is_office(rows.as_slice(), office)
 }
 
@@ -62,7 +70,7 @@ fn is_numbered<S: Alter>(conn: &mut Connection<S>, table: TableName) -> Result<b
 }
 
 /// That each row of a table has a whole number as its rowid; else `Damaged`.
-fn has_numbers<S: Alter>(conn: &mut Connection<S>, table: TableName) -> Result<(), OpenFault>
+fn has_numbers<S: Alter>(conn: &mut Connection<S>, table: TableName) -> Result<(), AuditFault>
     requires { conn.old.in_transaction ≡ false }
     ensures asked { Inspects (state S.Store conn.old) (state S.Store conn.new) result (λ db _. AreNumbered (table_called table) db) }
     ensures idle { conn.new.in_transaction ≡ false }
@@ -70,12 +78,12 @@ fn has_numbers<S: Alter>(conn: &mut Connection<S>, table: TableName) -> Result<(
     if is_numbered(conn, table)? {
         Ok(())
     } else {
-        Err(OpenFault::Damaged)
+        Err(AuditFault::Damaged)
     }
 }
 
 /// That what is put over another row has a whole number as its rowid.
-fn fronts_and_balances_numbered<S: Alter>(conn: &mut Connection<S>) -> Result<(), OpenFault>
+fn fronts_and_balances_numbered<S: Alter>(conn: &mut Connection<S>) -> Result<(), AuditFault>
     requires { conn.old.in_transaction ≡ false }
     ensures asked { Inspects (state S.Store conn.old) (state S.Store conn.new) result
         (λ db _. AreNumbered fronts db × AreNumbered balances db) }
@@ -90,7 +98,7 @@ fn fronts_and_balances_numbered<S: Alter>(conn: &mut Connection<S>) -> Result<()
 fn agrees_with<S: Alter>(
     conn: &mut Connection<S>,
     tables: Tables<MemStore>,
-) -> Result<(), OpenFault>
+) -> Result<(), AuditFault>
     requires { conn.old.in_transaction ≡ false }
     ensures agree { Inspects (state S.Store conn.old) (state S.Store conn.new) result
         (λ db _. AreNumbered fronts db × AreNumbered balances db → HoldsOne (⟦<Tables<MemStore> as Store>⟧.state tables).office db) }
@@ -105,7 +113,7 @@ fn holds_own<S: Alter>(
     alloc: Global,
     conn: &mut Connection<S>,
     office: &Office,
-) -> Result<(), OpenFault>
+) -> Result<(), AuditFault>
     requires { conn.old.in_transaction ≡ false }
     ensures agree { Inspects (state S.Store conn.old) (state S.Store conn.new) result
         (λ db _. AreNumbered fronts db × AreNumbered balances db → HoldsOne office.now db) }
@@ -121,7 +129,7 @@ fn is_whole<S: Alter>(
     alloc: Global,
     conn: &mut Connection<S>,
     office: &Office,
-) -> Result<(), OpenFault>
+) -> Result<(), AuditFault>
     requires { conn.old.in_transaction ≡ false }
     ensures whole { Inspects (state S.Store conn.old) (state S.Store conn.new) result (λ db _. HoldsOne office.now db) }
     ensures idle { conn.new.in_transaction ≡ false }
@@ -139,11 +147,14 @@ fn audit<S: Alter>(
 ) -> Result<(), OpenFault>
     requires { conn.old.in_transaction ≡ false }
     ensures whole { Inspects (state S.Store conn.old) (state S.Store conn.new) result (λ db _. HoldsOne office.now db) }
+    ensures told { HasCleanDisk (state S.Store conn.new) → HasLayout (state S.Store conn.old).now
+        → IfErr result (TellsOffice office.now (rows_in office_table (state S.Store conn.old).now.trees)) }
     ensures idle { conn.new.in_transaction ≡ false }
 {
     let _settled = conn.is_autocommit();
     office_agrees(conn, office)?;
-    is_whole(alloc, conn, office)
+    is_whole(alloc, conn, office)?;
+    Ok(())
 }
 
 /// Makes the tables of an office to which nothing has come.
@@ -153,6 +164,7 @@ fn begin<S: Alter>(conn: &mut Connection<S>, office: &Office) -> Result<(), Open
         → OnOk result (Begins (office_row office.now) (state S.Store conn.new).now
         × ((state S.Store conn.new).now ≡ (state S.Store conn.new).committed)) }
     ensures neither { HasCleanDisk (state S.Store conn.new) → OnErr result (ShowsAs (state S.Store conn.old).committed (state S.Store conn.new)) }
+    ensures told { IfErr result (λ e. (db : Database) → Tells office.now db e) }
     ensures idle { conn.new.in_transaction ≡ false }
     ensures crash { Survives (state S.Store conn.old) (state S.Store conn.new)
         (λ db. IsBare (state S.Store conn.old).now → IsNewBook (office_row office.now) db) }
@@ -188,10 +200,10 @@ impl<S: Alter> Tables<S> {
     /// The tables of an office in a database, which gets them where it has no table, index or view.
     ///
     /// Where it has those of layout 2 they are audited: they have to be this office's, and exactly what the requests that
-    /// they keep make of an empty book. The audit changes no row. `Schema` where there is something else, or no office that can
-    /// be read; `OtherOffice` where the tables are another office's; `Damaged` where they are not what they should be; `Memory`
-    /// and `Store` where memory or the database failed. After a fault the connection comes back, in no transaction, and the
-    /// database is as it was committed.
+    /// they keep make of an empty book. The audit changes no row. `Schema` exactly where there is something else, or not one
+    /// office that can be read; else `OtherOffice` exactly where the office is another; else `Damaged` where they are not what
+    /// they should be; `Memory` and `Store` where memory or the database failed. After a fault the connection comes back, in no
+    /// transaction, and the database is as it was committed.
     pub fn open(
         alloc: Global,
         connection: Connection<S>,
@@ -203,6 +215,7 @@ impl<S: Alter> Tables<S> {
         ensures audited { IfOk result (λ t. HasCleanDisk (state S.Store t.conn) → IsTrue (state S.Store connection).is_open → HasLayout (state S.Store connection).committed
             → HoldsOne office.now (state S.Store connection).committed.trees × ShowsAs (state S.Store connection).committed (state S.Store t.conn)) }
         ensures known { IfOk result (λ t. HasCleanDisk (state S.Store t.conn) → IsTrue (state S.Store connection).is_open → IsOpenable (state S.Store connection).committed) }
+        ensures told { IfErr result (λ e. HasCleanDisk (state S.Store e.1) → IsTrue (state S.Store connection).is_open → Tells office.now (state S.Store connection).committed e.0) }
         ensures unchanged { IfErr result (λ e. HasCleanDisk (state S.Store e.1) → ShowsAs (state S.Store connection).committed (state S.Store e.1)) }
         ensures idle { IfErr result (λ e. e.1.in_transaction ≡ false) }
         ensures crash { MatchResult result (λ t. SurvivesOpening office.now (state S.Store connection) (state S.Store t.conn)) (λ e. SurvivesOpening office.now (state S.Store connection) (state S.Store e.1)) }

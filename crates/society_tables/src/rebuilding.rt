@@ -3,8 +3,9 @@ ghost use Rattle.std.specs.Prelude.{◌≡◌, IfOk, ⊤, false};
 ghost use Rattle.sqlite.specs.Held.{state};
 ghost use Rattle.society_tables.specs.Opening.{Inspects};
 
+use crate::Tables;
+use crate::audit_fault::AuditFault;
 use crate::comparing::rows_of_table;
-use crate::{OpenFault, Tables};
 use share_rules::Office;
 use society_core::{Desk, OrderError, PoolOrder, Refusal, ReturnKey, Store};
 use society_rows::{PoolCutRow, PoolReturnRow, PoolRow, ReturnRow, TableName, TransmissionRow};
@@ -16,25 +17,25 @@ use work_ids::{PoolNumber, Reporter, ReturnNumber, SenderKey, TransmissionNumber
 pub(crate) type Anew = Desk<Tables<MemStore>>;
 
 /// Want of memory, or damage where the desk refuses.
-fn fault_of_refusal(refusal: Refusal) -> OpenFault {
+fn fault_of_refusal(refusal: Refusal) -> AuditFault {
     match refusal {
-        Refusal::Unavailable => OpenFault::Memory,
-        _ => OpenFault::Damaged,
+        Refusal::Unavailable => AuditFault::Memory,
+        _ => AuditFault::Damaged,
     }
 }
 
 /// Puts the transmission of a row.
-fn put_transmission(alloc: Global, desk: &mut Anew, row: &Row) -> Result<(), OpenFault>
+fn put_transmission(alloc: Global, desk: &mut Anew, row: &Row) -> Result<(), AuditFault>
     ensures { (⟦<Tables<MemStore> as Store>⟧.state desk.new).office ≡ (⟦<Tables<MemStore> as Store>⟧.state desk.old).office }
 {
     let Ok(row) = TransmissionRow::from_row(row) else {
-        return Err(OpenFault::Damaged);
+        return Err(AuditFault::Damaged);
     };
     let Ok(sender) = SenderKey::from_bytes(row.sender) else {
-        return Err(OpenFault::Damaged);
+        return Err(AuditFault::Damaged);
     };
     let Some(number) = TransmissionNumber::from_u32(row.number) else {
-        return Err(OpenFault::Damaged);
+        return Err(AuditFault::Damaged);
     };
     match desk.put_transmission(alloc, &sender, number, row.body) {
         Ok(_) => Ok(()),
@@ -43,17 +44,17 @@ fn put_transmission(alloc: Global, desk: &mut Anew, row: &Row) -> Result<(), Ope
 }
 
 /// Puts the return of a row.
-fn put_return(alloc: Global, desk: &mut Anew, row: &Row) -> Result<(), OpenFault>
+fn put_return(alloc: Global, desk: &mut Anew, row: &Row) -> Result<(), AuditFault>
     ensures { (⟦<Tables<MemStore> as Store>⟧.state desk.new).office ≡ (⟦<Tables<MemStore> as Store>⟧.state desk.old).office }
 {
     let Ok(row) = ReturnRow::from_row(row) else {
-        return Err(OpenFault::Damaged);
+        return Err(AuditFault::Damaged);
     };
     let Ok(reporter) = Reporter::from_bytes(row.reporter) else {
-        return Err(OpenFault::Damaged);
+        return Err(AuditFault::Damaged);
     };
     let Some(number) = ReturnNumber::from_u32(row.number) else {
-        return Err(OpenFault::Damaged);
+        return Err(AuditFault::Damaged);
     };
     let key = ReturnKey { reporter, number };
     match desk.put_return(alloc, &key, row.body) {
@@ -63,15 +64,15 @@ fn put_return(alloc: Global, desk: &mut Anew, row: &Row) -> Result<(), OpenFault
 }
 
 /// The senders and the numbers of a pool's cut, out of the rows of all cuts.
-fn cut_among(alloc: Global, rows: &[Row], pool: u32) -> Result<Vec<(SenderKey, u64)>, OpenFault> {
+fn cut_among(alloc: Global, rows: &[Row], pool: u32) -> Result<Vec<(SenderKey, u64)>, AuditFault> {
     let mut cut = Vec::new(alloc);
     for row in rows {
         let Ok(row) = PoolCutRow::from_row(row) else {
-            return Err(OpenFault::Damaged);
+            return Err(AuditFault::Damaged);
         };
         if row.pool == pool {
             let Ok(sender) = SenderKey::from_bytes(row.sender) else {
-                return Err(OpenFault::Damaged);
+                return Err(AuditFault::Damaged);
             };
             cut.push((sender, u64::from(row.number)))?;
         }
@@ -84,15 +85,15 @@ fn returns_among(
     alloc: Global,
     rows: &[Row],
     pool: u32,
-) -> Result<Vec<(Reporter, u64)>, OpenFault> {
+) -> Result<Vec<(Reporter, u64)>, AuditFault> {
     let mut returns = Vec::new(alloc);
     for row in rows {
         let Ok(row) = PoolReturnRow::from_row(row) else {
-            return Err(OpenFault::Damaged);
+            return Err(AuditFault::Damaged);
         };
         if row.pool == pool {
             let Ok(reporter) = Reporter::from_bytes(row.reporter) else {
-                return Err(OpenFault::Damaged);
+                return Err(AuditFault::Damaged);
             };
             returns.push((reporter, u64::from(row.number)))?;
         }
@@ -106,14 +107,14 @@ fn order_with(
     amount: i64,
     cut: &[(SenderKey, u64)],
     returns: &[(Reporter, u64)],
-) -> Result<PoolOrder, OpenFault> {
+) -> Result<PoolOrder, AuditFault> {
     let Ok(amount) = u64::try_from(amount) else {
-        return Err(OpenFault::Damaged);
+        return Err(AuditFault::Damaged);
     };
     match PoolOrder::new(alloc, amount, cut, returns) {
         Ok(order) => Ok(order),
-        Err(OrderError::Memory) => Err(OpenFault::Memory),
-        Err(OrderError::Order(_)) => Err(OpenFault::Damaged),
+        Err(OrderError::Memory) => Err(AuditFault::Memory),
+        Err(OrderError::Order(_)) => Err(AuditFault::Damaged),
     }
 }
 
@@ -123,7 +124,7 @@ fn close_with(
     desk: &mut Anew,
     pool: PoolNumber,
     order: &PoolOrder,
-) -> Result<(), OpenFault>
+) -> Result<(), AuditFault>
     ensures { (⟦<Tables<MemStore> as Store>⟧.state desk.new).office ≡ (⟦<Tables<MemStore> as Store>⟧.state desk.old).office }
 {
     match desk.close_pool(alloc, pool, order) {
@@ -139,14 +140,14 @@ fn close_pool(
     row: &Row,
     cuts: &[Row],
     paid: &[Row],
-) -> Result<(), OpenFault>
+) -> Result<(), AuditFault>
     ensures { (⟦<Tables<MemStore> as Store>⟧.state desk.new).office ≡ (⟦<Tables<MemStore> as Store>⟧.state desk.old).office }
 {
     let Ok(row) = PoolRow::from_row(row) else {
-        return Err(OpenFault::Damaged);
+        return Err(AuditFault::Damaged);
     };
     let Some(pool) = PoolNumber::from_u32(row.pool) else {
-        return Err(OpenFault::Damaged);
+        return Err(AuditFault::Damaged);
     };
     let cut = cut_among(alloc, cuts, row.pool)?;
     let returns = returns_among(alloc, paid, row.pool)?;
@@ -155,7 +156,7 @@ fn close_pool(
 }
 
 /// Puts the transmissions of rows.
-fn put_transmissions(alloc: Global, desk: &mut Anew, rows: &[Row]) -> Result<(), OpenFault>
+fn put_transmissions(alloc: Global, desk: &mut Anew, rows: &[Row]) -> Result<(), AuditFault>
     ensures { (⟦<Tables<MemStore> as Store>⟧.state desk.new).office ≡ (⟦<Tables<MemStore> as Store>⟧.state desk.old).office }
 {
     for row in rows {
@@ -165,7 +166,7 @@ fn put_transmissions(alloc: Global, desk: &mut Anew, rows: &[Row]) -> Result<(),
 }
 
 /// Puts the returns of rows.
-fn put_returns(alloc: Global, desk: &mut Anew, rows: &[Row]) -> Result<(), OpenFault>
+fn put_returns(alloc: Global, desk: &mut Anew, rows: &[Row]) -> Result<(), AuditFault>
     ensures { (⟦<Tables<MemStore> as Store>⟧.state desk.new).office ≡ (⟦<Tables<MemStore> as Store>⟧.state desk.old).office }
 {
     for row in rows {
@@ -181,7 +182,7 @@ fn close_pools(
     rows: &[Row],
     cuts: &[Row],
     paid: &[Row],
-) -> Result<(), OpenFault>
+) -> Result<(), AuditFault>
     ensures { (⟦<Tables<MemStore> as Store>⟧.state desk.new).office ≡ (⟦<Tables<MemStore> as Store>⟧.state desk.old).office }
 {
     for row in rows {
@@ -195,7 +196,7 @@ fn transmissions_from<S: Alter>(
     alloc: Global,
     conn: &mut Connection<S>,
     desk: &mut Anew,
-) -> Result<(), OpenFault>
+) -> Result<(), AuditFault>
     requires { conn.old.in_transaction ≡ false }
     ensures asked { Inspects (state S.Store conn.old) (state S.Store conn.new) result (λ _ _. ⊤) }
     ensures idle { conn.new.in_transaction ≡ false }
@@ -210,7 +211,7 @@ fn returns_from<S: Alter>(
     alloc: Global,
     conn: &mut Connection<S>,
     desk: &mut Anew,
-) -> Result<(), OpenFault>
+) -> Result<(), AuditFault>
     requires { conn.old.in_transaction ≡ false }
     ensures asked { Inspects (state S.Store conn.old) (state S.Store conn.new) result (λ _ _. ⊤) }
     ensures idle { conn.new.in_transaction ≡ false }
@@ -227,7 +228,7 @@ fn pools_with_cuts<S: Alter>(
     desk: &mut Anew,
     rows: &[Row],
     cuts: &[Row],
-) -> Result<(), OpenFault>
+) -> Result<(), AuditFault>
     requires { conn.old.in_transaction ≡ false }
     ensures asked { Inspects (state S.Store conn.old) (state S.Store conn.new) result (λ _ _. ⊤) }
     ensures idle { conn.new.in_transaction ≡ false }
@@ -243,7 +244,7 @@ fn pools_of_rows<S: Alter>(
     conn: &mut Connection<S>,
     desk: &mut Anew,
     rows: &[Row],
-) -> Result<(), OpenFault>
+) -> Result<(), AuditFault>
     requires { conn.old.in_transaction ≡ false }
     ensures asked { Inspects (state S.Store conn.old) (state S.Store conn.new) result (λ _ _. ⊤) }
     ensures idle { conn.new.in_transaction ≡ false }
@@ -259,7 +260,7 @@ fn pools_from<S: Alter>(
     alloc: Global,
     conn: &mut Connection<S>,
     desk: &mut Anew,
-) -> Result<(), OpenFault>
+) -> Result<(), AuditFault>
     requires { conn.old.in_transaction ≡ false }
     ensures asked { Inspects (state S.Store conn.old) (state S.Store conn.new) result (λ _ _. ⊤) }
     ensures idle { conn.new.in_transaction ≡ false }
@@ -275,7 +276,7 @@ fn money_from<S: Alter>(
     alloc: Global,
     conn: &mut Connection<S>,
     desk: &mut Anew,
-) -> Result<(), OpenFault>
+) -> Result<(), AuditFault>
     requires { conn.old.in_transaction ≡ false }
     ensures asked { Inspects (state S.Store conn.old) (state S.Store conn.new) result (λ _ _. ⊤) }
     ensures idle { conn.new.in_transaction ≡ false }
@@ -291,7 +292,7 @@ fn requests_from<S: Alter>(
     alloc: Global,
     conn: &mut Connection<S>,
     desk: &mut Anew,
-) -> Result<(), OpenFault>
+) -> Result<(), AuditFault>
     requires { conn.old.in_transaction ≡ false }
     ensures asked { Inspects (state S.Store conn.old) (state S.Store conn.new) result (λ _ _. ⊤) }
     ensures idle { conn.new.in_transaction ≡ false }
@@ -307,7 +308,7 @@ pub(crate) fn rebuild<S: Alter>(
     alloc: Global,
     conn: &mut Connection<S>,
     office: &Office,
-) -> Result<Tables<MemStore>, OpenFault>
+) -> Result<Tables<MemStore>, AuditFault>
     requires { conn.old.in_transaction ≡ false }
     ensures asked { Inspects (state S.Store conn.old) (state S.Store conn.new) result (λ _ _. ⊤) }
     ensures idle { conn.new.in_transaction ≡ false }

@@ -1,7 +1,28 @@
-use Rattle.std.proofs.Common.{refl}
-use Rattle.society_tables.proofs.OpenLemmas.{inspected_then}
+use Rattle.std.proofs.Common.{◌≡◌, List, [], ◌∷◌, Result, Ok, Err, IfErr, arith, refl, subst, sym}
+use Rattle.std.specs.Result.{IsErrAnd}
+use Rattle.share_rules.specs.declared.office.Office.{Office}
+use Rattle.sqlite.specs.State.{HasCleanDisk, State, Survives}
+use Rattle.sqlite_value.specs.Order.{Row}
+use Rattle.society_tables.specs.Kept.{office_row}
+use Rattle.society_tables.specs.Opening.{TellsOffice, opened_by}
+use Rattle.society_tables.specs.declared.audit_fault.AuditFault.{AuditFault}
+use Rattle.society_tables.specs.declared.open_fault.OpenFault.{OpenFault}
+use Rattle.society_tables.proofs.OpenLemmas.{inspected_then, same_answer}
+use Rattle.society_tables.proofs.OpenTold.{audited_office}
 use Rattle.society_tables.proofs.opening.audit.Goals as goal
+
+clean_before : (mid new : State) → Survives mid new (λ _. ⊥) → HasCleanDisk new → HasCleanDisk mid
+clean_before mid new survives clean = (let fell = survives.clean in omega (clean, fell, arith))
+
+fails : (o : Office) (rows : List Row) (f : AuditFault) (r : Result (Unit {0}) OpenFault) → rows ≡ office_row o ∷ [] → IsErrAnd r (λ e. e ≡ opened_by f) → IfErr r (TellsOffice o rows)
+fails o rows f (Ok x) is h = tt
+fails o rows f (Err e) is h = subst (TellsOffice o rows) (sym h) (audited_office o rows f is)
 
 pub returns-clause-whole : goal.returns-clause-whole
 returns-clause-whole g c =
-    inspected_then _ _ _ _ c.is_whole.result _ _ _ (λ is_open. c.is_autocommit-settled.ensures.settled (rw (c.is_autocommit-settled.ensures.value, c.requires) refl) is_open) c.in_ok-office_agrees.ensures.asked c.is_whole.ensures.whole (λ y a b. b)
+    same_answer {D = AuditFault} _ _ _ _
+    (inspected_then _ _ _ _ (Ok tt) _ _ _ (λ is_open. c.is_autocommit-settled.ensures.settled (rw (c.is_autocommit-settled.ensures.value, c.requires) refl) is_open) c.in_ok-office_agrees.ensures.asked c.in_ok-is_whole.ensures.whole (λ y a b. b))
+
+pub returns-in_err-is_whole-clause-told : goal.returns-in_err-is_whole-clause-told
+returns-in_err-is_whole-clause-told g c clean has =
+    fails c.args.office.now _ c.in_err-is_whole.field-0.0 c.from_residual-in_err-is_whole.result (c.in_ok-office_agrees.ensures.asked.found (clean_before _ _ c.in_err-is_whole.ensures.whole.survives clean) has) c.from_residual-in_err-is_whole.ensures.1
