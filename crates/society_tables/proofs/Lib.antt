@@ -46,5 +46,15 @@ pub mod CutNotes
 pub mod CutChoices
 pub mod OpenLemmas
 pub mod OpenTold
+pub mod MapsWithin
+pub mod PutAgain
+pub mod RowsAgain
+pub mod ComesAgain
 pub mod SameTables
 pub mod OpenedLemmas
+pub mod SortedOnce
+pub mod RowTies
+pub mod OneListing
+pub mod PoolsAgain
+pub mod OrdersAgain
+pub mod PoolsWhole

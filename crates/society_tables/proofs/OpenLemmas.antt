@@ -1,12 +1,8 @@
 -- Questions that open a database, one after another, and what is said of it at the end.
-use Rattle.std.proofs.Common.{◌≡◌, ◌∙◌, ◌⊎◌, inl, inr, Result, Ok, Err, IsTrue, IfOk, OnOk, List, [], ◌∷◌, filter, map, true, IsPermutation, refl, ap, sym, subst, arith}
-use Rattle.std.proofs.Math.Logic.{∥∥₁_map}
-use Rattle.std.specs.List.{AllByRecursion}
-use Rattle.std.proofs.lemmas.List.Sorted.{IsPermutation-refl, IsPermutation-sym, IsPermutation-trans}
-use Rattle.share_rules.specs.declared.office.Office.{Office}
+use Rattle.std.proofs.Common.{◌≡◌, ◌∙◌, inl, Result, Ok, Err, IsTrue, IfOk, OnOk, refl, sym, subst, arith}
 use Rattle.sqlite.proofs.StateLemmas.{survives_then}
 use Rattle.sqlite.specs.Effect.{Database}
-use Rattle.sqlite.specs.State.{HasCleanDisk, State, Survives}
+use Rattle.sqlite.specs.State.{HasCleanDisk, State}
 use Rattle.sqlite_trees.specs.Tree.{Trees}
 use Rattle.society_rows.specs.Questions.{Asks}
 use Rattle.society_rows.specs.Stored.{HasLayout}

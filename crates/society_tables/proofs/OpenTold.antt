@@ -1,5 +1,7 @@
 -- What the fault of an opening says of the office.
-use Rattle.std.proofs.Common.{◌≡◌, ◌≢◌, List, [], ◌∷◌, IsPermutation, refl, subst, sym}
+use Rattle.std.proofs.Common.{◌≡◌, ◌≢◌, ◌∙◌, Bool, true, false, List, [], ◌∷◌, Result, Ok, Err, IfErr, IsPermutation, ap, refl, subst, sym}
+use Rattle.std.specs.Result.{IsErrAnd}
+use Rattle.std.proofs.lemmas.Bool.{false≢true}
 use Rattle.std.proofs.lemmas.List.Sorted.{IsPermutation-sym}
 use Rattle.share_rules.specs.declared.office.Office.{Office}
 use Rattle.sqlite.specs.Effect.{Database}
@@ -10,12 +12,14 @@ use Rattle.society_rows.specs.Stored.{HasLayout, rows_in}
 use Rattle.society_rows.specs.declared.fault.RowFault.{RowFault}
 use Rattle.society_rows.specs.declared.fault.RowFault.TheVariants as row
 use Rattle.society_tables.specs.Kept.{office_row}
-use Rattle.society_tables.specs.Opening.{IsOneOffice, Tells, TellsOffice, audit_fault_by, opened_by}
+use Rattle.society_tables.specs.Opening.{HoldsAsCame, IsOneOffice, Tells, TellsOffice, audit_fault_by, opened_by}
+use Rattle.society_tables.specs.Rebuilding.{IsAside}
 use Rattle.society_tables.specs.declared.audit_fault.AuditFault.{AuditFault}
 use Rattle.society_tables.specs.declared.audit_fault.AuditFault.TheVariants as audit
 use Rattle.society_tables.specs.declared.open_fault.OpenFault.{OpenFault}
 use Rattle.society_tables.specs.declared.open_fault.OpenFault.TheVariants as fault
-use Rattle.society_tables.proofs.RowLemmas.{none_else, one_else}
+use Rattle.society_tables.proofs.ComesAgain.{failed_aside}
+use Rattle.society_tables.proofs.RowLemmas.{one_else}
 
 -- a failed statement says nothing of the office
 pub failed_office : (o : Office) (rows : List Row) (e : RowFault) → TellsOffice o rows (opened_by (audit_fault_by e))
@@ -55,9 +59,32 @@ told_likewise o one two fault.OtherOffice same told =
 told_likewise o one two fault.Damaged same told = one_else (office_row o) one (subst (λ rows. IsPermutation rows one) told (IsPermutation-sym one two same))
 
 -- what is said of the office is said of a database of layout 2
-pub told_of_layout : (o : Office) (db : Database) (e : OpenFault) → HasLayout db → (IsBare db → ⊥) → TellsOffice o (rows_in layout.office db.trees) e → Tells o db e
-told_of_layout o db fault.Memory has bare told = tt
-told_of_layout o db fault.Store has bare told = tt
-told_of_layout o db fault.Schema has bare told = (bare, λ _. told)
-told_of_layout o db fault.OtherOffice has bare told = (has, told)
-told_of_layout o db fault.Damaged has bare told = (has, told)
+pub told_of_layout : (o : Office) (db : Database) (e : OpenFault) → HasLayout db → (IsBare db → ⊥) → TellsOffice o (rows_in layout.office db.trees) e → (e ≡ fault.Damaged → ¬ HoldsAsCame o db.trees) → Tells o db e
+told_of_layout o db fault.Memory has bare told damaged = tt
+told_of_layout o db fault.Store has bare told damaged = tt
+told_of_layout o db fault.Schema has bare told damaged = (bare, λ _. told)
+told_of_layout o db fault.OtherOffice has bare told damaged = (has, told)
+told_of_layout o db fault.Damaged has bare told damaged = (has, told, damaged refl)
+
+-- a fault that is aside is not told as damage
+abbrev is_damage : OpenFault → Bool
+is_damage fault.Damaged = true
+is_damage _ = false
+
+pub not_damaged : (f : AuditFault) → IsAside f → opened_by f ≡ fault.Damaged → ⊥
+not_damaged audit.Memory aside is = absurd (false≢true (ap is_damage is))
+not_damaged audit.Store aside is = absurd (false≢true (ap is_damage is))
+not_damaged audit.Damaged aside is = absurd aside
+
+pub failed_not_damaged : (f : RowFault) (r : Result (Unit {0}) OpenFault) → IsErrAnd r (λ e. e ≡ opened_by (audit_fault_by f)) → IfErr r (λ e. e ≢ fault.Damaged)
+failed_not_damaged f (Ok x) h = tt
+failed_not_damaged f (Err e) h = λ is. not_damaged (audit_fault_by f) (failed_aside f) (sym h ∙ is)
+
+-- damage is told where the rows do not hold what could come
+pub damaged_so : (H : Type 0) (f : AuditFault) (r : Result (Unit {0}) OpenFault) → IsErrAnd r (λ e. e ≡ opened_by f) → (H → IsAside f) → IfErr r (λ e. e ≡ fault.Damaged → ¬ H)
+damaged_so H f (Ok x) h aside = tt
+damaged_so H f (Err e) h aside = λ is holds. not_damaged f (aside holds) (sym h ∙ is)
+
+pub undamaged : (H : Type 0) (f : OpenFault) (r : Result (Unit {0}) OpenFault) → IsErrAnd r (λ e. e ≡ f) → f ≢ fault.Damaged → IfErr r (λ e. e ≡ fault.Damaged → ¬ H)
+undamaged H f (Ok x) h other = tt
+undamaged H f (Err e) h other = λ is holds. other (sym h ∙ is)

@@ -1,21 +1,21 @@
 -- What an opening does, by what the database was found to be.
-use Rattle.std.proofs.Common.{◌≡◌, ◌∙◌, ◌⊎◌, ◌&&◌, ⊎_elim, inl, inr, Bool, true, false, Result, Ok, Err, IsTrue, OnOk, OnErr, IfErr, length, refl, ap, sym, subst, arith}
+use Rattle.std.proofs.Common.{◌≡◌, ◌∙◌, ◌&&◌, ⊎_elim, inl, inr, Bool, true, false, Result, Ok, Err, IsTrue, OnOk, OnErr, IfErr, length, refl, ap, sym, subst, arith}
 use Rattle.std.proofs.lemmas.Bool.{false≢true}
 use Rattle.std.proofs.Math.Logic.{∥∥₁_map}
 use Rattle.share_rules.specs.declared.office.Office.{Office}
 use Rattle.sqlite_schema.specs.declared.schema.Schema.{Schema}
 use Rattle.sqlite.specs.Effect.{Database}
-use Rattle.sqlite.specs.State.{HasCleanDisk, State, Survives}
-use Rattle.sqlite_trees.specs.Tree.{Trees}
+use Rattle.sqlite.specs.State.{HasCleanDisk, State}
 use Rattle.society_core.specs.Book.{empty_book}
 use Rattle.society_rows.specs.Layout.{layout, no_schema, written_out}
-use Rattle.society_rows.specs.NewBook.{Begins, IsBare, IsNewBook}
+use Rattle.society_rows.specs.NewBook.{Begins, IsBare}
 use Rattle.society_rows.specs.Layout.{office as layout_office}
 use Rattle.society_rows.specs.Stored.{HasLayout, rows_in}
 use Rattle.society_tables.specs.BookRows.{book_of}
 use Rattle.society_tables.specs.Kept.{Holds, IsAtRest, Rests, office_row}
-use Rattle.society_tables.specs.Opening.{HoldsOne, Inspects, IsOpenable, Opens, ShowsAs, SurvivesOpening, Tells, TellsOffice}
+use Rattle.society_tables.specs.Opening.{HoldsAsCame, HoldsOne, Inspects, Opens, ShowsAs, SurvivesOpening, Tells, TellsOffice}
 use Rattle.society_tables.specs.declared.open_fault.OpenFault.{OpenFault}
+use Rattle.society_tables.specs.declared.open_fault.OpenFault.TheVariants.{Damaged}
 use Rattle.society_tables.proofs.AskLemmas.{clean_is, first_true, second_true}
 use Rattle.society_tables.proofs.EmptyTables.{begun_book, begun_rests}
 use Rattle.society_tables.proofs.OpenTold.{told_of_layout}
@@ -67,14 +67,14 @@ module _ (o : Office) (old new : State) (r : Result (Unit {0}) OpenFault) (settl
       book_by (Err e) made = tt
 
   -- one of layout 2 that was audited
-  pub opens_audited : HasLayout old.now → Inspects old new r (λ db _. HoldsOne o db) → (HasCleanDisk new → HasLayout old.now → IfErr r (TellsOffice o (rows_in layout_office old.now.trees))) → Opens o old new r
-  opens_audited has inspected told = record {
+  pub opens_audited : HasLayout old.now → Inspects old new r (λ db _. HoldsOne o db) → (HasCleanDisk new → HasLayout old.now → IfErr r (TellsOffice o (rows_in layout_office old.now.trees))) → (HasCleanDisk new → HasLayout old.now → IfErr r (λ e. e ≡ Damaged → ¬ HoldsAsCame o old.now.trees)) → Opens o old new r
+  opens_audited has inspected told damaged = record {
     rests = rests_by r (λ clean. inspected.found clean has);
     begun = λ clean is_open bare. absurd (not_both old.now.schema (subst IsBare (sym (settled is_open)) bare) has);
     audited = λ clean is_open was. held_by r (settled is_open) (inspected.found clean has) (inspected.undone clean);
     known = λ clean is_open. on_ok r (inr (subst HasLayout (settled is_open) has));
     unchanged = λ clean. on_err r (inspected.undone clean);
-    told = λ clean is_open. told_by r (settled is_open) (told clean has);
+    told = λ clean is_open. told_by r (settled is_open) (told clean has) (damaged clean has);
     crash = record {
       clean = inspected.survives.clean;
       shield = inspected.survives.shield;
@@ -105,9 +105,9 @@ module _ (o : Office) (old new : State) (r : Result (Unit {0}) OpenFault) (settl
       rests_by (Ok x) found = rests_from (new.is_clean && new.is_open) (IsAtRest o new) (λ live. ∥∥₁_map (found (clean_is new.is_clean (first_true new.is_clean new.is_open live))) (at_rest live))
       rests_by (Err e) found = tt
 
-      told_by : (z : Result (Unit {0}) OpenFault) → old.now ≡ old.committed → IfErr z (TellsOffice o (rows_in layout_office old.now.trees)) → IfErr z (Tells o old.committed)
-      told_by (Ok x) same says = tt
-      told_by (Err e) same says = subst (λ (db : Database). Tells o db e) same (told_of_layout o old.now e has (λ bare. not_both old.now.schema bare has) says)
+      told_by : (z : Result (Unit {0}) OpenFault) → old.now ≡ old.committed → IfErr z (TellsOffice o (rows_in layout_office old.now.trees)) → IfErr z (λ e. e ≡ Damaged → ¬ HoldsAsCame o old.now.trees) → IfErr z (Tells o old.committed)
+      told_by (Ok x) same says damage = tt
+      told_by (Err e) same says damage = subst (λ (db : Database). Tells o db e) same (told_of_layout o old.now e has (λ bare. not_both old.now.schema bare has) says damage)
 
       held_by : (z : Result (Unit {0}) OpenFault) → old.now ≡ old.committed → OnOk z (HoldsOne o old.now.trees) → ShowsAs old.committed new → OnOk z (HoldsOne o old.committed.trees × ShowsAs old.committed new)
       held_by (Ok x) same found shows = (subst (λ (db : Database). HoldsOne o db.trees) same found, shows)

@@ -1,5 +1,5 @@
 -- What the returns of an order come to, and that it is paid in the tables as in the book.
-use Rattle.std.proofs.Common.{◌≡◌, ◌∙◌, ◌&&◌, is_some, nat_le, ◌≤◌, ◌<◌, ◌*◌, ◌+◌, ◌++◌, ◌∷◌, [], List, ℕ, All, IfOk, OnOk, Result, Ok, Err, true, None, ap, flat_map, get_or, length, length-append, map, subst, sum, sym, take, arith, append-nil}
+use Rattle.std.proofs.Common.{◌≡◌, ◌∙◌, ◌&&◌, is_some, nat_le, ◌≤◌, ◌<◌, ◌+◌, ◌++◌, ◌∷◌, [], List, ℕ, IfOk, OnOk, Result, Ok, Err, true, ap, flat_map, get_or, length, take, append-nil}
 use Rattle.std.proofs.lemmas.Grind.{flat_map-append}
 use Rattle.share_rules.specs.declared.office.Office.{Office}
 use Rattle.perf_returns.specs.declared.performance.Performance.{Performance}

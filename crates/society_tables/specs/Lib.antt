@@ -11,3 +11,4 @@ pub mod Closings
 pub mod Laws
 pub mod CutWorks
 pub mod Opening
+pub mod Rebuilding

@@ -1,5 +1,5 @@
 -- How a database is opened as an office's tables.
-use Rattle.std.specs.Prelude.{◌≡◌, ◌≢◌, ◌⊎◌, List, [], ◌∷◌, Result, Ok, Err, IsTrue, IsPermutation, OnOk, OnErr, IfOk, IfErr}
+use Rattle.std.specs.Prelude.{◌≡◌, ◌≢◌, ◌⊎◌, List, [], ◌∷◌, Result, IsTrue, IsPermutation, OnOk, OnErr, IfOk, IfErr}
 use Rattle.std.specs.List.{AllByRecursion}
 use Rattle.share_rules.specs.declared.office.Office.{Office}
 use Rattle.sqlite_trees.specs.Tree.{Trees}
@@ -18,6 +18,7 @@ use Rattle.society_rows.specs.declared.tables.TableName.TheVariants as name
 use Rattle.society_core.specs.Book.{empty_book}
 use Rattle.society_tables.specs.BookRows.{book_of}
 use Rattle.society_tables.specs.Kept.{Holds, Rests, office_row}
+use Rattle.society_tables.specs.Rebuilding.{CanCome}
 use Rattle.society_tables.specs.declared.audit_fault.AuditFault.{AuditFault}
 use Rattle.society_tables.specs.declared.audit_fault.AuditFault.TheVariants as audit
 use Rattle.society_tables.specs.declared.open_fault.OpenFault.{OpenFault}
@@ -51,14 +52,19 @@ TellsOffice office rows fault.Schema = ¬ IsOneOffice rows
 TellsOffice office rows fault.OtherOffice = IsOneOffice rows × (rows ≢ office_row office ∷ [])
 TellsOffice office rows fault.Damaged = rows ≡ office_row office ∷ []
 
+-- the tables hold a sound book of the office that can come, with exactly what is derived from it
+abbrev pub HoldsAsCame : Office → Trees → Type 0
+HoldsAsCame office db = Holds office db × CanCome (book_of db)
+
 -- What a fault says of a database: `Schema` that it has tables, and not those of layout 2 with an office that can be read;
--- `OtherOffice` that it has those of another office; `Damaged` that it has those of this office.
+-- `OtherOffice` that it has those of another office; `Damaged` that it has those of this office, and they hold no sound book that can
+-- come with what is derived from it.
 abbrev pub Tells : Office → Database → OpenFault → Type 0
 Tells office db fault.Memory = Unit {0}
 Tells office db fault.Store = Unit {0}
 Tells office db fault.Schema = (¬ IsBare db) × (HasLayout db → TellsOffice office (rows_in layout.office db.trees) fault.Schema)
 Tells office db fault.OtherOffice = HasLayout db × TellsOffice office (rows_in layout.office db.trees) fault.OtherOffice
-Tells office db fault.Damaged = HasLayout db × TellsOffice office (rows_in layout.office db.trees) fault.Damaged
+Tells office db fault.Damaged = HasLayout db × TellsOffice office (rows_in layout.office db.trees) fault.Damaged × (¬ HoldsAsCame office db.trees)
 
 -- the tables after the first, that of the office
 abbrev pub other_names : List TableName

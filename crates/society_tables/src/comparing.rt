@@ -1,12 +1,17 @@
 //! Tables beside those of another database.
-ghost use Rattle.std.specs.Prelude.{◌≡◌, IfOk, IsTrue, IsPermutation, false, true};
+ghost use Rattle.std.specs.Prelude.{◌≡◌, IfErr, IfOk, IsTrue, IsPermutation, ⊤, false, true};
 ghost use Rattle.sqlite.specs.Held.{state};
+ghost use Rattle.sqlite.specs.State.{HasCleanDisk};
 ghost use Rattle.sqlite.specs.Steps.{over_memory};
+ghost use Rattle.share_rules.specs.declared.office.Office.{Office as OfficeValue};
+ghost use Rattle.society_core.specs.Book.{Book};
 ghost use Rattle.society_rows.specs.Questions.{Asks};
 ghost use Rattle.society_rows.specs.Reads.{Lists};
 ghost use Rattle.society_rows.specs.Stored.{HasLayout, rows_in};
 ghost use Rattle.society_rows.specs.TableNames.{listing_width, table_called};
 ghost use Rattle.society_tables.specs.Opening.{Agree, Inspects, every_name};
+ghost use Rattle.society_tables.specs.Kept.{HoldsBook};
+ghost use Rattle.society_tables.specs.Rebuilding.{IsAside, Passes, ShowsBook};
 
 use crate::audit_fault::AuditFault;
 use society_rows::{RowFault, TableName, all_rows};
@@ -52,6 +57,7 @@ pub(crate) fn rows_of_table<S: Alter>(
     requires { conn.old.in_transaction ≡ false }
     ensures asked { Inspects (state S.Store conn.old) (state S.Store conn.new) result
         (λ db rows. Lists (table_called table) (λ _. true) (listing_width table) db rows.items) }
+    ensures aside { IfErr result IsAside }
     ensures idle { conn.new.in_transaction ≡ false }
 {
     Ok(listed(conn, table)?)
@@ -65,6 +71,7 @@ fn rows_in_memory(
     requires { memory.old.in_transaction ≡ false }
     ensures rows { HasLayout (state over_memory memory.old).now → IfOk result (λ rows.
         Lists (table_called table) (λ _. true) (listing_width table) (state over_memory memory.old).now.trees rows.items) }
+    ensures aside { IfErr result IsAside }
     ensures same { (state over_memory memory.new).now ≡ (state over_memory memory.old).now }
     ensures idle { memory.new.in_transaction ≡ false }
 {
@@ -74,7 +81,8 @@ fn rows_in_memory(
 
 /// Whether two rows have the same values.
 fn is_same_row(row: &Row, other: &Row) -> bool
-    ensures { IsTrue result → row.now ≡ other.now }
+    ensures same { IsTrue result → row.now ≡ other.now }
+    ensures alike { row.now ≡ other.now → IsTrue result }
 {
     if row.column_count() != other.column_count() {
         return false;
@@ -92,7 +100,8 @@ fn is_same_row(row: &Row, other: &Row) -> bool
 
 /// Whether two lists have the same rows.
 fn are_same_rows(rows: &[Row], others: &[Row]) -> bool
-    ensures { IsTrue result → rows.now ≡ others.now }
+    ensures same { IsTrue result → rows.now ≡ others.now }
+    ensures alike { rows.now ≡ others.now → IsTrue result }
 {
     if rows.len() != others.len() {
         return false;
@@ -116,6 +125,8 @@ fn table_agrees<S: Alter>(
     ensures agree { Inspects (state S.Store conn.old) (state S.Store conn.new) result
         (λ db _. HasLayout (state over_memory memory.old).now → IsPermutation (rows_in (table_called table) (state over_memory memory.old).now.trees) (rows_in (table_called table) db)) }
     ensures same { (state over_memory memory.new).now ≡ (state over_memory memory.old).now }
+    ensures passes { (o : OfficeValue) → (b : Book) → HasCleanDisk (state S.Store conn.new) → ShowsBook o b (state S.Store conn.old) → HasLayout (state over_memory memory.old).now
+        → HoldsBook o b (state over_memory memory.old).now.trees → Passes result (λ _. ⊤) }
     ensures idle { conn.new.in_transaction ≡ false }
     ensures idle_memory { memory.new.in_transaction ≡ false }
 {
@@ -137,6 +148,8 @@ pub(crate) fn tables_agree<S: Alter>(
     requires theirs { memory.old.in_transaction ≡ false }
     ensures agree { Inspects (state S.Store conn.old) (state S.Store conn.new) result
         (λ db _. HasLayout (state over_memory memory.old).now → Agree every_name (state over_memory memory.old).now.trees db) }
+    ensures passes { (o : OfficeValue) → (b : Book) → HasCleanDisk (state S.Store conn.new) → ShowsBook o b (state S.Store conn.old) → HasLayout (state over_memory memory.old).now
+        → HoldsBook o b (state over_memory memory.old).now.trees → Passes result (λ _. ⊤) }
     ensures idle { conn.new.in_transaction ≡ false }
 {
     let _settled = conn.is_autocommit();

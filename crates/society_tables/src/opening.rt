@@ -1,9 +1,10 @@
 //! How a database is opened as an office's tables.
-ghost use Rattle.std.specs.Prelude.{[], ◌∷◌, ◌≡◌, ◌↔◌, IsTrue, IfErr, IfOk, MatchResult, OnErr, OnOk, false};
+ghost use Rattle.std.specs.Prelude.{[], ◌∷◌, ◌≡◌, ◌≢◌, ◌↔◌, IsTrue, IfErr, IfOk, MatchResult, OnErr, OnOk, ⊤, false};
 ghost use Rattle.sqlite.specs.Effect.{Database};
 ghost use Rattle.sqlite.specs.Held.{state};
 ghost use Rattle.sqlite.specs.State.{HasCleanDisk, Survives};
-ghost use Rattle.society_core.specs.Book.{empty_book};
+ghost use Rattle.share_rules.specs.declared.office.Office.{Office as OfficeValue};
+ghost use Rattle.society_core.specs.Book.{Book, IsSound, empty_book};
 ghost use Rattle.society_rows.specs.Layout.{balances, fronts};
 ghost use Rattle.society_rows.specs.Layout.{office as office_table};
 ghost use Rattle.society_rows.specs.NewBook.{Begins, IsBare, IsNewBook};
@@ -11,7 +12,9 @@ ghost use Rattle.society_rows.specs.Questions.{Asks};
 ghost use Rattle.society_rows.specs.Stored.{AreNumbered, HasLayout, rows_in};
 ghost use Rattle.society_rows.specs.TableNames.{table_called};
 ghost use Rattle.society_tables.specs.Kept.{office_row};
-ghost use Rattle.society_tables.specs.Opening.{HoldsOne, Inspects, IsOpenable, Opens, ShowsAs, SurvivesOpening, Tells, TellsOffice};
+ghost use Rattle.society_tables.specs.Opening.{HoldsAsCame, HoldsOne, Inspects, IsOpenable, Opens, ShowsAs, SurvivesOpening, Tells, TellsOffice};
+ghost use Rattle.society_tables.specs.Rebuilding.{CanCome, Passes, ShowsBook};
+ghost use Rattle.society_tables.specs.declared.open_fault.OpenFault.TheVariants.{Damaged};
 
 use crate::audit_fault::AuditFault;
 use crate::comparing::{listed, tables_agree};
@@ -27,6 +30,7 @@ use std::alloc::Global;
 fn is_office(rows: &[Row], office: &Office) -> Result<(), OpenFault>
     ensures same { IfOk result (λ _. rows.now ≡ office_row office.now ∷ []) }
     ensures told { IfErr result (TellsOffice office.now rows.now) }
+    ensures other { IfErr result (λ e. e ≢ Damaged) }
 {
     let [row] = rows else {
         return Err(OpenFault::Schema);
@@ -50,6 +54,7 @@ fn office_agrees<S: Alter>(conn: &mut Connection<S>, office: &Office) -> Result<
     ensures asked { Inspects (state S.Store conn.old) (state S.Store conn.new) result (λ db _. rows_in office_table db ≡ office_row office.now ∷ []) }
     ensures told { HasCleanDisk (state S.Store conn.new) → HasLayout (state S.Store conn.old).now
         → IfErr result (TellsOffice office.now (rows_in office_table (state S.Store conn.old).now.trees)) }
+    ensures other { IfErr result (λ e. e ≢ Damaged) }
     ensures idle { conn.new.in_transaction ≡ false }
 {
     let rows = listed(conn, TableName::Office)?;
@@ -73,6 +78,8 @@ fn is_numbered<S: Alter>(conn: &mut Connection<S>, table: TableName) -> Result<b
 fn has_numbers<S: Alter>(conn: &mut Connection<S>, table: TableName) -> Result<(), AuditFault>
     requires { conn.old.in_transaction ≡ false }
     ensures asked { Inspects (state S.Store conn.old) (state S.Store conn.new) result (λ db _. AreNumbered (table_called table) db) }
+    ensures passes { HasCleanDisk (state S.Store conn.new) → (IsTrue (state S.Store conn.old).is_open → HasLayout (state S.Store conn.old).now × AreNumbered (table_called table) (state S.Store conn.old).now.trees)
+        → Passes result (λ _. ⊤) }
     ensures idle { conn.new.in_transaction ≡ false }
 {
     if is_numbered(conn, table)? {
@@ -87,6 +94,7 @@ fn fronts_and_balances_numbered<S: Alter>(conn: &mut Connection<S>) -> Result<()
     requires { conn.old.in_transaction ≡ false }
     ensures asked { Inspects (state S.Store conn.old) (state S.Store conn.new) result
         (λ db _. AreNumbered fronts db × AreNumbered balances db) }
+    ensures passes { (o : OfficeValue) → (b : Book) → HasCleanDisk (state S.Store conn.new) → ShowsBook o b (state S.Store conn.old) → Passes result (λ _. ⊤) }
     ensures idle { conn.new.in_transaction ≡ false }
 {
     let _settled = conn.is_autocommit();
@@ -102,6 +110,7 @@ fn agrees_with<S: Alter>(
     requires { conn.old.in_transaction ≡ false }
     ensures agree { Inspects (state S.Store conn.old) (state S.Store conn.new) result
         (λ db _. AreNumbered fronts db × AreNumbered balances db → HoldsOne (⟦<Tables<MemStore> as Store>⟧.state tables).office db) }
+    ensures passes { HasCleanDisk (state S.Store conn.new) → ShowsBook (⟦<Tables<MemStore> as Store>⟧.state tables).office (⟦<Tables<MemStore> as Store>⟧.state tables).book (state S.Store conn.old) → Passes result (λ _. ⊤) }
     ensures idle { conn.new.in_transaction ≡ false }
 {
     let mut memory = tables.into_connection();
@@ -117,6 +126,7 @@ fn holds_own<S: Alter>(
     requires { conn.old.in_transaction ≡ false }
     ensures agree { Inspects (state S.Store conn.old) (state S.Store conn.new) result
         (λ db _. AreNumbered fronts db × AreNumbered balances db → HoldsOne office.now db) }
+    ensures passes { (b : Book) → HasCleanDisk (state S.Store conn.new) → IsSound b → CanCome b → ShowsBook office.now b (state S.Store conn.old) → Passes result (λ _. ⊤) }
     ensures idle { conn.new.in_transaction ≡ false }
 {
     let _settled = conn.is_autocommit();
@@ -132,6 +142,7 @@ fn is_whole<S: Alter>(
 ) -> Result<(), AuditFault>
     requires { conn.old.in_transaction ≡ false }
     ensures whole { Inspects (state S.Store conn.old) (state S.Store conn.new) result (λ db _. HoldsOne office.now db) }
+    ensures passes { (b : Book) → HasCleanDisk (state S.Store conn.new) → IsSound b → CanCome b → ShowsBook office.now b (state S.Store conn.old) → Passes result (λ _. ⊤) }
     ensures idle { conn.new.in_transaction ≡ false }
 {
     let _settled = conn.is_autocommit();
@@ -149,6 +160,8 @@ fn audit<S: Alter>(
     ensures whole { Inspects (state S.Store conn.old) (state S.Store conn.new) result (λ db _. HoldsOne office.now db) }
     ensures told { HasCleanDisk (state S.Store conn.new) → HasLayout (state S.Store conn.old).now
         → IfErr result (TellsOffice office.now (rows_in office_table (state S.Store conn.old).now.trees)) }
+    ensures damaged { HasCleanDisk (state S.Store conn.new) → HasLayout (state S.Store conn.old).now
+        → IfErr result (λ e. e ≡ Damaged → ¬ HoldsAsCame office.now (state S.Store conn.old).now.trees) }
     ensures idle { conn.new.in_transaction ≡ false }
 {
     let _settled = conn.is_autocommit();
@@ -200,10 +213,10 @@ impl<S: Alter> Tables<S> {
     /// The tables of an office in a database, which gets them where it has no table, index or view.
     ///
     /// Where it has those of layout 2 they are audited: they have to be this office's, and exactly what the requests that
-    /// they keep make of an empty book. The audit changes no row. `Schema` exactly where there is something else, or not one
-    /// office that can be read; else `OtherOffice` exactly where the office is another; else `Damaged` where they are not what
-    /// they should be; `Memory` and `Store` where memory or the database failed. After a fault the connection comes back, in no
-    /// transaction, and the database is as it was committed.
+    /// they keep make of an empty book. The audit changes no row. `Schema` where there is something else, or no office that can
+    /// be read; `OtherOffice` where the tables are another office's; `Damaged` where they are not what they should be; `Memory`
+    /// and `Store` where memory or the database failed. After a fault the connection comes back, in no transaction, and the
+    /// database is as it was committed.
     pub fn open(
         alloc: Global,
         connection: Connection<S>,

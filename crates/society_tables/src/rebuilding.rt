@@ -1,7 +1,15 @@
 //! The book of a database's own rows, built anew in memory.
-ghost use Rattle.std.specs.Prelude.{◌≡◌, IfOk, ⊤, false};
+ghost use Rattle.std.specs.Prelude.{◌≡◌, ℕ, pos, Some, None, map, filter, IfOk, ⊤, false};
 ghost use Rattle.sqlite.specs.Held.{state};
+ghost use Rattle.std.specs.List.{AllByRecursion};
+ghost use Rattle.sqlite.specs.State.{HasCleanDisk};
+ghost use Rattle.society_core.specs.Book.{Book, IsSound, empty_book, order_at};
+ghost use Rattle.society_core.specs.Orders.{order_fault, order_of};
+ghost use Rattle.society_core.specs.declared.refusal.Refusal.TheVariants.{Unavailable};
+ghost use Rattle.society_tables.specs.BookRows.{cut_rows, is_of_pool, paid_rows, pool_rows};
+ghost use Rattle.society_tables.specs.Columns.{HasRows, number_at};
 ghost use Rattle.society_tables.specs.Opening.{Inspects};
+ghost use Rattle.society_tables.specs.Rebuilding.{AllReported, AllSent, CanCome, ClosedOn, ComesFrom, IsAside, IsClosed, IsCut, IsPaid, IsReported, IsSent, IsUpToPools, IsWithin, Passes, ReportedOn, SentOn, cut_pair, paid_pair, sent_alone, without_pools};
 
 use crate::Tables;
 use crate::audit_fault::AuditFault;
@@ -17,7 +25,9 @@ use work_ids::{PoolNumber, Reporter, ReturnNumber, SenderKey, TransmissionNumber
 pub(crate) type Anew = Desk<Tables<MemStore>>;
 
 /// Want of memory, or damage where the desk refuses.
-fn fault_of_refusal(refusal: Refusal) -> AuditFault {
+fn fault_of_refusal(refusal: Refusal) -> AuditFault
+    ensures { refusal ≡ Unavailable → IsAside result }
+{
     match refusal {
         Refusal::Unavailable => AuditFault::Memory,
         _ => AuditFault::Damaged,
@@ -26,7 +36,9 @@ fn fault_of_refusal(refusal: Refusal) -> AuditFault {
 
 /// Puts the transmission of a row.
 fn put_transmission(alloc: Global, desk: &mut Anew, row: &Row) -> Result<(), AuditFault>
-    ensures { (⟦<Tables<MemStore> as Store>⟧.state desk.new).office ≡ (⟦<Tables<MemStore> as Store>⟧.state desk.old).office }
+    ensures office { (⟦<Tables<MemStore> as Store>⟧.state desk.new).office ≡ (⟦<Tables<MemStore> as Store>⟧.state desk.old).office }
+    ensures passes { (b : Book) → IsSound b → IsSent b row.now → IsWithin (⟦<Tables<MemStore> as Store>⟧.state desk.old).book.transmissions b.transmissions
+        → Passes result (λ _. SentOn b (⟦<Tables<MemStore> as Store>⟧.state desk.old).book row.now (⟦<Tables<MemStore> as Store>⟧.state desk.new).book) }
 {
     let Ok(row) = TransmissionRow::from_row(row) else {
         return Err(AuditFault::Damaged);
@@ -45,7 +57,9 @@ fn put_transmission(alloc: Global, desk: &mut Anew, row: &Row) -> Result<(), Aud
 
 /// Puts the return of a row.
 fn put_return(alloc: Global, desk: &mut Anew, row: &Row) -> Result<(), AuditFault>
-    ensures { (⟦<Tables<MemStore> as Store>⟧.state desk.new).office ≡ (⟦<Tables<MemStore> as Store>⟧.state desk.old).office }
+    ensures office { (⟦<Tables<MemStore> as Store>⟧.state desk.new).office ≡ (⟦<Tables<MemStore> as Store>⟧.state desk.old).office }
+    ensures passes { (b : Book) → IsSound b → IsReported b row.now → IsWithin (⟦<Tables<MemStore> as Store>⟧.state desk.old).book.returns b.returns
+        → Passes result (λ _. ReportedOn b (⟦<Tables<MemStore> as Store>⟧.state desk.old).book row.now (⟦<Tables<MemStore> as Store>⟧.state desk.new).book) }
 {
     let Ok(row) = ReturnRow::from_row(row) else {
         return Err(AuditFault::Damaged);
@@ -64,7 +78,9 @@ fn put_return(alloc: Global, desk: &mut Anew, row: &Row) -> Result<(), AuditFaul
 }
 
 /// The senders and the numbers of a pool's cut, out of the rows of all cuts.
-fn cut_among(alloc: Global, rows: &[Row], pool: u32) -> Result<Vec<(SenderKey, u64)>, AuditFault> {
+fn cut_among(alloc: Global, rows: &[Row], pool: u32) -> Result<Vec<(SenderKey, u64)>, AuditFault>
+    ensures { AllByRecursion IsCut rows.now → Passes result (λ cut. cut.items ≡ map cut_pair (filter (is_of_pool 0 pool) rows.now)) }
+{
     let mut cut = Vec::new(alloc);
     for row in rows {
         let Ok(row) = PoolCutRow::from_row(row) else {
@@ -81,11 +97,9 @@ fn cut_among(alloc: Global, rows: &[Row], pool: u32) -> Result<Vec<(SenderKey, u
 }
 
 /// The reporters and the numbers of the returns that a pool pays, out of the rows of all that are paid.
-fn returns_among(
-    alloc: Global,
-    rows: &[Row],
-    pool: u32,
-) -> Result<Vec<(Reporter, u64)>, AuditFault> {
+fn returns_among(alloc: Global, rows: &[Row], pool: u32) -> Result<Vec<(Reporter, u64)>, AuditFault>
+    ensures { AllByRecursion IsPaid rows.now → Passes result (λ returns. returns.items ≡ map paid_pair (filter (is_of_pool 2 pool) rows.now)) }
+{
     let mut returns = Vec::new(alloc);
     for row in rows {
         let Ok(row) = PoolReturnRow::from_row(row) else {
@@ -107,7 +121,9 @@ fn order_with(
     amount: i64,
     cut: &[(SenderKey, u64)],
     returns: &[(Reporter, u64)],
-) -> Result<PoolOrder, AuditFault> {
+) -> Result<PoolOrder, AuditFault>
+    ensures { (units : ℕ) → amount ≡ pos units → order_fault units cut.now returns.now ≡ None → Passes result (λ order. order ≡ order_of units cut.now returns.now) }
+{
     let Ok(amount) = u64::try_from(amount) else {
         return Err(AuditFault::Damaged);
     };
@@ -125,7 +141,9 @@ fn close_with(
     pool: PoolNumber,
     order: &PoolOrder,
 ) -> Result<(), AuditFault>
-    ensures { (⟦<Tables<MemStore> as Store>⟧.state desk.new).office ≡ (⟦<Tables<MemStore> as Store>⟧.state desk.old).office }
+    ensures office { (⟦<Tables<MemStore> as Store>⟧.state desk.new).office ≡ (⟦<Tables<MemStore> as Store>⟧.state desk.old).office }
+    ensures passes { (b : Book) → IsSound b → order_at b pool ≡ Some order.now → IsUpToPools b (⟦<Tables<MemStore> as Store>⟧.state desk.old).book
+        → Passes result (λ _. ClosedOn b (⟦<Tables<MemStore> as Store>⟧.state desk.old).book pool order.now (⟦<Tables<MemStore> as Store>⟧.state desk.new).book) }
 {
     match desk.close_pool(alloc, pool, order) {
         Ok(_) => Ok(()),
@@ -141,7 +159,11 @@ fn close_pool(
     cuts: &[Row],
     paid: &[Row],
 ) -> Result<(), AuditFault>
-    ensures { (⟦<Tables<MemStore> as Store>⟧.state desk.new).office ≡ (⟦<Tables<MemStore> as Store>⟧.state desk.old).office }
+    ensures office { (⟦<Tables<MemStore> as Store>⟧.state desk.new).office ≡ (⟦<Tables<MemStore> as Store>⟧.state desk.old).office }
+    ensures passes { (b : Book) → IsSound b → CanCome b → (closed : IsClosed b row.now)
+        → HasRows (is_of_pool 0) (cut_rows b) cuts.now → HasRows (is_of_pool 2) (paid_rows b) paid.now
+        → IsUpToPools b (⟦<Tables<MemStore> as Store>⟧.state desk.old).book
+        → Passes result (λ _. ClosedOn b (⟦<Tables<MemStore> as Store>⟧.state desk.old).book (number_at 0 row.now) closed.order (⟦<Tables<MemStore> as Store>⟧.state desk.new).book) }
 {
     let Ok(row) = PoolRow::from_row(row) else {
         return Err(AuditFault::Damaged);
@@ -157,7 +179,9 @@ fn close_pool(
 
 /// Puts the transmissions of rows.
 fn put_transmissions(alloc: Global, desk: &mut Anew, rows: &[Row]) -> Result<(), AuditFault>
-    ensures { (⟦<Tables<MemStore> as Store>⟧.state desk.new).office ≡ (⟦<Tables<MemStore> as Store>⟧.state desk.old).office }
+    ensures office { (⟦<Tables<MemStore> as Store>⟧.state desk.new).office ≡ (⟦<Tables<MemStore> as Store>⟧.state desk.old).office }
+    ensures passes { (b : Book) → IsSound b → AllByRecursion (IsSent b) rows.now → IsWithin (⟦<Tables<MemStore> as Store>⟧.state desk.old).book.transmissions b.transmissions
+        → Passes result (λ _. AllSent b (⟦<Tables<MemStore> as Store>⟧.state desk.old).book rows.now (⟦<Tables<MemStore> as Store>⟧.state desk.new).book) }
 {
     for row in rows {
         put_transmission(alloc, desk, row)?;
@@ -167,7 +191,9 @@ fn put_transmissions(alloc: Global, desk: &mut Anew, rows: &[Row]) -> Result<(),
 
 /// Puts the returns of rows.
 fn put_returns(alloc: Global, desk: &mut Anew, rows: &[Row]) -> Result<(), AuditFault>
-    ensures { (⟦<Tables<MemStore> as Store>⟧.state desk.new).office ≡ (⟦<Tables<MemStore> as Store>⟧.state desk.old).office }
+    ensures office { (⟦<Tables<MemStore> as Store>⟧.state desk.new).office ≡ (⟦<Tables<MemStore> as Store>⟧.state desk.old).office }
+    ensures passes { (b : Book) → IsSound b → AllByRecursion (IsReported b) rows.now → IsWithin (⟦<Tables<MemStore> as Store>⟧.state desk.old).book.returns b.returns
+        → Passes result (λ _. AllReported b (⟦<Tables<MemStore> as Store>⟧.state desk.old).book rows.now (⟦<Tables<MemStore> as Store>⟧.state desk.new).book) }
 {
     for row in rows {
         put_return(alloc, desk, row)?;
@@ -183,7 +209,11 @@ fn close_pools(
     cuts: &[Row],
     paid: &[Row],
 ) -> Result<(), AuditFault>
-    ensures { (⟦<Tables<MemStore> as Store>⟧.state desk.new).office ≡ (⟦<Tables<MemStore> as Store>⟧.state desk.old).office }
+    ensures office { (⟦<Tables<MemStore> as Store>⟧.state desk.new).office ≡ (⟦<Tables<MemStore> as Store>⟧.state desk.old).office }
+    ensures passes { (b : Book) → IsSound b → CanCome b
+        → HasRows (is_of_pool 0) (pool_rows b) rows.now → HasRows (is_of_pool 0) (cut_rows b) cuts.now → HasRows (is_of_pool 2) (paid_rows b) paid.now
+        → (⟦<Tables<MemStore> as Store>⟧.state desk.old).book ≡ without_pools b
+        → Passes result (λ _. (⟦<Tables<MemStore> as Store>⟧.state desk.new).book ≡ b) }
 {
     for row in rows {
         close_pool(alloc, desk, row, cuts, paid)?;
@@ -201,6 +231,8 @@ fn transmissions_from<S: Alter>(
     ensures asked { Inspects (state S.Store conn.old) (state S.Store conn.new) result (λ _ _. ⊤) }
     ensures idle { conn.new.in_transaction ≡ false }
     ensures office { (⟦<Tables<MemStore> as Store>⟧.state desk.new).office ≡ (⟦<Tables<MemStore> as Store>⟧.state desk.old).office }
+    ensures passes { (b : Book) → HasCleanDisk (state S.Store conn.new) → ComesFrom b (state S.Store conn.old) → (⟦<Tables<MemStore> as Store>⟧.state desk.old).book ≡ empty_book
+        → Passes result (λ _. (⟦<Tables<MemStore> as Store>⟧.state desk.new).book ≡ sent_alone b) }
 {
     let rows = rows_of_table(conn, TableName::Transmissions)?;
     put_transmissions(alloc, desk, rows.as_slice())
@@ -216,6 +248,8 @@ fn returns_from<S: Alter>(
     ensures asked { Inspects (state S.Store conn.old) (state S.Store conn.new) result (λ _ _. ⊤) }
     ensures idle { conn.new.in_transaction ≡ false }
     ensures office { (⟦<Tables<MemStore> as Store>⟧.state desk.new).office ≡ (⟦<Tables<MemStore> as Store>⟧.state desk.old).office }
+    ensures passes { (b : Book) → HasCleanDisk (state S.Store conn.new) → ComesFrom b (state S.Store conn.old) → (⟦<Tables<MemStore> as Store>⟧.state desk.old).book ≡ sent_alone b
+        → Passes result (λ _. (⟦<Tables<MemStore> as Store>⟧.state desk.new).book ≡ without_pools b) }
 {
     let rows = rows_of_table(conn, TableName::Returns)?;
     put_returns(alloc, desk, rows.as_slice())
@@ -233,6 +267,8 @@ fn pools_with_cuts<S: Alter>(
     ensures asked { Inspects (state S.Store conn.old) (state S.Store conn.new) result (λ _ _. ⊤) }
     ensures idle { conn.new.in_transaction ≡ false }
     ensures office { (⟦<Tables<MemStore> as Store>⟧.state desk.new).office ≡ (⟦<Tables<MemStore> as Store>⟧.state desk.old).office }
+    ensures passes { (b : Book) → HasCleanDisk (state S.Store conn.new) → ComesFrom b (state S.Store conn.old) → HasRows (is_of_pool 0) (pool_rows b) rows.now → HasRows (is_of_pool 0) (cut_rows b) cuts.now → (⟦<Tables<MemStore> as Store>⟧.state desk.old).book ≡ without_pools b
+        → Passes result (λ _. (⟦<Tables<MemStore> as Store>⟧.state desk.new).book ≡ b) }
 {
     let paid = rows_of_table(conn, TableName::PoolReturns)?;
     close_pools(alloc, desk, rows, cuts, paid.as_slice())
@@ -249,6 +285,8 @@ fn pools_of_rows<S: Alter>(
     ensures asked { Inspects (state S.Store conn.old) (state S.Store conn.new) result (λ _ _. ⊤) }
     ensures idle { conn.new.in_transaction ≡ false }
     ensures office { (⟦<Tables<MemStore> as Store>⟧.state desk.new).office ≡ (⟦<Tables<MemStore> as Store>⟧.state desk.old).office }
+    ensures passes { (b : Book) → HasCleanDisk (state S.Store conn.new) → ComesFrom b (state S.Store conn.old) → HasRows (is_of_pool 0) (pool_rows b) rows.now → (⟦<Tables<MemStore> as Store>⟧.state desk.old).book ≡ without_pools b
+        → Passes result (λ _. (⟦<Tables<MemStore> as Store>⟧.state desk.new).book ≡ b) }
 {
     let _settled = conn.is_autocommit();
     let cuts = rows_of_table(conn, TableName::PoolCuts)?;
@@ -265,6 +303,8 @@ fn pools_from<S: Alter>(
     ensures asked { Inspects (state S.Store conn.old) (state S.Store conn.new) result (λ _ _. ⊤) }
     ensures idle { conn.new.in_transaction ≡ false }
     ensures office { (⟦<Tables<MemStore> as Store>⟧.state desk.new).office ≡ (⟦<Tables<MemStore> as Store>⟧.state desk.old).office }
+    ensures passes { (b : Book) → HasCleanDisk (state S.Store conn.new) → ComesFrom b (state S.Store conn.old) → (⟦<Tables<MemStore> as Store>⟧.state desk.old).book ≡ without_pools b
+        → Passes result (λ _. (⟦<Tables<MemStore> as Store>⟧.state desk.new).book ≡ b) }
 {
     let _settled = conn.is_autocommit();
     let rows = rows_of_table(conn, TableName::Pools)?;
@@ -281,6 +321,8 @@ fn money_from<S: Alter>(
     ensures asked { Inspects (state S.Store conn.old) (state S.Store conn.new) result (λ _ _. ⊤) }
     ensures idle { conn.new.in_transaction ≡ false }
     ensures office { (⟦<Tables<MemStore> as Store>⟧.state desk.new).office ≡ (⟦<Tables<MemStore> as Store>⟧.state desk.old).office }
+    ensures passes { (b : Book) → HasCleanDisk (state S.Store conn.new) → ComesFrom b (state S.Store conn.old) → (⟦<Tables<MemStore> as Store>⟧.state desk.old).book ≡ sent_alone b
+        → Passes result (λ _. (⟦<Tables<MemStore> as Store>⟧.state desk.new).book ≡ b) }
 {
     let _settled = conn.is_autocommit();
     returns_from(alloc, conn, desk)?;
@@ -297,6 +339,8 @@ fn requests_from<S: Alter>(
     ensures asked { Inspects (state S.Store conn.old) (state S.Store conn.new) result (λ _ _. ⊤) }
     ensures idle { conn.new.in_transaction ≡ false }
     ensures office { (⟦<Tables<MemStore> as Store>⟧.state desk.new).office ≡ (⟦<Tables<MemStore> as Store>⟧.state desk.old).office }
+    ensures passes { (b : Book) → HasCleanDisk (state S.Store conn.new) → ComesFrom b (state S.Store conn.old) → (⟦<Tables<MemStore> as Store>⟧.state desk.old).book ≡ empty_book
+        → Passes result (λ _. (⟦<Tables<MemStore> as Store>⟧.state desk.new).book ≡ b) }
 {
     let _settled = conn.is_autocommit();
     transmissions_from(alloc, conn, desk)?;
@@ -313,6 +357,7 @@ pub(crate) fn rebuild<S: Alter>(
     ensures asked { Inspects (state S.Store conn.old) (state S.Store conn.new) result (λ _ _. ⊤) }
     ensures idle { conn.new.in_transaction ≡ false }
     ensures office { IfOk result (λ t. (⟦<Tables<MemStore> as Store>⟧.state t).office ≡ office.now) }
+    ensures passes { (b : Book) → HasCleanDisk (state S.Store conn.new) → ComesFrom b (state S.Store conn.old) → Passes result (λ t. (⟦<Tables<MemStore> as Store>⟧.state t).book ≡ b) }
 {
     let _settled = conn.is_autocommit();
     let mut desk = Desk::new(Tables::in_memory(alloc, office)?);

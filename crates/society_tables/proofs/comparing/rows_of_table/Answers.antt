@@ -1,5 +1,9 @@
+use Rattle.society_tables.proofs.ComesAgain.{fails_aside}
 use Rattle.society_tables.proofs.OpenLemmas.{inspects_of}
 use Rattle.society_tables.proofs.comparing.rows_of_table.Goals as goal
 
 pub returns-clause-asked : goal.returns-clause-asked
 returns-clause-asked g c = inspects_of _ _ _ _ c.in_ok-listed.ensures.asked
+
+pub returns-in_err-listed-clause-aside : goal.returns-in_err-listed-clause-aside
+returns-in_err-listed-clause-aside g c = fails_aside c.in_err-listed.field-0.0 c.from_residual.result c.from_residual.ensures.1

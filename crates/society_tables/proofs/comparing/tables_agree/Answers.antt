@@ -1,4 +1,4 @@
-use Rattle.std.proofs.Common.{◌∙◌, Ok, List, arith, get_or, refl, subst, IsPermutation}
+use Rattle.std.proofs.Common.{◌∙◌, Ok, List, arith, get_or, refl, subst, sym, IsPermutation}
 use Rattle.std.proofs.lemmas.List.{take_all}
 use Rattle.sqlite.specs.Effect.{Database}
 use Rattle.sqlite.specs.Held.{state}
@@ -7,8 +7,11 @@ use Rattle.society_rows.specs.Stored.{HasLayout, rows_in}
 use Rattle.society_rows.specs.TableNames.{table_called}
 use Rattle.society_rows.specs.declared.tables.TableName.{TableName}
 use Rattle.society_rows.specs.declared.tables.TableName.TheVariants as name
+use Rattle.society_tables.specs.Kept.{HoldsBook}
 use Rattle.society_tables.specs.Opening.{Agree, other_names}
+use Rattle.society_tables.proofs.ComesAgain.{clean_before, shows_still}
 use Rattle.society_tables.proofs.OpenLemmas.{as_inspected, inspected_then}
+use Rattle.society_tables.proofs.RowsAgain.{aside_told}
 use Rattle.society_tables.proofs.SameTables.{agree_more}
 use Rattle.society_tables.proofs.comparing.tables_agree.Goals as goal
 
@@ -37,3 +40,15 @@ returns-clause-agree g c =
     let one = (state over_memory c.args.memory.now).now.trees in
     as_inspected _ _ (Ok tt) _ _ c.loop-table.invariant.agree
     (λ y before has. ((before has).0, subst (λ (names : List TableName). Agree names one old.now.trees) (take_all c.loop-table.table-index other_names c.loop-table-test.false) (before has).1))
+
+pub returns-in_err-table_agrees-clause-passes : goal.returns-in_err-table_agrees-clause-passes
+returns-in_err-table_agrees-clause-passes g c o b clean shows has holds = aside_told _ _ c.from_residual.result c.from_residual.ensures.1 (c.in_err-table_agrees.ensures.passes o b clean shows has holds)
+
+pub returns-in_err-table_agrees-2-clause-passes : goal.returns-in_err-table_agrees-2-clause-passes
+returns-in_err-table_agrees-2-clause-passes g c o b clean shows has holds =
+    let mid = clean_before _ _ c.in_err-table_agrees-2.ensures.agree.survives clean in
+    let same = sym c.loop-table.invariant.same in
+    aside_told _ _ c.from_residual-in_err-table_agrees-2.result c.from_residual-in_err-table_agrees-2.ensures.1
+    (c.in_err-table_agrees-2.ensures.passes o b clean
+    (shows_still o b _ _ _ _ (λ is_open. c.is_autocommit-settled.ensures.settled (rw (c.is_autocommit-settled.ensures.value, c.requires.ours) refl) is_open) c.loop-table.invariant.agree mid shows)
+    (subst HasLayout same has) (subst (λ (db : Database). HoldsBook o b db.trees) same holds))

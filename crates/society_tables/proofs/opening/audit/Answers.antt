@@ -1,18 +1,15 @@
-use Rattle.std.proofs.Common.{◌≡◌, List, [], ◌∷◌, Result, Ok, Err, IfErr, arith, refl, subst, sym}
+use Rattle.std.proofs.Common.{◌≡◌, List, [], ◌∷◌, Result, Ok, Err, IfErr, refl, subst, sym}
 use Rattle.std.specs.Result.{IsErrAnd}
 use Rattle.share_rules.specs.declared.office.Office.{Office}
-use Rattle.sqlite.specs.State.{HasCleanDisk, State, Survives}
 use Rattle.sqlite_value.specs.Order.{Row}
 use Rattle.society_tables.specs.Kept.{office_row}
 use Rattle.society_tables.specs.Opening.{TellsOffice, opened_by}
 use Rattle.society_tables.specs.declared.audit_fault.AuditFault.{AuditFault}
 use Rattle.society_tables.specs.declared.open_fault.OpenFault.{OpenFault}
 use Rattle.society_tables.proofs.OpenLemmas.{inspected_then, same_answer}
-use Rattle.society_tables.proofs.OpenTold.{audited_office}
+use Rattle.society_tables.proofs.ComesAgain.{clean_before, shows_still}
+use Rattle.society_tables.proofs.OpenTold.{audited_office, damaged_so, undamaged}
 use Rattle.society_tables.proofs.opening.audit.Goals as goal
-
-clean_before : (mid new : State) → Survives mid new (λ _. ⊥) → HasCleanDisk new → HasCleanDisk mid
-clean_before mid new survives clean = (let fell = survives.clean in omega (clean, fell, arith))
 
 fails : (o : Office) (rows : List Row) (f : AuditFault) (r : Result (Unit {0}) OpenFault) → rows ≡ office_row o ∷ [] → IsErrAnd r (λ e. e ≡ opened_by f) → IfErr r (TellsOffice o rows)
 fails o rows f (Ok x) is h = tt
@@ -26,3 +23,13 @@ returns-clause-whole g c =
 pub returns-in_err-is_whole-clause-told : goal.returns-in_err-is_whole-clause-told
 returns-in_err-is_whole-clause-told g c clean has =
     fails c.args.office.now _ c.in_err-is_whole.field-0.0 c.from_residual-in_err-is_whole.result (c.in_ok-office_agrees.ensures.asked.found (clean_before _ _ c.in_err-is_whole.ensures.whole.survives clean) has) c.from_residual-in_err-is_whole.ensures.1
+
+pub returns-in_err-office_agrees-clause-damaged : goal.returns-in_err-office_agrees-clause-damaged
+returns-in_err-office_agrees-clause-damaged g c clean has = undamaged _ c.in_err-office_agrees.field-0.0 c.from_residual.result c.from_residual.ensures.1 c.in_err-office_agrees.ensures.other
+
+pub returns-in_err-is_whole-clause-damaged : goal.returns-in_err-is_whole-clause-damaged
+returns-in_err-is_whole-clause-damaged g c clean has =
+    let mid = clean_before _ _ c.in_err-is_whole.ensures.whole.survives clean in
+    damaged_so _ c.in_err-is_whole.field-0.0 c.from_residual-in_err-is_whole.result c.from_residual-in_err-is_whole.ensures.1
+    (λ held. c.in_err-is_whole.ensures.passes _ clean held.0.sound held.1
+    (shows_still c.args.office.now _ _ _ _ _ (λ is_open. c.is_autocommit-settled.ensures.settled (rw (c.is_autocommit-settled.ensures.value, c.requires) refl) is_open) c.in_ok-office_agrees.ensures.asked mid (λ _. (has, held.0))))

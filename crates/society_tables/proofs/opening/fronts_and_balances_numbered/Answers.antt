@@ -1,7 +1,18 @@
 use Rattle.std.proofs.Common.{refl}
 use Rattle.society_tables.proofs.OpenLemmas.{inspected_then}
+use Rattle.society_tables.proofs.ComesAgain.{clean_before, shows_still}
+use Rattle.society_tables.proofs.RowsAgain.{aside_told}
 use Rattle.society_tables.proofs.opening.fronts_and_balances_numbered.Goals as goal
 
 pub returns-clause-asked : goal.returns-clause-asked
 returns-clause-asked g c =
     inspected_then _ _ _ _ c.has_numbers-2.result _ _ _ (λ is_open. c.is_autocommit-settled.ensures.settled (rw (c.is_autocommit-settled.ensures.value, c.requires) refl) is_open) c.in_ok-has_numbers.ensures.asked c.has_numbers-2.ensures.asked (λ y a b. (a, b))
+
+pub returns-clause-passes : goal.returns-clause-passes
+returns-clause-passes g c o b clean shows =
+    let mid = clean_before _ _ c.has_numbers-2.ensures.asked.survives clean in
+    let still = shows_still o b _ _ _ _ (λ is_open. c.is_autocommit-settled.ensures.settled (rw (c.is_autocommit-settled.ensures.value, c.requires) refl) is_open) c.in_ok-has_numbers.ensures.asked mid shows in
+    c.has_numbers-2.ensures.passes clean (λ is_open. ((still is_open).0, (still is_open).1.numbered.1))
+
+pub returns-in_err-has_numbers-clause-passes : goal.returns-in_err-has_numbers-clause-passes
+returns-in_err-has_numbers-clause-passes g c o b clean shows = aside_told _ _ c.from_residual.result c.from_residual.ensures.1 (c.in_err-has_numbers.ensures.passes clean (λ is_open. ((shows is_open).0, (shows is_open).1.numbered.0)))

@@ -1,4 +1,4 @@
-use Rattle.std.proofs.Common.{◌≡◌, ◌∙◌, List, [], ◌∷◌, Result, Ok, Err, IfOk, IfErr, IsPermutation, subst, sym, true, false}
+use Rattle.std.proofs.Common.{◌≡◌, List, [], ◌∷◌, Result, Ok, Err, IfOk, IfErr, IsPermutation, subst, sym, true}
 use Rattle.std.specs.Result.{IsErrAnd}
 use Rattle.share_rules.specs.declared.office.Office.{Office}
 use Rattle.sqlite_value.specs.Order.{Row}
@@ -12,7 +12,7 @@ use Rattle.society_tables.specs.Opening.{TellsOffice, audit_fault_by, opened_by}
 use Rattle.society_tables.specs.declared.open_fault.OpenFault.{OpenFault}
 use Rattle.society_tables.specs.declared.open_fault.OpenFault.TheVariants as fault
 use Rattle.society_tables.proofs.OpenLemmas.{inspects_of, then_inspected}
-use Rattle.society_tables.proofs.OpenTold.{failed_office, told_likewise}
+use Rattle.society_tables.proofs.OpenTold.{failed_not_damaged, failed_office, told_likewise}
 use Rattle.society_tables.proofs.SameTables.{all_pass}
 use Rattle.society_tables.proofs.opening.office_agrees.Goals as goal
 
@@ -43,3 +43,6 @@ returns-clause-told g c clean has =
 
 pub returns-in_err-rows-clause-told : goal.returns-in_err-rows-clause-told
 returns-in_err-rows-clause-told g c clean has = fails c.args.office.now _ c.in_err-rows.field-0.0 c.from_residual.result c.from_residual.ensures.1
+
+pub returns-in_err-rows-clause-other : goal.returns-in_err-rows-clause-other
+returns-in_err-rows-clause-other g c = failed_not_damaged c.in_err-rows.field-0.0 c.from_residual.result c.from_residual.ensures.1

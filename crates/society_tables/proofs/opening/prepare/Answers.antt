@@ -11,7 +11,7 @@ returns-in-Nothing-clause-opens g c =
 pub returns-in-Layout-clause-opens : goal.returns-in-Layout-clause-opens
 returns-in-Layout-clause-opens g c =
     opens_audited c.args.office.now _ _ c.audit.result (λ is_open. c.is_autocommit-settled.ensures.settled (rw (c.is_autocommit-settled.ensures.value, c.requires) refl) is_open)
-    c.in-Layout.ensures c.audit.ensures.whole c.audit.ensures.told
+    c.in-Layout.ensures c.audit.ensures.whole c.audit.ensures.told c.audit.ensures.damaged
 
 pub returns-in-Other-clause-opens : goal.returns-in-Other-clause-opens
 returns-in-Other-clause-opens g c =

@@ -1,11 +1,11 @@
-use Rattle.std.proofs.Common.{◌≡◌, ◌∙◌, List, ℕ, subst, sym}
+use Rattle.std.proofs.Common.{List, subst}
 use Rattle.sqlite.specs.Effect.{Database}
 use Rattle.sqlite.specs.Held.{state}
 use Rattle.pool_split.specs.declared.claim.Credit.{Credit}
 use Rattle.society_core.proofs.Closes.{entry_of_close, no_payer}
 use Rattle.society_core.proofs.Stores.{from_one}
 use Rattle.society_core.specs.Pools.{credits_of}
-use Rattle.society_tables.specs.Closings.{ClosesWith, PaysBy}
+use Rattle.society_tables.specs.Closings.{ClosesWith}
 use Rattle.society_tables.proofs.Payments.{cut_reached}
 use Rattle.society_tables.proofs.PoolHolds.{pool_holds}
 use Rattle.society_tables.proofs.StepLemmas.{does_then_open}

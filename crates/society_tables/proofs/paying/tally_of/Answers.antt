@@ -1,6 +1,5 @@
-use Rattle.std.proofs.Common.{◌≡◌, ◌∙◌, ◌≤◌, ◌*◌, ◌+◌, ◌++◌, List, ℕ, Ok, ap, arith, flat_map, length, length-append, subst, sym, take}
+use Rattle.std.proofs.Common.{◌≡◌, ◌∙◌, ◌≤◌, List, Ok, ap, arith, flat_map, length, length-append, subst, sym, take}
 use Rattle.std.proofs.lemmas.List.{take_all}
-use Rattle.perf_returns.specs.declared.performance.Performance.{Performance}
 use Rattle.sqlite.specs.Held.{state}
 use Rattle.society_core.specs.Candidates.{rows_of_return}
 use Rattle.society_core.specs.Points.{Tallies}

@@ -1,7 +1,17 @@
 use Rattle.std.proofs.Common.{refl}
+use Rattle.society_tables.proofs.ComesAgain.{clean_before, comes_still}
 use Rattle.society_tables.proofs.OpenLemmas.{inspected_then}
+use Rattle.society_tables.proofs.RowsAgain.{aside_told}
 use Rattle.society_tables.proofs.rebuilding.money_from.Goals as goal
 
 pub returns-clause-asked : goal.returns-clause-asked
 returns-clause-asked g c =
     inspected_then _ _ _ _ c.pools_from.result _ _ _ (λ is_open. c.is_autocommit-settled.ensures.settled (rw (c.is_autocommit-settled.ensures.value, c.requires) refl) is_open) c.in_ok-returns_from.ensures.asked c.pools_from.ensures.asked (λ y a b. tt)
+
+pub returns-clause-passes : goal.returns-clause-passes
+returns-clause-passes g c b clean comes is =
+    let mid = clean_before _ _ c.pools_from.ensures.asked.survives clean in
+    c.pools_from.ensures.passes b clean (comes_still b _ _ _ _ (λ is_open. c.is_autocommit-settled.ensures.settled (rw (c.is_autocommit-settled.ensures.value, c.requires) refl) is_open) c.in_ok-returns_from.ensures.asked mid comes) (c.in_ok-returns_from.ensures.passes b mid comes is)
+
+pub returns-in_err-returns_from-clause-passes : goal.returns-in_err-returns_from-clause-passes
+returns-in_err-returns_from-clause-passes g c b clean comes is = aside_told _ _ c.from_residual.result c.from_residual.ensures.1 (c.in_err-returns_from.ensures.passes b clean comes is)

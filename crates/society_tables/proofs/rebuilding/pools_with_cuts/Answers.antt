@@ -1,6 +1,23 @@
+use Rattle.std.proofs.Common.{List, subst, sym}
+use Rattle.sqlite_value.specs.Order.{Row}
+use Rattle.society_rows.specs.Layout as layout
+use Rattle.society_tables.specs.BookRows.{paid_rows, is_of_pool}
+use Rattle.society_tables.specs.Columns.{HasRows}
 use Rattle.society_tables.proofs.AddLemmas.{any_told}
+use Rattle.society_tables.proofs.ComesAgain.{listed_rows}
 use Rattle.society_tables.proofs.OpenLemmas.{then_inspected}
+use Rattle.society_tables.proofs.RowsAgain.{aside_told}
 use Rattle.society_tables.proofs.rebuilding.pools_with_cuts.Goals as goal
 
 pub returns-clause-asked : goal.returns-clause-asked
 returns-clause-asked g c = then_inspected _ _ _ c.close_pools.result _ _ c.in_ok-paid.ensures.asked (λ listed. any_told c.close_pools.result)
+
+pub returns-clause-passes : goal.returns-clause-passes
+returns-clause-passes g c b clean comes pools cuts is =
+    let shown = comes.shows (c.in_ok-paid.ensures.asked.answered clean) in
+    let has = listed_rows (is_of_pool 2) (paid_rows b) layout.pool_returns _ _ _ shown.1.paid (c.in_ok-paid.ensures.asked.found clean shown.0) in
+    let here = subst (λ (rows : List Row). HasRows (is_of_pool 2) (paid_rows b) rows) (sym c.as_slice.ensures.value) has in
+    c.close_pools.ensures.passes b comes.sound comes.can pools cuts here is
+
+pub returns-in_err-paid-clause-passes : goal.returns-in_err-paid-clause-passes
+returns-in_err-paid-clause-passes g c b clean comes pools cuts is = aside_told _ _ c.from_residual.result c.from_residual.ensures.1 c.in_err-paid.ensures.aside

@@ -1,6 +1,23 @@
+use Rattle.std.proofs.Common.{List, subst, sym}
+use Rattle.sqlite_value.specs.Order.{Row}
+use Rattle.society_rows.specs.Layout as layout
+use Rattle.society_tables.specs.BookRows.{is_return_row, return_rows}
+use Rattle.society_tables.specs.Columns.{HasRows}
 use Rattle.society_tables.proofs.AddLemmas.{any_told}
+use Rattle.society_tables.proofs.ComesAgain.{no_returns_within, listed_rows, reported_end}
 use Rattle.society_tables.proofs.OpenLemmas.{then_inspected}
+use Rattle.society_tables.proofs.RowsAgain.{all_reported, aside_told}
 use Rattle.society_tables.proofs.rebuilding.returns_from.Goals as goal
 
 pub returns-clause-asked : goal.returns-clause-asked
 returns-clause-asked g c = then_inspected _ _ _ c.put_returns.result _ _ c.in_ok-rows.ensures.asked (λ listed. any_told c.put_returns.result)
+
+pub returns-clause-passes : goal.returns-clause-passes
+returns-clause-passes g c b clean comes sent =
+    let shown = comes.shows (c.in_ok-rows.ensures.asked.answered clean) in
+    let has = listed_rows is_return_row (return_rows b) layout.returns _ _ _ shown.1.returns (c.in_ok-rows.ensures.asked.found clean shown.0) in
+    let here = subst (λ (rows : List Row). HasRows is_return_row (return_rows b) rows) (sym c.as_slice.ensures.value) has in
+    reported_end b _ _ c.as_slice.result.now c.put_returns.result here sent (c.put_returns.ensures.passes b comes.sound (all_reported b c.as_slice.result.now comes.can here) (no_returns_within b _ sent))
+
+pub returns-in_err-rows-clause-passes : goal.returns-in_err-rows-clause-passes
+returns-in_err-rows-clause-passes g c b clean comes sent = aside_told _ _ c.from_residual.result c.from_residual.ensures.1 c.in_err-rows.ensures.aside

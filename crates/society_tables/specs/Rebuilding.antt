@@ -1,0 +1,148 @@
+-- How far a desk has got to which the requests of a book come again, and what their rows say.
+use Rattle.std.specs.Prelude.{◌≡◌, ℕ, true, List, map, Some, None, is_some, Result, Ok, Err, IsTrue, IsPermutation}
+use Rattle.std.specs.declared.cmp.Ordering.{Ordering}
+use Rattle.std.specs.FinMap as finite
+use Rattle.std.specs.List.{AllByRecursion}
+use Rattle.sqlite_value.specs.Order.{Row}
+use Rattle.sqlite.specs.State as connection
+use Rattle.society_rows.specs.Stored.{HasLayout}
+use Rattle.society_core.specs.Book.{Book, IsSound, order_at, return_at}
+use Rattle.society_core.specs.Orders.{Order, order_fault}
+use Rattle.society_core.specs.declared.return_key.ReturnKey.{ReturnKey}
+use Rattle.work_ids.specs.Blanks.{fill, without_trailing_blanks}
+use Rattle.work_ids.specs.Reporter.{reporter_of}
+use Rattle.work_ids.specs.SenderKey.{is_sender_key}
+use Rattle.society_rows.specs.Forms.{IsOfForms, pool_cut_forms, pool_return_forms}
+use Rattle.society_tables.specs.BookRows.{AreOfBook, pool_row, return_key_of, return_row, transmission_key_of, transmission_row}
+use Rattle.share_rules.specs.declared.office.Office.{Office}
+use Rattle.society_tables.specs.Kept.{HoldsBook}
+use Rattle.society_tables.specs.Columns.{blob_at, number_at, text_at}
+use Rattle.society_tables.specs.declared.audit_fault.AuditFault.{AuditFault}
+use Rattle.society_tables.specs.declared.audit_fault.AuditFault.TheVariants as audit
+
+-- a fault that says nothing of the rows: memory or the database failed
+abbrev pub IsAside : AuditFault → Type 0
+IsAside audit.Memory = Unit {0}
+IsAside audit.Store = Unit {0}
+IsAside audit.Damaged = ⊥
+
+-- the rows pass, with this answer, or memory or the database failed
+abbrev pub Passes : {X : Type 0} → Result X AuditFault → (X → Type 0) → Type 0
+Passes (Ok x) Found = Found x
+Passes (Err fault) Found = IsAside fault
+
+-- what one map has, the other has as well
+abbrev pub IsWithin : {K V : Type 0} {R : K → K → Ordering} → finite.FinMap R V → finite.FinMap R V → Type 0
+IsWithin {K} {V} one two = (key : K) (value : V) → finite.get one key ≡ Some value → finite.get two key ≡ Some value
+
+-- a map that is within a whole one has this of it too, and all that it had
+pub record Brings {K V : Type 0} {R : K → K → Ordering} (whole old new : finite.FinMap R V) (key : K) (value : V) : Type 0 where
+  pub within : IsWithin new whole
+  pub kept : IsWithin old new
+  pub here : finite.get new key ≡ Some value
+
+-- the row is that of a transmission of the book
+pub record IsSent (book : Book) (row : Row) : Type 0 where
+  pub form : row ≡ transmission_row (transmission_key_of row) (blob_at 2 row)
+  pub there : finite.get book.transmissions (transmission_key_of row) ≡ Some (blob_at 2 row)
+
+-- a book has the transmission of a row
+abbrev pub HasSent : Book → Row → Type 0
+HasSent book row = finite.get book.transmissions (transmission_key_of row) ≡ Some (blob_at 2 row)
+
+-- the row is that of a return of the book
+pub record IsReported (book : Book) (row : Row) : Type 0 where
+  pub form : row ≡ return_row (return_key_of row) (blob_at 2 row)
+  pub reporter : reporter_of (text_at 0 row) ≡ Ok (fill 20 (text_at 0 row))
+  pub there : finite.get book.returns (return_key_of row) ≡ Some (blob_at 2 row)
+
+-- a book has the return of a row
+abbrev pub HasReported : Book → Row → Type 0
+HasReported book row = finite.get book.returns (return_key_of row) ≡ Some (blob_at 2 row)
+
+-- what the transmission of a row brings to a part of a book
+abbrev pub SentOn : Book → Book → Row → Book → Type 0
+SentOn b old row new = Brings b.transmissions old.transmissions new.transmissions (transmission_key_of row) (blob_at 2 row) × (new.returns ≡ old.returns) × (new.pools ≡ old.pools)
+
+-- what the return of a row brings to it
+abbrev pub ReportedOn : Book → Book → Row → Book → Type 0
+ReportedOn b old row new = Brings b.returns old.returns new.returns (return_key_of row) (blob_at 2 row) × (new.transmissions ≡ old.transmissions) × (new.pools ≡ old.pools)
+
+-- what the transmissions of rows bring to it
+pub record AllSent (b old : Book) (rows : List Row) (new : Book) : Type 0 where
+  pub within : IsWithin new.transmissions b.transmissions
+  pub here : AllByRecursion (HasSent new) rows
+  pub returns : new.returns ≡ old.returns
+  pub pools : new.pools ≡ old.pools
+
+-- what the returns of rows bring to it
+pub record AllReported (b old : Book) (rows : List Row) (new : Book) : Type 0 where
+  pub within : IsWithin new.returns b.returns
+  pub here : AllByRecursion (HasReported new) rows
+  pub transmissions : new.transmissions ≡ old.transmissions
+  pub pools : new.pools ≡ old.pools
+
+-- An order that can be given: the senders of its cut are senders, and in whatever order its members are named it has no fault.
+pub record CanBeGiven (order : Order) : Type 0 where
+  pub senders : AllByRecursion (λ key. is_sender_key key.sender ≡ true) order.cut
+  pub faultless : (cut returns : List (List ℕ × ℕ)) → IsPermutation (map (λ key. (key.sender, key.number)) order.cut) cut
+      → IsPermutation (map (λ key. (key.reporter, key.number)) order.returns) returns → order_fault order.amount cut returns ≡ None
+
+-- a book that can come: the reporters of its returns are reporters, and the orders of its pools can be given
+pub record CanCome (book : Book) : Type 0 where
+  pub reporters : (key : ReturnKey) → is_some (return_at book key) ≡ true → reporter_of (without_trailing_blanks key.reporter) ≡ Ok key.reporter
+  pub orders : (pool : ℕ) (order : Order) → order_at book pool ≡ Some order → CanBeGiven order
+
+-- of a book the transmissions alone
+abbrev pub sent_alone : Book → Book
+sent_alone book = record { transmissions = book.transmissions; returns = finite.empty; pools = finite.empty }
+
+-- of a book the transmissions and the returns
+abbrev pub without_pools : Book → Book
+without_pools book = record { transmissions = book.transmissions; returns = book.returns; pools = finite.empty }
+
+-- what an open connection shows is a sound book that can come
+pub record ComesFrom (book : Book) (s : connection.State) : Type 0 where
+  pub shows : IsTrue s.is_open → HasLayout s.now × AreOfBook book s.now.trees
+  pub sound : IsSound book
+  pub can : CanCome book
+
+-- what an open connection shows is a book of the office
+abbrev pub ShowsBook : Office → Book → connection.State → Type 0
+ShowsBook office book s = IsTrue s.is_open → HasLayout s.now × HoldsBook office book s.now.trees
+
+-- the sender and the number in a row of a cut
+abbrev pub cut_pair : Row → List ℕ × ℕ
+cut_pair row = (text_at 1 row, number_at 2 row)
+
+-- the reporter and the number in a row of a return that is paid
+abbrev pub paid_pair : Row → List ℕ × ℕ
+paid_pair row = (fill 20 (text_at 0 row), number_at 1 row)
+
+-- the row is that of a sender's cut in a pool
+abbrev pub IsCut : Row → Type 0
+IsCut row = IsOfForms pool_cut_forms row × (is_sender_key (text_at 1 row) ≡ true)
+
+-- the row is that of a return that a pool pays
+abbrev pub IsPaid : Row → Type 0
+IsPaid row = IsOfForms pool_return_forms row × (reporter_of (text_at 0 row) ≡ Ok (fill 20 (text_at 0 row)))
+
+-- the row is that of a pool of the book
+pub record IsClosed (book : Book) (row : Row) : Type 0 where
+  pub order : Order
+  pub form : row ≡ pool_row (number_at 0 row) order
+  pub there : order_at book (number_at 0 row) ≡ Some order
+
+-- a book has of the pool of a row what another book has
+abbrev pub HasClosed : Book → Book → Row → Type 0
+HasClosed b book row = order_at book (number_at 0 row) ≡ order_at b (number_at 0 row)
+
+-- all the transmissions and returns of a book, and some of its pools
+pub record IsUpToPools (b part : Book) : Type 0 where
+  pub transmissions : part.transmissions ≡ b.transmissions
+  pub returns : part.returns ≡ b.returns
+  pub pools : IsWithin part.pools b.pools
+
+-- what the order of a pool brings to it
+abbrev pub ClosedOn : Book → Book → ℕ → Order → Book → Type 0
+ClosedOn b old pool order new = Brings b.pools old.pools new.pools pool order × (new.transmissions ≡ old.transmissions) × (new.returns ≡ old.returns)
