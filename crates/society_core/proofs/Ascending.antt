@@ -1,6 +1,7 @@
 -- Keys in ascending order: lists with the same members give the same, and a list that ascends gives itself.
-use Rattle.std.proofs.Common.{◌≡◌, ℕ, suc, ◌≤◌, ◌+◌, Bool, true, false, ◌||◌, cond, List, [], ◌∷◌, length, map, Some, None, is_some, Contains, ◌↔◌, refl, ap, sym, ◌∙◌, subst, arith}
+use Rattle.std.proofs.Common.{◌≡◌, ℕ, suc, ◌≤◌, ◌+◌, Bool, true, false, ◌||◌, cond, List, [], ◌∷◌, length, map, Some, None, is_some, Contains, ◌↔◌, IsPermutation, refl, ap, sym, ◌∙◌, subst, arith}
 use Rattle.std.specs.Prelude.{T, ◌&&◌}
+use Rattle.std.proofs.lemmas.Bool.{true≢false}
 use Rattle.std.proofs.lemmas.List.{length-map}
 use Rattle.std.proofs.lemmas.Map.Views.{Contains-from_any, list_any-from_Contains, tells_apart}
 use Rattle.std.proofs.lemmas.Cmp.{eq_by_cmp_equiv}
@@ -8,14 +9,20 @@ use Rattle.std.specs.BTreeSet as set
 use Rattle.std.specs.BTreeSet.{BTreeSet}
 use Rattle.std.specs.Cmp.{IsTotalOrder}
 use Rattle.std.specs.FinMap as finite
-use Rattle.std.specs.FinMap.Entries.{find, is_sorted, below_all}
+use Rattle.std.specs.FinMap.Entries.{find, is_sorted, below_all, by_order, put}
+use Rattle.std.proofs.lemmas.List.Sorted.{IsPermutation-cons, IsPermutation-map, IsPermutation-middle, IsPermutation-refl, IsPermutation-trans}
 use Rattle.std.specs.List.{AllByRecursion, list_any}
 use Rattle.std.specs.List.Sorted.{IsStrictlySortedBy}
-use Rattle.std.specs.Ordering.{eq_by_cmp, is_lt}
+use Rattle.std.specs.Ordering.{eq_by_cmp, is_eq, is_lt}
 use Rattle.std.specs.declared.cmp.Ordering.{Ordering}
 use Rattle.std.specs.declared.cmp.Ordering.TheVariants.{Less, Equal, Greater}
 use Rattle.society_core.specs.Keys.{ascending}
+use Rattle.society_core.specs.Orders.{has_repeat}
 use Rattle.society_core.proofs.KeysOfMaps.{entries_in_order}
+
+neither_of : (a b : Bool) → (a || b) ≡ false → (a ≡ false) × (b ≡ false)
+neither_of true b h = absurd (true≢false h)
+neither_of false b h = (refl, h)
 
 both_ways : (a b : Bool) → (a ≡ true → b ≡ true) → (b ≡ true → a ≡ true) → a ≡ b
 both_ways true b there back = sym (there refl)
@@ -94,6 +101,38 @@ module _ {K : Type 0} {R : K → K → Ordering} (o : IsTotalOrder R) where
       let count : finite.len marks ≡ length (finite.entries marks) = finite.len-entries marks in
       let few : finite.len marks ≤ length ks = marks_length ks in
       omega arith
+
+  -- an entry that ties with no other goes in among them
+  put_permutes : {X : Type 0} (k : K) (v : X) (es : List (K × X)) → list_any (λ e. eq_by_cmp R k e.0) es ≡ false → IsPermutation ((k, v) ∷ es) (put R k v es)
+  put_permutes k v [] free = IsPermutation-refl ((k, v) ∷ [])
+  put_permutes k v (e ∷ es) free = by_case (R k e.0) refl (put_permutes k v es)
+    where
+      by_case : (r : Ordering) → R k e.0 ≡ r → (list_any (λ e. eq_by_cmp R k e.0) es ≡ false → IsPermutation ((k, v) ∷ es) (put R k v es)) → IsPermutation ((k, v) ∷ e ∷ es) (by_order r ((k, v) ∷ e ∷ es) ((e.0, v) ∷ es) (e ∷ put R k v es))
+      by_case Less is goes_in = IsPermutation-refl ((k, v) ∷ e ∷ es)
+      by_case Equal is goes_in = absurd (true≢false (sym (ap (λ (r : Ordering). is_eq r || list_any (λ e. eq_by_cmp R k e.0) es) is) ∙ free))
+      by_case Greater is goes_in =
+          let rest : list_any (λ e. eq_by_cmp R k e.0) es ≡ false = sym (ap (λ (r : Ordering). is_eq r || list_any (λ e. eq_by_cmp R k e.0) es) is) ∙ free in
+          IsPermutation-trans ((k, v) ∷ e ∷ es) (e ∷ (k, v) ∷ es) (e ∷ put R k v es) (IsPermutation-middle ((k, v) ∷ []) e es) (IsPermutation-cons e ((k, v) ∷ es) (put R k v es) (goes_in rest))
+
+  any_of_keys : {X : Type 0} (q : K) (es : List (K × X)) → list_any (λ e. eq_by_cmp R q e.0) es ≡ list_any (eq_by_cmp R q) (map (λ (e : K × X). e.0) es)
+  any_of_keys q [] = refl
+  any_of_keys q (e ∷ es) = ap (λ (b : Bool). eq_by_cmp R q e.0 || b) (any_of_keys q es)
+
+  none_left : (ks : List K) → length ks ≤ 0 → [] ≡ ks
+  none_left [] few = refl
+  none_left (k ∷ ks) few = absurd (omega (few, arith))
+
+  -- keys of which no two tie are all there in ascending order
+  pub ascending_permutes : (ks : List K) → has_repeat (eq_by_cmp R) ks ≡ false → IsPermutation ks (ascending R ks)
+  ascending_permutes [] once = subst (IsPermutation []) (none_left (ascending R []) (ascending_length [])) (IsPermutation-refl [])
+  ascending_permutes (k ∷ ks) once =
+      let m = finite.from_entries {R = R} (map (λ key. (key, true)) ks) in
+      let free : list_any (eq_by_cmp R k) ks ≡ false = (neither_of (list_any (eq_by_cmp R k) ks) (has_repeat (eq_by_cmp R) ks) once).0 in
+      let rest : has_repeat (eq_by_cmp R) ks ≡ false = (neither_of (list_any (eq_by_cmp R k) ks) (has_repeat (eq_by_cmp R) ks) once).1 in
+      let apart : list_any (λ (e : K × Bool). eq_by_cmp R k e.0) (finite.entries m) ≡ false = any_of_keys k (finite.entries m) ∙ ascending_has k ks ∙ free in
+      let put_in : IsPermutation (k ∷ ascending R ks) (map (λ (e : K × Bool). e.0) (put R k true (finite.entries m))) = IsPermutation-map (λ (e : K × Bool). e.0) ((k, true) ∷ finite.entries m) (put R k true (finite.entries m)) (put_permutes k true (finite.entries m) apart) in
+      subst (IsPermutation (k ∷ ks)) (ap (map (λ (e : K × Bool). e.0)) (sym (finite.entries-insert o m k true)))
+      (IsPermutation-trans (k ∷ ks) (k ∷ ascending R ks) (map (λ (e : K × Bool). e.0) (put R k true (finite.entries m))) (IsPermutation-cons k ks (ascending R ks) (ascending_permutes ks rest)) put_in)
 
   module _ (exact : finite.IsAntisymmetric R) where
     -- a list that ascends is its own

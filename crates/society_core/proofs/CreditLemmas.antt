@@ -20,7 +20,7 @@ use Rattle.share_rules.proofs.Whole.{clean_is_whole}
 use Rattle.work_ids.specs.Numbers.{is_pool_number, is_return_number}
 use Rattle.work_ids.specs.declared.fault.IdFault.{IdFault}
 use Rattle.works_core.specs.Line.{filled_number, judged, judged_by, judged_in, line_of}
-use Rattle.society_core.specs.Book.{Book, IsSound, body_at, front, order_at, return_at, transmissions_to}
+use Rattle.society_core.specs.Book.{Book, IsSound, body_at, front, is_reporter, order_at, return_at, transmissions_to}
 use Rattle.society_core.specs.Candidates.{HasReturns, ReachesCut, StandFor, transactions_sent}
 use Rattle.society_core.specs.Claims.{claims_among, is_candidate_for}
 use Rattle.society_core.specs.Orders.{Order}
@@ -241,4 +241,4 @@ order_reaches_cut book pool order sound there =
 -- a return of a sound book has no fault
 pub return_has_no_fault : (book : Book) (key : ReturnKey) (body : List ℕ) (fault : ReturnFault) → IsSound book → return_at book key ≡ Some body → return_fault body ≡ Some fault → ⊥
 return_has_no_fault book key body fault sound there e =
-    false≢true (ap is_none (sym e) ∙ (both (is_return_number key.number) (is_none (return_fault body)) (sound.returns key body there)).1)
+    false≢true (ap is_none (sym e) ∙ (both (is_reporter key.reporter && is_return_number key.number) (is_none (return_fault body)) (sound.returns key body there)).1)

@@ -4,6 +4,7 @@ pub mod Kept
 pub mod Inserts
 pub mod Ascending
 pub mod Fronts
+pub mod OrderFaults
 pub mod SameOrders
 pub mod Books
 pub mod Closes

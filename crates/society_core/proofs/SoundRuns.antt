@@ -10,7 +10,7 @@ use Rattle.cwr_files.specs.FileFault.{file_fault}
 use Rattle.perf_returns.specs.Returns.{return_fault}
 use Rattle.work_ids.specs.Numbers.{is_return_number, is_transmission_number}
 use Rattle.work_ids.specs.SenderKey.{is_sender_key}
-use Rattle.society_core.specs.Book.{Book, IsSound, order_at}
+use Rattle.society_core.specs.Book.{Book, IsSound, is_reporter, order_at}
 use Rattle.society_core.specs.Entries.{Entry, Transmission, Return, Pool}
 use Rattle.society_core.specs.Headline.{Brings}
 use Rattle.society_core.specs.Headline.{AlikeToTheGaps, AllAskRightly, AsksRightly, HasRightKey}
@@ -31,7 +31,8 @@ sound_entry b q r (Transmission s n x) sound key free unrefused brings =
     sound_with b s n x sound free
     (both_hold (is_sender_key s && is_transmission_number n) (is_none (file_fault s x)) (both_hold (is_sender_key s) (is_transmission_number n) key.0 key.1) (ap is_none brings.1))
 sound_entry b q r (Return key x) sound right free unrefused brings =
-    sound_with_return b key x sound free (both_hold (is_return_number key.number) (is_none (return_fault x)) right (ap is_none brings.1))
+    sound_with_return b key x sound free
+    (both_hold (is_reporter key.reporter && is_return_number key.number) (is_none (return_fault x)) (both_hold (is_reporter key.reporter) (is_return_number key.number) right.0 right.1) (ap is_none brings.1))
 sound_entry b q r (Pool p o) sound key free unrefused brings =
     sound_with_pool b p o sound (entry_of_close b p o key.0 unrefused) key.1 (no_payer b o unrefused)
 

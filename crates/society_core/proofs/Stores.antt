@@ -1,17 +1,22 @@
 -- A store in memory stays sound.
-use Rattle.std.proofs.Common.{◌≡◌, ◌≤◌, ◌&&◌, arith, nat_le, ℕ, true, List, None, Result, Ok, Err, OnOk, OnErr, is_none, ap, subst, sym}
+use Rattle.std.proofs.Common.{◌≡◌, ◌∙◌, ◌≤◌, ◌&&◌, arith, nat_le, ℕ, true, List, Some, None, is_some, Result, Ok, Err, OnOk, OnErr, is_none, ap, refl, subst, sym}
 use Rattle.cwr_files.specs.FileFault.{file_fault}
 use Rattle.perf_returns.specs.Returns.{return_fault}
 use Rattle.society_core.specs.Answers.{close_refusal}
-use Rattle.society_core.specs.Book.{Book, IsSound, body_at, is_entry, is_return_entry, return_at, with_pool, with_return, with_transmission}
+use Rattle.society_core.specs.Book.{Book, IsSound, body_at, is_entry, is_read_as, is_reporter, is_return_entry, return_at, with_pool, with_return, with_transmission}
 use Rattle.society_core.specs.Orders.{IsOrder, Order}
 use Rattle.society_core.specs.declared.return_key.ReturnKey.{ReturnKey}
 use Rattle.work_ids.specs.Numbers.{is_from_one_to, is_pool_number, is_return_number, is_transmission_number}
+use Rattle.work_ids.specs.Blanks.{without_trailing_blanks}
+use Rattle.work_ids.specs.Reporter.{reporter_of}
 use Rattle.work_ids.specs.SenderKey.{is_sender_key}
+use Rattle.work_ids.specs.declared.fault.IdFault.{IdFault}
+use Rattle.std.proofs.lemmas.Bool.{false≢true}
+use Rattle.std.proofs.lemmas.Slice.Eq.{bytes_eq-Decides}
 use Rattle.std.proofs.lemmas.Bool.Decides.{nat_tests}
-use Rattle.society_core.proofs.Books.{sound_with, sound_with_pool, sound_with_return}
+use Rattle.society_core.proofs.Books.{some_body, sound_with, sound_with_pool, sound_with_return}
 use Rattle.society_core.proofs.Closes.{entry_of_close, no_payer}
-use Rattle.society_core.proofs.Fronts.{both_hold}
+use Rattle.society_core.proofs.Fronts.{both_hold, first_holds}
 
 -- a book that is the next one where an addition went well, and else the old one, is sound where both are
 pub sound_either : {T E : Type 0} (r : Result T E) (old new next : Book) → OnOk r (new ≡ next) → OnErr r (new ≡ old) → IsSound old → IsSound next → IsSound new
@@ -31,14 +36,41 @@ pub sound_after : {T E : Type 0} (r : Result T E) (old new : Book) (s : List ℕ
 sound_after r old new s n body ok err sound free entry =
     sound_either r old new (with_transmission old s n body) ok err sound (sound_with old s n body sound free entry)
 
--- a number and a fault that is none make a return's entry
-pub return_entry : (n : ℕ) (body : List ℕ) → is_return_number n ≡ true → return_fault body ≡ None → (is_return_number n && is_none (return_fault body)) ≡ true
-return_entry n body number right = both_hold (is_return_number n) (is_none (return_fault body)) number (ap is_none right)
-
 -- a number that is 1 to a limit passes
 pub from_one : (most n : ℕ) → 1 ≤ n → n ≤ most → is_from_one_to most n ≡ true
 from_one most n low high =
     both_hold (nat_le 1 n) (nat_le n most) (grind (arith, nat_tests)) (grind (arith, nat_tests))
+
+-- what its own text is read as is a reporter
+pub reporter_reads : (bytes reporter : List ℕ) → bytes ≡ without_trailing_blanks reporter → reporter_of bytes ≡ Ok reporter → is_reporter reporter ≡ true
+reporter_reads bytes reporter is back =
+    ap (is_read_as reporter) (ap reporter_of (sym is) ∙ back) ∙ (bytes_eq-Decides reporter reporter).1 refl
+
+-- and a reporter is that
+pub reporter_back : (reporter : List ℕ) → is_reporter reporter ≡ true → reporter_of (without_trailing_blanks reporter) ≡ Ok reporter
+reporter_back reporter is = by_case (reporter_of (without_trailing_blanks reporter)) refl
+  where
+    by_case : (r : Result (List ℕ) IdFault) → reporter_of (without_trailing_blanks reporter) ≡ r → reporter_of (without_trailing_blanks reporter) ≡ Ok reporter
+    by_case (Ok read) e = e ∙ ap (λ (x : List ℕ). Ok x) ((bytes_eq-Decides read reporter).0 (sym (ap (is_read_as reporter) e) ∙ is))
+    by_case (Err fault) e = absurd (false≢true (sym (ap (is_read_as reporter) e) ∙ is))
+
+-- the reporter of a return of a sound book is what its own text is read as
+pub sound_reporter : (b : Book) (key : ReturnKey) (body : List ℕ) → IsSound b → return_at b key ≡ Some body → reporter_of (without_trailing_blanks key.reporter) ≡ Ok key.reporter
+sound_reporter b key body sound there =
+    reporter_back key.reporter
+    (first_holds (is_reporter key.reporter) (is_return_number key.number) (first_holds (is_reporter key.reporter && is_return_number key.number) (is_none (return_fault body)) (sound.returns key body there)))
+
+pub there_reporter : (b : Book) (key : ReturnKey) → IsSound b → is_some (return_at b key) ≡ true → reporter_of (without_trailing_blanks key.reporter) ≡ Ok key.reporter
+there_reporter b key sound here =
+    let body = some_body (return_at b key) here in
+    sound_reporter b key body.0 sound body.1
+
+-- a reporter, a number and a fault that is none make a return's entry
+pub return_entry : (key : ReturnKey) (bytes body : List ℕ) → bytes ≡ without_trailing_blanks key.reporter → reporter_of bytes ≡ Ok key.reporter → 1 ≤ key.number → key.number ≤ 999999 → return_fault body ≡ None
+    → is_return_entry key body ≡ true
+return_entry key bytes body is back low high right =
+    both_hold (is_reporter key.reporter && is_return_number key.number) (is_none (return_fault body))
+    (both_hold (is_reporter key.reporter) (is_return_number key.number) (reporter_reads bytes key.reporter is back) (from_one 999999 key.number low high)) (ap is_none right)
 
 -- a sender, a number and a fault that is none make a transmission's entry
 pub transmission_entry : (s : List ℕ) (n : ℕ) (body : List ℕ) → is_sender_key s ≡ true → 1 ≤ n → n ≤ 999999 → file_fault s body ≡ None → is_entry s n body ≡ true

@@ -1,5 +1,5 @@
 -- The book: what has been accepted, as finite maps that know no order of arrival.
-use Rattle.std.specs.Prelude.{ℕ, zero, suc, Bool, true, List, [], ◌∷◌, ◌++◌, ◌≡◌, ◌&&◌, Option, Some, None, is_some, is_none, map, max, unwrap_or, if◌then◌else◌, nat_le, nat_lt, bytes_eq}
+use Rattle.std.specs.Prelude.{ℕ, zero, suc, Bool, true, false, List, [], ◌∷◌, ◌++◌, ◌≡◌, ◌&&◌, Option, Some, None, is_some, is_none, Result, Ok, Err, map, max, unwrap_or, if◌then◌else◌, nat_le, nat_lt, bytes_eq}
 use Rattle.std.specs.FinMap as finite
 use Rattle.std.specs.List.{filter, list_all, slice_get}
 use Rattle.std.specs.Ordering.{nat_cmp}
@@ -9,8 +9,11 @@ use Rattle.cwr_files.specs.declared.transmission.Transaction.{Transaction}
 use Rattle.cwr_files.specs.declared.transmission.Transmission.{Transmission}
 use Rattle.perf_returns.specs.Returns.{return_fault}
 use Rattle.share_rules.specs.declared.office.Office.{Office}
+use Rattle.work_ids.specs.Blanks.{without_trailing_blanks}
 use Rattle.work_ids.specs.Numbers.{is_pool_number, is_return_number, is_transmission_number}
+use Rattle.work_ids.specs.Reporter.{reporter_of}
 use Rattle.work_ids.specs.SenderKey.{is_sender_key}
+use Rattle.work_ids.specs.declared.fault.IdFault.{IdFault}
 use Rattle.works_core.specs.declared.verdict.Verdict.{Verdict}
 use Rattle.works_core.specs.Line.{line_of, verdicts_at}
 use Rattle.works_core.specs.Versions.{work_at}
@@ -68,9 +71,18 @@ with_pool book pool order = record book { pools = finite.insert book.pools pool 
 abbrev pub is_entry : List ℕ → ℕ → List ℕ → Bool
 is_entry sender number body = is_sender_key sender && is_transmission_number number && is_none (file_fault sender body)
 
--- whether a body may stand in the book as a return: its number is within the limits, and it has no return fault (profile)
+-- whether bytes were read as these
+abbrev pub is_read_as : List ℕ → Result (List ℕ) IdFault → Bool
+is_read_as bytes (Ok read) = bytes_eq read bytes
+is_read_as bytes (Err fault) = false
+
+-- whether bytes are those of a reporter, filled with blanks: they are what their own text is read as (profile)
+abbrev pub is_reporter : List ℕ → Bool
+is_reporter bytes = is_read_as bytes (reporter_of (without_trailing_blanks bytes))
+
+-- whether a body may stand in the book as a return: it has a reporter and a number within the limits, and no return fault (profile)
 abbrev pub is_return_entry : ReturnKey → List ℕ → Bool
-is_return_entry key body = is_return_number key.number && is_none (return_fault body)
+is_return_entry key body = is_reporter key.reporter && is_return_number key.number && is_none (return_fault body)
 
 -- whether a sender's transmissions 1 to n are all among some
 abbrev pub has_all_in : Transmissions → List ℕ → ℕ → Bool

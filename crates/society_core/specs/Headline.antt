@@ -5,7 +5,7 @@ use Rattle.cwr_files.specs.FileFault.{file_fault}
 use Rattle.perf_returns.specs.Returns.{return_fault}
 use Rattle.work_ids.specs.Numbers.{is_pool_number, is_return_number, is_transmission_number}
 use Rattle.work_ids.specs.SenderKey.{is_sender_key}
-use Rattle.society_core.specs.Book.{Book, body_at, front}
+use Rattle.society_core.specs.Book.{Book, body_at, front, is_reporter}
 use Rattle.society_core.specs.Entries.{Accepts, BookOf, Entry, Transmission, Return, Pool, Holds, IsIn, entry_of}
 use Rattle.society_core.specs.Orders.{IsOrder}
 use Rattle.society_core.specs.Requests.{Query, Reply, Refused, query_of, reply_of}
@@ -69,7 +69,7 @@ pub record AlikeToTheGaps (a b : Book) : Type 0 where
 -- what an entry stands under is within the limits, and an order is in the form in which orders are kept
 abbrev pub HasRightKey : Entry → Type 0
 HasRightKey (Transmission sender number body) = (is_sender_key sender ≡ true) × (is_transmission_number number ≡ true)
-HasRightKey (Return key body) = is_return_number key.number ≡ true
+HasRightKey (Return key body) = (is_reporter key.reporter ≡ true) × (is_return_number key.number ≡ true)
 HasRightKey (Pool pool order) = (is_pool_number pool ≡ true) × IsOrder order
 
 -- the entry that a request is to make, if any, has a right key

@@ -1,9 +1,10 @@
 -- Orders that close a pool: an amount, a cut of each sender's works, and the returns that are paid.
-use Rattle.std.specs.Prelude.{ℕ, Bool, true, false, not, List, [], ◌∷◌, ◌==◌, ◌&&◌, ◌||◌, ◌≡◌, Option, Some, None, Result, Ok, Err, bytes_eq, if◌then◌else◌, length, map, nat_lt, nat_le, refl}
+use Rattle.std.specs.Prelude.{ℕ, Bool, true, false, not, List, [], ◌∷◌, ◌==◌, ◌&&◌, ◌||◌, ◌≡◌, Option, Some, None, is_none, Result, Ok, Err, bytes_eq, if◌then◌else◌, length, map, nat_lt, nat_le, refl}
 use Rattle.std.specs.Cmp.Lexicographic.{pointwise}
 use Rattle.std.specs.Coded.{Coded, code_by, coded×, coded_ℕ, coded_list}
 use Rattle.std.specs.List.{list_any, list_all}
 use Rattle.work_ids.specs.Numbers.{is_return_number, is_transmission_number}
+use Rattle.work_ids.specs.SenderKey.{is_sender_key}
 use Rattle.society_core.specs.Keys.{ascending, coded_return_key, coded_transmission_key, return_cmp, return_key, transmission_cmp, transmission_key}
 use Rattle.society_core.specs.declared.order.OrderError.{OrderError}
 use Rattle.society_core.specs.declared.order.OrderError.TheVariants as errors
@@ -87,10 +88,21 @@ OrdersAs amount cut returns (Ok order) = (order_fault amount cut returns ≡ Non
 OrdersAs amount cut returns (Err (errors.Order fault)) = order_fault amount cut returns ≡ Some fault
 OrdersAs amount cut returns (Err errors.Memory) = order_fault amount cut returns ≡ None
 
--- what an order keeps: its amount is within the limit, it has at most 200 senders and 1,000 returns, and both ascend (profile)
+-- the sender and the number of a key
+abbrev pub sent_pair : TransmissionKey → List ℕ × ℕ
+sent_pair key = (key.sender, key.number)
+
+-- the reporter and the number of a key
+abbrev pub return_pair : ReturnKey → List ℕ × ℕ
+return_pair key = (key.reporter, key.number)
+
+-- what an order keeps: its amount is within the limit, it has at most 200 senders and 1,000 returns, its numbers have no fault, its
+-- senders are senders, and its cut and its returns ascend (profile)
 pub record IsOrder (order : Order) : Type 0 where
   pub amount : nat_le order.amount 1000000000000 ≡ true
   pub senders : nat_le (length order.cut) 200 ≡ true
   pub named : nat_le (length order.returns) 1000 ≡ true
+  pub faultless : is_none (order_fault order.amount (map sent_pair order.cut) (map return_pair order.returns)) ≡ true
+  pub sender_keys : list_all (λ key. is_sender_key key.sender) order.cut ≡ true
   pub cut : ascending transmission_cmp order.cut ≡ order.cut
   pub returns : ascending return_cmp order.returns ≡ order.returns

@@ -7,6 +7,7 @@ ghost use Rattle.society_core.specs.Orders.{IsOrder, Order, OrdersAs, has_repeat
 ghost use Rattle.society_core.specs.declared.return_key.ReturnKey.{ReturnKey as KeyOfReturn};
 ghost use Rattle.society_core.specs.declared.transmission_key.TransmissionKey.{TransmissionKey as KeyOfTransmission};
 ghost use Rattle.work_ids.specs.Numbers.{is_return_number, is_transmission_number, number_where};
+ghost use Rattle.work_ids.specs.SenderKey.{is_sender_key};
 
 use crate::return_key::ReturnKey;
 use crate::transmission_key::TransmissionKey;
@@ -181,8 +182,11 @@ fn order_fault(amount: u64, cut: &[(SenderKey, u64)], returns: &[(Reporter, u64)
 /// The key of a sender's transmission.
 fn transmission_key(sender: SenderKey, number: u64) -> TransmissionKey
     requires { is_transmission_number number ≡ true }
-    ensures { result ≡ transmission_key sender number }
+    ensures key { result ≡ transmission_key sender number }
+    ensures sender { is_sender_key sender ≡ true }
 {
+    // A sender is a sender key by its type.
+    let _sender = sender.as_bytes();
     let Some(number) = transmission_number(number) else {
         unreachable!();
     };
@@ -195,7 +199,8 @@ fn transmission_keys(
     cut: &[(SenderKey, u64)],
 ) -> Result<Vec<TransmissionKey>, AllocError>
     requires { list_all (λ c. is_transmission_number c.1) cut.now ≡ true }
-    ensures { IfOk result (λ keys. keys.items ≡ map (λ c. transmission_key c.0 c.1) cut.now) }
+    ensures keys { IfOk result (λ keys. keys.items ≡ map (λ c. transmission_key c.0 c.1) cut.now) }
+    ensures senders { IfOk result (λ _. list_all (λ c. is_sender_key c.0) cut.now ≡ true) }
 {
     let mut keys = Vec::with_capacity(alloc, cut.len())?;
     for (sender, number) in cut {
@@ -220,7 +225,8 @@ fn ascending_cut(
     cut: &[(SenderKey, u64)],
 ) -> Result<Vec<TransmissionKey>, AllocError>
     requires { list_all (λ c. is_transmission_number c.1) cut.now ≡ true }
-    ensures { IfOk result (λ keys. keys.items ≡ ascending transmission_cmp (map (λ c. transmission_key c.0 c.1) cut.now)) }
+    ensures keys { IfOk result (λ keys. keys.items ≡ ascending transmission_cmp (map (λ c. transmission_key c.0 c.1) cut.now)) }
+    ensures senders { IfOk result (λ _. list_all (λ c. is_sender_key c.0) cut.now ≡ true) }
 {
     let keys = distinct_transmissions(alloc, transmission_keys(alloc, cut)?)?;
     keys.iter().copied().collect(alloc)

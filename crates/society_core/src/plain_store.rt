@@ -150,7 +150,8 @@ impl Store for PlainStore {
         key: &ReturnKey,
         body: &[u8],
     ) -> Result<(), StoreFault> {
-        // The number's limits are part of what a sound book says.
+        // That the key is of a reporter and a number within the limits is part of what a sound book says.
+        let _reporter = key.reporter.as_bytes();
         let _number = key.number.value();
         Ok(self.book.insert_return(alloc, key, body)?)
     }

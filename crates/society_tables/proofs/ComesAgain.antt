@@ -58,7 +58,6 @@ comes_still b old mid x Found settled first clean comes = record {
       let same : mid.now ≡ old.now = (first.undone clean is_open).0 ∙ sym (settled was) in
       subst (λ (db : Database). HasLayout db × AreOfBook b db.trees) (sym same) (comes.shows was);
   sound = comes.sound;
-  can = comes.can;
 }
 
 -- nothing is within a book

@@ -1,7 +1,9 @@
 -- What the fault of an opening says of the office.
-use Rattle.std.proofs.Common.{◌≡◌, ◌≢◌, ◌∙◌, Bool, true, false, List, [], ◌∷◌, Result, Ok, Err, IfErr, IsPermutation, ap, refl, subst, sym}
+use Rattle.std.proofs.Common.{◌≡◌, ◌≢◌, ◌∙◌, ◌<◌, ◌^◌, ◌&&◌, ℕ, nat_le, leb-true, arith, Bool, true, false, List, [], ◌∷◌, Result, Ok, Err, IfErr, IsPermutation, ap, refl, subst, sym}
 use Rattle.std.specs.Result.{IsErrAnd}
 use Rattle.std.proofs.lemmas.Bool.{false≢true}
+use Rattle.std.proofs.Math.Logic.{∥∥₁_elim}
+use Rattle.share_rules.specs.Office.{name_of}
 use Rattle.std.proofs.lemmas.List.Sorted.{IsPermutation-sym}
 use Rattle.share_rules.specs.declared.office.Office.{Office}
 use Rattle.sqlite.specs.Effect.{Database}
@@ -11,13 +13,14 @@ use Rattle.society_rows.specs.NewBook.{IsBare}
 use Rattle.society_rows.specs.Stored.{HasLayout, rows_in}
 use Rattle.society_rows.specs.declared.fault.RowFault.{RowFault}
 use Rattle.society_rows.specs.declared.fault.RowFault.TheVariants as row
-use Rattle.society_tables.specs.Kept.{office_row}
-use Rattle.society_tables.specs.Opening.{HoldsAsCame, IsOneOffice, Tells, TellsOffice, audit_fault_by, opened_by}
+use Rattle.society_tables.specs.Kept.{Holds, office_row}
+use Rattle.society_tables.specs.Opening.{HoldsOne, IsOneOffice, IsOutside, Tells, TellsOffice, audit_fault_by, opened_by}
 use Rattle.society_tables.specs.Rebuilding.{IsAside}
 use Rattle.society_tables.specs.declared.audit_fault.AuditFault.{AuditFault}
 use Rattle.society_tables.specs.declared.audit_fault.AuditFault.TheVariants as audit
 use Rattle.society_tables.specs.declared.open_fault.OpenFault.{OpenFault}
 use Rattle.society_tables.specs.declared.open_fault.OpenFault.TheVariants as fault
+use Rattle.society_tables.proofs.AskLemmas.{first_true, second_true}
 use Rattle.society_tables.proofs.ComesAgain.{failed_aside}
 use Rattle.society_tables.proofs.RowLemmas.{one_else}
 
@@ -59,12 +62,38 @@ told_likewise o one two fault.OtherOffice same told =
 told_likewise o one two fault.Damaged same told = one_else (office_row o) one (subst (λ rows. IsPermutation rows one) told (IsPermutation-sym one two same))
 
 -- what is said of the office is said of a database of layout 2
-pub told_of_layout : (o : Office) (db : Database) (e : OpenFault) → HasLayout db → (IsBare db → ⊥) → TellsOffice o (rows_in layout.office db.trees) e → (e ≡ fault.Damaged → ¬ HoldsAsCame o db.trees) → Tells o db e
+pub told_of_layout : (o : Office) (db : Database) (e : OpenFault) → HasLayout db → (IsBare db → ⊥) → TellsOffice o (rows_in layout.office db.trees) e → (e ≡ fault.Damaged → ¬ Holds o db.trees) → Tells o db e
 told_of_layout o db fault.Memory has bare told damaged = tt
 told_of_layout o db fault.Store has bare told damaged = tt
 told_of_layout o db fault.Schema has bare told damaged = (bare, λ _. told)
 told_of_layout o db fault.OtherOffice has bare told damaged = (has, told)
 told_of_layout o db fault.Damaged has bare told damaged = (has, told, damaged refl)
+
+nothing_alone : (x y : ⊥) → x ≡ y
+nothing_alone x y = absurd x
+
+-- what holds of tables that hold a book is refuted by none of them
+refuted : (o : Office) (db : Database) → HoldsOne o db.trees → (Holds o db.trees → ⊥) → ⊥
+refuted o db holds never = ∥∥₁_elim holds nothing_alone never
+
+small : (n most : ℕ) → nat_le n most ≡ true → most < 2 ^ 32 → n < 2 ^ 32
+small n most within few = let low = leb-true n most within in omega (low, few, arith)
+
+-- the row of an office can be read
+own_office : (o : Office) → IsOneOffice (office_row o ∷ [])
+own_office o =
+    let numbers = first_true ((nat_le 1 o.society && nat_le o.society 999) && (nat_le 1 o.territory && nat_le o.territory 9999)) _ o.within_limits in
+    let society = second_true (nat_le 1 o.society) (nat_le o.society 999) (first_true (nat_le 1 o.society && nat_le o.society 999) (nat_le 1 o.territory && nat_le o.territory 9999) numbers) in
+    let territory = second_true (nat_le 1 o.territory) (nat_le o.territory 9999) (second_true (nat_le 1 o.society && nat_le o.society 999) (nat_le 1 o.territory && nat_le o.territory 9999) numbers) in
+    (refl, (refl, (refl, ((o.society, refl, small o.society 999 society (omega arith)), ((o.territory, refl, small o.territory 9999 territory (omega arith)), ((name_of o, refl), tt))))))
+
+-- of a database that holds a book of the office no fault is told but that memory was refused or the database failed
+pub opened_else : (o : Office) (db : Database) (e : OpenFault) → HasLayout db → HoldsOne o db.trees → Tells o db e → IsOutside e
+opened_else o db fault.Memory has holds told = tt
+opened_else o db fault.Store has holds told = tt
+opened_else o db fault.Schema has holds told = refuted o db holds (λ h. told.1 has (subst IsOneOffice (sym h.registered) (own_office o)))
+opened_else o db fault.OtherOffice has holds told = refuted o db holds (λ h. told.1.1 h.registered)
+opened_else o db fault.Damaged has holds told = refuted o db holds told.2
 
 -- a fault that is aside is not told as damage
 abbrev is_damage : OpenFault → Bool
@@ -80,7 +109,7 @@ pub failed_not_damaged : (f : RowFault) (r : Result (Unit {0}) OpenFault) → Is
 failed_not_damaged f (Ok x) h = tt
 failed_not_damaged f (Err e) h = λ is. not_damaged (audit_fault_by f) (failed_aside f) (sym h ∙ is)
 
--- damage is told where the rows do not hold what could come
+-- damage is told where the rows do not hold what they should
 pub damaged_so : (H : Type 0) (f : AuditFault) (r : Result (Unit {0}) OpenFault) → IsErrAnd r (λ e. e ≡ opened_by f) → (H → IsAside f) → IfErr r (λ e. e ≡ fault.Damaged → ¬ H)
 damaged_so H f (Ok x) h aside = tt
 damaged_so H f (Err e) h aside = λ is holds. not_damaged f (aside holds) (sym h ∙ is)

@@ -13,7 +13,7 @@ use Rattle.society_rows.specs.Layout.{office as layout_office}
 use Rattle.society_rows.specs.Stored.{HasLayout, rows_in}
 use Rattle.society_tables.specs.BookRows.{book_of}
 use Rattle.society_tables.specs.Kept.{Holds, IsAtRest, Rests, office_row}
-use Rattle.society_tables.specs.Opening.{HoldsAsCame, HoldsOne, Inspects, Opens, ShowsAs, SurvivesOpening, Tells, TellsOffice}
+use Rattle.society_tables.specs.Opening.{HoldsOne, Inspects, Opens, ShowsAs, SurvivesOpening, Tells, TellsOffice}
 use Rattle.society_tables.specs.declared.open_fault.OpenFault.{OpenFault}
 use Rattle.society_tables.specs.declared.open_fault.OpenFault.TheVariants.{Damaged}
 use Rattle.society_tables.proofs.AskLemmas.{clean_is, first_true, second_true}
@@ -67,7 +67,7 @@ module _ (o : Office) (old new : State) (r : Result (Unit {0}) OpenFault) (settl
       book_by (Err e) made = tt
 
   -- one of layout 2 that was audited
-  pub opens_audited : HasLayout old.now → Inspects old new r (λ db _. HoldsOne o db) → (HasCleanDisk new → HasLayout old.now → IfErr r (TellsOffice o (rows_in layout_office old.now.trees))) → (HasCleanDisk new → HasLayout old.now → IfErr r (λ e. e ≡ Damaged → ¬ HoldsAsCame o old.now.trees)) → Opens o old new r
+  pub opens_audited : HasLayout old.now → Inspects old new r (λ db _. HoldsOne o db) → (HasCleanDisk new → HasLayout old.now → IfErr r (TellsOffice o (rows_in layout_office old.now.trees))) → (HasCleanDisk new → HasLayout old.now → IfErr r (λ e. e ≡ Damaged → ¬ Holds o old.now.trees)) → Opens o old new r
   opens_audited has inspected told damaged = record {
     rests = rests_by r (λ clean. inspected.found clean has);
     begun = λ clean is_open bare. absurd (not_both old.now.schema (subst IsBare (sym (settled is_open)) bare) has);
@@ -105,7 +105,7 @@ module _ (o : Office) (old new : State) (r : Result (Unit {0}) OpenFault) (settl
       rests_by (Ok x) found = rests_from (new.is_clean && new.is_open) (IsAtRest o new) (λ live. ∥∥₁_map (found (clean_is new.is_clean (first_true new.is_clean new.is_open live))) (at_rest live))
       rests_by (Err e) found = tt
 
-      told_by : (z : Result (Unit {0}) OpenFault) → old.now ≡ old.committed → IfErr z (TellsOffice o (rows_in layout_office old.now.trees)) → IfErr z (λ e. e ≡ Damaged → ¬ HoldsAsCame o old.now.trees) → IfErr z (Tells o old.committed)
+      told_by : (z : Result (Unit {0}) OpenFault) → old.now ≡ old.committed → IfErr z (TellsOffice o (rows_in layout_office old.now.trees)) → IfErr z (λ e. e ≡ Damaged → ¬ Holds o old.now.trees) → IfErr z (Tells o old.committed)
       told_by (Ok x) same says damage = tt
       told_by (Err e) same says damage = subst (λ (db : Database). Tells o db e) same (told_of_layout o old.now e has (λ bare. not_both old.now.schema bare has) says damage)
 

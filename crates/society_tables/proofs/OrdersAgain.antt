@@ -1,5 +1,5 @@
 -- The rows of a pool give its order again.
-use Rattle.std.proofs.Common.{◌≡◌, ◌∙◌, ◌<◌, ◌≤◌, ◌^◌, ◌&&◌, ℕ, ℤ, pos, Bool, true, false, List, [], ◌∷◌, Option, Some, None, is_some, nat_le, Result, Ok, Err, FitsSigned, of_z, to_z, w64, map, filter, length, if◌then◌else◌, ap, ap₂, refl, sym, subst, arith, IsPermutation}
+use Rattle.std.proofs.Common.{◌≡◌, ◌∙◌, ◌<◌, ◌≤◌, ◌^◌, ◌&&◌, ℕ, ℤ, pos, Bool, true, false, List, [], ◌∷◌, Option, Some, None, is_none, is_some, nat_le, Result, Ok, Err, FitsSigned, of_z, to_z, w64, map, filter, length, if◌then◌else◌, ap, ap₂, refl, sym, subst, arith, IsPermutation}
 use Rattle.std.proofs.lemmas.Bool.{false≢true}
 use Rattle.std.proofs.lemmas.Bool.Decides.{nat_tests}
 use Rattle.std.proofs.lemmas.Int.{to_z-of_z}
@@ -10,13 +10,15 @@ use Rattle.sqlite_keyed.proofs.ListLemmas.{all_both, all_from_test, all_map, all
 use Rattle.sqlite_value.specs.Order.{Row, column}
 use Rattle.sqlite_value.specs.declared.value.Value.{Value}
 use Rattle.sqlite_value.specs.declared.value.Value.TheVariants.{Int}
-use Rattle.society_core.specs.Book.{Book, IsSound, front, is_pool_entry, order_at, return_at}
+use Rattle.society_core.specs.Book.{Book, IsSound, front, is_pool_entry, is_reporter, order_at, return_at}
 use Rattle.society_core.specs.Keys.{ascending, return_cmp, return_key, transmission_cmp, transmission_key}
-use Rattle.society_core.specs.Orders.{Order, order_fault, order_of}
+use Rattle.society_core.specs.Orders.{Order, order_fault, order_of, return_pair, sent_pair}
 use Rattle.society_core.specs.declared.return_key.ReturnKey.{ReturnKey}
 use Rattle.society_core.specs.declared.transmission_key.TransmissionKey.{TransmissionKey}
 use Rattle.society_core.proofs.Books.{front_within, some_body}
 use Rattle.society_core.proofs.Fronts.{first_holds, second_holds}
+use Rattle.society_core.proofs.OrderFaults.{fault_permutes}
+use Rattle.society_core.proofs.Stores.{there_reporter}
 use Rattle.society_core.proofs.KeyOrders.{exact_returns, exact_transmissions, returns_total, transmissions_total}
 use Rattle.society_rows.specs.Forms.{IsOfForms, pool_forms}
 use Rattle.work_ids.specs.Blanks.{fill, without_trailing_blanks}
@@ -28,21 +30,17 @@ use Rattle.work_ids.specs.declared.fault.IdFault.{IdFault}
 use Rattle.work_ids.specs.declared.fault.IdFault.TheVariants.{Character, Length}
 use Rattle.society_tables.specs.BookRows.{cut_row, cut_rows, is_of_pool, paid_row, paid_rows, pool_row, rows_of_order}
 use Rattle.society_tables.specs.Columns.{HasRows, number_at}
-use Rattle.society_tables.specs.Rebuilding.{CanCome, IsAside, IsCut, IsPaid, Passes, cut_pair, paid_pair}
+use Rattle.society_tables.specs.Rebuilding.{IsAside, IsCut, IsPaid, Passes, cut_pair, paid_pair}
 use Rattle.society_tables.specs.declared.audit_fault.AuditFault.{AuditFault}
 use Rattle.society_tables.proofs.BookLemmas.{IsRefilled, one_ascent, third_holds}
 use Rattle.society_tables.proofs.RowLemmas.{all_rows}
 
--- the sender and the number of a key
-abbrev pub sent_pair : TransmissionKey → List ℕ × ℕ
-sent_pair key = (key.sender, key.number)
-
--- the reporter and the number of a key
-abbrev pub return_pair : ReturnKey → List ℕ × ℕ
-return_pair key = (key.reporter, key.number)
-
 small : (n : ℕ) → n ≤ 999999 → n < 2 ^ 32
 small n h = omega arith
+
+none_of : {X : Type 0} (o : Option X) → is_none o ≡ true → o ≡ None
+none_of None h = refl
+none_of (Some x) h = absurd (false≢true h)
 
 at_most : (n m : ℕ) → nat_le n m ≡ true → n ≤ m
 at_most n m h = grind (arith, nat_tests)
@@ -104,7 +102,7 @@ own_pool row = grind (arith, nat_tests)
 own_payer : (row : Row) → is_of_pool 2 (number_at 2 row) row ≡ true
 own_payer row = grind (arith, nat_tests)
 
-module _ (b : Book) (sound : IsSound b) (comes : CanCome b) where
+module _ (b : Book) (sound : IsSound b) where
   module _ (pool : ℕ) (order : Order) (there : order_at b pool ≡ Some order) where
     entry : is_pool_entry b pool order ≡ true
     entry = sound.pools pool order there
@@ -131,7 +129,7 @@ module _ (b : Book) (sound : IsSound b) (comes : CanCome b) where
     small_return : (key : ReturnKey) → is_some (return_at b key) ≡ true → key.number < 2 ^ 32
     small_return key here =
         let body = some_body (return_at b key) here in
-        let number : is_return_number key.number ≡ true = first_holds (is_return_number key.number) _ (sound.returns key body.0 body.1) in
+        let number : is_return_number key.number ≡ true = second_holds (is_reporter key.reporter) (is_return_number key.number) (first_holds (is_reporter key.reporter && is_return_number key.number) _ (sound.returns key body.0 body.1)) in
         small key.number (at_most key.number 999999 (second_holds (nat_le 1 key.number) (nat_le key.number 999999) number))
 
     -- the rows of its cut are of the form
@@ -143,7 +141,7 @@ module _ (b : Book) (sound : IsSound b) (comes : CanCome b) where
         let low = at_most key.number (front b key.sender) within in
         let high = front_within b key.sender sound in
         ((refl, ((pool, refl, small_pool), ((key.sender, refl), ((key.number, refl, small key.number (omega arith)), tt)))), sender))
-        order.cut below (comes.orders pool order there).senders)
+        order.cut below (all_from_test (λ (key : TransmissionKey). is_sender_key key.sender) order.cut (sound.orders pool order there).sender_keys))
 
     -- and the rows of its returns
     paid_forms : AllByRecursion IsPaid (map (paid_row pool) order.returns)
@@ -151,7 +149,7 @@ module _ (b : Book) (sound : IsSound b) (comes : CanCome b) where
         all_map IsPaid (paid_row pool) order.returns
         (all_weaker (λ (key : ReturnKey). is_some (return_at b key) ≡ true) (λ key. IsPaid (paid_row pool key))
         (λ key here.
-        let whole = comes.reporters key here in (
+        let whole = there_reporter b key sound here in (
           (refl, ((without_trailing_blanks key.reporter, refl), ((key.number, refl, small_return key here), ((pool, refl, small_pool), tt)))),
           whole ∙ ap Ok (sym (filled_as (without_trailing_blanks key.reporter) key.reporter whole)),
         ))
@@ -171,7 +169,7 @@ module _ (b : Book) (sound : IsSound b) (comes : CanCome b) where
     refilled : AllByRecursion IsRefilled order.returns
     refilled =
         all_weaker (λ (key : ReturnKey). is_some (return_at b key) ≡ true) IsRefilled
-        (λ key here. filled_as (without_trailing_blanks key.reporter) key.reporter (comes.reporters key here)) order.returns kept
+        (λ key here. filled_as (without_trailing_blanks key.reporter) key.reporter (there_reporter b key sound here)) order.returns kept
 
     pairs_back : (keys : List ReturnKey) → AllByRecursion IsRefilled keys → map paid_pair (map (paid_row pool) keys) ≡ map return_pair keys
     pairs_back [] whole = refl
@@ -193,7 +191,8 @@ module _ (b : Book) (sound : IsSound b) (comes : CanCome b) where
       -- the numbers of its rows have no fault
       pub faultless_again : order_fault order.amount (map cut_pair (filter (is_of_pool 0 pool) cuts)) (map paid_pair (filter (is_of_pool 2 pool) paid)) ≡ None
       faultless_again =
-          (comes.orders pool order there).faultless (map cut_pair (filter (is_of_pool 0 pool) cuts)) (map paid_pair (filter (is_of_pool 2 pool) paid)) cut_given returns_given
+          fault_permutes order.amount (map sent_pair order.cut) (map return_pair order.returns) (map cut_pair (filter (is_of_pool 0 pool) cuts)) (map paid_pair (filter (is_of_pool 2 pool) paid)) cut_given returns_given
+          (none_of (order_fault order.amount (map sent_pair order.cut) (map return_pair order.returns)) (sound.orders pool order there).faultless)
 
       -- and make its order
       pub order_again : order_of order.amount (map cut_pair (filter (is_of_pool 0 pool) cuts)) (map paid_pair (filter (is_of_pool 2 pool) paid)) ≡ order

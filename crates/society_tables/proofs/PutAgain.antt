@@ -10,7 +10,7 @@ use Rattle.perf_returns.specs.declared.fault.ReturnFault.{ReturnFault}
 use Rattle.share_rules.specs.declared.office.Office.{Office}
 use Rattle.sqlite_value.specs.Order.{Row}
 use Rattle.society_core.specs.Answers.{added_answer, added_book, answer, known_by, next, put_answer, put_book, return_answer, return_book, stored_answer, stored_book}
-use Rattle.society_core.specs.Book.{Book, IsSound, body_at, return_at}
+use Rattle.society_core.specs.Book.{Book, IsSound, body_at, is_reporter, return_at}
 use Rattle.society_core.specs.Keys.{return_key}
 use Rattle.society_core.specs.Requests.{Query, Puts, PutsReturn, Reply, Arrived, Stored, Refused, told}
 use Rattle.society_core.specs.Runs.{Step}
@@ -120,7 +120,7 @@ module _ (o : Office) (b old : Book) (row : Row) (sound : IsSound b) where
       body = blob_at 2 row
 
       faultless : return_fault body ≡ None
-      faultless = none_of (return_fault body) (second_true (is_return_number key.number) (is_none (return_fault body)) (sound.returns key body reported.there))
+      faultless = none_of (return_fault body) (second_true (is_reporter key.reporter && is_return_number key.number) (is_none (return_fault body)) (sound.returns key body reported.there))
 
       same_body : (kept : List ℕ) → return_at old key ≡ Some kept → kept ≡ body
       same_body kept has = the_some kept body (sym (within key kept has) ∙ reported.there)
@@ -173,7 +173,10 @@ sent_number b row sound sent = ap (λ (x : Bool). if x then Some (number_at 1 ro
 
 -- the row of a return of a book can be read, and so can its number
 reported_parts : (b : Book) (row : Row) → IsSound b → IsReported b row → is_return_number (number_at 1 row) ≡ true
-reported_parts b row sound reported = first_true (is_return_number (number_at 1 row)) (is_none (return_fault (blob_at 2 row))) (sound.returns (return_key_of row) (blob_at 2 row) reported.there)
+reported_parts b row sound reported =
+    let key = return_key_of row in
+    second_true (is_reporter key.reporter) (is_return_number key.number)
+    (first_true (is_reporter key.reporter && is_return_number key.number) (is_none (return_fault (blob_at 2 row))) (sound.returns key (blob_at 2 row) reported.there))
 
 pub reported_forms : (b : Book) (row : Row) → IsSound b → IsReported b row → IsOfForms return_forms row
 reported_forms b row sound reported = subst (IsOfForms return_forms) (sym reported.form) (refl, ((without_trailing_blanks (fill 20 (text_at 0 row)), refl), ((number_at 1 row, refl, small (number_at 1 row) (reported_parts b row sound reported)), ((blob_at 2 row, refl), tt))))

@@ -7,13 +7,14 @@ use Rattle.std.specs.List.{AllByRecursion}
 use Rattle.std.proofs.lemmas.List.{take_more}
 use Rattle.sqlite_keyed.proofs.ListLemmas.{all-append, all-filter, all_weaker}
 use Rattle.sqlite_value.specs.Order.{Row}
-use Rattle.society_core.specs.Book.{Book, body_at, return_at}
+use Rattle.society_core.specs.Book.{Book, IsSound, body_at, return_at}
 use Rattle.society_core.specs.declared.return_key.ReturnKey.{ReturnKey}
 use Rattle.society_core.specs.declared.transmission_key.TransmissionKey.{TransmissionKey}
+use Rattle.society_core.proofs.Stores.{sound_reporter}
 use Rattle.society_core.proofs.KeyOrders.{exact_returns, exact_transmissions, returns_total, transmissions_total}
 use Rattle.society_tables.specs.BookRows.{is_return_row, is_transmission_row, return_key_of, return_row, return_rows, row_of_some, transmission_key_of, transmission_row, transmission_rows}
 use Rattle.society_tables.specs.Columns.{HasRows, blob_at, number_at, text_at}
-use Rattle.society_tables.specs.Rebuilding.{AllReported, CanCome, AllSent, HasReported, HasSent, IsAside, IsReported, IsSent, IsWithin, Passes, ReportedOn, SentOn, sent_alone, without_pools}
+use Rattle.society_tables.specs.Rebuilding.{AllReported, AllSent, HasReported, HasSent, IsAside, IsReported, IsSent, IsWithin, Passes, ReportedOn, SentOn, sent_alone, without_pools}
 use Rattle.work_ids.specs.Blanks.{fill, without_trailing_blanks}
 use Rattle.society_tables.specs.declared.audit_fault.AuditFault.{AuditFault}
 use Rattle.society_tables.proofs.BookLemmas.{refilled}
@@ -81,8 +82,8 @@ all_sent_alone b old new rows has all returns pools = λ i. record {
 }
 
 -- each row of the table of returns is that of a return of the book
-pub all_reported : (b : Book) (rows : List Row) → CanCome b → HasRows is_return_row (return_rows b) rows → AllByRecursion (IsReported b) rows
-all_reported b rows can has = all_rows is_return_row return_key_of (λ r. both_same (fill 20 (text_at 0 r)) (number_at 1 r)) (IsReported b) (return_rows b) rows has (λ q. told q (return_at b q) refl)
+pub all_reported : (b : Book) (rows : List Row) → IsSound b → HasRows is_return_row (return_rows b) rows → AllByRecursion (IsReported b) rows
+all_reported b rows sound has = all_rows is_return_row return_key_of (λ r. both_same (fill 20 (text_at 0 r)) (number_at 1 r)) (IsReported b) (return_rows b) rows has (λ q. told q (return_at b q) refl)
   where
     told : (q : ReturnKey) (o : Option (List ℕ)) → return_at b q ≡ o → AllByRecursion (IsReported b) (row_of_some (return_row q) o)
     told q None is = tt
@@ -92,7 +93,7 @@ all_reported b rows can has = all_rows is_return_row return_key_of (λ r. both_s
         let back : return_key_of (return_row q body) ≡ q = ap (λ (r : List ℕ). record { reporter = r; number = q.number }) filled in (
           record {
             form = ap (λ (k : ReturnKey). return_row k body) (sym back);
-            reporter = can.reporters q there ∙ ap Ok (sym filled);
+            reporter = sound_reporter b q body sound is ∙ ap Ok (sym filled);
             there = subst (λ (k : ReturnKey). finite.get b.returns k ≡ Some body) (sym back) is;
           },
           tt,

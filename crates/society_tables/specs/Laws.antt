@@ -32,6 +32,8 @@ order_alone order x y = λ i. record {
   amount = Bool-set _ _ x.amount y.amount i;
   senders = Bool-set _ _ x.senders y.senders i;
   named = Bool-set _ _ x.named y.named i;
+  faultless = Bool-set _ _ x.faultless y.faultless i;
+  sender_keys = Bool-set _ _ x.sender_keys y.sender_keys i;
   cut = Coded-set (coded_list coded_transmission_key) _ _ x.cut y.cut i;
   returns = Coded-set (coded_list coded_return_key) _ _ x.returns y.returns i;
 }

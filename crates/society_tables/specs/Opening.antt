@@ -18,7 +18,6 @@ use Rattle.society_rows.specs.declared.tables.TableName.TheVariants as name
 use Rattle.society_core.specs.Book.{empty_book}
 use Rattle.society_tables.specs.BookRows.{book_of}
 use Rattle.society_tables.specs.Kept.{Holds, Rests, office_row}
-use Rattle.society_tables.specs.Rebuilding.{CanCome}
 use Rattle.society_tables.specs.declared.audit_fault.AuditFault.{AuditFault}
 use Rattle.society_tables.specs.declared.audit_fault.AuditFault.TheVariants as audit
 use Rattle.society_tables.specs.declared.open_fault.OpenFault.{OpenFault}
@@ -52,19 +51,21 @@ TellsOffice office rows fault.Schema = ¬ IsOneOffice rows
 TellsOffice office rows fault.OtherOffice = IsOneOffice rows × (rows ≢ office_row office ∷ [])
 TellsOffice office rows fault.Damaged = rows ≡ office_row office ∷ []
 
--- the tables hold a sound book of the office that can come, with exactly what is derived from it
-abbrev pub HoldsAsCame : Office → Trees → Type 0
-HoldsAsCame office db = Holds office db × CanCome (book_of db)
-
 -- What a fault says of a database: `Schema` that it has tables, and not those of layout 2 with an office that can be read;
--- `OtherOffice` that it has those of another office; `Damaged` that it has those of this office, and they hold no sound book that can
--- come with what is derived from it.
+-- `OtherOffice` that it has those of another office; `Damaged` that it has those of this office, and they hold no sound book with
+-- exactly what is derived from it.
 abbrev pub Tells : Office → Database → OpenFault → Type 0
 Tells office db fault.Memory = Unit {0}
 Tells office db fault.Store = Unit {0}
 Tells office db fault.Schema = (¬ IsBare db) × (HasLayout db → TellsOffice office (rows_in layout.office db.trees) fault.Schema)
 Tells office db fault.OtherOffice = HasLayout db × TellsOffice office (rows_in layout.office db.trees) fault.OtherOffice
-Tells office db fault.Damaged = HasLayout db × TellsOffice office (rows_in layout.office db.trees) fault.Damaged × (¬ HoldsAsCame office db.trees)
+Tells office db fault.Damaged = HasLayout db × TellsOffice office (rows_in layout.office db.trees) fault.Damaged × (¬ Holds office db.trees)
+
+-- a fault that says nothing of what the database has: memory was refused, or the database failed
+abbrev pub IsOutside : OpenFault → Type 0
+IsOutside fault.Memory = Unit {0}
+IsOutside fault.Store = Unit {0}
+IsOutside _ = ⊥
 
 -- the tables after the first, that of the office
 abbrev pub other_names : List TableName

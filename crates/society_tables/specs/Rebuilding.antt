@@ -1,15 +1,14 @@
 -- How far a desk has got to which the requests of a book come again, and what their rows say.
-use Rattle.std.specs.Prelude.{◌≡◌, ℕ, true, List, map, Some, None, is_some, Result, Ok, Err, IsTrue, IsPermutation}
+use Rattle.std.specs.Prelude.{◌≡◌, ℕ, true, List, Some, Result, Ok, Err, IsTrue}
 use Rattle.std.specs.declared.cmp.Ordering.{Ordering}
 use Rattle.std.specs.FinMap as finite
 use Rattle.std.specs.List.{AllByRecursion}
 use Rattle.sqlite_value.specs.Order.{Row}
 use Rattle.sqlite.specs.State as connection
 use Rattle.society_rows.specs.Stored.{HasLayout}
-use Rattle.society_core.specs.Book.{Book, IsSound, order_at, return_at}
-use Rattle.society_core.specs.Orders.{Order, order_fault}
-use Rattle.society_core.specs.declared.return_key.ReturnKey.{ReturnKey}
-use Rattle.work_ids.specs.Blanks.{fill, without_trailing_blanks}
+use Rattle.society_core.specs.Book.{Book, IsSound, order_at}
+use Rattle.society_core.specs.Orders.{Order}
+use Rattle.work_ids.specs.Blanks.{fill}
 use Rattle.work_ids.specs.Reporter.{reporter_of}
 use Rattle.work_ids.specs.SenderKey.{is_sender_key}
 use Rattle.society_rows.specs.Forms.{IsOfForms, pool_cut_forms, pool_return_forms}
@@ -82,17 +81,6 @@ pub record AllReported (b old : Book) (rows : List Row) (new : Book) : Type 0 wh
   pub transmissions : new.transmissions ≡ old.transmissions
   pub pools : new.pools ≡ old.pools
 
--- An order that can be given: the senders of its cut are senders, and in whatever order its members are named it has no fault.
-pub record CanBeGiven (order : Order) : Type 0 where
-  pub senders : AllByRecursion (λ key. is_sender_key key.sender ≡ true) order.cut
-  pub faultless : (cut returns : List (List ℕ × ℕ)) → IsPermutation (map (λ key. (key.sender, key.number)) order.cut) cut
-      → IsPermutation (map (λ key. (key.reporter, key.number)) order.returns) returns → order_fault order.amount cut returns ≡ None
-
--- a book that can come: the reporters of its returns are reporters, and the orders of its pools can be given
-pub record CanCome (book : Book) : Type 0 where
-  pub reporters : (key : ReturnKey) → is_some (return_at book key) ≡ true → reporter_of (without_trailing_blanks key.reporter) ≡ Ok key.reporter
-  pub orders : (pool : ℕ) (order : Order) → order_at book pool ≡ Some order → CanBeGiven order
-
 -- of a book the transmissions alone
 abbrev pub sent_alone : Book → Book
 sent_alone book = record { transmissions = book.transmissions; returns = finite.empty; pools = finite.empty }
@@ -101,11 +89,10 @@ sent_alone book = record { transmissions = book.transmissions; returns = finite.
 abbrev pub without_pools : Book → Book
 without_pools book = record { transmissions = book.transmissions; returns = book.returns; pools = finite.empty }
 
--- what an open connection shows is a sound book that can come
+-- what an open connection shows is a sound book
 pub record ComesFrom (book : Book) (s : connection.State) : Type 0 where
   pub shows : IsTrue s.is_open → HasLayout s.now × AreOfBook book s.now.trees
   pub sound : IsSound book
-  pub can : CanCome book
 
 -- what an open connection shows is a book of the office
 abbrev pub ShowsBook : Office → Book → connection.State → Type 0

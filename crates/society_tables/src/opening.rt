@@ -11,9 +11,9 @@ ghost use Rattle.society_rows.specs.NewBook.{Begins, IsBare, IsNewBook};
 ghost use Rattle.society_rows.specs.Questions.{Asks};
 ghost use Rattle.society_rows.specs.Stored.{AreNumbered, HasLayout, rows_in};
 ghost use Rattle.society_rows.specs.TableNames.{table_called};
-ghost use Rattle.society_tables.specs.Kept.{office_row};
-ghost use Rattle.society_tables.specs.Opening.{HoldsAsCame, HoldsOne, Inspects, IsOpenable, Opens, ShowsAs, SurvivesOpening, Tells, TellsOffice};
-ghost use Rattle.society_tables.specs.Rebuilding.{CanCome, Passes, ShowsBook};
+ghost use Rattle.society_tables.specs.Kept.{Holds, office_row};
+ghost use Rattle.society_tables.specs.Opening.{HoldsOne, Inspects, IsOpenable, IsOutside, Opens, ShowsAs, SurvivesOpening, Tells, TellsOffice};
+ghost use Rattle.society_tables.specs.Rebuilding.{Passes, ShowsBook};
 ghost use Rattle.society_tables.specs.declared.open_fault.OpenFault.TheVariants.{Damaged};
 
 use crate::audit_fault::AuditFault;
@@ -126,7 +126,7 @@ fn holds_own<S: Alter>(
     requires { conn.old.in_transaction ≡ false }
     ensures agree { Inspects (state S.Store conn.old) (state S.Store conn.new) result
         (λ db _. AreNumbered fronts db × AreNumbered balances db → HoldsOne office.now db) }
-    ensures passes { (b : Book) → HasCleanDisk (state S.Store conn.new) → IsSound b → CanCome b → ShowsBook office.now b (state S.Store conn.old) → Passes result (λ _. ⊤) }
+    ensures passes { (b : Book) → HasCleanDisk (state S.Store conn.new) → IsSound b → ShowsBook office.now b (state S.Store conn.old) → Passes result (λ _. ⊤) }
     ensures idle { conn.new.in_transaction ≡ false }
 {
     let _settled = conn.is_autocommit();
@@ -142,7 +142,7 @@ fn is_whole<S: Alter>(
 ) -> Result<(), AuditFault>
     requires { conn.old.in_transaction ≡ false }
     ensures whole { Inspects (state S.Store conn.old) (state S.Store conn.new) result (λ db _. HoldsOne office.now db) }
-    ensures passes { (b : Book) → HasCleanDisk (state S.Store conn.new) → IsSound b → CanCome b → ShowsBook office.now b (state S.Store conn.old) → Passes result (λ _. ⊤) }
+    ensures passes { (b : Book) → HasCleanDisk (state S.Store conn.new) → IsSound b → ShowsBook office.now b (state S.Store conn.old) → Passes result (λ _. ⊤) }
     ensures idle { conn.new.in_transaction ≡ false }
 {
     let _settled = conn.is_autocommit();
@@ -161,7 +161,7 @@ fn audit<S: Alter>(
     ensures told { HasCleanDisk (state S.Store conn.new) → HasLayout (state S.Store conn.old).now
         → IfErr result (TellsOffice office.now (rows_in office_table (state S.Store conn.old).now.trees)) }
     ensures damaged { HasCleanDisk (state S.Store conn.new) → HasLayout (state S.Store conn.old).now
-        → IfErr result (λ e. e ≡ Damaged → ¬ HoldsAsCame office.now (state S.Store conn.old).now.trees) }
+        → IfErr result (λ e. e ≡ Damaged → ¬ Holds office.now (state S.Store conn.old).now.trees) }
     ensures idle { conn.new.in_transaction ≡ false }
 {
     let _settled = conn.is_autocommit();
@@ -215,7 +215,7 @@ impl<S: Alter> Tables<S> {
     /// Where it has those of layout 2 they are audited: they have to be this office's, and exactly what the requests that
     /// they keep make of an empty book. The audit changes no row. `Schema` where there is something else, or no office that can
     /// be read; `OtherOffice` where the tables are another office's; `Damaged` where they are not what they should be; `Memory`
-    /// and `Store` where memory or the database failed. After a fault the connection comes back, in no transaction, and the
+    /// and `Store` where memory or the database failed, so tables that hold a sound book of the office are opened else. After a fault the connection comes back, in no transaction, and the
     /// database is as it was committed.
     pub fn open(
         alloc: Global,
@@ -229,6 +229,7 @@ impl<S: Alter> Tables<S> {
             → HoldsOne office.now (state S.Store connection).committed.trees × ShowsAs (state S.Store connection).committed (state S.Store t.conn)) }
         ensures known { IfOk result (λ t. HasCleanDisk (state S.Store t.conn) → IsTrue (state S.Store connection).is_open → IsOpenable (state S.Store connection).committed) }
         ensures told { IfErr result (λ e. HasCleanDisk (state S.Store e.1) → IsTrue (state S.Store connection).is_open → Tells office.now (state S.Store connection).committed e.0) }
+        ensures opens { IfErr result (λ e. HasCleanDisk (state S.Store e.1) → IsTrue (state S.Store connection).is_open → HasLayout (state S.Store connection).committed → HoldsOne office.now (state S.Store connection).committed.trees → IsOutside e.0) }
         ensures unchanged { IfErr result (λ e. HasCleanDisk (state S.Store e.1) → ShowsAs (state S.Store connection).committed (state S.Store e.1)) }
         ensures idle { IfErr result (λ e. e.1.in_transaction ≡ false) }
         ensures crash { MatchResult result (λ t. SurvivesOpening office.now (state S.Store connection) (state S.Store t.conn)) (λ e. SurvivesOpening office.now (state S.Store connection) (state S.Store e.1)) }

@@ -9,7 +9,7 @@ ghost use Rattle.society_core.specs.declared.refusal.Refusal.TheVariants.{Unavai
 ghost use Rattle.society_tables.specs.BookRows.{cut_rows, is_of_pool, paid_rows, pool_rows};
 ghost use Rattle.society_tables.specs.Columns.{HasRows, number_at};
 ghost use Rattle.society_tables.specs.Opening.{Inspects};
-ghost use Rattle.society_tables.specs.Rebuilding.{AllReported, AllSent, CanCome, ClosedOn, ComesFrom, IsAside, IsClosed, IsCut, IsPaid, IsReported, IsSent, IsUpToPools, IsWithin, Passes, ReportedOn, SentOn, cut_pair, paid_pair, sent_alone, without_pools};
+ghost use Rattle.society_tables.specs.Rebuilding.{AllReported, AllSent, ClosedOn, ComesFrom, IsAside, IsClosed, IsCut, IsPaid, IsReported, IsSent, IsUpToPools, IsWithin, Passes, ReportedOn, SentOn, cut_pair, paid_pair, sent_alone, without_pools};
 
 use crate::Tables;
 use crate::audit_fault::AuditFault;
@@ -160,7 +160,7 @@ fn close_pool(
     paid: &[Row],
 ) -> Result<(), AuditFault>
     ensures office { (⟦<Tables<MemStore> as Store>⟧.state desk.new).office ≡ (⟦<Tables<MemStore> as Store>⟧.state desk.old).office }
-    ensures passes { (b : Book) → IsSound b → CanCome b → (closed : IsClosed b row.now)
+    ensures passes { (b : Book) → IsSound b → (closed : IsClosed b row.now)
         → HasRows (is_of_pool 0) (cut_rows b) cuts.now → HasRows (is_of_pool 2) (paid_rows b) paid.now
         → IsUpToPools b (⟦<Tables<MemStore> as Store>⟧.state desk.old).book
         → Passes result (λ _. ClosedOn b (⟦<Tables<MemStore> as Store>⟧.state desk.old).book (number_at 0 row.now) closed.order (⟦<Tables<MemStore> as Store>⟧.state desk.new).book) }
@@ -210,7 +210,7 @@ fn close_pools(
     paid: &[Row],
 ) -> Result<(), AuditFault>
     ensures office { (⟦<Tables<MemStore> as Store>⟧.state desk.new).office ≡ (⟦<Tables<MemStore> as Store>⟧.state desk.old).office }
-    ensures passes { (b : Book) → IsSound b → CanCome b
+    ensures passes { (b : Book) → IsSound b
         → HasRows (is_of_pool 0) (pool_rows b) rows.now → HasRows (is_of_pool 0) (cut_rows b) cuts.now → HasRows (is_of_pool 2) (paid_rows b) paid.now
         → (⟦<Tables<MemStore> as Store>⟧.state desk.old).book ≡ without_pools b
         → Passes result (λ _. (⟦<Tables<MemStore> as Store>⟧.state desk.new).book ≡ b) }

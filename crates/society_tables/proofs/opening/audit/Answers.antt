@@ -31,5 +31,5 @@ pub returns-in_err-is_whole-clause-damaged : goal.returns-in_err-is_whole-clause
 returns-in_err-is_whole-clause-damaged g c clean has =
     let mid = clean_before _ _ c.in_err-is_whole.ensures.whole.survives clean in
     damaged_so _ c.in_err-is_whole.field-0.0 c.from_residual-in_err-is_whole.result c.from_residual-in_err-is_whole.ensures.1
-    (λ held. c.in_err-is_whole.ensures.passes _ clean held.0.sound held.1
-    (shows_still c.args.office.now _ _ _ _ _ (λ is_open. c.is_autocommit-settled.ensures.settled (rw (c.is_autocommit-settled.ensures.value, c.requires) refl) is_open) c.in_ok-office_agrees.ensures.asked mid (λ _. (has, held.0))))
+    (λ held. c.in_err-is_whole.ensures.passes _ clean held.sound
+    (shows_still c.args.office.now _ _ _ _ _ (λ is_open. c.is_autocommit-settled.ensures.settled (rw (c.is_autocommit-settled.ensures.value, c.requires) refl) is_open) c.in_ok-office_agrees.ensures.asked mid (λ _. (has, held))))

@@ -9,11 +9,11 @@ returns-clause-agree g c =
     inspected_then _ _ _ _ c.agrees_with.result _ _ _ (λ is_open. c.is_autocommit-settled.ensures.settled (rw (c.is_autocommit-settled.ensures.value, c.requires) refl) is_open) c.in_ok-tables.ensures.asked (rw c.in_ok-tables.ensures.office at c.agrees_with.ensures.agree) (λ y a b. b)
 
 pub returns-clause-passes : goal.returns-clause-passes
-returns-clause-passes g c b clean sound can shows =
+returns-clause-passes g c b clean sound shows =
     let mid = clean_before _ _ c.agrees_with.ensures.agree.survives clean in
-    let came = c.in_ok-tables.ensures.passes b mid (record { shows = λ is_open. ((shows is_open).0, (shows is_open).1.kept); sound = sound; can = can }) in
+    let came = c.in_ok-tables.ensures.passes b mid (record { shows = λ is_open. ((shows is_open).0, (shows is_open).1.kept); sound = sound }) in
     (rw (c.in_ok-tables.ensures.office, came) at c.agrees_with.ensures.passes) clean (shows_still c.args.office.now b _ _ _ _ (λ is_open. c.is_autocommit-settled.ensures.settled (rw (c.is_autocommit-settled.ensures.value, c.requires) refl) is_open) c.in_ok-tables.ensures.asked mid shows)
 
 pub returns-in_err-tables-clause-passes : goal.returns-in_err-tables-clause-passes
-returns-in_err-tables-clause-passes g c b clean sound can shows =
-    aside_told _ _ c.from_residual.result c.from_residual.ensures.1 (c.in_err-tables.ensures.passes b clean (record { shows = λ is_open. ((shows is_open).0, (shows is_open).1.kept); sound = sound; can = can }))
+returns-in_err-tables-clause-passes g c b clean sound shows =
+    aside_told _ _ c.from_residual.result c.from_residual.ensures.1 (c.in_err-tables.ensures.passes b clean (record { shows = λ is_open. ((shows is_open).0, (shows is_open).1.kept); sound = sound }))

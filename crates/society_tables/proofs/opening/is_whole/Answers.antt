@@ -9,9 +9,9 @@ returns-clause-whole g c =
     inspected_then _ _ _ _ c.holds_own.result _ _ _ (λ is_open. c.is_autocommit-settled.ensures.settled (rw (c.is_autocommit-settled.ensures.value, c.requires) refl) is_open) c.in_ok-fronts_and_balances_numbered.ensures.asked c.holds_own.ensures.agree (λ y a b. b a)
 
 pub returns-clause-passes : goal.returns-clause-passes
-returns-clause-passes g c b clean sound can shows =
+returns-clause-passes g c b clean sound shows =
     let mid = clean_before _ _ c.holds_own.ensures.agree.survives clean in
-    c.holds_own.ensures.passes b clean sound can (shows_still c.args.office.now b _ _ _ _ (λ is_open. c.is_autocommit-settled.ensures.settled (rw (c.is_autocommit-settled.ensures.value, c.requires) refl) is_open) c.in_ok-fronts_and_balances_numbered.ensures.asked mid shows)
+    c.holds_own.ensures.passes b clean sound (shows_still c.args.office.now b _ _ _ _ (λ is_open. c.is_autocommit-settled.ensures.settled (rw (c.is_autocommit-settled.ensures.value, c.requires) refl) is_open) c.in_ok-fronts_and_balances_numbered.ensures.asked mid shows)
 
 pub returns-in_err-fronts_and_balances_numbered-clause-passes : goal.returns-in_err-fronts_and_balances_numbered-clause-passes
-returns-in_err-fronts_and_balances_numbered-clause-passes g c b clean sound can shows = aside_told _ _ c.from_residual.result c.from_residual.ensures.1 (c.in_err-fronts_and_balances_numbered.ensures.passes c.args.office.now b clean shows)
+returns-in_err-fronts_and_balances_numbered-clause-passes g c b clean sound shows = aside_told _ _ c.from_residual.result c.from_residual.ensures.1 (c.in_err-fronts_and_balances_numbered.ensures.passes c.args.office.now b clean shows)

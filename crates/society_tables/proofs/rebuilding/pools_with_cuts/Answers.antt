@@ -17,7 +17,7 @@ returns-clause-passes g c b clean comes pools cuts is =
     let shown = comes.shows (c.in_ok-paid.ensures.asked.answered clean) in
     let has = listed_rows (is_of_pool 2) (paid_rows b) layout.pool_returns _ _ _ shown.1.paid (c.in_ok-paid.ensures.asked.found clean shown.0) in
     let here = subst (λ (rows : List Row). HasRows (is_of_pool 2) (paid_rows b) rows) (sym c.as_slice.ensures.value) has in
-    c.close_pools.ensures.passes b comes.sound comes.can pools cuts here is
+    c.close_pools.ensures.passes b comes.sound pools cuts here is
 
 pub returns-in_err-paid-clause-passes : goal.returns-in_err-paid-clause-passes
 returns-in_err-paid-clause-passes g c b clean comes pools cuts is = aside_told _ _ c.from_residual.result c.from_residual.ensures.1 c.in_err-paid.ensures.aside

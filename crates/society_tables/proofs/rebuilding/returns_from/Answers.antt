@@ -17,7 +17,7 @@ returns-clause-passes g c b clean comes sent =
     let shown = comes.shows (c.in_ok-rows.ensures.asked.answered clean) in
     let has = listed_rows is_return_row (return_rows b) layout.returns _ _ _ shown.1.returns (c.in_ok-rows.ensures.asked.found clean shown.0) in
     let here = subst (λ (rows : List Row). HasRows is_return_row (return_rows b) rows) (sym c.as_slice.ensures.value) has in
-    reported_end b _ _ c.as_slice.result.now c.put_returns.result here sent (c.put_returns.ensures.passes b comes.sound (all_reported b c.as_slice.result.now comes.can here) (no_returns_within b _ sent))
+    reported_end b _ _ c.as_slice.result.now c.put_returns.result here sent (c.put_returns.ensures.passes b comes.sound (all_reported b c.as_slice.result.now comes.sound here) (no_returns_within b _ sent))
 
 pub returns-in_err-rows-clause-passes : goal.returns-in_err-rows-clause-passes
 returns-in_err-rows-clause-passes g c b clean comes sent = aside_told _ _ c.from_residual.result c.from_residual.ensures.1 c.in_err-rows.ensures.aside

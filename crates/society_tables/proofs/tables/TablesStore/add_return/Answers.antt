@@ -2,7 +2,7 @@ use Rattle.std.proofs.Common.{◌∷◌, []}
 use Rattle.std.proofs.Math.Logic.{∥∥₁_map}
 use Rattle.std.specs.Bool.{⊤}
 use Rattle.society_core.specs.Book.{with_return}
-use Rattle.society_core.proofs.Stores.{from_one, return_entry}
+use Rattle.society_core.proofs.Stores.{return_entry}
 use Rattle.society_rows.specs.Layout as layout
 use Rattle.society_tables.specs.BookRows.{book_of, return_row}
 use Rattle.society_tables.specs.Shown.{Comes}
@@ -25,7 +25,7 @@ invariant_of-self-clause-rests g c =
       survives = rw (c.as_bytes.ensures.bytes, c.value.ensures.value) at c.write_return-answer.ensures.survives;
     })
     (λ clean holds db comes. return_added _ _ c.args.key.now c.args.body.now _ db holds (c.requires.free clean)
-    (return_entry c.args.key.now.number c.args.body.now (from_one 999999 c.args.key.now.number c.value.ensures.limits.0 c.value.ensures.limits.1) c.requires.right)
+    (return_entry c.args.key.now _ c.args.body.now c.as_bytes.ensures.bytes c.as_bytes.ensures.back c.value.ensures.limits.0 c.value.ensures.limits.1 c.requires.right)
     (refilled_by c.args.key.now.reporter _ c.as_bytes.ensures.bytes c.as_bytes.ensures.back) comes.rows comes.others))
 
 pub returns : goal.returns
@@ -40,6 +40,6 @@ returns g c =
       survives = rw (c.as_bytes.ensures.bytes, c.value.ensures.value) at c.write_return-answer.ensures.survives;
     })
     (λ clean holds db comes. return_added _ _ c.args.key.now c.args.body.now _ db holds (c.requires.free clean)
-    (return_entry c.args.key.now.number c.args.body.now (from_one 999999 c.args.key.now.number c.value.ensures.limits.0 c.value.ensures.limits.1) c.requires.right)
+    (return_entry c.args.key.now _ c.args.body.now c.as_bytes.ensures.bytes c.as_bytes.ensures.back c.value.ensures.limits.0 c.value.ensures.limits.1 c.requires.right)
     (refilled_by c.args.key.now.reporter _ c.as_bytes.ensures.bytes c.as_bytes.ensures.back) comes.rows comes.others)
     (λ _. ⊤) (λ _. one_truth) (λ clean holds x told. tt) _ _ c.told.result c.args.self.now.rests (below_greatest _ c.args.self.now.small c.if-self.false) c.told.ensures
