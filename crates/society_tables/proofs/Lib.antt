@@ -37,6 +37,7 @@ pub mod RunWrites
 pub mod AloneLemmas
 pub mod RunBooks
 pub mod PoolWrites
+pub mod SameTotals
 pub mod PoolHolds
 pub mod Payments
 pub mod CutRows

@@ -16,7 +16,7 @@ use Rattle.society_rows.specs.Layout.{all_tables, written_out}
 use Rattle.society_rows.specs.Stored.{Adds, rows_in}
 use Rattle.society_core.specs.Orders.{Order}
 use Rattle.society_tables.specs.BookRows.{cut_row, paid_row, pool_row}
-use Rattle.society_tables.specs.Closings.{AddsOrder, ClosesWith}
+use Rattle.society_tables.specs.Closings.{AddsOrder, ClosesWith, ComeToTheSame}
 use Rattle.society_tables.specs.DerivedRows.{credit_row}
 use Rattle.society_tables.specs.Shown.{AddsEach}
 use Rattle.society_tables.proofs.RunTables.{rows_kept, same_permutation}
@@ -115,13 +115,13 @@ abbrev KeptOfPool : Trees → Trees → Table → Type 0
 KeptOfPool old new t = t.tree ≢ layout.pools.tree → t.tree ≢ layout.pool_cuts.tree → t.tree ≢ layout.pool_returns.tree → t.tree ≢ layout.credits.tree → t.tree ≢ layout.balances.tree → new t.tree ≡ old t.tree
 
 -- an order, and then the lines of its credits, and then their units
-pub closes_by : (pool : ℕ) (order : Order) (cs : List Credit) (old mid late new : Database) → AddsOrder (pool_row pool order) (map (cut_row pool) order.cut) (map (paid_row pool) order.returns) old.trees mid.trees
-    → Adds layout.credits (map (λ line. credit_row pool line.0 line.1) (enumerate_from 0 cs)) mid late → AddsEach cs late new → ClosesWith pool order cs old new
+pub closes_by : (pool : ℕ) (order : Order) (cs totals : List Credit) (old mid late new : Database) → AddsOrder (pool_row pool order) (map (cut_row pool) order.cut) (map (paid_row pool) order.returns) old.trees mid.trees
+    → Adds layout.credits (map (λ line. credit_row pool line.0 line.1) (enumerate_from 0 cs)) mid late → ComeToTheSame totals cs → AddsEach totals late new → ClosesWith pool order cs old new
 unfolding all_tables written_out
-closes_by pool order cs old mid late new ordered lines each =
+closes_by pool order cs totals old mid late new ordered lines same each =
     let first = of_pool (KeptOfOrder old.trees mid.trees) ordered.others in
     let second = of_pool (KeptBut layout.credits mid.trees late.trees) lines.others in
-    let kept = each_keeps cs late new each in
+    let kept = each_keeps totals late new each in
     let third = of_pool (KeptBut layout.balances late.trees new.trees) kept in (
       record {
         pools = permuted_to ((pool_row pool order ∷ []) ++ rows_in layout.pools old.trees) _ _ (rows_kept layout.pools mid.trees new.trees (third.pools (λ e. omega (arith, e)) ∙ second.pools (λ e. omega (arith, e)))) ordered.pools;
@@ -134,6 +134,8 @@ closes_by pool order cs old mid late new ordered lines each =
       },
       late,
       second.balances (λ e. omega (arith, e)) ∙ first.balances (λ e. omega (arith, e)) (λ e. omega (arith, e)) (λ e. omega (arith, e)),
+      totals,
+      same,
       each,
     )
 

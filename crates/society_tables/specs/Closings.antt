@@ -1,5 +1,5 @@
 -- What is written of a pool that is closed.
-use Rattle.std.specs.Prelude.{ℕ, ◌≡◌, ◌≢◌, List, [], ◌∷◌, ◌++◌, None, IsPermutation}
+use Rattle.std.specs.Prelude.{ℕ, ◌≡◌, ◌≢◌, List, [], ◌∷◌, ◌++◌, None, IsPermutation, bytes_eq, filter}
 use Rattle.std.specs.List.{AllByRecursion}
 use Rattle.sqlite_trees.specs.Tree.{Trees}
 use Rattle.sqlite_value.specs.Order.{Row}
@@ -13,9 +13,11 @@ use Rattle.society_core.specs.Book.{Book, order_at, with_pool}
 use Rattle.society_core.specs.Candidates.{ReachesCut}
 use Rattle.society_core.specs.Orders.{Order}
 use Rattle.society_core.specs.Pools.{credits_of}
+use Rattle.society_tables.specs.DerivedRows.{balance_rows_by}
 use Rattle.society_tables.specs.Kept.{HoldsBook}
 use Rattle.society_tables.specs.Shown.{AddsEach, Closes}
 use Rattle.sqlite.specs.Effect.{Database}
+use Rattle.work_ids.specs.Account.{account_text}
 
 -- every table but those of an order is as it was
 abbrev pub KeepsUnordered : Trees → Trees → Type 0
@@ -32,10 +34,18 @@ pub record AddsOrder (row : Row) (cut paid : List Row) (old new : Trees) : Type 
 abbrev pub PaysOut : List Row → List Credit → Database → Database → Type 0
 PaysOut lines credits old new = (mid : Database) × Adds layout.credits lines old mid × AddsEach credits mid new
 
--- a pool is closed in the tables, and of balances that were as before the units of its credits are added
+-- the row of an account by some credits
+abbrev pub row_by : List Credit → List ℕ → List Row
+row_by credits account = balance_rows_by account (filter (λ credit. bytes_eq account (account_text credit.account)) credits)
+
+-- credits that come to the same balances, those of 0 units too
+abbrev pub ComeToTheSame : List Credit → List Credit → Type 0
+ComeToTheSame some others = (account : List ℕ) → row_by some account ≡ row_by others account
+
+-- a pool is closed in the tables, and to balances that were as before the units are added that its credits come to
 abbrev pub ClosesWith : ℕ → Order → List Credit → Database → Database → Type 0
 ClosesWith pool order credits old new =
-    Closes pool order credits old.trees new.trees × (mid : Database) × (mid.trees layout.balances.tree ≡ old.trees layout.balances.tree) × AddsEach credits mid new
+    Closes pool order credits old.trees new.trees × (mid : Database) × (mid.trees layout.balances.tree ≡ old.trees layout.balances.tree) × (totals : List Credit) × ComeToTheSame totals credits × AddsEach totals mid new
 
 -- the tables of an office that hold a book in which the cut of an order is reached pay these credits by it
 abbrev pub PaysBy : Office → Order → Trees → List Credit → Type 0

@@ -12,6 +12,7 @@ ghost use Rattle.society_tables.specs.Steps.{Does, DoesOpen};
 
 use crate::outcomes::column_of;
 use crate::pools::{NO_ISRC, text_of};
+use crate::totals::totals_of;
 use pool_split::Credit;
 use society_core::{PoolOrder, ReturnKey, TransmissionKey};
 use society_rows::{
@@ -170,7 +171,7 @@ fn add_order<S: Alter>(
     add_pool_returns(tx, paid)
 }
 
-/// Adds the lines of credits, and their units to the balances of their accounts.
+/// Adds the lines of credits, and the units that they come to, as credits, to the balances of their accounts.
 fn pay_out<S: Alter>(
     alloc: Global,
     tx: &mut Transaction<'_, S>,
@@ -205,6 +206,7 @@ pub(crate) fn write_pool<S: Alter>(
         pool,
         amount: column_of(order.amount())?,
     };
+    let totals = totals_of(alloc, credits)?;
     add_order(tx, &row, cuts.as_slice(), paid.as_slice())?;
-    pay_out(alloc, tx, lines.as_slice(), credits)
+    pay_out(alloc, tx, lines.as_slice(), totals.as_slice())
 }

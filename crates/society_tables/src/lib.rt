@@ -21,6 +21,7 @@ mod returns;
 mod run;
 mod senders;
 mod tables;
+mod totals;
 mod works;
 
 pub use open_fault::OpenFault;
