@@ -11,9 +11,9 @@ copy=$(mktemp -d)
 trap 'rm -rf "$copy"' EXIT
 tar -C "$here" --exclude=out -cf - crates crates.txt HANDLES | tar -C "$copy" -xf -
 for name in fused stops stop_tests; do
-  cp "$here/bench/stops/$name.rt.txt" "$copy/crates/society/src/$name.rt"
-  sed -i "s/^mod starting;\$/&\n#[cfg(test)]\nmod $name;/" "$copy/crates/society/src/main.rt"
+  cp "$here/bench/stops/$name.rt.txt" "$copy/crates/society_tables/src/$name.rt"
+  sed -i "s/^mod steps;\$/&\n#[cfg(test)]\nmod $name;/" "$copy/crates/society_tables/src/lib.rt"
 done
-sed -i 's/^society: .*/& sqlite_disk/' "$copy/crates.txt"
-cd "$copy/crates/society"
+sed -i 's/^society_tables: .*/& sqlite_disk/' "$copy/crates.txt"
+cd "$copy/crates/society_tables"
 rt try --test --seconds 900 -- "${1:-stops_in}"

@@ -10,33 +10,21 @@ mod command_line;
 mod connection_tests;
 mod connections;
 #[cfg(test)]
-mod damage_tests;
-#[cfg(test)]
 mod database_tests;
 #[cfg(test)]
 mod day_tests;
-#[cfg(test)]
-mod desk_tests;
 #[cfg(test)]
 mod hostile_tests;
 #[cfg(test)]
 mod http_tests;
 #[cfg(test)]
 mod limit_tests;
-#[cfg(test)]
-mod listing;
 mod opening;
-#[cfg(test)]
-mod pool_tests;
 mod replay;
-#[cfg(test)]
-mod row_tests;
 #[cfg(test)]
 mod samples;
 mod serving;
 mod starting;
-#[cfg(test)]
-mod steps;
 #[cfg(test)]
 mod streams;
 #[cfg(test)]

@@ -54,16 +54,3 @@ pub fn f2(alloc: Global) -> Result<Vec<u8>, AllocError> {
 pub fn with_writer_share(alloc: Global, share: &[u8]) -> Result<Vec<u8>, AllocError> {
     changed(alloc, F1, 551, share)
 }
-
-/// F8, F1 behind a group of agreements that is counted and not read.
-pub fn f8(alloc: Global) -> Result<Vec<u8>, AllocError> {
-    let mut body = Vec::from_slice(alloc, &F1[..88])?;
-    body.extend_from_slice(b"GRHAGR0000102.200000000000\r\n")?;
-    body.extend_from_slice(b"AGRXXXXXXXX00000005\r\n")?;
-    body.extend_from_slice(b"GRT000010000000100000003\r\n")?;
-    let opened = changed(alloc, &F1[88..1_022], 6, b"00002")?;
-    let group = changed(alloc, opened.as_slice(), 911, b"00002")?;
-    body.extend_from_slice(group.as_slice())?;
-    body.extend_from_slice(b"TRL000020000000200000014\r\n")?;
-    Ok(body)
-}

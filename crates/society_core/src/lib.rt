@@ -5,6 +5,8 @@ mod answers;
 mod candidates;
 mod claim_list;
 mod desk;
+#[cfg(test)]
+mod desk_tests;
 mod laws;
 mod order;
 mod plain_book;
@@ -16,6 +18,8 @@ mod refusal;
 mod request;
 mod return_key;
 mod runs;
+#[cfg(test)]
+mod samples;
 mod store;
 mod transmission_key;
 mod work;

@@ -1,29 +1,17 @@
 //! Transmissions that come to the tables in any order, beside the store in memory, and a return.
 use crate::Tables;
+use crate::samples::{EMPTY, REGISTERED, REVISED, office};
 use cwr_files::FileReader;
 use perf_returns::read_return;
-use share_rules::Office;
 use society_core::{Known, KnownTransmission, Payment, PlainStore, ReturnKey, Store};
 use sqlite::MemStore;
 use std::alloc::Global;
 use std::test::Fail;
 use work_ids::{Reporter, ReturnNumber, SenderKey, TransmissionNumber};
 
-/// A registration of one work.
-pub(crate) const REGISTERED: &[u8] =
-    b"HDRPB000000012EXAMPLE MUSIC                                01.102026010510150020260106\r\nGRHNWR0000102.200000000000\r\nNWR0000000000000000FIRST SONG                                                    W1            T0345246801\r\nSPU000000000000000101P1       EXAMPLE MUSIC                                 E          00000000199                 05000   10000   10000\r\nSPT0000000000000002P1             050001000010000I2136 001\r\nSWR0000000000000003A1       WRITER                                       ANNA                           CA         00000000295   05000   00000   00000\r\nSWT0000000000000004A1       050000000000000I2136 001\r\nPWR0000000000000005P1       EXAMPLE MUSIC                                                            A1\r\nREC0000000000000006                                                                                                                                                                                                                                      ATABC2600001\r\nGRT000010000000100000009\r\nTRL000010000000100000011\r\n";
-
-/// A revision of that work.
-pub(crate) const REVISED: &[u8] =
-    b"HDRPB000000012EXAMPLE MUSIC                                01.102026010510150020260106\r\nGRHREV0000102.200000000000\r\nREV0000000000000000FIRST SONG                                                    W1            T0345246801\r\nSPU000000000000000101P1       EXAMPLE MUSIC                                 E          00000000199                 00000   10000   10000\r\nSPT0000000000000002P1             000001000010000I2136 001\r\nSWR0000000000000003A1       WRITER                                       ANNA                           CA         00000000295   10000   00000   00000\r\nSWT0000000000000004A1       100000000000000I2136 001\r\nPWR0000000000000005P1       EXAMPLE MUSIC                                                            A1\r\nREC0000000000000006                                                                                                                                                                                                                                      ATABC2600001\r\nGRT000010000000100000009\r\nTRL000010000000100000011\r\n";
-
-/// A transmission with no group.
-const EMPTY: &[u8] =
-    b"HDRPB000000012EXAMPLE MUSIC                                01.102026010510150020260106\r\nTRL000000000000000000002\r\n";
-
 /// The tables and the store in memory of the example society, with nothing in them.
 fn stores(alloc: Global) -> Result<(Tables<MemStore>, PlainStore), Fail> {
-    let office = Office::new(900, 40, b"EXAMPLE SOCIETY").ok_or("an office")?;
+    let office = office()?;
     let tables = Tables::in_memory(alloc, &office).ok().ok_or("memory")?;
     Ok((tables, PlainStore::new(alloc, &office)))
 }

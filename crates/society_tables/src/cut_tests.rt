@@ -1,9 +1,9 @@
 //! The candidates of a pool, out of tables to which works of two senders have come.
 ghost use Rattle.std.specs.Prelude.{◌≡◌, false};
 
-use crate::arrival_tests::{REGISTERED, REVISED};
 use crate::arrivals::arrive;
 use crate::cut_works::candidates_in;
+use crate::samples::{REGISTERED, REVISED, changed};
 use cwr_files::FileReader;
 use perf_returns::read_return;
 use share_rules::Office;
@@ -18,17 +18,6 @@ use work_ids::{SenderKey, TransmissionNumber};
 const ONE: &[u8] = b"PB000000012";
 
 const OTHER: &[u8] = b"PB000000034";
-
-/// A body with these bytes changed, each at its place.
-fn changed(alloc: Global, body: &[u8], changes: &[(usize, u8)]) -> Result<Vec<u8>, Fail> {
-    let mut copy = Vec::from_slice(alloc, body)?;
-    for (place, byte) in changes {
-        if let Some(here) = copy.get_mut(*place) {
-            *here = *byte;
-        }
-    }
-    Ok(copy)
-}
 
 /// Puts a body into the tables.
 fn put(

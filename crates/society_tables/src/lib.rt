@@ -32,6 +32,18 @@ mod arrival_tests;
 #[cfg(test)]
 mod cut_tests;
 #[cfg(test)]
+mod damage_tests;
+#[cfg(test)]
+mod listing;
+#[cfg(test)]
 mod open_tests;
+#[cfg(test)]
+mod pool_tests;
+#[cfg(test)]
+mod row_tests;
+#[cfg(test)]
+mod samples;
+#[cfg(test)]
+mod steps;
 #[cfg(test)]
 mod tests;

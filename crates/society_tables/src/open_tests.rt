@@ -1,7 +1,7 @@
 //! Databases that are opened as the tables of an office.
 ghost use Rattle.std.specs.Prelude.{◌≡◌, IfOk, false};
 
-use crate::arrival_tests::REGISTERED;
+use crate::samples::REGISTERED;
 use crate::{OpenFault, Tables};
 use share_rules::Office;
 use society_core::{Desk, PoolOrder, ReturnKey, Store};

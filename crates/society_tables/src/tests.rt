@@ -1,6 +1,6 @@
 //! The store over tables in memory, asked before anything has come.
 use crate::Tables;
-use share_rules::Office;
+use crate::samples::office;
 use society_core::{Known, KnownTransmission, Payment, PoolOrder, ReturnKey, Store};
 use sqlite::MemStore;
 use std::alloc::Global;
@@ -11,7 +11,7 @@ use work_ids::{
 
 /// The tables of the example society, with nothing in them.
 fn tables(alloc: Global) -> Result<Tables<MemStore>, Fail> {
-    let office = Office::new(900, 40, b"EXAMPLE SOCIETY").ok_or("an office")?;
+    let office = office()?;
     let tables = Tables::in_memory(alloc, &office).ok().ok_or("memory")?;
     Ok(tables)
 }

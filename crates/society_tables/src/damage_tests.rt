@@ -1,10 +1,9 @@
 //! Databases in which one value was changed, opened as the tables of an office.
 use crate::listing::{TABLES, rows_by};
 use crate::row_tests::left_by_pool;
-use crate::samples::{F1, changed};
-use crate::streams::office;
+use crate::samples::{REGISTERED, changed, office};
+use crate::{OpenFault, Tables};
 use share_rules::Office;
-use society_tables::{OpenFault, Tables};
 use sqlite::{Connection, MemStore, params};
 use std::alloc::Global;
 use std::process::Abort;
@@ -110,7 +109,7 @@ fn set_body(conn: &mut Connection<MemStore>, body: &Vec<u8>) -> Result<(), Fail>
 fn a_changed_byte_of_a_body_is_damage(rt: HostRuntime) -> Result<(), Fail> {
     let alloc = rt.alloc();
     let mut conn = left_by_pool(alloc)?;
-    set_body(&mut conn, &changed(alloc, F1, 0, b"X")?)?;
+    set_body(&mut conn, &changed(alloc, REGISTERED, &[(0, b'X')])?)?;
     check_refused(&rt, alloc, conn, &BODIES, OpenFault::Damaged)
 }
 

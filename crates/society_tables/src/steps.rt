@@ -1,5 +1,5 @@
 //! Requests that are sent one after another, and what is answered to each.
-use crate::samples::{F1, F3};
+use crate::samples::{EMPTY, REGISTERED, REVISED};
 use society_core::{Arrival, Desk, PoolOrder, Receipt, Refusal, ReturnKey, Store};
 use std::alloc::Global;
 use std::test::Fail;
@@ -84,25 +84,33 @@ pub fn order_at_a_cut(alloc: Global) -> Result<PoolOrder, Fail> {
     Ok(order)
 }
 
-/// F1, F3 behind a gap, and the revision that fills it.
-pub fn gap_filled(revision: &[u8]) -> [Step<'_>; 3] {
-    [Step::Put(1, F1), Step::Put(3, F3), Step::Put(2, revision)]
+/// A registration, a file with no group behind a gap, and the revision that fills it.
+pub fn gap_filled() -> [Step<'static>; 3] {
+    [
+        Step::Put(1, REGISTERED),
+        Step::Put(3, EMPTY),
+        Step::Put(2, REVISED),
+    ]
 }
 
 /// The same transmissions, the last one first.
-pub fn reverse_arrival(revision: &[u8]) -> [Step<'_>; 3] {
-    [Step::Put(3, F3), Step::Put(2, revision), Step::Put(1, F1)]
+pub fn reverse_arrival() -> [Step<'static>; 3] {
+    [
+        Step::Put(3, EMPTY),
+        Step::Put(2, REVISED),
+        Step::Put(1, REGISTERED),
+    ]
 }
 
 /// What comes before the return of the pool that is closed at a cut.
-pub const BEFORE_RETURN: [Step<'static>; 2] = [Step::Put(1, F1), Step::Put(2, F3)];
+pub const BEFORE_RETURN: [Step<'static>; 2] = [Step::Put(1, REGISTERED), Step::Put(2, EMPTY)];
 
 /// A return, an order whose cut is above the front, the transmission that it waits for, and the order again.
 pub fn closed_at_a_cut(order: &PoolOrder) -> [Step<'_>; 4] {
     [
         Step::Played(1, TEN_PLAYS),
         Step::Close(7, order),
-        Step::Put(3, F3),
+        Step::Put(3, EMPTY),
         Step::Close(7, order),
     ]
 }

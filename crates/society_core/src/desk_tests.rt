@@ -1,8 +1,8 @@
 //! The rows on the desk: what is answered about works, verdicts and acknowledgements, whatever the order of arrival.
 use crate::samples::{F1, F1_ACK, F3, F3_ACK, F4, changed, f2, f8, with_writer_share};
+use crate::{Answer, Arrival, Desk, PlainStore, Refusal, Request, Standing, Work, run};
 use cwr_files::{FileFault, FileReader};
 use share_rules::{Holder, Office};
-use society_core::{Answer, Arrival, Desk, PlainStore, Refusal, Request, Standing, Work, run};
 use std::alloc::Global;
 use std::process::Abort;
 use std::test::Fail;

@@ -1,12 +1,11 @@
 //! The rows that requests leave in the tables, read by plain SQL.
+use crate::Tables;
 use crate::listing::{TABLES, lines, rows_by};
-use crate::samples::f2;
+use crate::samples::office;
 use crate::steps::{
     BEFORE_RETURN, Step, closed_at_a_cut, gap_filled, order_at_a_cut, reverse_arrival, send_all,
 };
-use crate::streams::office;
 use society_core::Desk;
-use society_tables::Tables;
 use sqlite::{Connection, MemStore};
 use std::alloc::Global;
 use std::process::Abort;
@@ -86,15 +85,13 @@ fn check_rows(
 
 #[test]
 fn rows_of_a_gap_filled(rt: HostRuntime) -> Result<(), Fail> {
-    let revision = f2(rt.alloc())?;
-    let mut conn = left_by(rt.alloc(), &gap_filled(revision.as_slice()))?;
+    let mut conn = left_by(rt.alloc(), &gap_filled())?;
     check_rows(&rt, rt.alloc(), &mut conn, &THREE_FILES)
 }
 
 #[test]
 fn rows_of_a_reverse_arrival(rt: HostRuntime) -> Result<(), Fail> {
-    let revision = f2(rt.alloc())?;
-    let mut conn = left_by(rt.alloc(), &reverse_arrival(revision.as_slice()))?;
+    let mut conn = left_by(rt.alloc(), &reverse_arrival())?;
     check_rows(&rt, rt.alloc(), &mut conn, &THREE_FILES)
 }
 

@@ -1,9 +1,8 @@
 //! The rows of money on the desk, each over tables in memory and over the plain store: returns, pools at a cut, credits and balances.
-use crate::samples::{F1, F3, changed, f2};
+use crate::Tables;
+use crate::samples::{EMPTY, REGISTERED, REVISED, changed, office};
 use pool_split::Credit;
-use share_rules::Office;
 use society_core::{Desk, OrderError, PlainStore, PoolOrder, Receipt, Refusal, ReturnKey, Store};
-use society_tables::Tables;
 use sqlite::MemStore;
 use std::alloc::Global;
 use std::process::Abort;
@@ -17,10 +16,6 @@ const TEN_PLAYS: &[u8] = b"isrc,plays,seconds\nATABC2600001,10,200\n";
 const FIRST: &[u8] = b"PB000000012";
 
 const SECOND: &[u8] = b"PB000000034";
-
-fn office() -> Result<Office, &'static str> {
-    Office::new(900, 40, b"EXAMPLE SOCIETY").ok_or("an office")
-}
 
 fn desk_over_tables(alloc: Global) -> Result<Desk<Tables<MemStore>>, Fail> {
     let tables = Tables::in_memory(alloc, &office()?).ok().ok_or("memory")?;
@@ -121,14 +116,14 @@ fn check_balances<S: Store>(
     Ok(())
 }
 
-/// F1, F3 under 1, 2, a return, F3 under 3, and a pool of 1,001 units at cut 3.
+/// A registration and a file with no group under 1 and 2, a return, the latter under 3, and a pool of 1,001 units at cut 3.
 fn close_at_a_cut<S: Store>(
     rt: &impl Abort,
     alloc: Global,
     desk: &mut Desk<S>,
 ) -> Result<(), Fail> {
-    put(alloc, desk, FIRST, 1, F1)?;
-    put(alloc, desk, FIRST, 2, F3)?;
+    put(alloc, desk, FIRST, 1, REGISTERED)?;
+    put(alloc, desk, FIRST, 2, EMPTY)?;
     assert!(rt; desk.put_return(alloc, &key(1)?, TEN_PLAYS) == Ok(Receipt::New));
     let first = order(alloc, 1_001, 3, &[1])?;
     let waits = Refusal::Cut {
@@ -136,7 +131,7 @@ fn close_at_a_cut<S: Store>(
         front: 2,
     };
     assert!(rt; desk.close_pool(alloc, pool(7)?, &first) == Err(waits));
-    put(alloc, desk, FIRST, 3, F3)?;
+    put(alloc, desk, FIRST, 3, EMPTY)?;
     assert!(rt; desk.close_pool(alloc, pool(7)?, &first) == Ok(Receipt::New));
     Ok(())
 }
@@ -184,13 +179,12 @@ fn check_later_revision_changes_no_credit<S: Store>(
     desk: &mut Desk<S>,
     early: &mut Desk<S>,
 ) -> Result<(), Fail> {
-    let revision = f2(alloc)?;
     close_at_a_cut(rt, alloc, desk)?;
-    put(alloc, desk, FIRST, 4, &revision)?;
+    put(alloc, desk, FIRST, 4, REVISED)?;
     check_credits(rt, alloc, desk, 7, SHARED)?;
     check_balances(rt, alloc, desk, BALANCES)?;
-    put(alloc, early, FIRST, 1, F1)?;
-    put(alloc, early, FIRST, 2, &revision)?;
+    put(alloc, early, FIRST, 1, REGISTERED)?;
+    put(alloc, early, FIRST, 2, REVISED)?;
     assert!(rt; early.put_return(alloc, &key(1)?, TEN_PLAYS) == Ok(Receipt::New));
     assert!(rt;
         early.close_pool(alloc, pool(7)?, &order(alloc, 1_001, 1, &[1])?) == Ok(Receipt::New)
@@ -220,8 +214,8 @@ fn check_two_claimants<S: Store>(
     alloc: Global,
     desk: &mut Desk<S>,
 ) -> Result<(), Fail> {
-    let other = changed(alloc, F1, 5, b"000000034")?;
-    put(alloc, desk, FIRST, 1, F1)?;
+    let other = changed(alloc, REGISTERED, &[(12, b'3'), (13, b'4')])?;
+    put(alloc, desk, FIRST, 1, REGISTERED)?;
     put(alloc, desk, SECOND, 1, &other)?;
     let played = b"isrc,plays,seconds\nATABC2600001,1,100\nGBXYZ2600002,1,300\n";
     assert!(rt; desk.put_return(alloc, &key(1)?, played) == Ok(Receipt::New));
@@ -261,7 +255,7 @@ fn two_claimants(rt: HostRuntime) -> Result<(), Fail> {
 }
 
 fn check_splits<S: Store>(rt: &impl Abort, alloc: Global, desk: &mut Desk<S>) -> Result<(), Fail> {
-    put(alloc, desk, FIRST, 1, F1)?;
+    put(alloc, desk, FIRST, 1, REGISTERED)?;
     let played = b"isrc,plays,seconds\nATABC2600001,1,1\nATABC2600002,1,1\nATABC2600003,1,1\n";
     assert!(rt; desk.put_return(alloc, &key(1)?, played) == Ok(Receipt::New));
     assert!(rt; desk.close_pool(alloc, pool(1)?, &order(alloc, 10, 1, &[1])?) == Ok(Receipt::New));
