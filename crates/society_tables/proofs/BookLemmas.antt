@@ -74,7 +74,7 @@ pub paid_back : (pool : ℕ) (keys : List ReturnKey) → AllByRecursion IsRefill
 paid_back pool [] h = refl
 paid_back pool (key ∷ keys) h = ap₂ (λ r l. record { reporter = r; number = key.number } ∷ l) h.0 (paid_back pool keys h.1)
 
-filter_true : {X : Type 0} (p : X → Bool) (xs : List X) → AllByRecursion (λ x. p x ≡ true) (filter p xs)
+pub filter_true : {X : Type 0} (p : X → Bool) (xs : List X) → AllByRecursion (λ x. p x ≡ true) (filter p xs)
 filter_true p [] = tt
 filter_true {X} p (x ∷ xs) = go (p x) refl (filter_true p xs)
   where

@@ -80,8 +80,8 @@ pub clean_before : (mid new : State) → Survives mid new (λ _. ⊥) → HasCle
 clean_before mid new survives clean = (let fell = survives.clean in omega (clean, fell, arith))
 
 -- after a question the connection shows the same book of the office
-pub shows_still : {X E : Type 0} (o : Office) (b : Book) (old mid : State) (x : X) (Found : Trees → X → Type 0) → (IsTrue old.is_open → old.now ≡ old.committed) → Inspects {E = E} old mid (Ok x) Found → HasCleanDisk mid → ShowsBook o b old → ShowsBook o b mid
-shows_still o b old mid x Found settled first clean shows is_open =
+pub shows_still : {X E : Type 0} (o : Office) (b : Book) (old mid : State) (r : Result X E) (Found : Trees → X → Type 0) → (IsTrue old.is_open → old.now ≡ old.committed) → Inspects old mid r Found → HasCleanDisk mid → ShowsBook o b old → ShowsBook o b mid
+shows_still o b old mid r Found settled first clean shows is_open =
     let was = first.was_open clean is_open in
     let same : mid.now ≡ old.now = (first.undone clean is_open).0 ∙ sym (settled was) in
     subst (λ (db : Database). HasLayout db × HoldsBook o b db.trees) (sym same) (shows was)

@@ -23,7 +23,7 @@ use Rattle.society_rows.specs.Reads.{has_at}
 use Rattle.society_rows.specs.Stored.{rows_in}
 use Rattle.society_tables.specs.CutWorks.{Chooses, ChoosesNaming, IsNoted, NotesRecording, NotesRecordings, is_chosen, is_noted, notes_of_sender}
 use Rattle.society_tables.specs.DerivedRows.{is_named, tells_recordings, told_by, told_from, told_to_front, work_text}
-use Rattle.society_tables.specs.Kept.{HoldsBook}
+use Rattle.society_tables.specs.Auditing.{HoldsWorks}
 use Rattle.society_tables.specs.declared.chosen.Chosen.{Chosen}
 use Rattle.society_tables.specs.declared.named_works.NamedWorks.{NamedWorks}
 use Rattle.society_tables.proofs.CutChoices.{some_is}
@@ -175,7 +175,7 @@ module _ (P : Row → Type 0) where
 still_named : (isrc : List ℕ) (named : List (List ℕ)) → list_any (bytes_eq isrc) named ≡ true → list_any (bytes_eq isrc) (ascending bytes_cmp named) ≡ true
 still_named isrc named e = any_bytes isrc (ascending bytes_cmp named) ∙ ascending_has nat_list_cmp_total isrc named ∙ sym (any_bytes isrc named) ∙ e
 
-module _ (o : Office) (b : Book) (db : Trees) (holds : HoldsBook o b db) (s : List ℕ) where
+module _ (o : Office) (b : Book) (db : Trees) (holds : HoldsWorks o b db) (s : List ℕ) where
   -- what holds of all rows of recordings holds of what the transmissions up to the front tell
   all_told_front : (P : Row → Type 0) → AllByRecursion P (rows_in layout.recordings db) → AllByRecursion P (told_to_front tells_recordings o b s)
   all_told_front P all =

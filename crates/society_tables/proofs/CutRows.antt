@@ -13,9 +13,9 @@ use Rattle.society_rows.specs.Reads.{Lists, has_key}
 use Rattle.society_rows.specs.Stored.{rows_in}
 use Rattle.society_tables.specs.Columns.{number_at, text_at}
 use Rattle.society_tables.specs.DerivedRows.{is_named, tells_version, told_to_front}
-use Rattle.society_tables.specs.Kept.{HoldsBook}
+use Rattle.society_tables.specs.Auditing.{HoldsWorks}
 use Rattle.society_tables.specs.Shown.{version_shown}
-use Rattle.society_tables.proofs.LineRows.{HasBack, HasTexts, IsBack, all_tested, is_of_work, length_line, line_back, line_push, line_to, one_by, sent, told_all, told_line, version_row, version_rows, version_told}
+use Rattle.society_tables.proofs.LineRows.{HasBack, HasTexts, IsBack, all_tested, is_of_work, length_line, line_back, line_push, line_to, one_by, sent, texts_told, told_line, version_row, version_rows, version_told}
 use Rattle.society_tables.proofs.RowLemmas.{all_rows}
 use Rattle.society_tables.proofs.SortedRows.{one_order, rises_third}
 use Rattle.society_tables.proofs.VerdictRows.{filter_both}
@@ -139,13 +139,13 @@ module _ (o : Office) (b : Book) (s : List ℕ) where
           ∙ ap (λ (l : List (List Judged)). last_version w (placed_line l)) (take_line cut more.0 ∙ sym (take_all cut (line_to o b s cut) (omega (arith, length_line o b s cut))))
 
 -- what is found of a work's versions are the rows of all of them, the first one first
-rows_found : (o : Office) (b : Book) (db : Trees) → HoldsBook o b db → (s w : List ℕ) → IsBack w → (found : List Row) → Lists layout.versions (has_key (Text s ∷ Text (without_trailing_blanks w) ∷ [])) 3 db found →
+rows_found : (o : Office) (b : Book) (db : Trees) → HoldsWorks o b db → (s w : List ℕ) → IsBack w → (found : List Row) → Lists layout.versions (has_key (Text s ∷ Text (without_trailing_blanks w) ∷ [])) 3 db found →
     found ≡ rising_rows s w (placed_line (line_to o b s (front b s)))
 rows_found o b db holds s w back found lists =
     let line = placed_line (line_to o b s (front b s)) in
     let rows = rows_in layout.versions db in
     let passes = has_key (Text s ∷ Text (without_trailing_blanks w) ∷ []) in
-    let texts = all_rows is_named (text_at 0) (λ r. (bytes_eq-Decides (text_at 0 r) (text_at 0 r)).1 refl) HasTexts (told_to_front tells_version o b) rows holds.derived.versions (told_all o b db holds s w) in
+    let texts = all_rows is_named (text_at 0) (λ r. (bytes_eq-Decides (text_at 0 r) (text_at 0 r)).1 refl) HasTexts (told_to_front tells_version o b) rows holds.derived.versions (texts_told o b) in
     let same : filter passes rows ≡ filter (is_of_work w) (filter (is_named s) rows) =
     filter_same passes (λ row. is_named s row && is_of_work w row) rows (all_tested s w rows texts) ∙ filter_both (is_named s) (is_of_work w) rows in
     let told : filter (is_of_work w) (told_to_front tells_version o b s) ≡ rising_rows s w line = ap (filter (is_of_work w)) (told_line o b s (front b s)) ∙ rows_rising s w back line (line_back o b s (front b s)) in
@@ -157,7 +157,7 @@ rows_found o b db holds s w back found lists =
     lists.sorted
 
 -- the last of them up to a cut shows the version there
-pub version_found : (o : Office) (b : Book) (db : Trees) → HoldsBook o b db → (s w : List ℕ) (cut : ℕ) → IsBack w → cut ≤ front b s → (found : List Row) → Lists layout.versions (has_key (Text s ∷ Text (without_trailing_blanks w) ∷ [])) 3 db found →
+pub version_found : (o : Office) (b : Book) (db : Trees) → HoldsWorks o b db → (s w : List ℕ) (cut : ℕ) → IsBack w → cut ≤ front b s → (found : List Row) → Lists layout.versions (has_key (Text s ∷ Text (without_trailing_blanks w) ∷ [])) 3 db found →
     option_map version_shown (row_up_to cut found) ≡ version_in o b s w cut
 version_found o b db holds s w cut back within found lists =
     let line = placed_line (line_to o b s (front b s)) in

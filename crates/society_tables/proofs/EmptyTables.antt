@@ -36,17 +36,17 @@ none_left [] e = refl
 none_left (x ∷ es) e = absurd (omega (e, arith))
 
 -- a map of nothing has no entries
-no_entries : {K : Type 0} (R : K → K → Ordering) (X : Type 0) → finite.entries (finite.empty {X = X} {R = R}) ≡ []
+pub no_entries : {K : Type 0} (R : K → K → Ordering) (X : Type 0) → finite.entries (finite.empty {X = X} {R = R}) ≡ []
 no_entries R X = none_left (finite.entries (finite.empty {X = X} {R = R})) (sym (finite.len-entries (finite.empty {X = X} {R = R})) ∙ finite.len-empty R X)
 
 -- no rows where none are to be
 no_rows : {K : Type 0} (is_of : K → Row → Bool) (expected : K → List Row) (rows : List Row) → rows ≡ [] → ((q : K) → expected q ≡ []) → HasRows is_of expected rows
 no_rows is_of expected rows none nothing q = subst (λ l. IsPermutation l (filter (is_of q) rows)) (sym (nothing q)) (subst (λ l. IsPermutation [] (filter (is_of q) l)) (sym none) (IsPermutation-refl []))
 
-told_nothing : (tells : Telling) (o : Office) (s : List ℕ) → told_to_front tells o empty_book s ≡ []
+pub told_nothing : (tells : Telling) (o : Office) (s : List ℕ) → told_to_front tells o empty_book s ≡ []
 told_nothing tells o s = ap (λ n. flat_map (told_by tells o empty_book s) (range_with_len 1 n)) (sym (no_front s))
 
-nothing_sent : (s : List ℕ) → has_sent empty_book s ≡ false
+pub nothing_sent : (s : List ℕ) → has_sent empty_book s ≡ false
 nothing_sent s = ap (λ (es : List (TransmissionKey × List ℕ)). list_any (λ (key : TransmissionKey). bytes_eq key.sender s) (map (λ e. e.0) es)) (no_entries transmission_cmp (List ℕ))
 
 record AreBare (db : Trees) : Type 0 where

@@ -33,11 +33,11 @@ same_key_is a b h =
     let number : a.number ≡ b.number = (Decides-eqb a.number b.number).0 (second_holds (bytes_eq a.sender b.sender) (a.number == b.number) h) in
     ap₂ transmission_key name number
 
-is_or : (a b : Bool) → a ≡ true → (a || b) ≡ true
+pub is_or : (a b : Bool) → a ≡ true → (a || b) ≡ true
 is_or true b h = refl
 is_or false b h = absurd (false≢true h)
 
-or_is : (a b : Bool) → b ≡ true → (a || b) ≡ true
+pub or_is : (a b : Bool) → b ≡ true → (a || b) ≡ true
 or_is true b h = refl
 or_is false b h = h
 
@@ -58,7 +58,7 @@ number_sent s (key ∷ keys) h = by_case (bytes_eq key.sender s) refl h (number_
         (found.0, or_is (eq_by_cmp transmission_cmp (transmission_key s found.0) key) (list_any (eq_by_cmp transmission_cmp (transmission_key s found.0)) keys) found.1)
 
 -- a sender has sent where a number of it is there
-sent_there : (b : Book) (s : List ℕ) → has_sent b s ≡ true → (n : ℕ) × (is_there b s n ≡ true)
+pub sent_there : (b : Book) (s : List ℕ) → has_sent b s ≡ true → (n : ℕ) × (is_there b s n ≡ true)
 sent_there b s h =
     let found = number_sent s (finite.keys b.transmissions) h in
     (found.0, finite.contains_key-keys b.transmissions (transmission_key s found.0) ∙ found.1)

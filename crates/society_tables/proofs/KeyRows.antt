@@ -97,27 +97,36 @@ pub transmissions_formed : (key : TransmissionKey) (o : Option (List ℕ)) → A
 transmissions_formed key None = tt
 transmissions_formed key (Some body) = ((refl, refl), tt)
 
--- what is found under the key of a return is the return that the book has
-pub return_found : (o : Office) (b : Book) (db : Trees) → HoldsBook o b db → (key : ReturnKey) → IsRefilled key → (found : List Row) → Lists layout.returns (has_key (Text (without_trailing_blanks key.reporter) ∷ Int (pos key.number) ∷ [])) 2 db found → found ≡ return_rows b key
-return_found o b db holds key whole found lists =
+-- what is found under the key of a return is the return that a book has whose rows these are
+pub return_listed : (b : Book) (db : Trees) → HasRows is_return_row (return_rows b) (rows_in layout.returns db) → (key : ReturnKey) → IsRefilled key → (found : List Row) → Lists layout.returns (has_key (Text (without_trailing_blanks key.reporter) ∷ Int (pos key.number) ∷ [])) 2 db found → found ≡ return_rows b key
+return_listed b db has key whole found lists =
     only (return_row key) (return_at b key) found
     (found_by_key IsReturnForm is_return_row return_key_of (λ r. both_same (fill 20 (text_at 0 r)) (number_at 1 r)) key (without_trailing_blanks key.reporter) key.number
     (λ r form. keyed (without_trailing_blanks key.reporter) key.number r form.0 ∙ ap (λ x. x && key.number == number_at 1 r) (filled_same key.reporter (text_at 0 r) whole form.1))
-    layout.returns (return_rows b) 2 db found holds.kept.returns (λ q. returns_formed q (return_at b q) (λ there. refilled b (rows_in layout.returns db) holds.kept.returns q there)) lists)
+    layout.returns (return_rows b) 2 db found has (λ q. returns_formed q (return_at b q) (λ there. refilled b (rows_in layout.returns db) has q there)) lists)
 
--- what is found under the key of a transmission is the transmission that the book has
-pub transmission_found : (o : Office) (b : Book) (db : Trees) → HoldsBook o b db → (key : TransmissionKey) (found : List Row) → Lists layout.transmissions (has_key (Text key.sender ∷ Int (pos key.number) ∷ [])) 2 db found → found ≡ transmission_rows b key
-transmission_found o b db holds key found lists =
+pub return_found : (o : Office) (b : Book) (db : Trees) → HoldsBook o b db → (key : ReturnKey) → IsRefilled key → (found : List Row) → Lists layout.returns (has_key (Text (without_trailing_blanks key.reporter) ∷ Int (pos key.number) ∷ [])) 2 db found → found ≡ return_rows b key
+return_found o b db holds key whole found lists = return_listed b db holds.kept.returns key whole found lists
+
+-- what is found under the key of a transmission is the transmission that a book has whose rows these are
+pub transmission_listed : (b : Book) (db : Trees) → HasRows is_transmission_row (transmission_rows b) (rows_in layout.transmissions db) → (key : TransmissionKey) (found : List Row) → Lists layout.transmissions (has_key (Text key.sender ∷ Int (pos key.number) ∷ [])) 2 db found → found ≡ row_of_some (transmission_row key) (body_at b key.sender key.number)
+transmission_listed b db has key found lists =
     only (transmission_row key) (body_at b key.sender key.number) found
-    (found_by_key HasKeyForm is_transmission_row transmission_key_of (λ r. both_same (text_at 0 r) (number_at 1 r)) key key.sender key.number (λ r form. keyed key.sender key.number r form) layout.transmissions (transmission_rows b) 2 db found holds.kept.transmissions (λ q. transmissions_formed q (body_at b q.sender q.number)) lists)
+    (found_by_key HasKeyForm is_transmission_row transmission_key_of (λ r. both_same (text_at 0 r) (number_at 1 r)) key key.sender key.number (λ r form. keyed key.sender key.number r form) layout.transmissions (transmission_rows b) 2 db found has (λ q. transmissions_formed q (body_at b q.sender q.number)) lists)
+
+pub transmission_found : (o : Office) (b : Book) (db : Trees) → HoldsBook o b db → (key : TransmissionKey) (found : List Row) → Lists layout.transmissions (has_key (Text key.sender ∷ Int (pos key.number) ∷ [])) 2 db found → found ≡ row_of_some (transmission_row key) (body_at b key.sender key.number)
+transmission_found o b db holds key found lists = transmission_listed b db holds.kept.transmissions key found lists
 
 -- and it shows its bytes
-pub return_shows : (o : Office) (b : Book) (db : Trees) → HoldsBook o b db → (key : ReturnKey) → IsRefilled key → (found : List Row) → Lists layout.returns (has_key (Text (without_trailing_blanks key.reporter) ∷ Int (pos key.number) ∷ [])) 2 db found → ShowBody (return_at b key) found
-return_shows o b db holds key whole found lists = shows (return_at b key) (return_found o b db holds key whole found lists)
+pub return_shows_by : (b : Book) (db : Trees) → HasRows is_return_row (return_rows b) (rows_in layout.returns db) → (key : ReturnKey) → IsRefilled key → (found : List Row) → Lists layout.returns (has_key (Text (without_trailing_blanks key.reporter) ∷ Int (pos key.number) ∷ [])) 2 db found → ShowBody (return_at b key) found
+return_shows_by b db has key whole found lists = shows (return_at b key) (return_listed b db has key whole found lists)
   where
     shows : (kept : Option (List ℕ)) → found ≡ row_of_some (return_row key) kept → ShowBody kept found
     shows None e = inl (e, refl)
     shows (Some body) e = inr (without_trailing_blanks key.reporter, key.number, body, e, refl)
+
+pub return_shows : (o : Office) (b : Book) (db : Trees) → HoldsBook o b db → (key : ReturnKey) → IsRefilled key → (found : List Row) → Lists layout.returns (has_key (Text (without_trailing_blanks key.reporter) ∷ Int (pos key.number) ∷ [])) 2 db found → ShowBody (return_at b key) found
+return_shows o b db holds key whole found lists = return_shows_by b db holds.kept.returns key whole found lists
 
 -- what is found of a return's key shows whether it is there
 pub return_key_shows : (o : Office) (b : Book) (db : Trees) → HoldsBook o b db → (key : ReturnKey) → IsRefilled key → (found : List Row) → ListsKeys layout.returns (has_key (Text (without_trailing_blanks key.reporter) ∷ Int (pos key.number) ∷ [])) 2 db found → ShowKey (return_at b key) found
@@ -127,12 +136,15 @@ return_key_shows o b db holds key whole found keys = shows (return_at b key) (ke
     shows None e = inl (e, refl)
     shows (Some body) e = inr (without_trailing_blanks key.reporter, key.number, body, e, refl)
 
-pub transmission_shows : (o : Office) (b : Book) (db : Trees) → HoldsBook o b db → (key : TransmissionKey) (found : List Row) → Lists layout.transmissions (has_key (Text key.sender ∷ Int (pos key.number) ∷ [])) 2 db found → ShowBody (body_at b key.sender key.number) found
-transmission_shows o b db holds key found lists = shows (body_at b key.sender key.number) (transmission_found o b db holds key found lists)
+pub transmission_shows_by : (b : Book) (db : Trees) → HasRows is_transmission_row (transmission_rows b) (rows_in layout.transmissions db) → (key : TransmissionKey) (found : List Row) → Lists layout.transmissions (has_key (Text key.sender ∷ Int (pos key.number) ∷ [])) 2 db found → ShowBody (body_at b key.sender key.number) found
+transmission_shows_by b db has key found lists = shows (body_at b key.sender key.number) (transmission_listed b db has key found lists)
   where
     shows : (kept : Option (List ℕ)) → found ≡ row_of_some (transmission_row key) kept → ShowBody kept found
     shows None e = inl (e, refl)
     shows (Some body) e = inr (key.sender, key.number, body, e, refl)
+
+pub transmission_shows : (o : Office) (b : Book) (db : Trees) → HoldsBook o b db → (key : TransmissionKey) (found : List Row) → Lists layout.transmissions (has_key (Text key.sender ∷ Int (pos key.number) ∷ [])) 2 db found → ShowBody (body_at b key.sender key.number) found
+transmission_shows o b db holds key found lists = transmission_shows_by b db holds.kept.transmissions key found lists
 
 ok_of : {A E : Type 0} (x y : A) → ◌≡◌ {A = Result A E} (Ok x) (Ok y) → x ≡ y
 ok_of x y e = cc

@@ -3,6 +3,7 @@ pub mod BookLemmas
 pub mod Growth
 pub mod LineRows
 pub mod AskLemmas
+pub mod AuditStart
 pub mod QuestionLemmas
 mod Worked
 pub mod Equals
@@ -59,3 +60,12 @@ pub mod OneListing
 pub mod PoolsAgain
 pub mod OrdersAgain
 pub mod PoolsWhole
+pub mod EntryBooks
+pub mod EntryRows
+pub mod EntrySenders
+pub mod AloneReads
+pub mod LineAudits
+pub mod WorksHeld
+pub mod SenderLists
+pub mod LineWrites
+pub mod Mixed

@@ -357,13 +357,14 @@ pub all_tested : (s w : List ℕ) (rows : List Row) → AllByRecursion HasTexts 
 all_tested s w [] h = tt
 all_tested s w (row ∷ rows) h = (tested s w row h.0, all_tested s w rows h.1)
 
+-- what a sender's transmissions tell of versions begins with two texts
+pub texts_told : (o : Office) (b : Book) (q : List ℕ) → AllByRecursion HasTexts (told_to_front tells_version o b q)
+texts_told o b q = subst (AllByRecursion HasTexts) (sym (told_line o b q (front b q))) (rows_texts q (placed_line (line_to o b q (front b q))))
+
 module _ (o : Office) (b : Book) (db : Trees) (holds : HoldsBook o b db) (s w : List ℕ) where
   -- the sender's line up to its front
   abbrev pub line_at_front : List Placed
   line_at_front = placed_line (line_to o b s (front b s))
-
-  pub told_all : (q : List ℕ) → AllByRecursion HasTexts (told_to_front tells_version o b q)
-  told_all q = subst (AllByRecursion HasTexts) (sym (told_line o b q (front b q))) (rows_texts q (placed_line (line_to o b q (front b q))))
 
   -- what is found is the row of the last version of the work at the front
   pub last_found : IsBack w → (found : List Row) → IsFirstOf layout.versions (has_key (Text s ∷ Text (without_trailing_blanks w) ∷ [])) 3 db found →
@@ -371,7 +372,7 @@ module _ (o : Office) (b : Book) (db : Trees) (holds : HoldsBook o b db) (s w : 
   last_found back found is =
       let all = line_back o b s (front b s) in
       let rows = rows_in layout.versions db in
-      let texts = all_rows is_named (text_at 0) (λ r. (bytes_eq-Decides (text_at 0 r) (text_at 0 r)).1 refl) HasTexts (told_to_front tells_version o b) rows holds.derived.versions told_all in
+      let texts = all_rows is_named (text_at 0) (λ r. (bytes_eq-Decides (text_at 0 r) (text_at 0 r)).1 refl) HasTexts (told_to_front tells_version o b) rows holds.derived.versions (texts_told o b) in
       let same : filter (has_key (Text s ∷ Text (without_trailing_blanks w) ∷ [])) rows ≡ filter (is_of_work w) (filter (is_named s) rows) =
       filter_same (has_key (Text s ∷ Text (without_trailing_blanks w) ∷ [])) (λ row. is_named s row && is_of_work w row) rows (all_tested s w rows texts) ∙ filter_both (is_named s) (is_of_work w) rows in
       let told : told_to_front tells_version o b s ≡ version_rows s line_at_front = told_line o b s (front b s) in

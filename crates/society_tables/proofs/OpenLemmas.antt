@@ -92,6 +92,32 @@ inspected_then {X} {Y} {D} {E} old mid new x r Found IsFound Then settled first 
     on_answered (Ok y) clean is_open = first.was_open (clean_mid clean) is_open
     on_answered (Err fault) clean h = tt
 
+-- a question after others, whatever these came to
+pub inspected_after : {X Y D E : Type 0} (old mid new : State) (q : Result X D) (r : Result Y E) (Found : Trees → X → Type 0) (IsFound : Trees → Y → Type 0) → (IsTrue old.is_open → old.now ≡ old.committed) → Inspects old mid q Found → Inspects mid new r IsFound → Inspects old new r IsFound
+inspected_after {X} {Y} {D} {E} old mid new q r Found IsFound settled first second = record {
+  found = λ clean has. on_found r clean has (second.answered clean) (second.found clean);
+  answered = λ clean. on_answered r clean (second.answered clean);
+  was_open = λ clean is_open. first.was_open (clean_mid clean) (second.was_open clean is_open);
+  undone = λ clean is_open.
+      let before = first.undone (clean_mid clean) (second.was_open clean is_open) in
+      let after = second.undone clean is_open in
+      (after.0 ∙ before.1, after.1 ∙ before.1);
+  survives = survives_then old mid new (λ _. ⊥) (λ _. ⊥) (λ _. ⊥) (λ clean db never. never) (λ clean db never. never) first.survives second.survives;
+}
+  where
+    clean_mid : HasCleanDisk new → HasCleanDisk mid
+    clean_mid clean = (let fell = second.survives.clean in omega (clean, fell, arith))
+
+    on_found : (z : Result Y E) → HasCleanDisk new → HasLayout old.now → OnOk z (IsTrue mid.is_open) → (HasLayout mid.now → IfOk z (IsFound mid.now.trees)) → IfOk z (IsFound old.now.trees)
+    on_found (Ok y) clean has is_open found =
+        let same : mid.now ≡ old.now = (first.undone (clean_mid clean) is_open).0 ∙ sym (settled (first.was_open (clean_mid clean) is_open)) in
+        subst (λ (db : Database). IsFound db.trees y) same (found (subst HasLayout (sym same) has))
+    on_found (Err fault) clean has is_open found = tt
+
+    on_answered : (z : Result Y E) → HasCleanDisk new → OnOk z (IsTrue mid.is_open) → OnOk z (IsTrue old.is_open)
+    on_answered (Ok y) clean is_open = first.was_open (clean_mid clean) is_open
+    on_answered (Err fault) clean h = tt
+
 -- what is found says also what follows from it
 pub as_inspected : {X E : Type 0} (old new : State) (r : Result X E) (Found IsFound : Trees → X → Type 0) → Inspects old new r Found → ((x : X) → Found old.now.trees x → IsFound old.now.trees x) → Inspects old new r IsFound
 as_inspected old new (Ok x) Found IsFound first finds = then_inspected old new x (Ok x) Found IsFound first (finds x)

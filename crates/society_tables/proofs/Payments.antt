@@ -15,14 +15,14 @@ use Rattle.std.specs.List.{list_all}
 use Rattle.work_ids.specs.Numbers.{is_pool_number}
 use Rattle.society_rows.specs.declared.fault.RowFault.{RowFault}
 use Rattle.sqlite_trees.specs.Tree.{Trees}
-use Rattle.society_tables.specs.Kept.{HoldsBook}
+use Rattle.society_tables.specs.Auditing.{HoldsWorks}
 use Rattle.society_tables.proofs.PoolWrites.{take_next}
 
 -- what a return adds to a tally, by an answer that may be an error
 pub counted_by : (r : Result (Unit {0}) RowFault) (db : Trees) (old new : Tally) (rows : Book → List Performance)
-    → ((o : Office) (b : Book) (before : List Performance) → HoldsBook o b db → length before ≤ 9990000 → Tallies old before → OnOk r (Tallies new (before ++ rows b)))
-    → ((o : Office) (b : Book) → HoldsBook o b db → OnOk r (length (rows b) ≤ 10000))
-    → IfOk r (λ _. (o : Office) (b : Book) (before : List Performance) → HoldsBook o b db → length before ≤ 9990000 → Tallies old before → Tallies new (before ++ rows b) × (length (rows b) ≤ 10000))
+    → ((o : Office) (b : Book) (before : List Performance) → HoldsWorks o b db → length before ≤ 9990000 → Tallies old before → OnOk r (Tallies new (before ++ rows b)))
+    → ((o : Office) (b : Book) → HoldsWorks o b db → OnOk r (length (rows b) ≤ 10000))
+    → IfOk r (λ _. (o : Office) (b : Book) (before : List Performance) → HoldsWorks o b db → length before ≤ 9990000 → Tallies old before → Tallies new (before ++ rows b) × (length (rows b) ≤ 10000))
 counted_by (Ok x) db old new rows counts few = λ o b before holds short tallied. (counts o b before holds short tallied, few o b holds)
 counted_by (Err e) db old new rows counts few = tt
 

@@ -68,7 +68,7 @@ module _ {K : Type 0} (is_of : K → Row → Bool) (key_of : Row → K) (own : (
   pub all_rows : (expected : K → List Row) (rows : List Row) → HasRows is_of expected rows → ((q : K) → AllByRecursion P (expected q)) → AllByRecursion P rows
   all_rows expected rows has good = each rows (λ q. all-permutation P (expected q) (filter (is_of q) rows) (has q) (good q))
 
-abbrev first_value : {K X : Type 0} → (Row → K × X) → List Row → Option X
+abbrev pub first_value : {K X : Type 0} → (Row → K × X) → List Row → Option X
 first_value entry [] = None
 first_value entry (r ∷ rows) = Some (entry r).1
 
@@ -78,7 +78,7 @@ module _ {K X : Type 0} {R : K → K → Ordering} (total : IsTotalOrder R) (exa
   found_here false r rows o e = e
 
   -- the first entry at a key is that of the first row of the key
-  found_first : (q : K) (rows : List Row) → find R q (map entry rows) ≡ first_value entry (filter (is_of q) rows)
+  pub found_first : (q : K) (rows : List Row) → find R q (map entry rows) ≡ first_value entry (filter (is_of q) rows)
   found_first q [] = refl
   found_first q (r ∷ rows) =
       ap (λ b. cond b (Some (entry r).1) (find R q (map entry rows))) (agrees q r) ∙ found_here (is_of q r) r (filter (is_of q) rows) (find R q (map entry rows)) (found_first q rows)

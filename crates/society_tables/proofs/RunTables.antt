@@ -76,7 +76,7 @@ abbrev pub front_row : Office → Book → List ℕ → Row
 front_row office book sender = Text sender ∷ Int (pos (front book sender)) ∷ Int (pos (works_to office book sender)) ∷ []
 
 -- rows that are all named after one sender
-abbrev AreOf : List ℕ → List Row → Type 0
+abbrev pub AreOf : List ℕ → List Row → Type 0
 AreOf s rows = AllByRecursion (λ row. text_at 0 row ≡ s) rows
 
 -- a way of telling whose rows are named after their sender
@@ -92,7 +92,7 @@ from_named tells names s n p [] vs = tt
 from_named tells names s n p (x ∷ xs) [] = tt
 from_named tells names s n p (x ∷ xs) (v ∷ vs) = both_of s (tells s n p x v) (told_from tells s n (p + 1) xs vs) (names s n p x v) (from_named tells names s n (p + 1) xs vs)
 
-told_named : (tells : Telling) → Names tells → (o : Office) (b : Book) (s : List ℕ) (ks : List ℕ) → AreOf s (flat_map (told_by tells o b s) ks)
+pub told_named : (tells : Telling) → Names tells → (o : Office) (b : Book) (s : List ℕ) (ks : List ℕ) → AreOf s (flat_map (told_by tells o b s) ks)
 told_named tells names o b s [] = tt
 told_named tells names o b s (k ∷ ks) =
     both_of s (told_by tells o b s k) (flat_map (told_by tells o b s) ks)
@@ -100,7 +100,7 @@ told_named tells names o b s (k ∷ ks) =
     (told_named tells names o b s ks)
 
 -- of rows that are all named after one sender another has none
-of_one : (s : List ℕ) (rows : List Row) → AreOf s rows → (t : List ℕ) → filter (is_named t) rows ≡ cond (bytes_eq s t) rows []
+pub of_one : (s : List ℕ) (rows : List Row) → AreOf s rows → (t : List ℕ) → filter (is_named t) rows ≡ cond (bytes_eq s t) rows []
 of_one s [] all t = neither (bytes_eq s t)
   where
     neither : (x : Bool) → ◌≡◌ {A = List Row} [] (cond x [] [])
@@ -114,11 +114,11 @@ of_one s (row ∷ rows) all t =
     by_case true = refl
     by_case false = refl
 
-names_verdict : Names tells_verdict
+pub names_verdict : Names tells_verdict
 names_verdict s n p x (Rejected fault) = (refl, tt)
 names_verdict s n p x (Accepted ordinal revision) = (refl, tt)
 
-names_version : Names tells_version
+pub names_version : Names tells_version
 names_version s n p x (Rejected fault) = tt
 names_version s n p x (Accepted ordinal revision) = (refl, tt)
 
@@ -126,7 +126,7 @@ recordings_named : (s : List ℕ) (x : Transaction) (revision : ℕ) (isrcs : Li
 recordings_named s x revision [] = tt
 recordings_named s x revision (isrc ∷ isrcs) = (refl, recordings_named s x revision isrcs)
 
-names_recordings : Names tells_recordings
+pub names_recordings : Names tells_recordings
 names_recordings s n p x (Rejected fault) = tt
 names_recordings s n p x (Accepted ordinal revision) = recordings_named s x revision (ascending bytes_cmp (isrcs_of x))
 

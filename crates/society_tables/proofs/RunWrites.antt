@@ -20,21 +20,21 @@ KeptBut a old new t = t.tree ≢ a.tree → new t.tree ≡ old t.tree
 abbrev KeptOfLine : Trees → Trees → Table → Type 0
 KeptOfLine old new t = t.tree ≢ layout.transmissions.tree → t.tree ≢ layout.fronts.tree → new t.tree ≡ old t.tree
 
-abbrev KeptOfTold : Trees → Trees → Table → Type 0
+abbrev pub KeptOfTold : Trees → Trees → Table → Type 0
 KeptOfTold old new t = t.tree ≢ layout.verdicts.tree → t.tree ≢ layout.versions.tree → t.tree ≢ layout.recordings.tree → new t.tree ≡ old t.tree
 
 abbrev KeptOfRun : Trees → Trees → Table → Type 0
 KeptOfRun old new t = t.tree ≢ layout.transmissions.tree → t.tree ≢ layout.fronts.tree → t.tree ≢ layout.verdicts.tree → t.tree ≢ layout.versions.tree → t.tree ≢ layout.recordings.tree → new t.tree ≡ old t.tree
 
 -- what holds of the tables of a sender's line
-record EachOf (P : Table → Type 0) : Type 0 where
+pub record EachOf (P : Table → Type 0) : Type 0 where
   pub transmissions : P layout.transmissions
   pub fronts : P layout.fronts
   pub verdicts : P layout.verdicts
   pub versions : P layout.versions
   pub recordings : P layout.recordings
 
-each_of : (P : Table → Type 0) → AllByRecursion P all_tables → EachOf P
+pub each_of : (P : Table → Type 0) → AllByRecursion P all_tables → EachOf P
 unfolding all_tables written_out
 each_of P all = record {
   transmissions = all.1.0;

@@ -21,7 +21,7 @@ use Rattle.society_rows.specs.TableNames.{table_called}
 use Rattle.society_rows.specs.declared.tables.TableName.{TableName}
 
 -- the rows of each key are the same along the order of a table
-has_rows : {K : Type 0} (is_of : K → Row → Bool) (expected : K → List Row) (one two : List Row) → HasRows is_of expected one → IsPermutation one two → HasRows is_of expected two
+pub has_rows : {K : Type 0} (is_of : K → Row → Bool) (expected : K → List Row) (one two : List Row) → HasRows is_of expected one → IsPermutation one two → HasRows is_of expected two
 has_rows is_of expected one two has same q = IsPermutation-trans (expected q) (filter (is_of q) one) (filter (is_of q) two) (has q) (IsPermutation-filter (is_of q) one two same)
 
 pub holds_as : (o : Office) (b : Book) (one two : Trees) → HoldsBook o b one → Agree every_name one two → AreNumbered layout.fronts two × AreNumbered layout.balances two → HoldsBook o b two

@@ -13,6 +13,7 @@ use Rattle.society_core.specs.Book.{Book, order_at, with_pool}
 use Rattle.society_core.specs.Candidates.{ReachesCut}
 use Rattle.society_core.specs.Orders.{Order}
 use Rattle.society_core.specs.Pools.{credits_of}
+use Rattle.society_tables.specs.Auditing.{HoldsWorks}
 use Rattle.society_tables.specs.DerivedRows.{balance_rows_by}
 use Rattle.society_tables.specs.Kept.{HoldsBook}
 use Rattle.society_tables.specs.Shown.{AddsEach, Closes}
@@ -47,9 +48,9 @@ abbrev pub ClosesWith : ℕ → Order → List Credit → Database → Database 
 ClosesWith pool order credits old new =
     Closes pool order credits old.trees new.trees × (mid : Database) × (mid.trees layout.balances.tree ≡ old.trees layout.balances.tree) × (totals : List Credit) × ComeToTheSame totals credits × AddsEach totals mid new
 
--- the tables of an office that hold a book in which the cut of an order is reached pay these credits by it
+-- tables that have what a pool is paid by, of a book in which the cut of an order is reached, pay these credits by it
 abbrev pub PaysBy : Office → Order → Trees → List Credit → Type 0
-PaysBy office order db credits = (book : Book) → HoldsBook office book db → ReachesCut book order → credits ≡ credits_of office book order
+PaysBy office order db credits = (book : Book) → HoldsWorks office book db → ReachesCut book order → credits ≡ credits_of office book order
 
 -- tables of an office that held a book in which a pool is not closed, and in which nothing refuses its order, hold the book with the pool
 abbrev pub ClosesPool : Office → ℕ → Order → Trees → Trees → Type 0

@@ -12,3 +12,4 @@ pub mod Laws
 pub mod CutWorks
 pub mod Opening
 pub mod Rebuilding
+pub mod Auditing

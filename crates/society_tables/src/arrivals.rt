@@ -174,7 +174,7 @@ fn add_works<S: Alter>(
 }
 
 /// Adds verdicts, versions and recordings.
-fn add_told<S: Alter>(
+pub(crate) fn add_told<S: Alter>(
     tx: &mut Transaction<'_, S>,
     verdicts: &[VerdictRow<'_>],
     versions: &[VersionRow<'_>],

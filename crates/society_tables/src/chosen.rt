@@ -10,7 +10,7 @@ ghost use Rattle.society_core.specs.Owners.{is_at};
 ghost use Rattle.society_core.specs.declared.transmission_key.TransmissionKey.{TransmissionKey as KeyValue};
 ghost use Rattle.society_tables.specs.Columns.{number_at};
 ghost use Rattle.society_tables.specs.CutWorks.{Chooses, chosen_at};
-ghost use Rattle.society_tables.specs.Kept.{HoldsBook};
+ghost use Rattle.society_tables.specs.Auditing.{HoldsWorks};
 ghost use Rattle.society_tables.specs.Shown.{version_shown};
 ghost use Rattle.society_tables.specs.Steps.{Looks};
 
@@ -46,7 +46,7 @@ fn version_at<S: Alter>(
 ) -> Result<Option<WorkVersion>, RowFault>
     ensures same_reference { tx.new.conn.ghost_name ≡ tx.old.conn.ghost_name }
     ensures looks { Looks (state S.Store tx.old.conn.now) (state S.Store tx.new.conn.now) result
-        (λ db version. (office : OfficeValue) (book : Book) → HoldsBook office book db → key.now.number ≤ front book key.now.sender
+        (λ db version. (office : OfficeValue) (book : Book) → HoldsWorks office book db → key.now.number ≤ front book key.now.sender
         → version ≡ version_in office book key.now.sender work.now key.now.number) }
 {
     let rows = answer(
@@ -123,7 +123,7 @@ fn choose_work<S: Alter>(
 ) -> Result<(), RowFault>
     ensures same_reference { tx.new.conn.ghost_name ≡ tx.old.conn.ghost_name }
     ensures looks { Looks (state S.Store tx.old.conn.now) (state S.Store tx.new.conn.now) result
-        (λ db _. (office : OfficeValue) (book : Book) (known : List ℕ → Bool) → HoldsBook office book db → key.now.number ≤ front book key.now.sender
+        (λ db _. (office : OfficeValue) (book : Book) (known : List ℕ → Bool) → HoldsWorks office book db → key.now.number ≤ front book key.now.sender
         → Chooses office book key.now known chosen.old → Chooses office book key.now (λ other. known other || bytes_eq work.now other) chosen.new) }
 {
     let version = version_at(tx, key, work)?;
@@ -140,7 +140,7 @@ pub(crate) fn chosen_of<S: Alter>(
 ) -> Result<Chosen, RowFault>
     ensures same_reference { tx.new.conn.ghost_name ≡ tx.old.conn.ghost_name }
     ensures looks { Looks (state S.Store tx.old.conn.now) (state S.Store tx.new.conn.now) result
-        (λ db chosen. (office : OfficeValue) (book : Book) → HoldsBook office book db → key.now.number ≤ front book key.now.sender
+        (λ db chosen. (office : OfficeValue) (book : Book) → HoldsWorks office book db → key.now.number ≤ front book key.now.sender
         → Chooses office book key.now (λ work. list_any (bytes_eq work) works.now) chosen) }
 {
     let mut chosen = Chosen::new(alloc);

@@ -1,5 +1,5 @@
 //! Tables beside those of another database.
-ghost use Rattle.std.specs.Prelude.{◌≡◌, IfErr, IfOk, IsTrue, IsPermutation, ⊤, false, true};
+ghost use Rattle.std.specs.Prelude.{◌∷◌, ◌≡◌, IfErr, IfOk, IsTrue, IsPermutation, ⊤, false, true};
 ghost use Rattle.sqlite.specs.Held.{state};
 ghost use Rattle.sqlite.specs.State.{HasCleanDisk};
 ghost use Rattle.sqlite.specs.Steps.{over_memory};
@@ -9,6 +9,7 @@ ghost use Rattle.society_rows.specs.Questions.{Asks};
 ghost use Rattle.society_rows.specs.Reads.{Lists};
 ghost use Rattle.society_rows.specs.Stored.{HasLayout, rows_in};
 ghost use Rattle.society_rows.specs.TableNames.{listing_width, table_called};
+ghost use Rattle.society_rows.specs.declared.tables.TableName.TheVariants as name;
 ghost use Rattle.society_tables.specs.Opening.{Agree, Inspects, every_name};
 ghost use Rattle.society_tables.specs.Kept.{HoldsBook};
 ghost use Rattle.society_tables.specs.Rebuilding.{IsAside, Passes, ShowsBook};
@@ -115,7 +116,7 @@ fn are_same_rows(rows: &[Row], others: &[Row]) -> bool
 }
 
 /// That a table has the rows that it has in memory; else `Damaged`.
-fn table_agrees<S: Alter>(
+pub(crate) fn table_agrees<S: Alter>(
     conn: &mut Connection<S>,
     memory: &mut Connection<MemStore>,
     table: TableName,
@@ -139,6 +140,30 @@ fn table_agrees<S: Alter>(
     }
 }
 
+/// That the table of the office and these have the rows that they have in memory; else `Damaged`.
+pub(crate) fn named_agree<S: Alter>(
+    conn: &mut Connection<S>,
+    memory: &mut Connection<MemStore>,
+    tables: &[TableName],
+) -> Result<(), AuditFault>
+    requires ours { conn.old.in_transaction ≡ false }
+    requires theirs { memory.old.in_transaction ≡ false }
+    ensures agree { Inspects (state S.Store conn.old) (state S.Store conn.new) result
+        (λ db _. HasLayout (state over_memory memory.old).now → Agree (name.Office ∷ tables.now) (state over_memory memory.old).now.trees db) }
+    ensures same { (state over_memory memory.new).now ≡ (state over_memory memory.old).now }
+    ensures passes { (o : OfficeValue) → (b : Book) → HasCleanDisk (state S.Store conn.new) → ShowsBook o b (state S.Store conn.old) → HasLayout (state over_memory memory.old).now
+        → HoldsBook o b (state over_memory memory.old).now.trees → Passes result (λ _. ⊤) }
+    ensures idle { conn.new.in_transaction ≡ false }
+    ensures idle_memory { memory.new.in_transaction ≡ false }
+{
+    let _settled = conn.is_autocommit();
+    table_agrees(conn, memory, TableName::Office)?;
+    for table in tables {
+        table_agrees(conn, memory, *table)?;
+    }
+    Ok(())
+}
+
 /// That each table has the rows that it has in memory; else `Damaged`.
 pub(crate) fn tables_agree<S: Alter>(
     conn: &mut Connection<S>,
@@ -152,10 +177,5 @@ pub(crate) fn tables_agree<S: Alter>(
         → HoldsBook o b (state over_memory memory.old).now.trees → Passes result (λ _. ⊤) }
     ensures idle { conn.new.in_transaction ≡ false }
 {
-    let _settled = conn.is_autocommit();
-    table_agrees(conn, memory, TableName::Office)?;
-    for table in OTHER_TABLES {
-        table_agrees(conn, memory, table)?;
-    }
-    Ok(())
+    named_agree(conn, memory, &OTHER_TABLES)
 }

@@ -9,7 +9,7 @@ ghost use Rattle.society_core.specs.Candidates.{Adds, ReachesCut, StandFor, tran
 ghost use Rattle.society_core.specs.Owners.{versions_at_cut, versions_of_transmission, works_of_cut};
 ghost use Rattle.society_core.specs.Points.{is_tallied};
 ghost use Rattle.society_tables.specs.CutWorks.{ChoosesNaming, NotesRecordings, is_chosen, notes_of_sender, works_chosen};
-ghost use Rattle.society_tables.specs.Kept.{HoldsBook};
+ghost use Rattle.society_tables.specs.Auditing.{HoldsWorks};
 ghost use Rattle.society_tables.specs.Shown.{ShowBody};
 ghost use Rattle.society_tables.specs.Steps.{Looks};
 
@@ -166,7 +166,7 @@ fn add_transmission<S: Alter>(
 ) -> Result<(), RowFault>
     ensures same_reference { tx.new.conn.ghost_name ≡ tx.old.conn.ghost_name }
     ensures looks { Looks (state S.Store tx.old.conn.now) (state S.Store tx.new.conn.now) result
-        (λ db _. (book : Book) → HoldsBook office.now book db → number ≤ key.now.number → ChoosesNaming office.now book key.now (is_tallied tally.now) chosen.now
+        (λ db _. (book : Book) → HoldsWorks office.now book db → number ≤ key.now.number → ChoosesNaming office.now book key.now (is_tallied tally.now) chosen.now
         → Adds office.now (is_tallied tally.now) (versions_of_transmission office.now book key.now number (transactions_sent book key.now.sender number)) candidates.old.items candidates.new.items) }
 {
     if !chosen.has_transmission(number) {
@@ -200,7 +200,7 @@ fn add_transmissions<S: Alter>(
 ) -> Result<(), RowFault>
     ensures same_reference { tx.new.conn.ghost_name ≡ tx.old.conn.ghost_name }
     ensures looks { Looks (state S.Store tx.old.conn.now) (state S.Store tx.new.conn.now) result
-        (λ db _. (book : Book) → HoldsBook office.now book db → ChoosesNaming office.now book key.now (is_tallied tally.now) chosen.now
+        (λ db _. (book : Book) → HoldsWorks office.now book db → ChoosesNaming office.now book key.now (is_tallied tally.now) chosen.now
         → Adds office.now (is_tallied tally.now) (versions_at_cut office.now book key.now) candidates.old.items candidates.new.items) }
 {
     // Numbers alone are gone over; a body is read only where one of its transactions is chosen.
@@ -225,7 +225,7 @@ fn add_sender<S: Alter>(
 ) -> Result<(), RowFault>
     ensures same_reference { tx.new.conn.ghost_name ≡ tx.old.conn.ghost_name }
     ensures looks { Looks (state S.Store tx.old.conn.now) (state S.Store tx.new.conn.now) result
-        (λ db _. (book : Book) → HoldsBook office.now book db → NotesRecordings db (is_tallied tally.now) named.now → notes_of_sender named.now key.now.sender ≡ true → key.now.number ≤ front book key.now.sender
+        (λ db _. (book : Book) → HoldsWorks office.now book db → NotesRecordings db (is_tallied tally.now) named.now → notes_of_sender named.now key.now.sender ≡ true → key.now.number ≤ front book key.now.sender
         → Adds office.now (is_tallied tally.now) (versions_at_cut office.now book key.now) candidates.old.items candidates.new.items) }
 {
     let works = named.works_of(alloc, &key.sender)?;
@@ -244,7 +244,7 @@ fn candidates_of<S: Alter>(
 ) -> Result<Vec<Candidate>, RowFault>
     ensures same_reference { tx.new.conn.ghost_name ≡ tx.old.conn.ghost_name }
     ensures looks { Looks (state S.Store tx.old.conn.now) (state S.Store tx.new.conn.now) result
-        (λ db candidates. (book : Book) → HoldsBook office.now book db → NotesRecordings db (is_tallied tally.now) named.now
+        (λ db candidates. (book : Book) → HoldsWorks office.now book db → NotesRecordings db (is_tallied tally.now) named.now
         → list_all (λ key. notes_of_sender named.now key.sender) cut.now ≡ true → list_all (λ key. nat_le key.number (front book key.sender)) cut.now ≡ true
         → StandFor office.now (is_tallied tally.now) (flat_map (versions_at_cut office.now book) cut.now) candidates.items) }
 {
@@ -265,7 +265,7 @@ pub(crate) fn candidates_in<S: Alter>(
 ) -> Result<Vec<Candidate>, RowFault>
     ensures same_reference { tx.new.conn.ghost_name ≡ tx.old.conn.ghost_name }
     ensures looks { Looks (state S.Store tx.old.conn.now) (state S.Store tx.new.conn.now) result
-        (λ db candidates. (book : Book) → HoldsBook office.now book db → ReachesCut book order.now
+        (λ db candidates. (book : Book) → HoldsWorks office.now book db → ReachesCut book order.now
         → StandFor office.now (is_tallied tally.now) (works_of_cut office.now book order.now) candidates.items) }
 {
     let recordings = tally.recordings(alloc)?;

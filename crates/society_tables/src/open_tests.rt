@@ -1,6 +1,8 @@
 //! Databases that are opened as the tables of an office.
 ghost use Rattle.std.specs.Prelude.{◌≡◌, IfOk, false};
 
+use crate::audit_fault::AuditFault;
+use crate::confirming::confirm;
 use crate::samples::REGISTERED;
 use crate::{OpenFault, Tables};
 use share_rules::Office;
@@ -79,6 +81,18 @@ fn fault_after(alloc: Global, change: &str, society: u16) -> Result<Option<OpenF
     }
 }
 
+/// Whether a database is confirmed with a body in memory at a time.
+fn is_confirmed(alloc: Global, conn: &mut Connection<MemStore>, society: u16) -> Result<bool, Fail>
+    requires { conn.old.in_transaction ≡ false }
+    ensures { conn.new.in_transaction ≡ false }
+{
+    match confirm(alloc, conn, &office(society)?) {
+        Ok(()) => Ok(true),
+        Err(AuditFault::Damaged) => Ok(false),
+        Err(AuditFault::Memory | AuditFault::Store) => Err(Fail::new("a reading")),
+    }
+}
+
 #[test]
 fn a_database_opens_as_it_was_left(rt: HostRuntime) -> Result<(), Fail> {
     let Ok(mut tables) = Tables::open(rt.alloc(), filled(rt.alloc())?, &office(900)?) else {
@@ -98,6 +112,17 @@ fn a_database_opens_as_it_was_left(rt: HostRuntime) -> Result<(), Fail> {
             .balance(rt.alloc(), &account)
             .is_ok_and(|units| units > 0)
     );
+    Ok(())
+}
+
+#[test]
+fn a_sound_database_is_confirmed_with_a_body_in_memory_at_a_time(
+    rt: HostRuntime,
+) -> Result<(), Fail> {
+    let mut conn = filled(rt.alloc())?;
+    assert!(rt; is_confirmed(rt.alloc(), &mut conn, 900)?);
+    assert!(rt; !is_confirmed(rt.alloc(), &mut conn, 901)?);
+    assert!(rt; is_confirmed(rt.alloc(), &mut conn, 900)?);
     Ok(())
 }
 

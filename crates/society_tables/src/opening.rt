@@ -18,6 +18,7 @@ ghost use Rattle.society_tables.specs.declared.open_fault.OpenFault.TheVariants.
 
 use crate::audit_fault::AuditFault;
 use crate::comparing::{listed, tables_agree};
+use crate::confirming::confirm;
 use crate::rebuilding::rebuild;
 use crate::{OpenFault, Tables};
 use share_rules::Office;
@@ -117,8 +118,8 @@ fn agrees_with<S: Alter>(
     tables_agree(conn, &mut memory)
 }
 
-/// That the tables hold what their own rows make of an empty book.
-fn holds_own<S: Alter>(
+/// That the tables hold what their own rows make of an empty book, worked out with all of it in memory.
+fn holds_rebuilt<S: Alter>(
     alloc: Global,
     conn: &mut Connection<S>,
     office: &Office,
@@ -132,6 +133,28 @@ fn holds_own<S: Alter>(
     let _settled = conn.is_autocommit();
     let tables = rebuild(alloc, conn, office)?;
     agrees_with(conn, tables)
+}
+
+/// That the tables hold what their own rows make of an empty book: confirmed with one body in memory at a time, and where that
+/// confirms nothing, worked out anew before they are told as damaged.
+fn holds_own<S: Alter>(
+    alloc: Global,
+    conn: &mut Connection<S>,
+    office: &Office,
+) -> Result<(), AuditFault>
+    requires { conn.old.in_transaction ≡ false }
+    ensures agree { Inspects (state S.Store conn.old) (state S.Store conn.new) result
+        (λ db _. AreNumbered fronts db × AreNumbered balances db → HoldsOne office.now db) }
+    ensures passes { (b : Book) → HasCleanDisk (state S.Store conn.new) → IsSound b → ShowsBook office.now b (state S.Store conn.old) → Passes result (λ _. ⊤) }
+    ensures idle { conn.new.in_transaction ≡ false }
+{
+    let _settled = conn.is_autocommit();
+    match confirm(alloc, conn, office) {
+        Ok(()) => Ok(()),
+        Err(AuditFault::Damaged) => holds_rebuilt(alloc, conn, office),
+        Err(AuditFault::Memory) => Err(AuditFault::Memory),
+        Err(AuditFault::Store) => Err(AuditFault::Store),
+    }
 }
 
 /// That the tables hold what their own rows make of an empty book, and can be written.

@@ -11,7 +11,7 @@ ghost use Rattle.society_core.specs.Owners.{works_of_cut};
 ghost use Rattle.society_core.specs.Points.{Tallies, is_tallied, rows_named};
 ghost use Rattle.society_core.specs.Pools.{credits_of};
 ghost use Rattle.society_tables.specs.Closings.{ClosesPool, PaysBy};
-ghost use Rattle.society_tables.specs.Kept.{HoldsBook};
+ghost use Rattle.society_tables.specs.Auditing.{HoldsWorks};
 ghost use Rattle.society_tables.specs.Shown.{AddsAlone, ShowBody};
 ghost use Rattle.society_tables.specs.Steps.{DoesOpen, Looks};
 
@@ -53,7 +53,7 @@ fn add_return<S: Alter>(
 ) -> Result<(), RowFault>
     ensures same_reference { tx.new.conn.ghost_name ≡ tx.old.conn.ghost_name }
     ensures looks { Looks (state S.Store tx.old.conn.now) (state S.Store tx.new.conn.now) result
-        (λ db _. (office : OfficeValue) (book : Book) (before : List Played) → HoldsBook office book db → length before ≤ 9990000 → Tallies tally.old before
+        (λ db _. (office : OfficeValue) (book : Book) (before : List Played) → HoldsWorks office book db → length before ≤ 9990000 → Tallies tally.old before
         → Tallies tally.new (before ++ rows_of_return book key.now) × (length (rows_of_return book key.now) ≤ 10000)) }
 {
     let rows = answer(
@@ -71,7 +71,7 @@ fn tally_of<S: Alter>(
 ) -> Result<Tally, RowFault>
     ensures same_reference { tx.new.conn.ghost_name ≡ tx.old.conn.ghost_name }
     ensures looks { Looks (state S.Store tx.old.conn.now) (state S.Store tx.new.conn.now) result
-        (λ db tally. (office : OfficeValue) (book : Book) → HoldsBook office book db → length returns.now ≤ 1000
+        (λ db tally. (office : OfficeValue) (book : Book) → HoldsWorks office book db → length returns.now ≤ 1000
         → Tallies tally (flat_map (rows_of_return book) returns.now) × (length (flat_map (rows_of_return book) returns.now) ≤ 10000000)) }
 {
     let mut tally = Tally::new(alloc);
@@ -101,7 +101,7 @@ fn credits_by(
 }
 
 /// What an order pays by the tables.
-fn credits_in<S: Alter>(
+pub(crate) fn credits_in<S: Alter>(
     alloc: Global,
     tx: &mut Transaction<'_, S>,
     office: &Office,

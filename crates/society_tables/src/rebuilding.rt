@@ -151,6 +151,29 @@ fn close_with(
     }
 }
 
+/// The number of a pool and its order, out of its row and of the rows of all cuts and of all returns that are paid.
+pub(crate) fn pool_of_row(
+    alloc: Global,
+    row: &Row,
+    cuts: &[Row],
+    paid: &[Row],
+) -> Result<(PoolNumber, PoolOrder), AuditFault>
+    ensures { (b : Book) → IsSound b → (closed : IsClosed b row.now)
+        → HasRows (is_of_pool 0) (cut_rows b) cuts.now → HasRows (is_of_pool 2) (paid_rows b) paid.now
+        → Passes result (λ it. (it.0 ≡ number_at 0 row.now) × (it.1 ≡ closed.order)) }
+{
+    let Ok(row) = PoolRow::from_row(row) else {
+        return Err(AuditFault::Damaged);
+    };
+    let Some(pool) = PoolNumber::from_u32(row.pool) else {
+        return Err(AuditFault::Damaged);
+    };
+    let cut = cut_among(alloc, cuts, row.pool)?;
+    let returns = returns_among(alloc, paid, row.pool)?;
+    let order = order_with(alloc, row.amount, cut.as_slice(), returns.as_slice())?;
+    Ok((pool, order))
+}
+
 /// Closes the pool of a row, with the rows of all cuts and of all returns that are paid.
 fn close_pool(
     alloc: Global,
@@ -165,15 +188,7 @@ fn close_pool(
         → IsUpToPools b (⟦<Tables<MemStore> as Store>⟧.state desk.old).book
         → Passes result (λ _. ClosedOn b (⟦<Tables<MemStore> as Store>⟧.state desk.old).book (number_at 0 row.now) closed.order (⟦<Tables<MemStore> as Store>⟧.state desk.new).book) }
 {
-    let Ok(row) = PoolRow::from_row(row) else {
-        return Err(AuditFault::Damaged);
-    };
-    let Some(pool) = PoolNumber::from_u32(row.pool) else {
-        return Err(AuditFault::Damaged);
-    };
-    let cut = cut_among(alloc, cuts, row.pool)?;
-    let returns = returns_among(alloc, paid, row.pool)?;
-    let order = order_with(alloc, row.amount, cut.as_slice(), returns.as_slice())?;
+    let (pool, order) = pool_of_row(alloc, row, cuts, paid)?;
     close_with(alloc, desk, pool, &order)
 }
 

@@ -17,7 +17,7 @@ use work_ids::TransmissionNumber;
 use works_core::Verdict;
 
 /// The front that the rows of a sender's front show; `Unread` where they are more than one.
-fn shown_front(rows: &[Row]) -> Result<u32, RowFault>
+pub(crate) fn shown_front(rows: &[Row]) -> Result<u32, RowFault>
     ensures { (n : ℕ) → ShowFront n rows.now → IfOk result (λ front. front ≡ n) }
 {
     match rows {

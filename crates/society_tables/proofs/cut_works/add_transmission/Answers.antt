@@ -8,7 +8,7 @@ use Rattle.society_core.specs.Points.{is_tallied}
 use Rattle.society_tables.specs.CutWorks.{works_chosen}
 use Rattle.society_tables.specs.Shown.{ShowBody}
 use Rattle.society_tables.proofs.CutCandidates.{absent_adds, chosen_adds, shown_all}
-use Rattle.society_tables.proofs.KeyRows.{transmission_shows}
+use Rattle.society_tables.proofs.KeyRows.{transmission_shows_by}
 use Rattle.society_tables.proofs.StepLemmas.{looks_as, looks_of, more, nothing}
 use Rattle.society_tables.proofs.cut_works.add_transmission.Goals as goal
 
@@ -31,5 +31,5 @@ returns-clause-looks g c =
     looks_as (state g.S.Store c.args.tx.now.conn.now) (state g.S.Store c.answer.new.tx.conn.now) _ c.add_shown.result _ _ (looks_of _ _ (Ok _) _ (rw (c.as_bytes.ensures.bytes, c.value.ensures.value) at c.in_ok-rows.ensures.read))
     (λ lists. more c.add_shown.result
     (λ y adds b holds within right. chosen_adds o b key of_these chosen right n old_list new_list within
-    (adds (body_at b key.sender n) (subst (ShowBody (body_at b key.sender n)) (sym c.as_slice.ensures.value) (transmission_shows o b _ holds (transmission_key key.sender n) _ lists))))
+    (adds (body_at b key.sender n) (subst (ShowBody (body_at b key.sender n)) (sym c.as_slice.ensures.value) (transmission_shows_by b _ holds.kept.transmissions (transmission_key key.sender n) _ lists))))
     (shown_all c.add_shown.result rows P c.add_shown.ensures))

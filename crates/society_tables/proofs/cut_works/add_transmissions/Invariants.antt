@@ -5,7 +5,7 @@ use Rattle.society_core.specs.Book.{Book}
 use Rattle.society_core.specs.Candidates.{Adds}
 use Rattle.society_core.specs.Points.{is_tallied}
 use Rattle.society_tables.specs.CutWorks.{ChoosesNaming}
-use Rattle.society_tables.specs.Kept.{HoldsBook}
+use Rattle.society_tables.specs.Auditing.{HoldsWorks}
 use Rattle.society_tables.specs.Steps.{Looks}
 use Rattle.society_tables.proofs.cut_works.add_transmissions.Given as goal
 
@@ -14,6 +14,6 @@ abbrev pub invariant-loop-sent : goal.invariant-loop-sent
 invariant-loop-sent g l = record {
   same_reference : l.tx.conn.ghost_name ≡ l.initial.tx.conn.ghost_name;
   looks : Looks {X = Unit {0}} (state g.S.Store l.initial.tx.conn.now) (state g.S.Store l.tx.conn.now) (Ok tt)
-      (λ db _. (book : Book) → HoldsBook l.office book db → ChoosesNaming l.office book l.key (is_tallied l.tally) l.chosen
+      (λ db _. (book : Book) → HoldsWorks l.office book db → ChoosesNaming l.office book l.key (is_tallied l.tally) l.chosen
       → Adds l.office (is_tallied l.tally) (versions_to l.office book l.key l.sent) l.initial.candidates.items l.candidates.items);
 }

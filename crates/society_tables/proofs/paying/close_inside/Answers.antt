@@ -8,6 +8,7 @@ use Rattle.society_core.specs.Pools.{credits_of}
 use Rattle.society_tables.specs.Closings.{ClosesWith}
 use Rattle.society_tables.proofs.Payments.{cut_reached}
 use Rattle.society_tables.proofs.PoolHolds.{pool_holds}
+use Rattle.society_tables.proofs.WorksHeld.{works_of}
 use Rattle.society_tables.proofs.StepLemmas.{does_then_open}
 use Rattle.society_tables.proofs.paying.close_inside.Goals as goal
 
@@ -23,7 +24,7 @@ returns-clause-does g c =
     (λ y pays closes. (
       (λ b holds free unrefused.
           let entry = entry_of_close b pool order (from_one 99999 pool c.value.ensures.limits.0 c.value.ensures.limits.1) unrefused in
-          let same = pays.1 b holds (cut_reached b pool order entry) in
+          let same = pays.1 b (works_of o b old.now.trees holds) (cut_reached b pool order entry) in
           pool_holds o b pool order free entry old.now new.now holds c.in_ok-credits.ensures.kept (no_payer b order unrefused)
           (subst (λ (db : Database). ClosesWith pool order (credits_of o b order) db new.now) pays.0 (subst (λ (cs : List Credit). ClosesWith pool order cs mid.now new.now) same closes))),
       tt,

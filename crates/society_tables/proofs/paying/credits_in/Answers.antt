@@ -8,7 +8,7 @@ use Rattle.society_core.specs.Points.{Tallies, is_tallied, rows_named}
 use Rattle.society_core.specs.Pools.{credits_of}
 use Rattle.society_core.specs.declared.return_key.ReturnKey.{ReturnKey}
 use Rattle.society_tables.specs.Closings.{PaysBy}
-use Rattle.society_tables.specs.Kept.{HoldsBook}
+use Rattle.society_tables.specs.Auditing.{HoldsWorks}
 use Rattle.society_tables.proofs.Payments.{by_each}
 use Rattle.society_tables.proofs.StepLemmas.{looks_as, looks_then}
 use Rattle.society_tables.proofs.paying.credits_in.Goals as goal
@@ -21,7 +21,7 @@ returns-clause-looks g c =
     let old = state g.S.Store c.args.tx.now.conn.now in
     let mid = state g.S.Store c.tally_of.new.tx.conn.now in
     let new = state g.S.Store c.candidates_in.new.tx.conn.now in
-    let Ready : Trees → Book → Type 0 = λ db b. HoldsBook o b db × ReachesCut b order × Tallies tally (rows_named b order) in
+    let Ready : Trees → Book → Type 0 = λ db b. HoldsWorks o b db × ReachesCut b order × Tallies tally (rows_named b order) in
     looks_then old mid new tally c.credits_by.result _ (λ db y. (b : Book) → Ready db b → y.items ≡ credits_of o b order) (λ db y. PaysBy o order db y.items) c.in_ok-tally.ensures.looks
     (looks_as mid new c.in_ok-candidates.candidates c.credits_by.result _ _ c.in_ok-candidates.ensures.looks
     (λ stand. by_each c.credits_by.result (Ready mid.now.trees) (λ b y. y.items ≡ credits_of o b order)

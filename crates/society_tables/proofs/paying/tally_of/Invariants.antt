@@ -4,7 +4,7 @@ use Rattle.sqlite.specs.Held.{state}
 use Rattle.society_core.specs.Book.{Book}
 use Rattle.society_core.specs.Candidates.{rows_of_return}
 use Rattle.society_core.specs.Points.{Tallies}
-use Rattle.society_tables.specs.Kept.{HoldsBook}
+use Rattle.society_tables.specs.Auditing.{HoldsWorks}
 use Rattle.society_tables.specs.Steps.{Looks}
 use Rattle.society_tables.proofs.paying.tally_of.Given as goal
 
@@ -12,6 +12,6 @@ abbrev pub invariant-loop-key : goal.invariant-loop-key
 invariant-loop-key g l = record {
   same_reference : l.tx.conn.ghost_name ≡ l.initial.tx.conn.ghost_name;
   looks : Looks {X = Unit {0}} (state g.S.Store l.initial.tx.conn.now) (state g.S.Store l.tx.conn.now) (Ok tt)
-      (λ db _. (office : Office) (book : Book) → HoldsBook office book db → length l.returns ≤ 1000
+      (λ db _. (office : Office) (book : Book) → HoldsWorks office book db → length l.returns ≤ 1000
       → Tallies l.tally (flat_map (rows_of_return book) (take l.key-index l.returns)) × (length (flat_map (rows_of_return book) (take l.key-index l.returns)) ≤ l.key-index * 10000));
 }

@@ -1,50 +1,14 @@
 -- The pool of a row is closed by the order of its rows, or memory failed.
-use Rattle.std.proofs.Common.{◌≡◌, ◌∙◌, ap, subst, sym}
-use Rattle.std.proofs.lemmas.Bool.{false≢true}
-use Rattle.society_rows.specs.Forms.{IsOfForms, pool_forms}
 use Rattle.society_tables.specs.Columns.{number_at}
-use Rattle.society_tables.proofs.OrdersAgain.{all_cuts, all_paid, amount_in, amount_read, aside_on, faultless_read, not_some, number_of_pool, number_taken, order_read, pool_form, the_same}
+use Rattle.society_tables.proofs.OrdersAgain.{aside_on}
 use Rattle.society_tables.proofs.PoolsAgain.{closed_as}
 use Rattle.society_tables.proofs.rebuilding.close_pool.Goals as goal
 
-pub returns-in_default-clause-passes : goal.returns-in_default-clause-passes
-returns-in_default-clause-passes c b sound closed cuts paid part =
-    absurd (false≢true (c.in_default.ensures.read (subst (IsOfForms pool_forms) (sym closed.form) (pool_form b sound (number_at 0 c.args.row.now) closed.order closed.there))))
-
-pub returns-in_default-from_u32-clause-passes : goal.returns-in_default-from_u32-clause-passes
-returns-in_default-from_u32-clause-passes c b sound closed cuts paid part =
-    let q = number_at 0 c.args.row.now in
-    let taken = number_taken c.in-Ok.row.pool q (ap (number_at 0) c.in-Ok.ensures.value) (number_of_pool b sound q closed.order closed.there) in
-    absurd (not_some q (sym c.in_default-from_u32.is ∙ c.from_u32.ensures ∙ taken))
-
-pub returns-in_err-cut-clause-passes : goal.returns-in_err-cut-clause-passes
-returns-in_err-cut-clause-passes c b sound closed cuts paid part =
-    aside_on c.from_residual.result c.in_err-cut.field-0.0 _ c.from_residual.ensures.1 (c.in_err-cut.ensures (all_cuts b sound c.args.cuts.now cuts))
-
-pub returns-in_err-returns-clause-passes : goal.returns-in_err-returns-clause-passes
-returns-in_err-returns-clause-passes c b sound closed cuts paid part =
-    aside_on c.from_residual-in_err-returns.result c.in_err-returns.field-0.0 _ c.from_residual-in_err-returns.ensures.1 (c.in_err-returns.ensures (all_paid b sound c.args.paid.now paid))
-
-pub returns-in_err-order-clause-passes : goal.returns-in_err-order-clause-passes
-returns-in_err-order-clause-passes c b sound closed cuts paid part =
-    let q = number_at 0 c.args.row.now in
-    let same = ap (number_at 0) c.in-Ok.ensures.value in
-    let amount = amount_read c.in-Ok.row.amount closed.order.amount (ap amount_in (c.in-Ok.ensures.value ∙ closed.form)) (sound.orders q closed.order closed.there).amount in
-    let of_cut = c.as_slice.ensures.value ∙ c.in_ok-cut.ensures (all_cuts b sound c.args.cuts.now cuts) in
-    let of_paid = c.as_slice-2.ensures.value ∙ c.in_ok-returns.ensures (all_paid b sound c.args.paid.now paid) in
-    let faultless = faultless_read b sound q closed.order closed.there c.args.cuts.now c.args.paid.now cuts paid c.in-Ok.row.pool _ _ same of_cut of_paid in
-    aside_on c.from_residual-in_err-order.result c.in_err-order.field-0.0 _ c.from_residual-in_err-order.ensures.1 (c.in_err-order.ensures closed.order.amount amount faultless)
+pub returns-in_err-pool-clause-passes : goal.returns-in_err-pool-clause-passes
+returns-in_err-pool-clause-passes c b sound closed cuts paid part =
+    aside_on c.from_residual.result c.in_err-pool.field-0.0 _ c.from_residual.ensures.1 (c.in_err-pool.ensures b sound closed cuts paid)
 
 pub returns-clause-passes : goal.returns-clause-passes
 returns-clause-passes c b sound closed cuts paid part =
-    let q = number_at 0 c.args.row.now in
-    let same : c.in-Ok.row.pool ≡ q = ap (number_at 0) c.in-Ok.ensures.value in
-    let amount = amount_read c.in-Ok.row.amount closed.order.amount (ap amount_in (c.in-Ok.ensures.value ∙ closed.form)) (sound.orders q closed.order closed.there).amount in
-    let taken = number_taken c.in-Ok.row.pool q same (number_of_pool b sound q closed.order closed.there) in
-    let pool : c.in-Some.pool ≡ q = the_same c.in-Some.pool q (sym c.in-Some.is ∙ c.from_u32.ensures ∙ taken) in
-    let of_cut = c.as_slice.ensures.value ∙ c.in_ok-cut.ensures (all_cuts b sound c.args.cuts.now cuts) in
-    let of_paid = c.as_slice-2.ensures.value ∙ c.in_ok-returns.ensures (all_paid b sound c.args.paid.now paid) in
-    let faultless = faultless_read b sound q closed.order closed.there c.args.cuts.now c.args.paid.now cuts paid c.in-Ok.row.pool _ _ same of_cut of_paid in
-    let made = c.in_ok-order.ensures closed.order.amount amount faultless in
-    let order = made ∙ order_read b sound q closed.order closed.there c.args.cuts.now c.args.paid.now cuts paid c.in-Ok.row.pool _ _ same of_cut of_paid in
-    closed_as b _ _ c.close_with.result c.in-Some.pool q _ closed.order pool order closed.there (λ here. c.close_with.ensures.passes b sound here part)
+    let it = c.in_ok-pool.ensures b sound closed cuts paid in
+    closed_as b _ _ c.close_with.result _ (number_at 0 c.args.row.now) _ closed.order it.0 it.1 closed.there (λ here. c.close_with.ensures.passes b sound here part)

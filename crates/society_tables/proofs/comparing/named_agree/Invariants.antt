@@ -3,9 +3,9 @@ use Rattle.sqlite.specs.Held.{state}
 use Rattle.sqlite.specs.Steps.{over_memory}
 use Rattle.society_rows.specs.Stored.{HasLayout}
 use Rattle.society_rows.specs.declared.tables.TableName.TheVariants as name
-use Rattle.society_tables.specs.Opening.{Agree, Inspects, other_names}
+use Rattle.society_tables.specs.Opening.{Agree, Inspects}
 use Rattle.society_tables.specs.declared.audit_fault.AuditFault.{AuditFault}
-use Rattle.society_tables.proofs.comparing.tables_agree.Given as goal
+use Rattle.society_tables.proofs.comparing.named_agree.Given as goal
 
 -- the tables so far agree, and the memory is as it was
 abbrev pub invariant-loop-table : goal.invariant-loop-table
@@ -14,5 +14,5 @@ invariant-loop-table g l = record {
   idle : l.conn.in_transaction ≡ false;
   idle_memory : l.memory.in_transaction ≡ false;
   agree : Inspects {X = Unit {0}} {E = AuditFault} (state g.S.Store l.fn.conn) (state g.S.Store l.conn) (Ok tt)
-      (λ db _. HasLayout (state over_memory l.fn.memory).now → Agree (name.Office ∷ take l.table-index other_names) (state over_memory l.fn.memory).now.trees db);
+      (λ db _. HasLayout (state over_memory l.fn.memory).now → Agree (name.Office ∷ take l.table-index l.tables) (state over_memory l.fn.memory).now.trees db);
 }

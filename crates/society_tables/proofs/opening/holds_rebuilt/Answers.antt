@@ -2,7 +2,7 @@ use Rattle.std.proofs.Common.{refl}
 use Rattle.society_tables.proofs.OpenLemmas.{inspected_then}
 use Rattle.society_tables.proofs.ComesAgain.{clean_before, shows_still}
 use Rattle.society_tables.proofs.RowsAgain.{aside_told}
-use Rattle.society_tables.proofs.opening.holds_own.Goals as goal
+use Rattle.society_tables.proofs.opening.holds_rebuilt.Goals as goal
 
 pub returns-clause-agree : goal.returns-clause-agree
 returns-clause-agree g c =

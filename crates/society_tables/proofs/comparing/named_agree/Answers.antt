@@ -8,18 +8,19 @@ use Rattle.society_rows.specs.TableNames.{table_called}
 use Rattle.society_rows.specs.declared.tables.TableName.{TableName}
 use Rattle.society_rows.specs.declared.tables.TableName.TheVariants as name
 use Rattle.society_tables.specs.Kept.{HoldsBook}
-use Rattle.society_tables.specs.Opening.{Agree, other_names}
+use Rattle.society_tables.specs.Opening.{Agree}
 use Rattle.society_tables.proofs.ComesAgain.{clean_before, shows_still}
 use Rattle.society_tables.proofs.OpenLemmas.{as_inspected, inspected_then}
 use Rattle.society_tables.proofs.RowsAgain.{aside_told}
 use Rattle.society_tables.proofs.SameTables.{agree_more}
-use Rattle.society_tables.proofs.comparing.tables_agree.Goals as goal
+use Rattle.society_tables.proofs.comparing.named_agree.Goals as goal
 
 pub loop-table-preserved : goal.loop-table-preserved
 loop-table-preserved g c =
     let old = state g.S.Store c.args.conn.now in
     let one = (state over_memory c.args.memory.now).now.trees in
-    let x : TableName = get_or other_names c.loop-table.table-index name.Office in
+    let names = c.args.tables.now in
+    let x : TableName = get_or names c.loop-table.table-index name.Office in
     record {
       same = c.table_agrees-in-loop-table.ensures.same ∙ c.loop-table.invariant.same;
       idle = c.table_agrees-in-loop-table.ensures.idle;
@@ -29,7 +30,7 @@ loop-table-preserved g c =
           c.loop-table.invariant.agree c.in_ok-table_agrees-2.ensures.agree
           (λ y before here has. (
             (before has).0,
-            agree_more other_names c.loop-table.table-index name.Office x one old.now.trees (omega (arith, c.loop-table-test.true)) refl (before has).1
+            agree_more names c.loop-table.table-index name.Office x one old.now.trees (omega (arith, c.loop-table-test.true)) refl (before has).1
                 (subst (λ (m : Database). HasLayout m → IsPermutation (rows_in (table_called x) m.trees) (rows_in (table_called x) old.now.trees)) c.loop-table.invariant.same here has),
           ));
     }
@@ -39,7 +40,7 @@ returns-clause-agree g c =
     let old = state g.S.Store c.args.conn.now in
     let one = (state over_memory c.args.memory.now).now.trees in
     as_inspected _ _ (Ok tt) _ _ c.loop-table.invariant.agree
-    (λ y before has. ((before has).0, subst (λ (names : List TableName). Agree names one old.now.trees) (take_all c.loop-table.table-index other_names c.loop-table-test.false) (before has).1))
+    (λ y before has. ((before has).0, subst (λ (names : List TableName). Agree names one old.now.trees) (take_all c.loop-table.table-index c.args.tables.now c.loop-table-test.false) (before has).1))
 
 pub returns-in_err-table_agrees-clause-passes : goal.returns-in_err-table_agrees-clause-passes
 returns-in_err-table_agrees-clause-passes g c o b clean shows has holds = aside_told _ _ c.from_residual.result c.from_residual.ensures.1 (c.in_err-table_agrees.ensures.passes o b clean shows has holds)

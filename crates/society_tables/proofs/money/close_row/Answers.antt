@@ -1,0 +1,1 @@
+-- the row is read, and the connection is as it was

@@ -1,0 +1,26 @@
+use Rattle.std.proofs.Common.{◌≡◌, ◌∙◌, List, Ok, true, nat_le, subst, sym}
+use Rattle.std.specs.List.{AllByRecursion, list_all}
+use Rattle.society_core.specs.Book.{front}
+use Rattle.society_core.specs.declared.return_key.ReturnKey.{ReturnKey}
+use Rattle.society_core.specs.declared.transmission_key.TransmissionKey.{TransmissionKey}
+use Rattle.society_tables.specs.Auditing.{IsOpenReturn}
+use Rattle.sqlite.specs.Effect.{Database}
+use Rattle.sqlite.specs.Held.{state}
+use Rattle.society_rows.specs.Stored.{HasLayout}
+use Rattle.society_tables.specs.Auditing.{mixed}
+use Rattle.society_tables.specs.Kept.{HoldsBook}
+use Rattle.society_tables.specs.declared.audit_fault.AuditFault.{AuditFault}
+use Rattle.society_tables.proofs.OpenLemmas.{then_inspected}
+use Rattle.society_tables.proofs.money.is_closable.Goals as goal
+
+pub returns-clause-closable : goal.returns-clause-closable
+returns-clause-closable g c =
+    then_inspected {D = AuditFault} _ _ _ (Ok _) _ _ c.in_ok-are_open_returns.ensures.free
+    (λ returns laid reached o b holds.
+    let db = (state g.S.Store c.args.conn.now).now.trees in
+    let one = c.are_open_returns.ensures.same in
+    let two = c.is_open_pool.ensures.same ∙ one in record {
+      is_free = c.in_ok-is_open_pool.ensures.free (subst HasLayout (sym one) laid) c.if-not-branch-2.false o b db (subst (λ (m : Database). HoldsBook o b (mixed db m.trees)) (sym one) holds);
+      reached = subst (λ (cut : List TransmissionKey). list_all (λ key. nat_le key.number (front b key.sender)) cut ≡ true) c.cut.ensures.value (c.in_ok-are_reached.ensures.reached (subst HasLayout (sym two) laid) reached o b db (subst (λ (m : Database). HoldsBook o b (mixed db m.trees)) (sym two) holds));
+      returns = subst (λ (keys : List ReturnKey). AllByRecursion (IsOpenReturn b) keys) c.returns.ensures.value (returns laid c.if-not-branch.false o b holds);
+    })

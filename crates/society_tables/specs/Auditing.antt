@@ -1,0 +1,182 @@
+-- What an audit notes of rows whose bodies it does not keep.
+use Rattle.std.specs.Prelude.{None, is_some, nat_le, ℕ, ◌≡◌, ◌≢◌, ◌≤◌, ◌||◌, map, filter, Bool, true, false, ◌&&◌, ◌==◌, List, [], ◌∷◌, ◌++◌, IsPermutation, OnOk, Result, if◌then◌else◌, bytes_eq, length, pos}
+use Rattle.sqlite_value.specs.declared.value.Value.TheVariants.{Blob, Int, Text}
+use Rattle.sqlite_value.specs.declared.value.Value.{Value}
+use Rattle.sqlite_value.specs.Order.{Row, column}
+use Rattle.std.specs.List.{AllByRecursion, flat_map, list_all}
+use Rattle.share_rules.specs.declared.office.Office.{Office}
+use Rattle.sqlite_trees.specs.Tree.{Trees}
+use Rattle.society_core.specs.Answers.{payer}
+use Rattle.society_core.specs.Book.{Book, IsSound, front, is_entry, is_return_entry, order_at, return_at}
+use Rattle.society_core.specs.Orders.{Order}
+use Rattle.society_tables.specs.Kept.{Holds}
+use Rattle.society_tables.specs.Opening.{Agree}
+use Rattle.society_core.specs.Keys.{ascending, bytes_cmp}
+use Rattle.society_core.specs.declared.return_key.ReturnKey.{ReturnKey}
+use Rattle.society_rows.specs.Layout as layout
+use Rattle.society_rows.specs.Layout.{all_tables}
+use Rattle.society_rows.specs.Stored.{AreNumbered, HasLayout, put_over, rows_in}
+use Rattle.society_rows.specs.declared.fault.RowFault.{RowFault}
+use Rattle.society_rows.specs.declared.tables.TableName.{TableName}
+use Rattle.society_rows.specs.declared.tables.TableName.TheVariants as name
+use Rattle.sqlite.specs.Effect.{Database}
+use Rattle.sqlite.specs.State.{HasCleanDisk, State}
+use Rattle.society_tables.specs.BookRows.{is_return_row, is_transmission_row, return_key_of, return_rows, transmission_rows}
+use Rattle.society_tables.specs.Columns.{HasRows, blob_at, number_at, text_at}
+use Rattle.society_tables.specs.DerivedRows.{front_rows, has_sent, is_named, tells_recordings, tells_verdict, tells_version, told_to_front}
+use Rattle.society_tables.specs.Runs.{AreNoted, Notes, behind_run, is_among, settled_recordings, settled_run, settled_verdict, settled_version}
+use Rattle.works_core.specs.Verdicts.{works_in}
+use Rattle.works_core.specs.Versions.{judged_of}
+use Rattle.work_ids.specs.Blanks.{fill, without_trailing_blanks}
+
+-- whether a value is a text
+abbrev pub is_text : Value → Bool
+is_text (Text bytes) = true
+is_text _ = false
+
+-- whether a value is a whole number from 0
+abbrev pub is_count : Value → Bool
+is_count (Int (pos n)) = true
+is_count _ = false
+
+-- whether a value is bytes
+abbrev pub is_blob : Value → Bool
+is_blob (Blob bytes) = true
+is_blob _ = false
+
+-- whether a row has a text, a whole number from 0 and bytes, and nothing else
+abbrev pub has_body : Row → Bool
+has_body row = length row == 3 && is_text (column row 0) && is_count (column row 1) && is_blob (column row 2)
+
+-- whether a row is that of a transmission that may stand in a book
+abbrev pub is_right_sent : Row → Bool
+is_right_sent row = has_body row && is_entry (text_at 0 row) (number_at 1 row) (blob_at 2 row)
+
+-- whether a row is that of a return that may stand in a book, its reporter written without the blanks that fill it
+abbrev pub is_right_return : Row → Bool
+is_right_return row =
+    has_body row && bytes_eq (without_trailing_blanks (fill 20 (text_at 0 row))) (text_at 0 row) && is_return_entry (return_key_of row) (blob_at 2 row)
+
+-- the keys of rows that were gone over, and whether each of the rows may stand in a book
+pub record GoneOver (K : Type 0) : Type 0 where
+  pub keys : List K
+  pub are_right : Bool
+
+-- one row more is gone over
+abbrev pub take_over : {K : Type 0} → (Row → Bool) → (Row → K) → GoneOver K → Row → GoneOver K
+take_over is_right key_of gone row =
+    if is_right row then record { keys = gone.keys ++ key_of row ∷ []; are_right = gone.are_right } else record { keys = gone.keys; are_right = false }
+
+-- each row of a table's may stand in a book, and no key stands there twice
+pub record AreEntries {K : Type 0} (is_right : Row → Bool) (is_of : K → Row → Bool) (rows : List Row) : Type 0 where
+  pub right : AllByRecursion (λ row. is_right row ≡ true) rows
+  pub once : (key : K) → length (filter (is_of key) rows) ≤ 1
+
+-- the transmissions and the returns of a database may stand in a book, and these are the senders, ascending, each once
+pub record HoldsEntries (these : List (List ℕ)) (db : Trees) : Type 0 where
+  pub transmissions : AreEntries is_right_sent is_transmission_row (rows_in layout.transmissions db)
+  pub returns : AreEntries is_right_return is_return_row (rows_in layout.returns db)
+  pub senders : these ≡ ascending bytes_cmp (map (text_at 0) (rows_in layout.transmissions db))
+
+-- these are all of a sender's transmissions up to its front, as an office notes them
+pub record AreWhole (office : Office) (book : Book) (sender : List ℕ) (notes : List Notes) : Type 0 where
+  pub reaches : front book sender ≡ length notes
+  pub each : AreNoted office book sender 1 notes
+
+-- what some senders are to have, and others not
+abbrev pub where_of : (List ℕ → Bool) → (List ℕ → List Row) → List ℕ → List Row
+where_of of_these expected sender = if of_these sender then expected sender else []
+
+-- tables have what is derived of the transmissions of these senders, and of no others
+pub record HasLines (office : Office) (book : Book) (of_these : List ℕ → Bool) (db : Trees) : Type 0 where
+  pub fronts : HasRows is_named (where_of of_these (front_rows office book)) (rows_in layout.fronts db)
+  pub verdicts : HasRows is_named (where_of of_these (told_to_front tells_verdict office book)) (rows_in layout.verdicts db)
+  pub versions : HasRows is_named (where_of of_these (told_to_front tells_version office book)) (rows_in layout.versions db)
+  pub recordings : HasRows is_named (where_of of_these (told_to_front tells_recordings office book)) (rows_in layout.recordings db)
+  pub numbered : AreNumbered layout.fronts db
+
+-- every table but those of fronts, verdicts, versions and recordings is as it was
+abbrev pub KeepsUnlined : Trees → Trees → Type 0
+KeepsUnlined old new =
+    AllByRecursion (λ t. t.tree ≢ layout.fronts.tree → t.tree ≢ layout.verdicts.tree → t.tree ≢ layout.versions.tree → t.tree ≢ layout.recordings.tree → new t.tree ≡ old t.tree) all_tables
+
+-- the tables have this row of a front in place of its sender's, and these rows of verdicts, of versions and of recordings more; the other tables are as they were
+pub record PutsLine (front : Row) (judged told named : List Row) (old new : Trees) : Type 0 where
+  pub put : AreNumbered layout.fronts old → IsPermutation (put_over front (rows_in layout.fronts old)) (rows_in layout.fronts new)
+  pub numbered : AreNumbered layout.fronts old → AreNumbered layout.fronts new
+  pub verdicts : IsPermutation (judged ++ rows_in layout.verdicts old) (rows_in layout.verdicts new)
+  pub versions : IsPermutation (told ++ rows_in layout.versions old) (rows_in layout.versions new)
+  pub recordings : IsPermutation (named ++ rows_in layout.recordings old) (rows_in layout.recordings new)
+  pub others : KeepsUnlined old new
+
+-- a database has the transmissions of a book
+abbrev pub HasTransmissions : Book → Trees → Type 0
+HasTransmissions book db = HasRows is_transmission_row (transmission_rows book) (rows_in layout.transmissions db)
+
+-- the tables have what the transmissions of a sender's whole line tell, as it is noted
+abbrev pub SettlesLine : List ℕ → List Notes → Trees → Trees → Type 0
+SettlesLine sender notes old new =
+    PutsLine (Text sender ∷ Int (pos (length notes)) ∷ Int (pos (works_in (judged_of (behind_run [] 1 notes)))) ∷ []) (map (settled_verdict sender) (settled_run [] 1 notes))
+    (flat_map (settled_version sender) (settled_run [] 1 notes)) (flat_map (settled_recordings sender) (settled_run [] 1 notes)) old new
+
+-- the transmissions and the returns of one database, and every other table of another
+abbrev pub mixed : Trees → Trees → Trees
+mixed bodies others tree = if tree == layout.transmissions.tree || tree == layout.returns.tree then bodies tree else others tree
+
+-- the tables of transmissions and of returns have exactly the rows of a book
+pub record KeepsBodies (book : Book) (db : Trees) : Type 0 where
+  pub transmissions : HasTransmissions book db
+  pub returns : HasRows is_return_row (return_rows book) (rows_in layout.returns db)
+
+-- the tables of versions and of recordings have exactly the rows that are derived from a book
+pub record DerivesWorks (office : Office) (book : Book) (db : Trees) : Type 0 where
+  pub versions : HasRows is_named (told_to_front tells_version office book) (rows_in layout.versions db)
+  pub recordings : HasRows is_named (told_to_front tells_recordings office book) (rows_in layout.recordings db)
+
+-- the tables have what a pool is paid by: the transmissions, the returns, the versions and the recordings of a sound book
+pub record HoldsWorks (office : Office) (book : Book) (db : Trees) : Type 0 where
+  pub sound : IsSound book
+  pub kept : KeepsBodies book db
+  pub derived : DerivesWorks office book db
+
+-- What a writing in a transaction of its own does to a connection that is in none: this change, where it is answered.
+pub record WritesAlone {X : Type 0} (Change : Database → Database → Type 0) (old new : State) (result : Result X RowFault) : Type 0 where
+  pub written : HasCleanDisk new → HasLayout old.now → OnOk result (HasLayout new.now × Change old.now new.now)
+
+-- every table but those of transmissions and of returns is as it was
+abbrev pub KeepsUnreferred : Trees → Trees → Type 0
+KeepsUnreferred old new = AllByRecursion (λ t. t.tree ≢ layout.transmissions.tree → t.tree ≢ layout.returns.tree → new t.tree ≡ old t.tree) all_tables
+
+-- the tables whose rows a pool is paid by, but for the bodies
+abbrev pub works_names : List TableName
+works_names = name.Versions ∷ name.Recordings ∷ []
+
+-- every table but those of the office, of transmissions and of returns
+abbrev pub money_names : List TableName
+money_names = name.Pools ∷ name.PoolCuts ∷ name.PoolReturns ∷ name.Fronts ∷ name.Verdicts ∷ name.Versions ∷ name.Recordings ∷ name.Credits ∷ name.Balances ∷ []
+
+-- what an order names is open: the book has the return, and no pool pays it
+abbrev pub IsOpenReturn : Book → ReturnKey → Type 0
+IsOpenReturn b key = (is_some (return_at b key) ≡ true) × (payer b key ≡ None)
+
+-- a pool can be closed by an order: it is not closed, its cut is reached, and what it names is open
+pub record IsClosable (book : Book) (pool : ℕ) (order : Order) : Type 0 where
+  pub is_free : order_at book pool ≡ None
+  pub reached : list_all (λ key. nat_le key.number (front book key.sender)) order.cut ≡ true
+  pub returns : AllByRecursion (IsOpenReturn book) order.returns
+
+-- tables in memory that hold, beside the bodies of a database, a book of the office, and have its versions and recordings
+pub record HoldsAside (office : Office) (bodies : Trees) (memory : Database) : Type 0 where
+  pub layout : HasLayout memory
+  pub holds : Holds office (mixed bodies memory.trees)
+  pub works : Agree works_names memory.trees bodies
+
+-- tables in memory that did so do so still
+abbrev pub ClosesAside : Office → Trees → Database → Database → Type 0
+ClosesAside office bodies old new = HoldsAside office bodies old → HoldsAside office bodies new
+
+-- these are the senders of a book's transmissions, each once
+pub record AreSenders (book : Book) (senders : List (List ℕ)) : Type 0 where
+  pub each : AllByRecursion (λ sender. has_sent book sender ≡ true) senders
+  pub once : length (ascending bytes_cmp senders) ≡ length senders
+  pub all : (sender : List ℕ) → is_among senders sender ≡ has_sent book sender
