@@ -2,21 +2,13 @@
 use crate::connection::{Served, serve};
 use crate::counted::Counted;
 use crate::fault::DeskFault;
-use share_rules::Office;
+use crate::samples::{F1, first_stream, office, put, tell};
 use society_core::{Desk, PlainStore};
 use std::alloc::{AllocError, Global};
 use std::io::Read;
 use std::process::Abort;
 use std::str;
 use std::test::Fail;
-
-/// A registration of one work, 1,048 bytes.
-const F1: &[u8] =
-    b"HDRPB000000012EXAMPLE MUSIC                                01.102026010510150020260106\r\nGRHNWR0000102.200000000000\r\nNWR0000000000000000FIRST SONG                                                    W1            T0345246801\r\nSPU000000000000000101P1       EXAMPLE MUSIC                                 E          00000000199                 05000   10000   10000\r\nSPT0000000000000002P1             050001000010000I2136 001\r\nSWR0000000000000003A1       WRITER                                       ANNA                           CA         00000000295   05000   00000   00000\r\nSWT0000000000000004A1       050000000000000I2136 001\r\nPWR0000000000000005P1       EXAMPLE MUSIC                                                            A1\r\nREC0000000000000006                                                                                                                                                                                                                                      ATABC2600001\r\nGRT000010000000100000009\r\nTRL000010000000100000011\r\n";
-
-/// The acknowledgement of that as the sender's first transmission, 346 bytes.
-const F1_ACK: &[u8] =
-    b"HDRSO000000900EXAMPLE SOCIETY                              01.102026010600000020260106               \r\nGRHACK0000102.200000000000  \r\nACK0000000000000000202601051015000000100000000NWRFIRST SONG                                                  W1                  0000000120000000000120260106AS\r\nGRT000010000000100000003\r\nTRL000010000000100000005\r\n";
 
 const BAD: &str = "{\"error\":\"request\"}";
 
@@ -40,36 +32,11 @@ fn served_slowly(
     alloc: Global,
     input: &[u8],
 ) -> Result<(Vec<u8>, Result<Served, DeskFault>), Fail> {
-    let office = Office::new(900, 40, b"EXAMPLE SOCIETY").ok_or("an office")?;
-    let mut desk = Desk::new(PlainStore::new(alloc, &office));
+    let mut desk = Desk::new(PlainStore::new(alloc, &office()?));
     let mut reader = Counted::new(Slow { bytes: input });
     let mut writer = Counted::new(Vec::new(alloc));
     let served = serve(alloc, &mut desk, &mut reader, &mut writer, u64::MAX);
     Ok((writer.into_inner(), served))
-}
-
-/// Appends the put of a transmission that announces a body of this length.
-fn put(alloc: Global, input: &mut Vec<u8>, length: usize, body: &[u8]) -> Result<(), AllocError> {
-    let head = format!(in alloc;
-        "PUT /v1/senders/PB000000012/transmissions/1 HTTP/1.1\r\nContent-Length: {length}\r\n\r\n"
-    )?;
-    input.extend_from_slice(head.as_bytes())?;
-    input.extend_from_slice(body)
-}
-
-/// Appends an answer.
-fn tell(
-    alloc: Global,
-    out: &mut Vec<u8>,
-    status: &str,
-    fields: &str,
-    body: &str,
-) -> Result<(), AllocError> {
-    let length = body.len();
-    let head = format!(in alloc;
-        "HTTP/1.1 {status}\r\nContent-Type: application/json\r\nContent-Length: {length}\r\n{fields}\r\n{body}"
-    )?;
-    out.extend_from_slice(head.as_bytes())
 }
 
 /// Puts bodies in turn, each with its status and answer, and then bytes that are no request.
@@ -116,18 +83,9 @@ fn miscounted(alloc: Global) -> Result<Vec<u8>, AllocError> {
 #[test]
 fn first_acknowledgement(rt: HostRuntime) -> Result<(), Fail> {
     let alloc = rt.alloc();
-    let mut input = Vec::new(alloc);
-    put(alloc, &mut input, F1.len(), F1)?;
-    input.extend_from_slice(b"GET /v1/senders/PB000000012/acks/1 HTTP/1.1\r\n\r\n")?;
-    let mut wanted = Vec::new(alloc);
-    let text = "{\"front\":1,\"state\":\"applied\"}";
-    tell(alloc, &mut wanted, "201 Created", "", text)?;
-    wanted.extend_from_slice(
-        b"HTTP/1.1 200 OK\r\nContent-Type: application/octet-stream\r\nContent-Length: 346\r\n\r\n",
-    )?;
-    wanted.extend_from_slice(F1_ACK)?;
-    let (out, served) = served_slowly(alloc, input.as_slice())?;
-    assert_eq!(rt; str::from_utf8(&out), str::from_utf8(&wanted));
+    let stream = first_stream(alloc)?;
+    let (out, served) = served_slowly(alloc, stream.input.as_slice())?;
+    assert_eq!(rt; str::from_utf8(&out), str::from_utf8(&stream.output));
     assert_eq!(rt; served, Ok(Served { requests: 2 }));
     Ok(())
 }

@@ -34,4 +34,8 @@ pub use laws::one_cutting;
 #[cfg(test)]
 mod feeding_tests;
 #[cfg(test)]
+mod hostile_tests;
+#[cfg(test)]
+mod samples;
+#[cfg(test)]
 mod tests;

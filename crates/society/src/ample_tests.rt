@@ -1,5 +1,5 @@
 //! With ample memory nothing is answered 503: the greatest body, many transactions, groups, numbers and requests.
-use crate::samples::{F1, F3, f2};
+use crate::samples::{F1, F2, F3};
 use crate::streams::{answer, get, put, replayed};
 use std::alloc::{AllocError, Global};
 use std::process::Abort;
@@ -115,11 +115,10 @@ fn groups_by_the_hundred(rt: HostRuntime) -> Result<(), Fail> {
 #[test]
 fn three_hundred_numbers(rt: HostRuntime) -> Result<(), Fail> {
     let alloc = rt.alloc();
-    let revision = f2(alloc)?;
     let mut input = Vec::new(alloc);
     for number in 1..301 {
         let number_text = format!(in alloc; "{number}")?;
-        let body = if number == 1 { F1 } else { revision.as_slice() };
+        let body = if number == 1 { F1 } else { F2 };
         put(alloc, &mut input, number_text.as_str(), body)?;
         get(alloc, &mut input, number_text.as_str())?;
     }

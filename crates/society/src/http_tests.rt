@@ -1,5 +1,5 @@
-//! The rows of every request over HTTP, byte for byte.
-use crate::samples::{F1, F3, F3_ACK, F4, changed, f2, with_writer_share};
+//! The rows of every request over HTTP, byte for byte: each table is one stream, sent to an office to which nothing has come.
+use crate::samples::{Body, F3_ACK, Sample};
 use crate::streams::replayed;
 use std::alloc::{AllocError, Global};
 use std::process::Abort;
@@ -7,47 +7,592 @@ use std::str;
 use std::test::Fail;
 
 /// A request line without its version, the body, and the answer's status, content type and body.
-type Row<'a> = (&'a str, &'a [u8], &'a str, &'a str, &'a str);
+type Row = (
+    &'static str,
+    Body,
+    &'static str,
+    &'static str,
+    &'static [u8],
+);
 
 const JSON: &str = "application/json";
 
 const CSV: &str = "text/csv";
 
-const CREATED: &str = "201 Created";
+const OCTETS: &str = "application/octet-stream";
 
 const DONE: &str = "200 OK";
 
-const UNPROCESSABLE: &str = "422 Unprocessable Entity";
+const CREATED: &str = "201 Created";
 
-const CONFLICT: &str = "409 Conflict";
+const ACCEPTED: &str = "202 Accepted";
 
 const NOT_FOUND: &str = "404 Not Found";
 
-const UNKNOWN: &str = "{\"error\":\"unknown\"}";
+const CONFLICT: &str = "409 Conflict";
 
-const STORED: &str = "{\"state\":\"stored\"}";
+const UNPROCESSABLE: &str = "422 Unprocessable Entity";
+
+const NOTHING: Body = Body::Bytes(b"");
+
+const UNKNOWN: &[u8] = b"{\"error\":\"unknown\"}";
+
+const REUSED: &[u8] = b"{\"error\":\"reused\"}";
+
+const HELD: &[u8] = b"{\"front\":0,\"state\":\"held\"}";
+
+const FRONT_1: &[u8] = b"{\"front\":1,\"state\":\"applied\"}";
+
+const FRONT_2: &[u8] = b"{\"front\":2,\"state\":\"applied\"}";
+
+const FRONT_3: &[u8] = b"{\"front\":3,\"state\":\"applied\"}";
+
+const STORED: &[u8] = b"{\"state\":\"stored\"}";
+
+const POOL_7_CLOSED: &[u8] = b"{\"pool\":7,\"state\":\"closed\"}";
+
+const NO_ORDER: &[u8] = b"{\"error\":\"order\",\"fault\":1}";
+
+const OVER_A_LIMIT: &[u8] = b"{\"error\":\"order\",\"fault\":2}";
+
+const TWICE: &[u8] = b"{\"error\":\"order\",\"fault\":4}";
+
+const PUT_1: &str = "PUT /v1/senders/PB000000012/transmissions/1";
+
+const PUT_2: &str = "PUT /v1/senders/PB000000012/transmissions/2";
+
+const PUT_3: &str = "PUT /v1/senders/PB000000012/transmissions/3";
+
+const SENDER: &str = "GET /v1/senders/PB000000012";
+
+const RETURN_1: &str = "PUT /v1/returns/RADIO1/1";
+
+const RETURN_2: &str = "PUT /v1/returns/RADIO1/2";
 
 /// A return of one recording: 10 plays of 200 seconds.
-const TEN_PLAYS: &[u8] = b"isrc,plays,seconds\nATABC2600001,10,200\n";
+const TEN_PLAYS: Body = Body::Bytes(b"isrc,plays,seconds\nATABC2600001,10,200\n");
+
+/// A return without a row.
+const NO_PLAYS: Body = Body::Bytes(b"isrc,plays,seconds\n");
 
 /// An order that cuts the sender at 3.
-const ORDER: &[u8] =
-    b"{\"amount\":1001,\"cut\":[[\"PB000000012\",3]],\"returns\":[[\"RADIO1\",1]]}";
+const ORDER: Body = Body::Bytes(
+    b"{\"amount\":1001,\"cut\":[[\"PB000000012\",3]],\"returns\":[[\"RADIO1\",1]]}",
+);
 
-/// Its table.
-const TABLE: &str =
-    "isrc,account,units\nATABC2600001,I00000000199,501\nATABC2600001,I00000000295,500\nATABC2600001,UNCLAIMED,0\n";
+const EMPTY_FILE: &[Row] = &[
+    (PUT_1, Body::Whole(Sample::F3), CREATED, JSON, FRONT_1),
+    (
+        "GET /v1/senders/PB000000012/acks/1",
+        NOTHING,
+        DONE,
+        OCTETS,
+        F3_ACK,
+    ),
+];
 
-/// Appends a request with a body.
-fn ask(
-    alloc: Global,
-    input: &mut Vec<u8>,
-    line: &str,
-    fields: &str,
-    body: &[u8],
-) -> Result<(), AllocError> {
+const FIRST_GAP_FILLED: &[Row] = &[
+    (PUT_3, Body::Whole(Sample::F3), ACCEPTED, JSON, HELD),
+    (PUT_2, Body::Whole(Sample::F2), ACCEPTED, JSON, HELD),
+    (SENDER, NOTHING, DONE, JSON, b"{\"front\":0,\"held\":[2,3]}"),
+    (
+        "GET /v1/senders/PB000000012/works/W1",
+        NOTHING,
+        NOT_FOUND,
+        JSON,
+        UNKNOWN,
+    ),
+    (
+        "GET /v1/senders/PB000000012/verdicts/2",
+        NOTHING,
+        NOT_FOUND,
+        JSON,
+        UNKNOWN,
+    ),
+    (PUT_1, Body::Whole(Sample::F1), CREATED, JSON, FRONT_3),
+    (
+        "GET /v1/senders/PB000000012/works/W1",
+        NOTHING,
+        DONE,
+        JSON,
+        b"{\"holders\":[{\"account\":\"I00000000199\",\"weight\":0},{\"account\":\"I00000000295\",\"weight\":10000},{\"account\":\"UNCLAIMED\",\"weight\":0}],\"isrcs\":[\"ATABC2600001\"],\"iswc\":\"T-034.524.680-1\",\"number\":\"W1\",\"ordinal\":1,\"revision\":1,\"title\":\"FIRST SONG\",\"transmission\":2}",
+    ),
+    (
+        "GET /v1/senders/PB000000012/verdicts/2",
+        NOTHING,
+        DONE,
+        JSON,
+        b"[{\"ordinal\":1,\"revision\":1}]",
+    ),
+    (
+        "GET /v1/senders/PB000000012/verdicts/3",
+        NOTHING,
+        DONE,
+        JSON,
+        b"[]",
+    ),
+    (
+        "GET /v1/senders/PB000000012/acks/3",
+        NOTHING,
+        DONE,
+        OCTETS,
+        F3_ACK,
+    ),
+];
+
+/// The second puts an H in place of a letter of the title.
+const HELD_NUMBER_REUSED: &[Row] = &[
+    (PUT_3, Body::Whole(Sample::F1), ACCEPTED, JSON, HELD),
+    (
+        PUT_3,
+        Body::Changed(Sample::F1, &[(144, b"H")]),
+        CONFLICT,
+        JSON,
+        REUSED,
+    ),
+    (PUT_1, Body::Whole(Sample::F3), CREATED, JSON, FRONT_1),
+    (PUT_2, Body::Whole(Sample::F3), CREATED, JSON, FRONT_3),
+    (
+        PUT_3,
+        Body::Changed(Sample::F1, &[(144, b"H")]),
+        CONFLICT,
+        JSON,
+        REUSED,
+    ),
+    (PUT_3, Body::Whole(Sample::F1), DONE, JSON, FRONT_3),
+];
+
+const NUMBERS_AT_THE_LIMITS: &[Row] = &[
+    (
+        "PUT /v1/senders/PB000000012/transmissions/999999",
+        Body::Whole(Sample::F3),
+        ACCEPTED,
+        JSON,
+        HELD,
+    ),
+    (
+        "PUT /v1/senders/PB000000012/transmissions/1000000",
+        Body::Whole(Sample::F3),
+        NOT_FOUND,
+        JSON,
+        UNKNOWN,
+    ),
+    (
+        "PUT /v1/senders/PB000000012/transmissions/0",
+        Body::Whole(Sample::F3),
+        NOT_FOUND,
+        JSON,
+        UNKNOWN,
+    ),
+    (
+        "PUT /v1/senders/PB000000012/transmissions/01",
+        Body::Whole(Sample::F3),
+        NOT_FOUND,
+        JSON,
+        UNKNOWN,
+    ),
+];
+
+/// The group's trailer tells one record too few; the right file under the same number is new then.
+const RECORD_COUNT_OFF_BY_ONE: &[Row] = &[
+    (
+        PUT_1,
+        Body::Changed(Sample::F1, &[(1_019, b"8")]),
+        UNPROCESSABLE,
+        JSON,
+        b"{\"error\":\"file\",\"fault\":8,\"line\":10}",
+    ),
+    (PUT_1, Body::Whole(Sample::F1), CREATED, JSON, FRONT_1),
+];
+
+const CUT_FILES: &[Row] = &[
+    (
+        PUT_1,
+        Body::Cut(Sample::F1, 1_022),
+        UNPROCESSABLE,
+        JSON,
+        b"{\"error\":\"file\",\"fault\":10,\"line\":11}",
+    ),
+    (
+        PUT_1,
+        Body::Cut(Sample::F1, 1_044),
+        UNPROCESSABLE,
+        JSON,
+        b"{\"error\":\"file\",\"fault\":9,\"line\":11}",
+    ),
+    (
+        PUT_1,
+        Body::Cut(Sample::F1, 40),
+        UNPROCESSABLE,
+        JSON,
+        b"{\"error\":\"file\",\"fault\":3,\"line\":1}",
+    ),
+    (
+        PUT_1,
+        NOTHING,
+        UNPROCESSABLE,
+        JSON,
+        b"{\"error\":\"file\",\"fault\":1,\"line\":1}",
+    ),
+];
+
+const LINE_FEEDS_ALONE: &[Row] = &[(PUT_1, Body::LineFeeds(Sample::F1), CREATED, JSON, FRONT_1)];
+
+/// A revision of a work that is not there, a share over the whole by seven hundredths of a percent, and a registration.
+const VERDICTS_BY_FAULT: &[Row] = &[
+    (PUT_1, Body::Whole(Sample::F2), CREATED, JSON, FRONT_1),
+    (
+        PUT_2,
+        Body::Changed(Sample::F1, &[(551, b"05007")]),
+        CREATED,
+        JSON,
+        FRONT_2,
+    ),
+    (PUT_3, Body::Whole(Sample::F1), CREATED, JSON, FRONT_3),
+    (
+        "GET /v1/senders/PB000000012/verdicts/1",
+        NOTHING,
+        DONE,
+        JSON,
+        b"[{\"fault\":21}]",
+    ),
+    (
+        "GET /v1/senders/PB000000012/verdicts/2",
+        NOTHING,
+        DONE,
+        JSON,
+        b"[{\"fault\":5}]",
+    ),
+    (
+        "GET /v1/senders/PB000000012/verdicts/3",
+        NOTHING,
+        DONE,
+        JSON,
+        b"[{\"ordinal\":1,\"revision\":0}]",
+    ),
+];
+
+const TITLE_AND_NAMES_ESCAPED: &[Row] = &[
+    (
+        PUT_1,
+        Body::Changed(Sample::F4, &[(135, b"\xc3\x89T%\"\\    "), (197, b"W\"")]),
+        CREATED,
+        JSON,
+        FRONT_1,
+    ),
+    (
+        "GET /v1/senders/PB000000012/works/W%22%20",
+        NOTHING,
+        DONE,
+        JSON,
+        b"{\"holders\":[{\"account\":\"I00000000199\",\"weight\":0},{\"account\":\"I00000000295\",\"weight\":5000},{\"account\":\"UNCLAIMED\",\"weight\":5000}],\"isrcs\":[\"ATABC2600001\"],\"iswc\":\"T-034.524.680-1\",\"number\":\"W\\\"\",\"ordinal\":1,\"revision\":0,\"title\":\"%C3%89T%25\\\"\\\\\",\"transmission\":1}",
+    ),
+    (
+        "GET /v1/senders/PB000000012/works/%20",
+        NOTHING,
+        NOT_FOUND,
+        JSON,
+        UNKNOWN,
+    ),
+    ("GET /v1/accounts/P", NOTHING, NOT_FOUND, JSON, UNKNOWN),
+];
+
+const RETURNS_STORED_REPEATED_AND_REFUSED: &[Row] = &[
+    (RETURN_1, TEN_PLAYS, CREATED, JSON, STORED),
+    (RETURN_1, TEN_PLAYS, DONE, JSON, STORED),
+    (RETURN_1, NO_PLAYS, CONFLICT, JSON, REUSED),
+    (RETURN_1, Body::Bytes(b"x"), CONFLICT, JSON, REUSED),
+    (
+        RETURN_2,
+        Body::Bytes(b"isrc,plays,seconds\nATABC2600001,10,200\nAT,1,1\n"),
+        UNPROCESSABLE,
+        JSON,
+        b"{\"error\":\"csv\",\"fault\":3,\"row\":3}",
+    ),
+    (RETURN_2, TEN_PLAYS, CREATED, JSON, STORED),
+    (
+        "PUT /v1/returns/RADIO1/0",
+        TEN_PLAYS,
+        NOT_FOUND,
+        JSON,
+        UNKNOWN,
+    ),
+];
+
+const POOL_CLOSED_AND_PAID: &[Row] = &[
+    (PUT_1, Body::Whole(Sample::F1), CREATED, JSON, FRONT_1),
+    (PUT_2, Body::Whole(Sample::F3), CREATED, JSON, FRONT_2),
+    (RETURN_1, TEN_PLAYS, CREATED, JSON, STORED),
+    (
+        "PUT /v1/pools/7",
+        ORDER,
+        CONFLICT,
+        JSON,
+        b"{\"error\":\"cut\",\"front\":2,\"sender\":\"PB000000012\"}",
+    ),
+    ("GET /v1/pools/7", NOTHING, NOT_FOUND, JSON, UNKNOWN),
+    (PUT_3, Body::Whole(Sample::F3), CREATED, JSON, FRONT_3),
+    ("PUT /v1/pools/7", ORDER, CREATED, JSON, POOL_7_CLOSED),
+    ("PUT /v1/pools/7", ORDER, DONE, JSON, POOL_7_CLOSED),
+    (
+        "PUT /v1/pools/7",
+        Body::Bytes(
+            b"{\"amount\":1002,\"cut\":[[\"PB000000012\",3]],\"returns\":[[\"RADIO1\",1]]}",
+        ),
+        CONFLICT,
+        JSON,
+        REUSED,
+    ),
+    (
+        "GET /v1/pools/7",
+        NOTHING,
+        DONE,
+        CSV,
+        b"isrc,account,units\nATABC2600001,I00000000199,501\nATABC2600001,I00000000295,500\nATABC2600001,UNCLAIMED,0\n",
+    ),
+    (
+        "PUT /v1/pools/8",
+        ORDER,
+        CONFLICT,
+        JSON,
+        b"{\"error\":\"paid\",\"number\":1,\"pool\":7,\"reporter\":\"RADIO1\"}",
+    ),
+    (
+        "PUT /v1/pools/8",
+        Body::Bytes(b"{\"returns\":[[\"RADIO1\",2]],\"cut\":[],\"amount\":1}"),
+        CONFLICT,
+        JSON,
+        b"{\"error\":\"return\",\"number\":2,\"reporter\":\"RADIO1\"}",
+    ),
+];
+
+const POOLS_WITHOUT_OWNERS: &[Row] = &[
+    (RETURN_1, NO_PLAYS, CREATED, JSON, STORED),
+    (
+        RETURN_2,
+        Body::Bytes(b"isrc,plays,seconds\nat-abc-26-00001,1,60\nATABC2600001,2,30\n"),
+        CREATED,
+        JSON,
+        STORED,
+    ),
+    (
+        "PUT /v1/pools/1",
+        Body::Bytes(b" {\"amount\":9,\"cut\":[],\"returns\":[],\"amount\":5}\r\n"),
+        CREATED,
+        JSON,
+        b"{\"pool\":1,\"state\":\"closed\"}",
+    ),
+    (
+        "PUT /v1/pools/2",
+        Body::Bytes(b"{\"amount\":0,\"cut\":[],\"returns\":[[\"RADIO1\",1]]}"),
+        CREATED,
+        JSON,
+        b"{\"pool\":2,\"state\":\"closed\"}",
+    ),
+    (
+        "PUT /v1/pools/3",
+        Body::Bytes(b"{\"amount\":5,\"cut\":[],\"returns\":[[\"RADIO1\",2]]}"),
+        CREATED,
+        JSON,
+        b"{\"pool\":3,\"state\":\"closed\"}",
+    ),
+    (
+        "GET /v1/pools/1",
+        NOTHING,
+        DONE,
+        CSV,
+        b"isrc,account,units\n-,UNCLAIMED,5\n",
+    ),
+    (
+        "GET /v1/pools/2",
+        NOTHING,
+        DONE,
+        CSV,
+        b"isrc,account,units\n-,UNCLAIMED,0\n",
+    ),
+    (
+        "GET /v1/pools/3",
+        NOTHING,
+        DONE,
+        CSV,
+        b"isrc,account,units\nATABC2600001,UNCLAIMED,5\n",
+    ),
+];
+
+const BALANCES: &[Row] = &[
+    (PUT_1, Body::Whole(Sample::F1), CREATED, JSON, FRONT_1),
+    (RETURN_1, TEN_PLAYS, CREATED, JSON, STORED),
+    (
+        "PUT /v1/pools/7",
+        Body::Bytes(
+            b"{\"amount\":1001,\"cut\":[[\"PB000000012\",1]],\"returns\":[[\"RADIO1\",1]]}",
+        ),
+        CREATED,
+        JSON,
+        POOL_7_CLOSED,
+    ),
+    (
+        "PUT /v1/pools/8",
+        Body::Bytes(b"{\"amount\":5,\"cut\":[],\"returns\":[]}"),
+        CREATED,
+        JSON,
+        b"{\"pool\":8,\"state\":\"closed\"}",
+    ),
+    (
+        "GET /v1/accounts/I00000000199",
+        NOTHING,
+        DONE,
+        JSON,
+        b"{\"account\":\"I00000000199\",\"units\":501}",
+    ),
+    (
+        "GET /v1/accounts/UNCLAIMED",
+        NOTHING,
+        DONE,
+        JSON,
+        b"{\"account\":\"UNCLAIMED\",\"units\":5}",
+    ),
+    (
+        "GET /v1/accounts/PPB000000012a%22b%5C",
+        NOTHING,
+        DONE,
+        JSON,
+        b"{\"account\":\"PPB000000012a\\\"b\\\\\",\"units\":0}",
+    ),
+];
+
+/// Bodies put to a pool that are no order, each with the answer.
+const ORDERS: &[(&[u8], &[u8])] = &[
+    (b"", NO_ORDER),
+    (b"{}", NO_ORDER),
+    (
+        b"[[[[[[[[[[[[[[[[[[[[[[[[[[[[[[[[[[[[[[[[[[[[[[[[[[[[[[[[[[[[[[[[[[[[[[[[[[[[[[[[[[[[[[[[[[[[[[[[[[[[[[[[[[[[[[[[[[[[[[[[[[[[[[[[[[[[[[[[[[[[[[[[[[[[[[[[[[[[[[[[[[[[[[[[[[[[[[[[[[[[[[[[[[[[[[[[[[[[[[[[]]]]]]]]]]]]]]]]]]]]]]]]]]]]]]]]]]]]]]]]]]]]]]]]]]]]]]]]]]]]]]]]]]]]]]]]]]]]]]]]]]]]]]]]]]]]]]]]]]]]]]]]]]]]]]]]]]]]]]]]]]]]]]]]]]]]]]]]]]]]]]]]]]]]]]]]]]]]]]]]]]]]]]]]]]]]]]]]]]]]]]]]]]]]]]]]]]]]]]]]",
+        NO_ORDER,
+    ),
+    (b"{\"amount\":1,\"cut\":[],\"returns\":[]}x", NO_ORDER),
+    (
+        b"{\"amount\":1,\"cut\":[],\"returns\":[],\"\xff\":0}",
+        NO_ORDER,
+    ),
+    (
+        b"{\"amount\":1,\"cut\":[],\"returns\":[],\"more\":0}",
+        NO_ORDER,
+    ),
+    (b"{\"amount\":1.0,\"cut\":[],\"returns\":[]}", NO_ORDER),
+    (b"{\"amount\":-0,\"cut\":[],\"returns\":[]}", NO_ORDER),
+    (
+        b"{\"amount\":18446744073709551616,\"cut\":[],\"returns\":[]}",
+        NO_ORDER,
+    ),
+    (
+        b"{\"amount\":1,\"cut\":[[\"PB000000012\"]],\"returns\":[]}",
+        NO_ORDER,
+    ),
+    (
+        b"{\"amount\":1,\"cut\":[[\"PB000000012\",1,1]],\"returns\":[]}",
+        NO_ORDER,
+    ),
+    (
+        b"{\"amount\":1,\"cut\":[[\"pb000000012\",1]],\"returns\":[]}",
+        NO_ORDER,
+    ),
+    (
+        b"{\"amount\":1,\"cut\":[],\"returns\":[[\"\",1]]}",
+        NO_ORDER,
+    ),
+    (b"{\"amount\":1,\"cut\":{},\"returns\":[]}", NO_ORDER),
+    (
+        b"{\"amount\":1000000000001,\"cut\":[],\"returns\":[]}",
+        OVER_A_LIMIT,
+    ),
+    (
+        b"{\"amount\":18446744073709551615,\"cut\":[],\"returns\":[]}",
+        OVER_A_LIMIT,
+    ),
+    (
+        b"{\"amount\":1,\"cut\":[[\"PB000000012\",0]],\"returns\":[]}",
+        OVER_A_LIMIT,
+    ),
+    (
+        b"{\"amount\":1,\"cut\":[],\"returns\":[[\"R\",1000000],[\"R\",1000000]]}",
+        OVER_A_LIMIT,
+    ),
+    (
+        b"{\"amount\":1,\"cut\":[[\"PB000000012\",1],[\"PB000000012\",2]],\"returns\":[]}",
+        TWICE,
+    ),
+    (
+        b"{\"amount\":1,\"cut\":[],\"returns\":[[\"R\",1],[\"R\",1]]}",
+        TWICE,
+    ),
+];
+
+const TARGETS: &[Row] = &[
+    (SENDER, NOTHING, DONE, JSON, b"{\"front\":0,\"held\":[]}"),
+    (
+        "GET /v1/senders/%50B000000012",
+        Body::Bytes(b"ignored"),
+        DONE,
+        JSON,
+        b"{\"front\":0,\"held\":[]}",
+    ),
+    (
+        "GET /v1/senders/%2550B000000012",
+        NOTHING,
+        NOT_FOUND,
+        JSON,
+        UNKNOWN,
+    ),
+    (
+        "GET /v1/senders/PB000000012?x",
+        NOTHING,
+        NOT_FOUND,
+        JSON,
+        UNKNOWN,
+    ),
+    (
+        "GET /v1/senders/PB000000012/",
+        NOTHING,
+        NOT_FOUND,
+        JSON,
+        UNKNOWN,
+    ),
+    (
+        "PUT /v1/senders/PB000000012",
+        NOTHING,
+        NOT_FOUND,
+        JSON,
+        UNKNOWN,
+    ),
+    (
+        "GET /v1/senders/PB000000012/transmissions/1",
+        NOTHING,
+        NOT_FOUND,
+        JSON,
+        UNKNOWN,
+    ),
+    (
+        "PUT /v1/accounts/UNCLAIMED",
+        NOTHING,
+        NOT_FOUND,
+        JSON,
+        UNKNOWN,
+    ),
+    (
+        "GET /v1/accounts/I00000000000",
+        NOTHING,
+        NOT_FOUND,
+        JSON,
+        UNKNOWN,
+    ),
+    ("PUT /v1/pools/0", ORDER, NOT_FOUND, JSON, UNKNOWN),
+    ("PUT /v1/pools/100000", ORDER, NOT_FOUND, JSON, UNKNOWN),
+];
+
+/// Appends a request.
+fn ask(alloc: Global, input: &mut Vec<u8>, line: &str, body: &[u8]) -> Result<(), AllocError> {
     let length = body.len();
-    let head = format!(in alloc; "{line} HTTP/1.1\r\n{fields}Content-Length: {length}\r\n\r\n")?;
+    let head = format!(in alloc; "{line} HTTP/1.1\r\nContent-Length: {length}\r\n\r\n")?;
     input.extend_from_slice(head.as_bytes())?;
     input.extend_from_slice(body)
 }
@@ -58,29 +603,14 @@ fn tell(
     out: &mut Vec<u8>,
     status: &str,
     kind: &str,
-    fields: &str,
-    body: &str,
+    body: &[u8],
 ) -> Result<(), AllocError> {
     let length = body.len();
     let head = format!(in alloc;
-        "HTTP/1.1 {status}\r\nContent-Type: {kind}\r\nContent-Length: {length}\r\n{fields}\r\n"
+        "HTTP/1.1 {status}\r\nContent-Type: {kind}\r\nContent-Length: {length}\r\n\r\n"
     )?;
     out.extend_from_slice(head.as_bytes())?;
-    out.extend_from_slice(body.as_bytes())
-}
-
-/// Appends the requests of rows to a stream, and their answers to what is wanted of it.
-fn add_rows(
-    alloc: Global,
-    input: &mut Vec<u8>,
-    wanted: &mut Vec<u8>,
-    rows: &[Row<'_>],
-) -> Result<(), AllocError> {
-    for (line, body, status, kind, text) in rows {
-        ask(alloc, input, line, "", body)?;
-        tell(alloc, wanted, status, kind, "", text)?;
-    }
-    Ok(())
+    out.extend_from_slice(body)
 }
 
 /// Sends a stream, and compares all that is written.
@@ -91,520 +621,49 @@ fn compare(rt: &impl Abort, alloc: Global, input: &[u8], wanted: &[u8]) -> Resul
     Ok(())
 }
 
-/// Sends the requests of all rows in one stream, and compares all that is written.
-fn check(rt: &impl Abort, alloc: Global, rows: &[Row<'_>]) -> Result<(), Fail> {
+/// Sends the requests of a table.
+fn check(rt: &impl Abort, alloc: Global, rows: &[Row]) -> Result<(), Fail> {
     let mut input = Vec::new(alloc);
     let mut wanted = Vec::new(alloc);
-    add_rows(alloc, &mut input, &mut wanted, rows)?;
+    for (line, body, status, kind, text) in rows {
+        let bytes = body.to_bytes(alloc)?;
+        ask(alloc, &mut input, line, bytes.as_slice())?;
+        tell(alloc, &mut wanted, status, kind, text)?;
+    }
     compare(rt, alloc, input.as_slice(), wanted.as_slice())
 }
 
-/// A put of a transmission that is applied.
-fn applied<'a>(line: &'a str, body: &'a [u8], text: &'a str) -> Row<'a> {
-    (line, body, CREATED, JSON, text)
-}
-
-#[test]
-fn first_gap_filled(rt: HostRuntime) -> Result<(), Fail> {
-    let alloc = rt.alloc();
-    let revised = f2(alloc)?;
+/// Puts the bodies that are no order.
+fn check_orders(rt: &impl Abort, alloc: Global) -> Result<(), Fail> {
     let mut input = Vec::new(alloc);
     let mut wanted = Vec::new(alloc);
-    let third = "PUT /v1/senders/PB000000012/transmissions/3";
-    let second = "PUT /v1/senders/PB000000012/transmissions/2";
-    let held = "{\"front\":0,\"state\":\"held\"}";
-    ask(alloc, &mut input, third, "", F3)?;
-    tell(alloc, &mut wanted, "202 Accepted", JSON, "", held)?;
-    ask(alloc, &mut input, second, "", revised.as_slice())?;
-    tell(alloc, &mut wanted, "202 Accepted", JSON, "", held)?;
-    add_rows(
-        alloc,
-        &mut input,
-        &mut wanted,
-        &[
-            (
-                "GET /v1/senders/PB000000012",
-                b"",
-                DONE,
-                JSON,
-                "{\"front\":0,\"held\":[2,3]}",
-            ),
-            (
-                "GET /v1/senders/PB000000012/works/W1",
-                b"",
-                NOT_FOUND,
-                JSON,
-                UNKNOWN,
-            ),
-            (
-                "GET /v1/senders/PB000000012/verdicts/2",
-                b"",
-                NOT_FOUND,
-                JSON,
-                UNKNOWN,
-            ),
-            applied(
-                "PUT /v1/senders/PB000000012/transmissions/1",
-                F1,
-                "{\"front\":3,\"state\":\"applied\"}",
-            ),
-            (
-                "GET /v1/senders/PB000000012/works/W1",
-                b"",
-                DONE,
-                JSON,
-                "{\"holders\":[{\"account\":\"I00000000199\",\"weight\":0},{\"account\":\"I00000000295\",\"weight\":10000},{\"account\":\"UNCLAIMED\",\"weight\":0}],\"isrcs\":[\"ATABC2600001\"],\"iswc\":\"T-034.524.680-1\",\"number\":\"W1\",\"ordinal\":1,\"revision\":1,\"title\":\"FIRST SONG\",\"transmission\":2}",
-            ),
-            (
-                "GET /v1/senders/PB000000012/verdicts/2",
-                b"",
-                DONE,
-                JSON,
-                "[{\"ordinal\":1,\"revision\":1}]",
-            ),
-            (
-                "GET /v1/senders/PB000000012/verdicts/3",
-                b"",
-                DONE,
-                JSON,
-                "[]",
-            ),
-            (
-                "GET /v1/senders/PB000000012/acks/3",
-                b"",
-                DONE,
-                "application/octet-stream",
-                str::from_utf8(F3_ACK)?,
-            ),
-        ],
-    )?;
-    compare(&rt, alloc, input.as_slice(), wanted.as_slice())
-}
-
-#[test]
-fn verdicts_by_fault(rt: HostRuntime) -> Result<(), Fail> {
-    let revised = f2(rt.alloc())?;
-    let over = with_writer_share(rt.alloc(), b"05007")?;
-    check(
-        &rt,
-        rt.alloc(),
-        &[
-            applied(
-                "PUT /v1/senders/PB000000012/transmissions/1",
-                revised.as_slice(),
-                "{\"front\":1,\"state\":\"applied\"}",
-            ),
-            applied(
-                "PUT /v1/senders/PB000000012/transmissions/2",
-                over.as_slice(),
-                "{\"front\":2,\"state\":\"applied\"}",
-            ),
-            applied(
-                "PUT /v1/senders/PB000000012/transmissions/3",
-                F1,
-                "{\"front\":3,\"state\":\"applied\"}",
-            ),
-            (
-                "GET /v1/senders/PB000000012/verdicts/1",
-                b"",
-                DONE,
-                JSON,
-                "[{\"fault\":21}]",
-            ),
-            (
-                "GET /v1/senders/PB000000012/verdicts/2",
-                b"",
-                DONE,
-                JSON,
-                "[{\"fault\":5}]",
-            ),
-            (
-                "GET /v1/senders/PB000000012/verdicts/3",
-                b"",
-                DONE,
-                JSON,
-                "[{\"ordinal\":1,\"revision\":0}]",
-            ),
-        ],
-    )
-}
-
-#[test]
-fn title_and_names_escaped(rt: HostRuntime) -> Result<(), Fail> {
-    let titled = changed(rt.alloc(), F4, 135, b"\xc3\x89T%\"\\    ")?;
-    let titled = changed(rt.alloc(), titled.as_slice(), 197, b"W\"")?;
-    check(
-        &rt,
-        rt.alloc(),
-        &[
-            applied(
-                "PUT /v1/senders/PB000000012/transmissions/1",
-                titled.as_slice(),
-                "{\"front\":1,\"state\":\"applied\"}",
-            ),
-            (
-                "GET /v1/senders/PB000000012/works/W%22%20",
-                b"",
-                DONE,
-                JSON,
-                "{\"holders\":[{\"account\":\"I00000000199\",\"weight\":0},{\"account\":\"I00000000295\",\"weight\":5000},{\"account\":\"UNCLAIMED\",\"weight\":5000}],\"isrcs\":[\"ATABC2600001\"],\"iswc\":\"T-034.524.680-1\",\"number\":\"W\\\"\",\"ordinal\":1,\"revision\":0,\"title\":\"%C3%89T%25\\\"\\\\\",\"transmission\":1}",
-            ),
-            (
-                "GET /v1/senders/PB000000012/works/%20",
-                b"",
-                NOT_FOUND,
-                JSON,
-                UNKNOWN,
-            ),
-            ("GET /v1/accounts/P", b"", NOT_FOUND, JSON, UNKNOWN),
-        ],
-    )
-}
-
-#[test]
-fn pool_closed_and_paid(rt: HostRuntime) -> Result<(), Fail> {
-    let other = b"{\"amount\":1002,\"cut\":[[\"PB000000012\",3]],\"returns\":[[\"RADIO1\",1]]}";
-    let closed = "{\"pool\":7,\"state\":\"closed\"}";
-    let unknown = b"{\"returns\":[[\"RADIO1\",2]],\"cut\":[],\"amount\":1}";
-    check(
-        &rt,
-        rt.alloc(),
-        &[
-            applied(
-                "PUT /v1/senders/PB000000012/transmissions/1",
-                F1,
-                "{\"front\":1,\"state\":\"applied\"}",
-            ),
-            applied(
-                "PUT /v1/senders/PB000000012/transmissions/2",
-                F3,
-                "{\"front\":2,\"state\":\"applied\"}",
-            ),
-            ("PUT /v1/returns/RADIO1/1", TEN_PLAYS, CREATED, JSON, STORED),
-            (
-                "PUT /v1/pools/7",
-                ORDER,
-                CONFLICT,
-                JSON,
-                "{\"error\":\"cut\",\"front\":2,\"sender\":\"PB000000012\"}",
-            ),
-            ("GET /v1/pools/7", b"", NOT_FOUND, JSON, UNKNOWN),
-            applied(
-                "PUT /v1/senders/PB000000012/transmissions/3",
-                F3,
-                "{\"front\":3,\"state\":\"applied\"}",
-            ),
-            ("PUT /v1/pools/7", ORDER, CREATED, JSON, closed),
-            ("PUT /v1/pools/7", ORDER, DONE, JSON, closed),
-            (
-                "PUT /v1/pools/7",
-                other.as_slice(),
-                CONFLICT,
-                JSON,
-                "{\"error\":\"reused\"}",
-            ),
-            ("GET /v1/pools/7", b"", DONE, CSV, TABLE),
-            (
-                "PUT /v1/pools/8",
-                ORDER,
-                CONFLICT,
-                JSON,
-                "{\"error\":\"paid\",\"number\":1,\"pool\":7,\"reporter\":\"RADIO1\"}",
-            ),
-            (
-                "PUT /v1/pools/8",
-                unknown.as_slice(),
-                CONFLICT,
-                JSON,
-                "{\"error\":\"return\",\"number\":2,\"reporter\":\"RADIO1\"}",
-            ),
-        ],
-    )
-}
-
-#[test]
-fn pools_without_owners(rt: HostRuntime) -> Result<(), Fail> {
-    let header = b"isrc,plays,seconds\n".as_slice();
-    let orders = [
-        b" {\"amount\":9,\"cut\":[],\"returns\":[],\"amount\":5}\r\n".as_slice(),
-        b"{\"amount\":0,\"cut\":[],\"returns\":[[\"RADIO1\",1]]}".as_slice(),
-        b"{\"amount\":5,\"cut\":[],\"returns\":[[\"RADIO1\",2]]}".as_slice(),
-    ];
-    let played = b"isrc,plays,seconds\nat-abc-26-00001,1,60\nATABC2600001,2,30\n".as_slice();
-    check(
-        &rt,
-        rt.alloc(),
-        &[
-            ("PUT /v1/returns/RADIO1/1", header, CREATED, JSON, STORED),
-            ("PUT /v1/returns/RADIO1/2", played, CREATED, JSON, STORED),
-            (
-                "PUT /v1/pools/1",
-                orders[0],
-                CREATED,
-                JSON,
-                "{\"pool\":1,\"state\":\"closed\"}",
-            ),
-            (
-                "PUT /v1/pools/2",
-                orders[1],
-                CREATED,
-                JSON,
-                "{\"pool\":2,\"state\":\"closed\"}",
-            ),
-            (
-                "PUT /v1/pools/3",
-                orders[2],
-                CREATED,
-                JSON,
-                "{\"pool\":3,\"state\":\"closed\"}",
-            ),
-            (
-                "GET /v1/pools/1",
-                b"",
-                DONE,
-                CSV,
-                "isrc,account,units\n-,UNCLAIMED,5\n",
-            ),
-            (
-                "GET /v1/pools/2",
-                b"",
-                DONE,
-                CSV,
-                "isrc,account,units\n-,UNCLAIMED,0\n",
-            ),
-            (
-                "GET /v1/pools/3",
-                b"",
-                DONE,
-                CSV,
-                "isrc,account,units\nATABC2600001,UNCLAIMED,5\n",
-            ),
-        ],
-    )
-}
-
-#[test]
-fn balances(rt: HostRuntime) -> Result<(), Fail> {
-    let first = b"{\"amount\":1001,\"cut\":[[\"PB000000012\",1]],\"returns\":[[\"RADIO1\",1]]}";
-    let second = b"{\"amount\":5,\"cut\":[],\"returns\":[]}";
-    check(
-        &rt,
-        rt.alloc(),
-        &[
-            applied(
-                "PUT /v1/senders/PB000000012/transmissions/1",
-                F1,
-                "{\"front\":1,\"state\":\"applied\"}",
-            ),
-            ("PUT /v1/returns/RADIO1/1", TEN_PLAYS, CREATED, JSON, STORED),
-            (
-                "PUT /v1/pools/7",
-                first.as_slice(),
-                CREATED,
-                JSON,
-                "{\"pool\":7,\"state\":\"closed\"}",
-            ),
-            (
-                "PUT /v1/pools/8",
-                second.as_slice(),
-                CREATED,
-                JSON,
-                "{\"pool\":8,\"state\":\"closed\"}",
-            ),
-            (
-                "GET /v1/accounts/I00000000199",
-                b"",
-                DONE,
-                JSON,
-                "{\"account\":\"I00000000199\",\"units\":501}",
-            ),
-            (
-                "GET /v1/accounts/UNCLAIMED",
-                b"",
-                DONE,
-                JSON,
-                "{\"account\":\"UNCLAIMED\",\"units\":5}",
-            ),
-            (
-                "GET /v1/accounts/PPB000000012a%22b%5C",
-                b"",
-                DONE,
-                JSON,
-                "{\"account\":\"PPB000000012a\\\"b\\\\\",\"units\":0}",
-            ),
-        ],
-    )
-}
-
-/// Puts bodies to a pool that are no order, by this fault.
-fn check_orders(rt: &impl Abort, alloc: Global, fault: &str, bodies: &[&[u8]]) -> Result<(), Fail> {
-    let text = format!(in alloc; "{{\"error\":\"order\",\"fault\":{fault}}}")?;
-    for body in bodies {
-        check(
-            rt,
-            alloc,
-            &[(
-                "PUT /v1/pools/99999",
-                *body,
-                UNPROCESSABLE,
-                JSON,
-                text.as_str(),
-            )],
-        )?;
+    for (body, text) in ORDERS {
+        ask(alloc, &mut input, "PUT /v1/pools/99999", body)?;
+        tell(alloc, &mut wanted, UNPROCESSABLE, JSON, text)?;
     }
-    Ok(())
+    compare(rt, alloc, input.as_slice(), wanted.as_slice())
 }
 
 #[test]
-fn orders_of_another_shape(rt: HostRuntime) -> Result<(), Fail> {
-    let mut nested = Vec::new(rt.alloc());
-    nested.resize(200, b'[')?;
-    nested.resize(400, b']')?;
-    check_orders(
-        &rt,
-        rt.alloc(),
-        "1",
-        &[
-            b"",
-            b"{}",
-            nested.as_slice(),
-            b"{\"amount\":1,\"cut\":[],\"returns\":[]}x",
-            b"{\"amount\":1,\"cut\":[],\"returns\":[],\"\xff\":0}",
-            b"{\"amount\":1,\"cut\":[],\"returns\":[],\"more\":0}",
-            b"{\"amount\":1.0,\"cut\":[],\"returns\":[]}",
-            b"{\"amount\":-0,\"cut\":[],\"returns\":[]}",
-            b"{\"amount\":18446744073709551616,\"cut\":[],\"returns\":[]}",
-            b"{\"amount\":1,\"cut\":[[\"PB000000012\"]],\"returns\":[]}",
-            b"{\"amount\":1,\"cut\":[[\"PB000000012\",1,1]],\"returns\":[]}",
-            b"{\"amount\":1,\"cut\":[[\"pb000000012\",1]],\"returns\":[]}",
-            b"{\"amount\":1,\"cut\":[],\"returns\":[[\"\",1]]}",
-            b"{\"amount\":1,\"cut\":{},\"returns\":[]}",
-        ],
-    )
-}
-
-#[test]
-fn orders_out_of_their_limits(rt: HostRuntime) -> Result<(), Fail> {
-    check_orders(
-        &rt,
-        rt.alloc(),
-        "2",
-        &[
-            b"{\"amount\":1000000000001,\"cut\":[],\"returns\":[]}",
-            b"{\"amount\":18446744073709551615,\"cut\":[],\"returns\":[]}",
-            b"{\"amount\":1,\"cut\":[[\"PB000000012\",0]],\"returns\":[]}",
-            b"{\"amount\":1,\"cut\":[],\"returns\":[[\"R\",1000000],[\"R\",1000000]]}",
-        ],
-    )?;
-    check_orders(
-        &rt,
-        rt.alloc(),
-        "4",
-        &[
-            b"{\"amount\":1,\"cut\":[[\"PB000000012\",1],[\"PB000000012\",2]],\"returns\":[]}",
-            b"{\"amount\":1,\"cut\":[],\"returns\":[[\"R\",1],[\"R\",1]]}",
-        ],
-    )
-}
-
-#[test]
-fn targets(rt: HostRuntime) -> Result<(), Fail> {
-    let empty = "{\"front\":0,\"held\":[]}";
-    check(
-        &rt,
-        rt.alloc(),
-        &[
-            ("GET /v1/senders/PB000000012", b"", DONE, JSON, empty),
-            (
-                "GET /v1/senders/%50B000000012",
-                b"ignored",
-                DONE,
-                JSON,
-                empty,
-            ),
-            (
-                "GET /v1/senders/%2550B000000012",
-                b"",
-                NOT_FOUND,
-                JSON,
-                UNKNOWN,
-            ),
-            (
-                "GET /v1/senders/PB000000012?x",
-                b"",
-                NOT_FOUND,
-                JSON,
-                UNKNOWN,
-            ),
-            (
-                "GET /v1/senders/PB000000012/",
-                b"",
-                NOT_FOUND,
-                JSON,
-                UNKNOWN,
-            ),
-            ("PUT /v1/senders/PB000000012", b"", NOT_FOUND, JSON, UNKNOWN),
-            (
-                "GET /v1/senders/PB000000012/transmissions/1",
-                b"",
-                NOT_FOUND,
-                JSON,
-                UNKNOWN,
-            ),
-            ("PUT /v1/accounts/UNCLAIMED", b"", NOT_FOUND, JSON, UNKNOWN),
-            (
-                "GET /v1/accounts/I00000000000",
-                b"",
-                NOT_FOUND,
-                JSON,
-                UNKNOWN,
-            ),
-            ("PUT /v1/pools/0", ORDER, NOT_FOUND, JSON, UNKNOWN),
-            ("PUT /v1/pools/100000", ORDER, NOT_FOUND, JSON, UNKNOWN),
-        ],
-    )
-}
-
-#[test]
-fn ends(rt: HostRuntime) -> Result<(), Fail> {
+fn rows_of_requests(rt: HostRuntime) -> Result<(), Fail> {
     let alloc = rt.alloc();
-    let close = "Connection: close\r\n";
-    let mut input = Vec::new(alloc);
-    let mut wanted = Vec::new(alloc);
-    ask(
-        alloc,
-        &mut input,
-        "GET /v1/senders/PB000000012",
-        "Connection: Close\r\n",
-        b"",
-    )?;
-    ask(alloc, &mut input, "GET /v1/senders/PB000000012", "", b"")?;
-    tell(
-        alloc,
-        &mut wanted,
-        DONE,
-        JSON,
-        close,
-        "{\"front\":0,\"held\":[]}",
-    )?;
-    let (out, _) = replayed(alloc, input.as_slice())?;
-    assert_eq!(rt; str::from_utf8(&out), str::from_utf8(&wanted));
-    for (bytes, status, text) in [
-        (
-            b"POST / HTTP/1.1\r\n\r\n".as_slice(),
-            "400 Bad Request",
-            "{\"error\":\"request\"}",
-        ),
-        (
-            b"GET / HTTP/1.1\r\nContent-Length: 999999999999999999999999999999\r\n\r\n".as_slice(),
-            "413 Payload Too Large",
-            "{\"error\":\"size\"}",
-        ),
+    for rows in [
+        EMPTY_FILE,
+        FIRST_GAP_FILLED,
+        HELD_NUMBER_REUSED,
+        NUMBERS_AT_THE_LIMITS,
+        RECORD_COUNT_OFF_BY_ONE,
+        CUT_FILES,
+        LINE_FEEDS_ALONE,
+        VERDICTS_BY_FAULT,
+        TITLE_AND_NAMES_ESCAPED,
+        RETURNS_STORED_REPEATED_AND_REFUSED,
+        POOL_CLOSED_AND_PAID,
+        POOLS_WITHOUT_OWNERS,
+        BALANCES,
+        TARGETS,
     ] {
-        let mut wanted = Vec::new(alloc);
-        tell(alloc, &mut wanted, status, JSON, close, text)?;
-        let (out, _) = replayed(alloc, bytes)?;
-        assert_eq!(rt; str::from_utf8(&out), str::from_utf8(&wanted));
+        check(&rt, alloc, rows)?;
     }
-    Ok(())
+    check_orders(&rt, alloc)
 }

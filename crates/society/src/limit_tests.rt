@@ -1,17 +1,12 @@
-//! The limits of heads, bodies and returns: what is just within them is served, and what is just past them refused.
-use crate::samples::{F1, f2};
+//! The limits of heads and returns: what is just within them is served, and what is just past them refused.
+use crate::samples::{F1, F2};
 use crate::streams::{answer, office, put, put_return, replayed};
-use cwr_files::FileFault;
 use http_desk::{Counted, Served, serve};
-use society_core::{Desk, PlainStore, Refusal};
+use society_core::{Desk, PlainStore};
 use std::alloc::{AllocError, Global};
 use std::process::Abort;
 use std::str;
 use std::test::Fail;
-use work_ids::{SenderKey, TransmissionNumber};
-
-/// The greatest body, in bytes.
-const MAX_BODY: usize = 1_048_576;
 
 /// The greatest head, in bytes.
 const MAX_HEAD: usize = 8_192;
@@ -84,36 +79,6 @@ fn heads_at_their_limits(rt: HostRuntime) -> Result<(), Fail> {
     Ok(())
 }
 
-/// F1 and line feeds behind it, so many bytes in all.
-fn with_line_feeds(alloc: Global, length: usize) -> Result<Vec<u8>, AllocError> {
-    let mut body = Vec::from_slice(alloc, F1)?;
-    body.resize(length, b'\n')?;
-    Ok(body)
-}
-
-#[test]
-fn one_byte_over_the_greatest_body(rt: HostRuntime) -> Result<(), Fail> {
-    let alloc = rt.alloc();
-    let sender = SenderKey::from_bytes(b"PB000000012")
-        .ok()
-        .ok_or("a sender key")?;
-    let number = TransmissionNumber::from_u32(1).ok_or("a number")?;
-    let mut desk = Desk::new(PlainStore::new(alloc, &office()?));
-    let over = with_line_feeds(alloc, MAX_BODY + 1)?;
-    let fault = FileFault {
-        number: 12,
-        line: 1_047_540,
-    };
-    let refused = desk.put_transmission(alloc, &sender, number, &over);
-    assert!(rt; refused == Err(Refusal::File(fault)));
-    let greatest = with_line_feeds(alloc, MAX_BODY)?;
-    let arrival = desk.put_transmission(alloc, &sender, number, &greatest);
-    assert!(rt; matches!(arrival, Ok(new) if !new.known && new.front == 1));
-    let refused = desk.put_transmission(alloc, &sender, number, &over);
-    assert!(rt; refused == Err(Refusal::Reused));
-    Ok(())
-}
-
 /// A return of so many rows of one play of one second.
 fn return_of(alloc: Global, rows: u32) -> Result<Vec<u8>, AllocError> {
     let mut body = Vec::from_slice(alloc, b"isrc,plays,seconds\n")?;
@@ -161,12 +126,11 @@ fn returns_of_the_most_rows(rt: HostRuntime) -> Result<(), Fail> {
 #[test]
 fn fronts_to_three_hundred(rt: HostRuntime) -> Result<(), Fail> {
     let alloc = rt.alloc();
-    let revision = f2(alloc)?;
     let mut input = Vec::new(alloc);
     let mut wanted = Vec::new(alloc);
     for number in 1..301 {
         let text = format!(in alloc; "{number}")?;
-        let body = if number == 1 { F1 } else { revision.as_slice() };
+        let body = if number == 1 { F1 } else { F2 };
         put(alloc, &mut input, text.as_str(), body)?;
         let json = format!(in alloc; "{{\"front\":{number},\"state\":\"applied\"}}")?;
         answer(alloc, &mut wanted, "201 Created", "json", json.as_bytes())?;

@@ -14,8 +14,6 @@ mod database_tests;
 #[cfg(test)]
 mod day_tests;
 #[cfg(test)]
-mod hostile_tests;
-#[cfg(test)]
 mod http_tests;
 #[cfg(test)]
 mod limit_tests;

@@ -1,10 +1,12 @@
 //! Files that are cut, streams that fail at each of their bytes, and connections without an end in sight: what is answered,
 //! how it is given up, and what the book is then.
-use crate::samples::{F1, F1_ACK};
-use crate::streams::{answer, get, office, put};
-use http_desk::{Counted, DeskFault, FaultKind, Served, serve};
+use crate::connection::{Served, serve};
+use crate::counted::Counted;
+use crate::fault::{DeskFault, FaultKind};
+use crate::samples::{F1, F1_ACK, Stream, first_stream, office, tell};
+use cwr_files::FileFault;
 use society_core::{Desk, PlainStore, Refusal};
-use std::alloc::Global;
+use std::alloc::{AllocError, Global};
 use std::io::{ErrorKind, Read, Write};
 use std::process::Abort;
 use std::test::Fail;
@@ -51,15 +53,6 @@ impl Write for Sink {
     }
 }
 
-/// The first file and the request of its acknowledgement, with what is written for them, and where each of the two ends.
-#[derive(Drop)]
-struct Stream {
-    input: Vec<u8>,
-    put: usize,
-    output: Vec<u8>,
-    arrival: usize,
-}
-
 /// What a connection came to.
 #[derive(Drop)]
 struct Ended {
@@ -67,24 +60,6 @@ struct Ended {
     written: Vec<u8>,
     front: u32,
     acknowledgement: Option<Vec<u8>>,
-}
-
-fn first_acknowledgement(alloc: Global) -> Result<Stream, Fail> {
-    let mut input = Vec::new(alloc);
-    put(alloc, &mut input, "1", F1)?;
-    let put = input.len();
-    get(alloc, &mut input, "1")?;
-    let mut output = Vec::new(alloc);
-    let applied = b"{\"front\":1,\"state\":\"applied\"}";
-    answer(alloc, &mut output, "201 Created", "json", applied)?;
-    let arrival = output.len();
-    answer(alloc, &mut output, "200 OK", "octet-stream", F1_ACK)?;
-    Ok(Stream {
-        input,
-        put,
-        output,
-        arrival,
-    })
 }
 
 fn sender() -> Result<SenderKey, &'static str> {
@@ -154,6 +129,37 @@ fn prefixes_of_a_file(rt: HostRuntime) -> Result<(), Fail> {
     Ok(())
 }
 
+/// The greatest body, in bytes.
+const MAX_BODY: usize = 1_048_576;
+
+/// F1 and line feeds behind it, so many bytes in all.
+fn with_line_feeds(alloc: Global, length: usize) -> Result<Vec<u8>, AllocError> {
+    let mut body = Vec::from_slice(alloc, F1)?;
+    body.resize(length, b'\n')?;
+    Ok(body)
+}
+
+#[test]
+fn one_byte_over_the_greatest_body(rt: HostRuntime) -> Result<(), Fail> {
+    let alloc = rt.alloc();
+    let sender = sender()?;
+    let number = first_number()?;
+    let mut desk = Desk::new(PlainStore::new(alloc, &office()?));
+    let over = with_line_feeds(alloc, MAX_BODY + 1)?;
+    let fault = FileFault {
+        number: 12,
+        line: 1_047_540,
+    };
+    let refused = desk.put_transmission(alloc, &sender, number, &over);
+    assert!(rt; refused == Err(Refusal::File(fault)));
+    let greatest = with_line_feeds(alloc, MAX_BODY)?;
+    let arrival = desk.put_transmission(alloc, &sender, number, &greatest);
+    assert!(rt; matches!(arrival, Ok(new) if !new.known && new.front == 1));
+    let refused = desk.put_transmission(alloc, &sender, number, &over);
+    assert!(rt; refused == Err(Refusal::Reused));
+    Ok(())
+}
+
 /// The requests of the first stream that so many of its bytes hold whole, and the end of their answers.
 fn held_by(stream: &Stream, length: usize) -> (u128, usize) {
     if length < stream.put {
@@ -189,7 +195,7 @@ fn check_failing_read(
 #[test]
 fn reads_that_fail(rt: HostRuntime) -> Result<(), Fail> {
     let alloc = rt.alloc();
-    let stream = first_acknowledgement(alloc)?;
+    let stream = first_stream(alloc)?;
     for length in 0..stream.input.len() + 1 {
         check_failing_read(&rt, alloc, &stream, length, 64)?;
         check_failing_read(&rt, alloc, &stream, length, usize::MAX)?;
@@ -221,7 +227,7 @@ fn check_failing_write(
 #[test]
 fn writes_that_fail(rt: HostRuntime) -> Result<(), Fail> {
     let alloc = rt.alloc();
-    let stream = first_acknowledgement(alloc)?;
+    let stream = first_stream(alloc)?;
     for room in 0..stream.output.len() {
         let answered = if room < stream.arrival { 1 } else { 2 };
         check_failing_write(&rt, alloc, &stream, room, 64, answered)?;
@@ -230,10 +236,34 @@ fn writes_that_fail(rt: HostRuntime) -> Result<(), Fail> {
     Ok(())
 }
 
+/// Serves the stream in pieces of so many bytes to a connection that may take so many turns, and checks how it ended with so many
+/// requests answered.
+fn check_turns(
+    rt: &impl Abort,
+    alloc: Global,
+    stream: &Stream,
+    piece: usize,
+    turns: u64,
+    end: &Result<Served, DeskFault>,
+    requests: usize,
+) -> Result<(), Fail> {
+    let source = Source {
+        bytes: stream.input.as_slice(),
+        piece,
+        fails: false,
+    };
+    let ends = [0, stream.arrival, stream.output.len()];
+    let written = ends.get(requests).ok_or("an end")?;
+    let written = stream.output.get(..*written).ok_or("a prefix")?;
+    let seen = outcome(alloc, source, usize::MAX, turns)?;
+    check(rt, &seen, end, written, requests as u128);
+    Ok(())
+}
+
 #[test]
 fn turns_of_one_byte(rt: HostRuntime) -> Result<(), Fail> {
     let alloc = rt.alloc();
-    let stream = first_acknowledgement(alloc)?;
+    let stream = first_stream(alloc)?;
     let turns = stream.input.len() as u64;
     let rows = [
         (turns.saturating_add(1), Ok(Served { requests: 2 }), 2),
@@ -247,16 +277,23 @@ fn turns_of_one_byte(rt: HostRuntime) -> Result<(), Fail> {
         ),
     ];
     for (turns, end, requests) in rows.iter() {
-        let source = Source {
-            bytes: stream.input.as_slice(),
-            piece: 1,
-            fails: false,
-        };
-        let ends = [0, stream.arrival, stream.output.len()];
-        let written = ends.get(*requests).ok_or("an end")?;
-        let written = stream.output.get(..*written).ok_or("a prefix")?;
-        let seen = outcome(alloc, source, usize::MAX, *turns)?;
-        check(&rt, &seen, end, written, *requests as u128);
+        check_turns(&rt, alloc, &stream, 1, *turns, end, *requests)?;
+    }
+    Ok(())
+}
+
+/// One turn for each read: of the whole stream, and of its end.
+#[test]
+fn turns_of_whole_reads(rt: HostRuntime) -> Result<(), Fail> {
+    let alloc = rt.alloc();
+    let stream = first_stream(alloc)?;
+    let rows = [
+        (2, Ok(Served { requests: 2 }), 2),
+        (1, given_up(FaultKind::Turns, 2), 2),
+        (0, given_up(FaultKind::Turns, 0), 0),
+    ];
+    for (turns, end, requests) in rows.iter() {
+        check_turns(&rt, alloc, &stream, usize::MAX, *turns, end, *requests)?;
     }
     Ok(())
 }
@@ -318,12 +355,12 @@ fn a_million_requests(rt: HostRuntime) -> Result<(), Fail> {
     let mut output = Vec::new(alloc);
     for _ in 0..ROUND {
         input.extend_from_slice(b"GET /v1/senders/PB000000012 HTTP/1.1\r\n\r\n")?;
-        answer(
+        tell(
             alloc,
             &mut output,
             "200 OK",
-            "json",
-            b"{\"front\":0,\"held\":[]}",
+            "",
+            "{\"front\":0,\"held\":[]}",
         )?;
     }
     let mut desk = Desk::new(PlainStore::new(alloc, &office()?));
