@@ -3,36 +3,8 @@
 //! at a path; `--help` tells both.
 #![tactic(auto)]
 
-#[cfg(test)]
-mod ample_tests;
-mod command_line;
-#[cfg(test)]
-mod connection_tests;
-mod connections;
-#[cfg(test)]
-mod database_tests;
-#[cfg(test)]
-mod day_tests;
-#[cfg(test)]
-mod http_tests;
-#[cfg(test)]
-mod limit_tests;
-mod opening;
-mod replay;
-#[cfg(test)]
-mod samples;
-mod serving;
-mod starting;
-#[cfg(test)]
-mod streams;
-#[cfg(test)]
-mod tests;
-#[cfg(test)]
-mod word_tests;
-mod words;
-
 use http_desk::Counted;
-use starting::{NoWords, start, why_no_words, without_words};
+use society_commands::{NoWords, start, why_no_words, without_words};
 use std::env;
 use std::process::ExitCode;
 

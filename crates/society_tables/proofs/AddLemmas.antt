@@ -9,13 +9,13 @@ use Rattle.society_core.specs.State.{Addition}
 use Rattle.society_core.specs.declared.store.StoreFault.{StoreFault}
 use Rattle.society_rows.specs.declared.fault.RowFault.{RowFault}
 use Rattle.society_rows.specs.Stored.{HasLayout}
-use Rattle.society_tables.specs.BookRows.{book_of}
+use Rattle.society_book.specs.BookRows.{book_of}
 use Rattle.society_tables.specs.Faults.{Told}
-use Rattle.society_tables.specs.Kept.{Holds, HoldsBook, IsAtRest, IsKept, LeftBy, Rests, tables_state}
-use Rattle.society_tables.specs.Shown.{AddsAlone}
-use Rattle.society_tables.proofs.AskLemmas.{both_true, clean_is, first_true, second_true, was_clean}
-use Rattle.society_tables.proofs.BookLemmas.{the_book}
-use Rattle.society_tables.proofs.QuestionLemmas.{IsAlone, coded_book, ok_alone, told_answer, told_cause, told_on}
+use Rattle.society_book.specs.Kept.{Holds, HoldsBook, IsAtRest, IsKept, LeftBy, Rests, tables_state}
+use Rattle.society_book.specs.Shown.{AddsAlone}
+use Rattle.society_book.proofs.AskLemmas.{both_true, clean_is, first_true, second_true, was_clean}
+use Rattle.society_book.proofs.BookLemmas.{the_book}
+use Rattle.society_tables.proofs.StoreQuestions.{IsAlone, coded_book, ok_alone, told_answer, told_cause, told_on}
 use Rattle.sqlite.specs.Effect.{Database}
 use Rattle.sqlite.specs.State.{HasCleanDisk, State}
 use Rattle.sqlite_trees.specs.Tree.{Trees}

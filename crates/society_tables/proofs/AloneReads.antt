@@ -6,7 +6,7 @@ use Rattle.sqlite.proofs.StateLemmas.{survives_then}
 use Rattle.sqlite.specs.Held.{Held, state}
 use Rattle.sqlite_trees.specs.declared.store.Store.{Ghosts}
 use Rattle.society_rows.specs.Questions.{Asks}
-use Rattle.society_tables.specs.Steps.{Does, DoesOpen}
+use Rattle.society_book.specs.Steps.{Does, DoesOpen}
 use Rattle.sqlite.specs.Effect.{Database}
 use Rattle.sqlite.specs.State.{HasCleanDisk, IsRolledBack, IsUnchanged, Shows, State, Survives}
 use Rattle.sqlite_trees.specs.Tree.{Trees}
@@ -14,7 +14,7 @@ use Rattle.society_rows.specs.Folds.{OfOtherLayout, ReadsAlone}
 use Rattle.society_rows.specs.Stored.{HasLayout}
 use Rattle.society_rows.specs.declared.fault.RowFault.{RowFault}
 use Rattle.society_tables.specs.Opening.{Inspects}
-use Rattle.society_tables.proofs.StepLemmas.{more, on_ok}
+use Rattle.society_book.proofs.StepLemmas.{more, on_ok}
 
 on_err : {X : Type 0} (r : Result X RowFault) {P : Type 0} → P → OnErr r P
 on_err (Ok x) h = tt

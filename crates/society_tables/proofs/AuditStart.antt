@@ -10,17 +10,18 @@ use Rattle.society_core.specs.Book.{Book, IsSound, empty_book, front}
 use Rattle.society_rows.specs.Layout as layout
 use Rattle.society_rows.specs.Stored.{AreNumbered, HasLayout, rows_in}
 use Rattle.society_rows.specs.declared.tables.TableName.TheVariants as name
-use Rattle.society_tables.specs.Auditing.{AreSenders, ClosesAside, HasLines, HoldsAside, KeepsBodies, KeepsUnlined, mixed, money_names, where_of, works_names}
-use Rattle.society_tables.specs.BookRows.{book_of}
-use Rattle.society_tables.specs.Columns.{HasRows}
-use Rattle.society_tables.specs.DerivedRows.{Telling, front_rows, has_sent, is_named, tells_recordings, tells_verdict, tells_version, told_by, told_to_front, works_to}
-use Rattle.society_tables.specs.Kept.{Holds, HoldsBook}
+use Rattle.society_tables.specs.Auditing.{AreSenders, ClosesAside, HasLines, HoldsAside, KeepsUnlined, mixed, money_names, where_of, works_names}
+use Rattle.society_book.specs.Sources.{KeepsBodies}
+use Rattle.society_book.specs.BookRows.{book_of}
+use Rattle.society_book.specs.Columns.{HasRows}
+use Rattle.society_book.specs.DerivedRows.{Telling, front_rows, has_sent, is_named, tells_recordings, tells_verdict, tells_version, told_by, told_to_front, works_to}
+use Rattle.society_book.specs.Kept.{Holds, HoldsBook}
 use Rattle.society_tables.specs.Opening.{Agree}
 use Rattle.society_tables.specs.Rebuilding.{without_pools}
-use Rattle.society_tables.specs.Runs.{is_among}
+use Rattle.society_book.specs.Runs.{is_among}
 use Rattle.society_tables.proofs.AddLemmas.{holds_own}
 use Rattle.society_tables.proofs.EmptyTables.{nothing_sent, told_nothing}
-use Rattle.society_tables.proofs.FrontRows.{front_of_nobody}
+use Rattle.society_book.proofs.FrontRows.{front_of_nobody}
 use Rattle.society_tables.proofs.Mixed.{begun_mixed, whole_mixed}
 
 unsent_front : (o : Office) (b : Book) (s : List ℕ) → has_sent b s ≡ false → front_rows o b s ≡ []

@@ -14,10 +14,10 @@ use Rattle.society_rows.specs.Reads.{Lists}
 use Rattle.society_rows.specs.Stored.{HasLayout, rows_in}
 use Rattle.society_rows.specs.declared.fault.RowFault.{RowFault}
 use Rattle.society_rows.specs.declared.fault.RowFault.TheVariants as row
-use Rattle.society_tables.specs.BookRows.{AreOfBook, is_return_row, is_transmission_row, return_rows, transmission_rows}
-use Rattle.society_tables.specs.Columns.{HasRows}
+use Rattle.society_book.specs.BookRows.{AreOfBook, is_return_row, is_transmission_row, return_rows, transmission_rows}
+use Rattle.society_book.specs.Columns.{HasRows}
 use Rattle.share_rules.specs.declared.office.Office.{Office}
-use Rattle.society_tables.specs.Kept.{HoldsBook}
+use Rattle.society_book.specs.Kept.{HoldsBook}
 use Rattle.society_tables.specs.Opening.{Inspects, audit_fault_by}
 use Rattle.society_tables.specs.Rebuilding.{AllReported, AllSent, ComesFrom, IsAside, IsWithin, Passes, ShowsBook, sent_alone, without_pools}
 use Rattle.society_tables.specs.declared.audit_fault.AuditFault.{AuditFault}

@@ -22,13 +22,13 @@ use Rattle.society_rows.specs.Layout.{all_tables, written_out}
 use Rattle.society_rows.specs.NewBook.{Begins, IsNewBook}
 use Rattle.sqlite.specs.Effect.{Database}
 use Rattle.sqlite.specs.State.{State}
-use Rattle.society_tables.specs.BookRows.{book_of}
+use Rattle.society_book.specs.BookRows.{book_of}
 use Rattle.society_tables.proofs.AddLemmas.{holds_own, stands}
 use Rattle.society_rows.specs.Stored.{rows_in, values_of}
-use Rattle.society_tables.specs.BookRows.{cut_row, paid_row, pool_row, return_row, row_of_some, rows_of_order, transmission_row}
-use Rattle.society_tables.specs.Columns.{HasRows}
-use Rattle.society_tables.specs.DerivedRows.{Telling, balance_rows, balance_rows_by, credit_rows_by, front_rows, has_sent, tells_recordings, tells_verdict, tells_version, told_by, told_to_front, works_to}
-use Rattle.society_tables.specs.Kept.{HoldsBook, IsAtRest, office_row}
+use Rattle.society_book.specs.BookRows.{cut_row, paid_row, pool_row, return_row, row_of_some, rows_of_order, transmission_row}
+use Rattle.society_book.specs.Columns.{HasRows}
+use Rattle.society_book.specs.DerivedRows.{Telling, balance_rows, balance_rows_by, credit_rows_by, front_rows, has_sent, tells_recordings, tells_verdict, tells_version, told_by, told_to_front, works_to}
+use Rattle.society_book.specs.Kept.{HoldsBook, IsAtRest, office_row}
 use Rattle.work_ids.specs.Account.{account_text}
 
 none_left : {A : Type 0} (es : List A) → length es ≡ 0 → es ≡ []

@@ -13,12 +13,13 @@ use Rattle.society_core.specs.declared.transmission_key.TransmissionKey.{Transmi
 use Rattle.society_core.proofs.KeyOrders.{exact_returns, exact_transmissions, returns_total, transmissions_total}
 use Rattle.society_rows.specs.Layout as layout
 use Rattle.society_rows.specs.Stored.{rows_in}
-use Rattle.society_tables.specs.Auditing.{HoldsEntries, KeepsBodies, has_body, is_right_return, is_right_sent}
-use Rattle.society_tables.specs.BookRows.{book_of, is_return_row, is_transmission_row, return_key_of, return_row, transmission_key_of, transmission_row}
-use Rattle.society_tables.specs.Columns.{blob_at, number_at, text_at}
+use Rattle.society_tables.specs.Auditing.{HoldsEntries, has_body, is_right_return, is_right_sent}
+use Rattle.society_book.specs.Sources.{KeepsBodies}
+use Rattle.society_book.specs.BookRows.{book_of, is_return_row, is_transmission_row, return_key_of, return_row, transmission_key_of, transmission_row}
+use Rattle.society_book.specs.Columns.{blob_at, number_at, text_at}
 use Rattle.society_tables.specs.Rebuilding.{without_pools}
-use Rattle.society_tables.proofs.AskLemmas.{first_true, second_true}
-use Rattle.society_tables.proofs.BookLemmas.{returns_tie, transmissions_tie}
+use Rattle.society_book.proofs.AskLemmas.{first_true, second_true}
+use Rattle.society_book.proofs.BookLemmas.{returns_tie, transmissions_tie}
 use Rattle.society_tables.proofs.EntryRows.{body_form, had_by, kept_once}
 use Rattle.work_ids.specs.Blanks.{fill, without_trailing_blanks}
 

@@ -17,8 +17,8 @@ use Rattle.sqlite_keyed.proofs.ListLemmas.{map-map}
 use Rattle.society_core.specs.Keys.{bytes_cmp}
 use Rattle.society_core.specs.declared.transmission_key.TransmissionKey.{TransmissionKey}
 use Rattle.society_rows.specs.Layout as layout
-use Rattle.society_tables.specs.BookRows.{transmission_key_of}
-use Rattle.society_tables.proofs.BookLemmas.{one_ascent}
+use Rattle.society_book.specs.BookRows.{transmission_key_of}
+use Rattle.society_book.proofs.BookLemmas.{one_ascent}
 use Rattle.sqlite_keyed.proofs.ListLemmas.{IsPermutation-filter, all-filter}
 use Rattle.sqlite_schema.specs.declared.schema.Table.{Table}
 use Rattle.sqlite_trees.proofs.ListLemmas.{all-permutation}
@@ -31,12 +31,12 @@ use Rattle.sqlite_value.specs.declared.value.Value.TheVariants.{Blob, Int, Null,
 use Rattle.society_core.proofs.Ascending.{ascending_has, ascending_length}
 use Rattle.society_core.specs.Keys.{ascending}
 use Rattle.society_tables.specs.Auditing.{AreEntries, GoneOver, has_body, is_blob, is_count, is_text, take_over}
-use Rattle.society_tables.specs.BookRows.{row_of_some}
-use Rattle.society_tables.specs.Columns.{HasRows, blob_at, blob_of, number_at, number_of, text_at, text_of}
-use Rattle.society_tables.proofs.AskLemmas.{first_true, second_true}
-use Rattle.society_tables.proofs.BookLemmas.{filter_true}
-use Rattle.society_tables.proofs.RowLemmas.{first_value, found_first}
-use Rattle.society_tables.proofs.RunTables.{same_permutation}
+use Rattle.society_book.specs.BookRows.{row_of_some}
+use Rattle.society_book.specs.Columns.{HasRows, blob_at, blob_of, number_at, number_of, text_at, text_of}
+use Rattle.society_book.proofs.AskLemmas.{first_true, second_true}
+use Rattle.society_book.proofs.BookLemmas.{filter_true}
+use Rattle.society_book.proofs.RowLemmas.{first_value, found_first}
+use Rattle.society_book.proofs.RunTables.{same_permutation}
 
 module _ {K : Type 0} (is_right : Row → Bool) (key_of : Row → K) where
   -- rows that were gone over, where each of them is right

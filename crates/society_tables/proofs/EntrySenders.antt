@@ -18,18 +18,18 @@ use Rattle.society_core.proofs.KeyOrders.{exact_transmissions, transmissions_tot
 use Rattle.society_rows.specs.Layout as layout
 use Rattle.society_rows.specs.Stored.{rows_in}
 use Rattle.society_tables.specs.Auditing.{AreSenders, HoldsEntries, is_right_sent}
-use Rattle.society_tables.specs.BookRows.{book_of, is_transmission_row, transmission_entry, transmission_key_of, transmission_row}
-use Rattle.society_tables.specs.Columns.{number_at, text_at}
-use Rattle.society_tables.specs.DerivedRows.{has_sent}
-use Rattle.society_tables.specs.Runs.{is_among}
-use Rattle.society_tables.proofs.AskLemmas.{first_true}
-use Rattle.society_tables.proofs.BookLemmas.{transmissions_tie}
+use Rattle.society_book.specs.BookRows.{book_of, is_transmission_row, transmission_entry, transmission_key_of, transmission_row}
+use Rattle.society_book.specs.Columns.{number_at, text_at}
+use Rattle.society_book.specs.DerivedRows.{has_sent}
+use Rattle.society_book.specs.Runs.{is_among}
+use Rattle.society_book.proofs.AskLemmas.{first_true}
+use Rattle.society_book.proofs.BookLemmas.{transmissions_tie}
 use Rattle.society_tables.proofs.EntryBooks.{sent_form}
 use Rattle.society_tables.proofs.EntryRows.{had_by}
-use Rattle.society_tables.proofs.HeldAdds.{is_or, or_is, sent_there, there_sent}
-use Rattle.society_tables.proofs.KeyRows.{same_truth}
-use Rattle.society_tables.proofs.RowLemmas.{first_value, found_first}
-use Rattle.society_tables.proofs.RunLines.{among_ascending}
+use Rattle.society_book.proofs.HeldAdds.{is_or, or_is, sent_there, there_sent}
+use Rattle.society_book.proofs.KeyRows.{same_truth}
+use Rattle.society_book.proofs.RowLemmas.{first_value, found_first}
+use Rattle.society_book.proofs.RunLines.{among_ascending}
 
 -- what is kept of rows has a first one where one of them is kept
 some_first : {K X : Type 0} (entry : Row → K × X) (p : Row → Bool) (rows : List Row) → list_any p rows ≡ true → is_some (first_value entry (filter p rows)) ≡ true

@@ -20,21 +20,22 @@ use Rattle.society_rows.specs.Stored.{put_over, rows_in}
 use Rattle.sqlite.specs.Effect.{Database}
 use Rattle.sqlite_schema.specs.declared.schema.Table.{Table}
 use Rattle.society_rows.specs.Layout.{all_tables}
-use Rattle.society_tables.proofs.RunWrites.{both_of}
-use Rattle.society_tables.specs.Auditing.{AreWhole, HasLines, HasTransmissions, KeepsUnlined, SettlesLine, where_of}
-use Rattle.society_tables.specs.BookRows.{row_of_some, transmission_row}
-use Rattle.society_tables.specs.Columns.{HasRows, blob_at, text_at}
-use Rattle.society_tables.specs.DerivedRows.{Telling, front_rows, has_sent, is_named, tells_recordings, tells_verdict, tells_version, told_to_front, works_to}
-use Rattle.society_tables.specs.Runs.{AreNoted, Notes, Settled, behind_run, notes_in, settled_recordings, settled_run, settled_verdict, settled_version}
-use Rattle.society_tables.proofs.FrontRows.{front_of_nobody, fronts_named}
-use Rattle.society_tables.proofs.Growth.{told_of}
-use Rattle.society_tables.proofs.KeyRows.{transmission_listed}
-use Rattle.society_tables.proofs.LineRows.{line_to}
-use Rattle.society_tables.proofs.NamedRows.{HasName}
-use Rattle.society_tables.proofs.PutRows.{others_left}
-use Rattle.society_tables.proofs.RowLemmas.{all_rows, more_rows}
-use Rattle.society_tables.proofs.RunLines.{IsSeen, run_behind, run_settled, sees_recordings, sees_verdict, sees_version}
-use Rattle.society_tables.proofs.RunTables.{Names, names_recordings, names_verdict, names_version, of_one, same_permutation, told_named}
+use Rattle.society_book.proofs.RunWrites.{both_of}
+use Rattle.society_tables.specs.Auditing.{AreWhole, HasLines, KeepsUnlined, SettlesLine, where_of}
+use Rattle.society_book.specs.Sources.{HasTransmissions}
+use Rattle.society_book.specs.BookRows.{row_of_some, transmission_row}
+use Rattle.society_book.specs.Columns.{HasRows, blob_at, text_at}
+use Rattle.society_book.specs.DerivedRows.{Telling, front_rows, has_sent, is_named, tells_recordings, tells_verdict, tells_version, told_to_front, works_to}
+use Rattle.society_book.specs.Runs.{AreNoted, Notes, Settled, behind_run, notes_in, settled_recordings, settled_run, settled_verdict, settled_version}
+use Rattle.society_book.proofs.FrontRows.{front_of_nobody, fronts_named}
+use Rattle.society_book.proofs.Growth.{told_of}
+use Rattle.society_book.proofs.KeyRows.{transmission_listed}
+use Rattle.society_book.proofs.LineRows.{line_to}
+use Rattle.society_book.proofs.NamedRows.{HasName}
+use Rattle.society_book.proofs.PutRows.{others_left}
+use Rattle.society_book.proofs.RowLemmas.{all_rows, more_rows}
+use Rattle.society_book.proofs.RunLines.{IsSeen, run_behind, run_settled, sees_recordings, sees_verdict, sees_version}
+use Rattle.society_book.proofs.RunTables.{Names, names_recordings, names_verdict, names_version, of_one, same_permutation, told_named}
 use Rattle.works_core.specs.Verdicts.{works_in}
 use Rattle.works_core.specs.Versions.{Placed, judged_of, placed_line}
 use Rattle.std.specs.List.{range_with_len}

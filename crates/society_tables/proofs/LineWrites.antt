@@ -12,14 +12,14 @@ use Rattle.society_rows.specs.Stored.{Puts, put_over, rows_in}
 use Rattle.society_tables.specs.Auditing.{PutsLine, SettlesLine}
 use Rattle.sqlite_keyed.proofs.ListLemmas.{flat_map-map, map-map}
 use Rattle.sqlite_value.specs.declared.value.Value.TheVariants.{Int, Text}
-use Rattle.society_tables.specs.Outcomes.{settled}
-use Rattle.society_tables.specs.Runs.{Notes, behind_run, settled_recordings, settled_run, settled_verdict, settled_version}
-use Rattle.society_tables.specs.Shown.{Tells}
-use Rattle.society_tables.specs.declared.outcomes.Outcome.{Outcome}
+use Rattle.society_book.specs.Outcomes.{settled}
+use Rattle.society_book.specs.Runs.{Notes, behind_run, settled_recordings, settled_run, settled_verdict, settled_version}
+use Rattle.society_book.specs.Shown.{Tells}
+use Rattle.society_book.specs.declared.outcomes.Outcome.{Outcome}
 use Rattle.works_core.specs.Verdicts.{works_in}
 use Rattle.works_core.specs.Versions.{judged_of}
-use Rattle.society_tables.proofs.RunTables.{rows_kept}
-use Rattle.society_tables.proofs.RunWrites.{KeptBut, KeptOfTold, both_of, each_of, permuted_from, permuted_to}
+use Rattle.society_book.proofs.RunTables.{rows_kept}
+use Rattle.society_book.proofs.RunWrites.{KeptBut, KeptOfTold, both_of, each_of, permuted_from, permuted_to}
 
 abbrev KeptOfLines : Trees → Trees → Table → Type 0
 KeptOfLines old new t = t.tree ≢ layout.fronts.tree → t.tree ≢ layout.verdicts.tree → t.tree ≢ layout.versions.tree → t.tree ≢ layout.recordings.tree → new t.tree ≡ old t.tree

@@ -19,23 +19,24 @@ use Rattle.society_rows.specs.Balances.{AddsUnits}
 use Rattle.society_rows.specs.Layout as layout
 use Rattle.society_rows.specs.Layout.{all_tables, written_out}
 use Rattle.society_rows.specs.Stored.{AreNumbered, HasLayout, rows_in}
-use Rattle.society_tables.specs.Auditing.{ClosesAside, HoldsWorks, IsClosable, IsOpenReturn, KeepsBodies, KeepsUnlined, KeepsUnreferred, mixed}
-use Rattle.society_tables.specs.Closings.{ClosesWith}
-use Rattle.society_tables.specs.Columns.{HasRows, number_at}
-use Rattle.society_tables.specs.DerivedRows.{balance_rows, balance_rows_by, credit_rows, credit_rows_by, front_rows, is_named, tells_recordings, tells_verdict, tells_version, told_to_front}
-use Rattle.society_tables.specs.Kept.{Holds, HoldsBook}
+use Rattle.society_tables.specs.Auditing.{ClosesAside, IsClosable, IsOpenReturn, KeepsUnlined, KeepsUnreferred, mixed}
+use Rattle.society_book.specs.Sources.{HoldsWorks, KeepsBodies}
+use Rattle.society_book.specs.Closings.{ClosesWith}
+use Rattle.society_book.specs.Columns.{HasRows, number_at}
+use Rattle.society_book.specs.DerivedRows.{balance_rows, balance_rows_by, credit_rows, credit_rows_by, front_rows, is_named, tells_recordings, tells_verdict, tells_version, told_to_front}
+use Rattle.society_book.specs.Kept.{Holds, HoldsBook}
 use Rattle.society_tables.specs.Opening.{Agree, every_name}
 use Rattle.society_tables.specs.Rebuilding.{without_pools}
-use Rattle.society_tables.specs.Shown.{AddsEach, ShowFront, ShowPayer, ShowPool}
+use Rattle.society_book.specs.Shown.{AddsEach, ShowFront, ShowPayer, ShowPool}
 use Rattle.sqlite_value.specs.declared.value.Value.TheVariants.{Int, Text}
 use Rattle.society_core.specs.Answers.{payer}
 use Rattle.society_core.specs.Book.{front, order_at}
 use Rattle.society_core.specs.declared.return_key.ReturnKey.{ReturnKey}
 use Rattle.society_rows.specs.Reads.{Lists, has_key}
-use Rattle.society_tables.proofs.BookLemmas.{IsRefilled}
-use Rattle.society_tables.proofs.CreditRows.{pool_found}
-use Rattle.society_tables.proofs.FrontRows.{front_found}
-use Rattle.society_tables.proofs.PaidRows.{payer_found}
+use Rattle.society_book.proofs.BookLemmas.{IsRefilled}
+use Rattle.society_book.proofs.CreditRows.{pool_found}
+use Rattle.society_book.proofs.FrontRows.{front_found}
+use Rattle.society_book.proofs.PaidRows.{payer_found}
 use Rattle.work_ids.specs.Blanks.{without_trailing_blanks}
 use Rattle.society_tables.proofs.EmptyTables.{no_entries}
 use Rattle.std.specs.List.{list_all, list_any}
@@ -48,16 +49,16 @@ use Rattle.society_core.specs.Orders.{IsOrder, same_return_key}
 use Rattle.society_rows.specs.Reads.{ListsKeys}
 use Rattle.society_rows.specs.declared.tables.TableName.TheVariants as name
 use Rattle.society_tables.specs.Auditing.{money_names}
-use Rattle.society_tables.specs.BookRows.{book_of}
-use Rattle.society_tables.specs.Closings.{PaysBy}
-use Rattle.society_tables.specs.Shown.{ShowKey}
+use Rattle.society_book.specs.BookRows.{book_of}
+use Rattle.society_book.specs.Closings.{PaysBy}
+use Rattle.society_book.specs.Shown.{ShowKey}
 use Rattle.society_tables.proofs.AddLemmas.{holds_own}
-use Rattle.society_tables.proofs.KeyRows.{return_key_shows}
-use Rattle.society_tables.proofs.PaidRows.{pays as pays_of}
-use Rattle.society_tables.proofs.Payments.{cut_reached}
-use Rattle.society_tables.proofs.PoolHolds.{pool_holds}
+use Rattle.society_book.proofs.KeyRows.{return_key_shows}
+use Rattle.society_book.proofs.PaidRows.{pays as pays_of}
+use Rattle.society_book.proofs.Payments.{cut_reached}
+use Rattle.society_book.proofs.PoolHolds.{pool_holds}
 use Rattle.work_ids.specs.Numbers.{is_pool_number}
-use Rattle.society_tables.proofs.RunTables.{rows_kept}
+use Rattle.society_book.proofs.RunTables.{rows_kept}
 use Rattle.society_tables.proofs.SameTables.{has_rows, holds_likewise}
 use Rattle.work_ids.specs.Account.{account_text}
 

@@ -27,13 +27,13 @@ use Rattle.society_rows.specs.Stored.{rows_in}
 use Rattle.society_rows.specs.TableNames.{listing_width, table_called}
 use Rattle.society_rows.specs.declared.tables.TableName.{TableName}
 use Rattle.society_rows.specs.declared.tables.TableName.TheVariants as name
-use Rattle.society_tables.specs.BookRows.{cut_row, cut_rows, is_of_pool, is_return_row, is_transmission_row, paid_row, paid_rows, pool_row, pool_rows, return_key_of, return_row, return_rows, row_of_some, rows_of_order, transmission_key_of, transmission_row, transmission_rows}
-use Rattle.society_tables.specs.Columns.{HasRows, number_at, text_at}
-use Rattle.society_tables.specs.DerivedRows.{Telling, balance_rows, balance_rows_by, credit_row, credit_rows, credit_rows_by, credits_to, front_rows, has_sent, is_named, tells_recordings, tells_verdict, tells_version, told_by, told_from, told_to_front, work_text, works_to}
-use Rattle.society_tables.specs.Kept.{HoldsBook, office_row}
-use Rattle.society_tables.proofs.BookLemmas.{IsRefilled, refilled}
-use Rattle.society_tables.proofs.KeyRows.{both_same}
-use Rattle.society_tables.proofs.RowLemmas.{all_rows, one_else}
+use Rattle.society_book.specs.BookRows.{cut_row, cut_rows, is_of_pool, is_return_row, is_transmission_row, paid_row, paid_rows, pool_row, pool_rows, return_key_of, return_row, return_rows, row_of_some, rows_of_order, transmission_key_of, transmission_row, transmission_rows}
+use Rattle.society_book.specs.Columns.{HasRows, number_at, text_at}
+use Rattle.society_book.specs.DerivedRows.{Telling, balance_rows, balance_rows_by, credit_row, credit_rows, credit_rows_by, credits_to, front_rows, has_sent, is_named, tells_recordings, tells_verdict, tells_version, told_by, told_from, told_to_front, work_text, works_to}
+use Rattle.society_book.specs.Kept.{HoldsBook, office_row}
+use Rattle.society_book.proofs.BookLemmas.{IsRefilled, refilled}
+use Rattle.society_book.proofs.KeyRows.{both_same}
+use Rattle.society_book.proofs.RowLemmas.{all_rows, one_else}
 use Rattle.society_tables.proofs.RowTies.{IsTold, Kind, Number, Words, one_row}
 use Rattle.society_tables.proofs.SameTables.{all_pass}
 use Rattle.society_tables.proofs.SortedOnce.{as_many, sorted_once}

@@ -13,16 +13,16 @@ use Rattle.society_rows.specs.NewBook.{IsBare}
 use Rattle.society_rows.specs.Stored.{HasLayout, rows_in}
 use Rattle.society_rows.specs.declared.fault.RowFault.{RowFault}
 use Rattle.society_rows.specs.declared.fault.RowFault.TheVariants as row
-use Rattle.society_tables.specs.Kept.{Holds, office_row}
+use Rattle.society_book.specs.Kept.{Holds, office_row}
 use Rattle.society_tables.specs.Opening.{HoldsOne, IsOneOffice, IsOutside, Tells, TellsOffice, audit_fault_by, opened_by}
 use Rattle.society_tables.specs.Rebuilding.{IsAside}
 use Rattle.society_tables.specs.declared.audit_fault.AuditFault.{AuditFault}
 use Rattle.society_tables.specs.declared.audit_fault.AuditFault.TheVariants as audit
 use Rattle.society_tables.specs.declared.open_fault.OpenFault.{OpenFault}
 use Rattle.society_tables.specs.declared.open_fault.OpenFault.TheVariants as fault
-use Rattle.society_tables.proofs.AskLemmas.{first_true, second_true}
+use Rattle.society_book.proofs.AskLemmas.{first_true, second_true}
 use Rattle.society_tables.proofs.ComesAgain.{failed_aside}
-use Rattle.society_tables.proofs.RowLemmas.{one_else}
+use Rattle.society_book.proofs.RowLemmas.{one_else}
 
 -- a failed statement says nothing of the office
 pub failed_office : (o : Office) (rows : List Row) (e : RowFault) → TellsOffice o rows (opened_by (audit_fault_by e))

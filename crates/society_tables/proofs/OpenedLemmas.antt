@@ -11,12 +11,12 @@ use Rattle.society_rows.specs.Layout.{layout, no_schema, written_out}
 use Rattle.society_rows.specs.NewBook.{Begins, IsBare}
 use Rattle.society_rows.specs.Layout.{office as layout_office}
 use Rattle.society_rows.specs.Stored.{HasLayout, rows_in}
-use Rattle.society_tables.specs.BookRows.{book_of}
-use Rattle.society_tables.specs.Kept.{Holds, IsAtRest, Rests, office_row}
+use Rattle.society_book.specs.BookRows.{book_of}
+use Rattle.society_book.specs.Kept.{Holds, IsAtRest, Rests, office_row}
 use Rattle.society_tables.specs.Opening.{HoldsOne, Inspects, Opens, ShowsAs, SurvivesOpening, Tells, TellsOffice}
 use Rattle.society_tables.specs.declared.open_fault.OpenFault.{OpenFault}
 use Rattle.society_tables.specs.declared.open_fault.OpenFault.TheVariants.{Damaged}
-use Rattle.society_tables.proofs.AskLemmas.{clean_is, first_true, second_true}
+use Rattle.society_book.proofs.AskLemmas.{clean_is, first_true, second_true}
 use Rattle.society_tables.proofs.EmptyTables.{begun_book, begun_rests}
 use Rattle.society_tables.proofs.OpenTold.{told_of_layout}
 

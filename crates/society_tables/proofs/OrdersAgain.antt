@@ -28,12 +28,12 @@ use Rattle.work_ids.specs.Reporter.{reporter_of}
 use Rattle.work_ids.specs.SenderKey.{is_sender_key}
 use Rattle.work_ids.specs.declared.fault.IdFault.{IdFault}
 use Rattle.work_ids.specs.declared.fault.IdFault.TheVariants.{Character, Length}
-use Rattle.society_tables.specs.BookRows.{cut_row, cut_rows, is_of_pool, paid_row, paid_rows, pool_row, rows_of_order}
-use Rattle.society_tables.specs.Columns.{HasRows, number_at}
+use Rattle.society_book.specs.BookRows.{cut_row, cut_rows, is_of_pool, paid_row, paid_rows, pool_row, rows_of_order}
+use Rattle.society_book.specs.Columns.{HasRows, number_at}
 use Rattle.society_tables.specs.Rebuilding.{IsAside, IsCut, IsPaid, Passes, cut_pair, paid_pair}
 use Rattle.society_tables.specs.declared.audit_fault.AuditFault.{AuditFault}
-use Rattle.society_tables.proofs.BookLemmas.{IsRefilled, one_ascent, third_holds}
-use Rattle.society_tables.proofs.RowLemmas.{all_rows}
+use Rattle.society_book.proofs.BookLemmas.{IsRefilled, one_ascent, third_holds}
+use Rattle.society_book.proofs.RowLemmas.{all_rows}
 
 small : (n : ℕ) → n ≤ 999999 → n < 2 ^ 32
 small n h = omega arith

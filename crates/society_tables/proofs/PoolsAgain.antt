@@ -28,7 +28,7 @@ use Rattle.society_core.proofs.PoolLemmas.{IsPool, each_pool}
 use Rattle.work_ids.specs.Numbers.{is_pool_number}
 use Rattle.society_tables.specs.Rebuilding.{ClosedOn, IsUpToPools, Passes}
 use Rattle.society_tables.specs.declared.audit_fault.AuditFault.{AuditFault}
-use Rattle.society_tables.proofs.BookLemmas.{third_holds}
+use Rattle.society_book.proofs.BookLemmas.{third_holds}
 use Rattle.society_tables.proofs.MapsWithin.{brings_again, brings_new}
 use Rattle.society_tables.proofs.PutAgain.{IsTaken}
 

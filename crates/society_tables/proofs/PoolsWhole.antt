@@ -11,11 +11,11 @@ use Rattle.sqlite_value.specs.Order.{Row}
 use Rattle.society_core.specs.Book.{Book, order_at}
 use Rattle.society_core.specs.Orders.{Order}
 use Rattle.society_core.proofs.KeyOrders.{exact_numbers}
-use Rattle.society_tables.specs.BookRows.{is_of_pool, pool_row, pool_rows, row_of_some}
-use Rattle.society_tables.specs.Columns.{HasRows, number_at}
+use Rattle.society_book.specs.BookRows.{is_of_pool, pool_row, pool_rows, row_of_some}
+use Rattle.society_book.specs.Columns.{HasRows, number_at}
 use Rattle.society_tables.specs.Rebuilding.{ClosedOn, HasClosed, IsClosed, IsUpToPools, IsWithin, without_pools}
 use Rattle.society_tables.proofs.MapsWithin.{within_both}
-use Rattle.society_tables.proofs.RowLemmas.{all_rows, only}
+use Rattle.society_book.proofs.RowLemmas.{all_rows, only}
 
 own_pool : (row : Row) → is_of_pool 0 (number_at 0 row) row ≡ true
 own_pool row = grind (arith, nat_tests)

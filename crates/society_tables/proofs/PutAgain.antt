@@ -21,11 +21,11 @@ use Rattle.society_core.specs.declared.refusal.Refusal.TheVariants.{Unavailable}
 use Rattle.society_core.specs.declared.store.Known.{Known}
 use Rattle.society_core.specs.declared.store.Known.TheVariants.{Same, Other}
 use Rattle.society_core.proofs.KeyOrders.{exact_returns, exact_transmissions, returns_total, transmissions_total}
-use Rattle.society_tables.specs.BookRows.{return_key_of, transmission_key_of}
-use Rattle.society_tables.specs.Columns.{blob_at, number_at, text_at}
+use Rattle.society_book.specs.BookRows.{return_key_of, transmission_key_of}
+use Rattle.society_book.specs.Columns.{blob_at, number_at, text_at}
 use Rattle.society_tables.specs.Rebuilding.{IsReported, IsSent, IsWithin, ReportedOn, SentOn}
 use Rattle.society_core.specs.declared.return_key.ReturnKey.{ReturnKey}
-use Rattle.society_tables.proofs.BookLemmas.{third_holds}
+use Rattle.society_book.proofs.BookLemmas.{third_holds}
 use Rattle.society_rows.specs.Forms.{IsOfForms, return_forms, transmission_forms}
 use Rattle.work_ids.specs.Blanks.{fill, without_trailing_blanks}
 use Rattle.work_ids.specs.Characters.{is_capital_or_digit}
@@ -34,7 +34,7 @@ use Rattle.work_ids.specs.SenderKey.{is_sender_key, sender_key_of}
 use Rattle.work_ids.specs.Reporter.{reporter_of}
 use Rattle.work_ids.specs.declared.fault.IdFault.{IdFault}
 use Rattle.work_ids.specs.declared.fault.IdFault.TheVariants.{Character, Length}
-use Rattle.society_tables.proofs.AskLemmas.{first_true, second_true}
+use Rattle.society_book.proofs.AskLemmas.{first_true, second_true}
 use Rattle.society_tables.proofs.MapsWithin.{brings_again, brings_new}
 
 none_of : {X : Type 0} (o : Option X) → is_none o ≡ true → o ≡ None

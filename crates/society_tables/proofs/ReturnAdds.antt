@@ -17,16 +17,16 @@ use Rattle.society_core.proofs.SameOrders.{same_return_is}
 use Rattle.society_rows.specs.Layout as layout
 use Rattle.society_rows.specs.Layout.{all_tables, written_out}
 use Rattle.society_rows.specs.Stored.{KeepsOthers, rows_in, values_of}
-use Rattle.society_tables.specs.BookRows.{is_return_row, return_key_of, return_row, return_rows, row_of_some}
-use Rattle.society_tables.specs.Columns.{HasRows}
-use Rattle.society_tables.specs.DerivedRows.{balance_rows, credit_rows}
+use Rattle.society_book.specs.BookRows.{is_return_row, return_key_of, return_row, return_rows, row_of_some}
+use Rattle.society_book.specs.Columns.{HasRows}
+use Rattle.society_book.specs.DerivedRows.{balance_rows, credit_rows}
 use Rattle.sqlite_trees.specs.Tree.{rowid}
 use Rattle.sqlite_trees.specs.View.{is_int}
 use Rattle.std.proofs.lemmas.Bool.{false≢true}
-use Rattle.society_tables.specs.Kept.{HoldsBook}
-use Rattle.society_tables.proofs.BookLemmas.{IsRefilled, returns_tie}
-use Rattle.society_tables.proofs.PoolsAlike.{balances_still, credits_still}
-use Rattle.society_tables.proofs.RowLemmas.{more_rows, same_rows}
+use Rattle.society_book.specs.Kept.{HoldsBook}
+use Rattle.society_book.proofs.BookLemmas.{IsRefilled, returns_tie}
+use Rattle.society_book.proofs.PoolsAlike.{balances_still, credits_still}
+use Rattle.society_book.proofs.RowLemmas.{more_rows, same_rows}
 
 same_permutation : {X : Type 0} {xs ys : List X} → xs ≡ ys → IsPermutation xs ys
 same_permutation {xs = xs} e = subst (IsPermutation xs) e (IsPermutation-refl xs)

@@ -13,7 +13,7 @@ use Rattle.sqlite_value.proofs.KeyLemmas.{then_tied}
 use Rattle.sqlite_value.proofs.OrderLemmas.{value_cmp-Int, value_cmp-Text}
 use Rattle.sqlite_sql.specs.Query.{key_cmp}
 use Rattle.sqlite_sql.proofs.QueryLemmas.{key_cmp_shift}
-use Rattle.society_tables.specs.Columns.{number_of, text_of}
+use Rattle.society_book.specs.Columns.{number_of, text_of}
 
 -- a text, or a whole number from 0
 pub data Kind : Type 0 where

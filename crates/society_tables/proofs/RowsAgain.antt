@@ -12,15 +12,15 @@ use Rattle.society_core.specs.declared.return_key.ReturnKey.{ReturnKey}
 use Rattle.society_core.specs.declared.transmission_key.TransmissionKey.{TransmissionKey}
 use Rattle.society_core.proofs.Stores.{sound_reporter}
 use Rattle.society_core.proofs.KeyOrders.{exact_returns, exact_transmissions, returns_total, transmissions_total}
-use Rattle.society_tables.specs.BookRows.{is_return_row, is_transmission_row, return_key_of, return_row, return_rows, row_of_some, transmission_key_of, transmission_row, transmission_rows}
-use Rattle.society_tables.specs.Columns.{HasRows, blob_at, number_at, text_at}
+use Rattle.society_book.specs.BookRows.{is_return_row, is_transmission_row, return_key_of, return_row, return_rows, row_of_some, transmission_key_of, transmission_row, transmission_rows}
+use Rattle.society_book.specs.Columns.{HasRows, blob_at, number_at, text_at}
 use Rattle.society_tables.specs.Rebuilding.{AllReported, AllSent, HasReported, HasSent, IsAside, IsReported, IsSent, IsWithin, Passes, ReportedOn, SentOn, sent_alone, without_pools}
 use Rattle.work_ids.specs.Blanks.{fill, without_trailing_blanks}
 use Rattle.society_tables.specs.declared.audit_fault.AuditFault.{AuditFault}
-use Rattle.society_tables.proofs.BookLemmas.{refilled}
-use Rattle.society_tables.proofs.KeyRows.{both_same}
+use Rattle.society_book.proofs.BookLemmas.{refilled}
+use Rattle.society_book.proofs.KeyRows.{both_same}
 use Rattle.society_tables.proofs.MapsWithin.{within_both}
-use Rattle.society_tables.proofs.RowLemmas.{all_rows, one_else}
+use Rattle.society_book.proofs.RowLemmas.{all_rows, one_else}
 
 -- what holds of each row holds of the one at a place
 pub all_here : (P : Row → Type 0) (rows : List Row) (i : ℕ) (d : Row) → i < length rows → AllByRecursion P rows → P (get_or rows i d)

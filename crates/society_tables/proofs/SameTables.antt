@@ -8,12 +8,12 @@ use Rattle.society_rows.specs.Layout as layout
 use Rattle.society_rows.specs.Stored.{AreNumbered, rows_in}
 use Rattle.sqlite_trees.specs.Tree.{Trees}
 use Rattle.sqlite_value.specs.Order.{Row}
-use Rattle.society_tables.specs.BookRows.{book_of}
-use Rattle.society_tables.specs.Columns.{HasRows}
-use Rattle.society_tables.specs.Kept.{Holds, HoldsBook, office_row}
+use Rattle.society_book.specs.BookRows.{book_of}
+use Rattle.society_book.specs.Columns.{HasRows}
+use Rattle.society_book.specs.Kept.{Holds, HoldsBook, office_row}
 use Rattle.society_tables.specs.Opening.{Agree, every_name}
 use Rattle.society_tables.proofs.AddLemmas.{holds_own}
-use Rattle.society_tables.proofs.RowLemmas.{one_else}
+use Rattle.society_book.proofs.RowLemmas.{one_else}
 use Rattle.sqlite_keyed.proofs.ListLemmas.{IsPermutation-filter, all-append}
 use Rattle.sqlite_schema.specs.declared.schema.Table.{Table}
 use Rattle.society_rows.specs.Reads.{Lists}

@@ -3,9 +3,9 @@ use Rattle.std.proofs.Common.{◌≡◌, pos, [], ◌∷◌, None, codes, refl}
 use Rattle.pool_split.specs.declared.claim.Credit.{Credit}
 use Rattle.sqlite_value.specs.declared.value.Value.TheVariants.{Null, Int, Text, Blob}
 use Rattle.society_core.specs.Keys.{return_key, transmission_key}
-use Rattle.society_tables.specs.BookRows.{cut_row, paid_row, return_key_of, return_row, transmission_entry, transmission_row}
-use Rattle.society_tables.specs.Columns.{number_at, text_at}
-use Rattle.society_tables.specs.DerivedRows.{balance_rows_by, credit_row, verdict_row}
+use Rattle.society_book.specs.BookRows.{cut_row, paid_row, return_key_of, return_row, transmission_entry, transmission_row}
+use Rattle.society_book.specs.Columns.{number_at, text_at}
+use Rattle.society_book.specs.DerivedRows.{balance_rows_by, credit_row, verdict_row}
 use Rattle.work_ids.specs.Blanks.{fill}
 use Rattle.work_ids.specs.declared.account.Account.TheVariants.{Unclaimed}
 use Rattle.works_core.specs.declared.verdict.Verdict.TheVariants.{Accepted, Rejected}

@@ -9,7 +9,7 @@ use Rattle.sqlite_trees.specs.Tree.{Trees}
 use Rattle.society_core.specs.Answers.{payer}
 use Rattle.society_core.specs.Book.{Book, IsSound, front, is_entry, is_return_entry, order_at, return_at}
 use Rattle.society_core.specs.Orders.{Order}
-use Rattle.society_tables.specs.Kept.{Holds}
+use Rattle.society_book.specs.Kept.{Holds}
 use Rattle.society_tables.specs.Opening.{Agree}
 use Rattle.society_core.specs.Keys.{ascending, bytes_cmp}
 use Rattle.society_core.specs.declared.return_key.ReturnKey.{ReturnKey}
@@ -21,10 +21,11 @@ use Rattle.society_rows.specs.declared.tables.TableName.{TableName}
 use Rattle.society_rows.specs.declared.tables.TableName.TheVariants as name
 use Rattle.sqlite.specs.Effect.{Database}
 use Rattle.sqlite.specs.State.{HasCleanDisk, State}
-use Rattle.society_tables.specs.BookRows.{is_return_row, is_transmission_row, return_key_of, return_rows, transmission_rows}
-use Rattle.society_tables.specs.Columns.{HasRows, blob_at, number_at, text_at}
-use Rattle.society_tables.specs.DerivedRows.{front_rows, has_sent, is_named, tells_recordings, tells_verdict, tells_version, told_to_front}
-use Rattle.society_tables.specs.Runs.{AreNoted, Notes, behind_run, is_among, settled_recordings, settled_run, settled_verdict, settled_version}
+use Rattle.society_book.specs.BookRows.{is_return_row, is_transmission_row, return_key_of, return_rows, transmission_rows}
+use Rattle.society_book.specs.Columns.{HasRows, blob_at, number_at, text_at}
+use Rattle.society_book.specs.DerivedRows.{front_rows, has_sent, is_named, tells_recordings, tells_verdict, tells_version, told_to_front}
+use Rattle.society_book.specs.Sources.{HasTransmissions, KeepsBodies}
+use Rattle.society_book.specs.Runs.{AreNoted, Notes, behind_run, is_among, settled_recordings, settled_run, settled_verdict, settled_version}
 use Rattle.works_core.specs.Verdicts.{works_in}
 use Rattle.works_core.specs.Versions.{judged_of}
 use Rattle.work_ids.specs.Blanks.{fill, without_trailing_blanks}
@@ -109,10 +110,6 @@ pub record PutsLine (front : Row) (judged told named : List Row) (old new : Tree
   pub recordings : IsPermutation (named ++ rows_in layout.recordings old) (rows_in layout.recordings new)
   pub others : KeepsUnlined old new
 
--- a database has the transmissions of a book
-abbrev pub HasTransmissions : Book → Trees → Type 0
-HasTransmissions book db = HasRows is_transmission_row (transmission_rows book) (rows_in layout.transmissions db)
-
 -- the tables have what the transmissions of a sender's whole line tell, as it is noted
 abbrev pub SettlesLine : List ℕ → List Notes → Trees → Trees → Type 0
 SettlesLine sender notes old new =
@@ -122,22 +119,6 @@ SettlesLine sender notes old new =
 -- the transmissions and the returns of one database, and every other table of another
 abbrev pub mixed : Trees → Trees → Trees
 mixed bodies others tree = if tree == layout.transmissions.tree || tree == layout.returns.tree then bodies tree else others tree
-
--- the tables of transmissions and of returns have exactly the rows of a book
-pub record KeepsBodies (book : Book) (db : Trees) : Type 0 where
-  pub transmissions : HasTransmissions book db
-  pub returns : HasRows is_return_row (return_rows book) (rows_in layout.returns db)
-
--- the tables of versions and of recordings have exactly the rows that are derived from a book
-pub record DerivesWorks (office : Office) (book : Book) (db : Trees) : Type 0 where
-  pub versions : HasRows is_named (told_to_front tells_version office book) (rows_in layout.versions db)
-  pub recordings : HasRows is_named (told_to_front tells_recordings office book) (rows_in layout.recordings db)
-
--- the tables have what a pool is paid by: the transmissions, the returns, the versions and the recordings of a sound book
-pub record HoldsWorks (office : Office) (book : Book) (db : Trees) : Type 0 where
-  pub sound : IsSound book
-  pub kept : KeepsBodies book db
-  pub derived : DerivesWorks office book db
 
 -- What a writing in a transaction of its own does to a connection that is in none: this change, where it is answered.
 pub record WritesAlone {X : Type 0} (Change : Database → Database → Type 0) (old new : State) (result : Result X RowFault) : Type 0 where

@@ -14,8 +14,8 @@ use Rattle.society_core.specs.Keys.{coded_return_key, coded_transmission_key}
 use Rattle.society_core.specs.Orders.{IsOrder, Order}
 use Rattle.society_core.specs.PlainMaps.{coded_book}
 use Rattle.society_core.specs.State.{IsState}
-use Rattle.society_tables.specs.BookRows.{book_of}
-use Rattle.society_tables.specs.Kept.{Holds, Rests, tables_state}
+use Rattle.society_book.specs.BookRows.{book_of}
+use Rattle.society_book.specs.Kept.{Holds, Rests, tables_state}
 
 -- of two truths the first, and the second
 first_true : (a b : Bool) → IsTrue (a && b) → IsTrue a

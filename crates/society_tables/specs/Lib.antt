@@ -1,15 +1,5 @@
-pub mod Columns
-pub mod BookRows
-pub mod DerivedRows
-pub mod Kept
-pub mod Shown
-pub mod Runs
-pub mod Outcomes
-pub mod Steps
 pub mod Faults
-pub mod Closings
 pub mod Laws
-pub mod CutWorks
 pub mod Opening
 pub mod Rebuilding
 pub mod Auditing

@@ -16,8 +16,8 @@ use Rattle.society_rows.specs.declared.fault.RowFault.TheVariants as row
 use Rattle.society_rows.specs.declared.tables.TableName.{TableName}
 use Rattle.society_rows.specs.declared.tables.TableName.TheVariants as name
 use Rattle.society_core.specs.Book.{empty_book}
-use Rattle.society_tables.specs.BookRows.{book_of}
-use Rattle.society_tables.specs.Kept.{Holds, Rests, office_row}
+use Rattle.society_book.specs.BookRows.{book_of}
+use Rattle.society_book.specs.Kept.{Holds, Rests, office_row}
 use Rattle.society_tables.specs.declared.audit_fault.AuditFault.{AuditFault}
 use Rattle.society_tables.specs.declared.audit_fault.AuditFault.TheVariants as audit
 use Rattle.society_tables.specs.declared.open_fault.OpenFault.{OpenFault}

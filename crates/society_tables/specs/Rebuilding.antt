@@ -12,10 +12,10 @@ use Rattle.work_ids.specs.Blanks.{fill}
 use Rattle.work_ids.specs.Reporter.{reporter_of}
 use Rattle.work_ids.specs.SenderKey.{is_sender_key}
 use Rattle.society_rows.specs.Forms.{IsOfForms, pool_cut_forms, pool_return_forms}
-use Rattle.society_tables.specs.BookRows.{AreOfBook, pool_row, return_key_of, return_row, transmission_key_of, transmission_row}
+use Rattle.society_book.specs.BookRows.{AreOfBook, pool_row, return_key_of, return_row, transmission_key_of, transmission_row}
 use Rattle.share_rules.specs.declared.office.Office.{Office}
-use Rattle.society_tables.specs.Kept.{HoldsBook}
-use Rattle.society_tables.specs.Columns.{blob_at, number_at, text_at}
+use Rattle.society_book.specs.Kept.{HoldsBook}
+use Rattle.society_book.specs.Columns.{blob_at, number_at, text_at}
 use Rattle.society_tables.specs.declared.audit_fault.AuditFault.{AuditFault}
 use Rattle.society_tables.specs.declared.audit_fault.AuditFault.TheVariants as audit
 

@@ -8,7 +8,7 @@ use std::alloc::{AllocError, AllocFailed};
 
 /// Why the rows of an office's tables do not pass an audit.
 #[derive(Debug)]
-pub(crate) enum AuditFault {
+pub enum AuditFault {
     /// Memory was refused.
     Memory,
     /// The database could not be read.

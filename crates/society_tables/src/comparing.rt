@@ -11,7 +11,7 @@ ghost use Rattle.society_rows.specs.Stored.{HasLayout, rows_in};
 ghost use Rattle.society_rows.specs.TableNames.{listing_width, table_called};
 ghost use Rattle.society_rows.specs.declared.tables.TableName.TheVariants as name;
 ghost use Rattle.society_tables.specs.Opening.{Agree, Inspects, every_name};
-ghost use Rattle.society_tables.specs.Kept.{HoldsBook};
+ghost use Rattle.society_book.specs.Kept.{HoldsBook};
 ghost use Rattle.society_tables.specs.Rebuilding.{IsAside, Passes, ShowsBook};
 
 use crate::audit_fault::AuditFault;

@@ -5,9 +5,10 @@ ghost use Rattle.sqlite.specs.Steps.{over_memory};
 ghost use Rattle.society_core.specs.Book.{IsSound, empty_book};
 ghost use Rattle.society_rows.specs.Layout.{balances, fronts};
 ghost use Rattle.society_rows.specs.Stored.{AreNumbered, HasLayout};
-ghost use Rattle.society_tables.specs.Auditing.{AreSenders, HoldsEntries, KeepsBodies};
-ghost use Rattle.society_tables.specs.BookRows.{book_of};
-ghost use Rattle.society_tables.specs.Kept.{Holds, HoldsBook};
+ghost use Rattle.society_tables.specs.Auditing.{AreSenders, HoldsEntries};
+ghost use Rattle.society_book.specs.Sources.{KeepsBodies};
+ghost use Rattle.society_book.specs.BookRows.{book_of};
+ghost use Rattle.society_book.specs.Kept.{Holds, HoldsBook};
 ghost use Rattle.society_tables.specs.Opening.{HoldsOne, Inspects};
 ghost use Rattle.society_tables.specs.Rebuilding.{without_pools};
 
@@ -81,7 +82,7 @@ fn agrees_aside<S: Alter>(
 
 /// Confirms that the tables hold what their own rows make of an empty book, with one body in memory at a time; `Damaged` where
 /// that is not confirmed.
-pub(crate) fn confirm<S: Alter>(
+pub fn confirm<S: Alter>(
     alloc: Global,
     conn: &mut Connection<S>,
     office: &Office,

@@ -8,8 +8,8 @@ ghost use Rattle.society_rows.specs.Folds.{ReadsAlone};
 ghost use Rattle.society_rows.specs.Layout.{returns, transmissions};
 ghost use Rattle.society_rows.specs.Stored.{rows_in};
 ghost use Rattle.society_tables.specs.Auditing.{AreEntries, HoldsEntries, is_right_return, is_right_sent, take_over};
-ghost use Rattle.society_tables.specs.BookRows.{is_return_row, is_transmission_row, return_key_of, transmission_key_of};
-ghost use Rattle.society_tables.specs.Columns.{text_at};
+ghost use Rattle.society_book.specs.BookRows.{is_return_row, is_transmission_row, return_key_of, transmission_key_of};
+ghost use Rattle.society_book.specs.Columns.{text_at};
 
 use cwr_files::{ReadFault, read_transmission};
 use perf_returns::{ReturnError, read_return};

@@ -10,20 +10,22 @@ ghost use Rattle.society_core.specs.Keys.{ascending, bytes_cmp};
 ghost use Rattle.society_rows.specs.Questions.{Asks};
 ghost use Rattle.society_rows.specs.Rows.{front_values};
 ghost use Rattle.society_rows.specs.Stored.{HasLayout};
-ghost use Rattle.society_tables.specs.Auditing.{AreWhole, HasLines, HasTransmissions, KeepsUnlined, PutsLine, SettlesLine, WritesAlone};
-ghost use Rattle.society_tables.specs.DerivedRows.{has_sent};
+ghost use Rattle.society_tables.specs.Auditing.{AreWhole, HasLines, KeepsUnlined, PutsLine, SettlesLine, WritesAlone};
+ghost use Rattle.society_book.specs.Sources.{HasTransmissions};
+ghost use Rattle.society_book.specs.DerivedRows.{has_sent};
 ghost use Rattle.society_tables.specs.Opening.{Inspects};
-ghost use Rattle.society_tables.specs.Outcomes.{settled};
-ghost use Rattle.society_tables.specs.Runs.{is_among, settled_recordings, settled_verdict, settled_version};
-ghost use Rattle.society_tables.specs.Steps.{Does, DoesOpen};
+ghost use Rattle.society_book.specs.Outcomes.{settled};
+ghost use Rattle.society_book.specs.Runs.{is_among, settled_recordings, settled_verdict, settled_version};
+ghost use Rattle.society_book.specs.Steps.{Does, DoesOpen};
 ghost use Rattle.works_core.specs.Ends.{EndsAt};
 
-use crate::arrivals::add_told;
 use crate::audit_fault::AuditFault;
 use crate::comparing::table_agrees;
-use crate::outcomes::{Outcome, column_of, recording_rows, settle_run, verdict_rows, version_rows};
-use crate::run::{Noted, Run, ascending_works};
 use share_rules::Office;
+use society_book::{
+    Noted, Outcome, Run, add_told, ascending_works, column_of, recording_rows, settle_run,
+    verdict_rows, version_rows,
+};
 use society_rows::{FrontRow, Question, RowFault, TableName, answer, fold_run, put_front};
 use sqlite::{Alter, Connection, MemStore, Transaction};
 use std::alloc::{AllocError, Global};

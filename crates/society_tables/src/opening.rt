@@ -11,7 +11,7 @@ ghost use Rattle.society_rows.specs.NewBook.{Begins, IsBare, IsNewBook};
 ghost use Rattle.society_rows.specs.Questions.{Asks};
 ghost use Rattle.society_rows.specs.Stored.{AreNumbered, HasLayout, rows_in};
 ghost use Rattle.society_rows.specs.TableNames.{table_called};
-ghost use Rattle.society_tables.specs.Kept.{Holds, office_row};
+ghost use Rattle.society_book.specs.Kept.{Holds, office_row};
 ghost use Rattle.society_tables.specs.Opening.{HoldsOne, Inspects, IsOpenable, IsOutside, Opens, ShowsAs, SurvivesOpening, Tells, TellsOffice};
 ghost use Rattle.society_tables.specs.Rebuilding.{Passes, ShowsBook};
 ghost use Rattle.society_tables.specs.declared.open_fault.OpenFault.TheVariants.{Damaged};

@@ -6,8 +6,8 @@ ghost use Rattle.sqlite.specs.State.{HasCleanDisk};
 ghost use Rattle.society_core.specs.Book.{Book, IsSound, empty_book, order_at};
 ghost use Rattle.society_core.specs.Orders.{order_fault, order_of};
 ghost use Rattle.society_core.specs.declared.refusal.Refusal.TheVariants.{Unavailable};
-ghost use Rattle.society_tables.specs.BookRows.{cut_rows, is_of_pool, paid_rows, pool_rows};
-ghost use Rattle.society_tables.specs.Columns.{HasRows, number_at};
+ghost use Rattle.society_book.specs.BookRows.{cut_rows, is_of_pool, paid_rows, pool_rows};
+ghost use Rattle.society_book.specs.Columns.{HasRows, number_at};
 ghost use Rattle.society_tables.specs.Opening.{Inspects};
 ghost use Rattle.society_tables.specs.Rebuilding.{AllReported, AllSent, ClosedOn, ComesFrom, IsAside, IsClosed, IsCut, IsPaid, IsReported, IsSent, IsUpToPools, IsWithin, Passes, ReportedOn, SentOn, cut_pair, paid_pair, sent_alone, without_pools};
 

@@ -3,7 +3,7 @@
 ghost use Rattle.std.specs.Prelude.{◌≡◌, false};
 ghost use Rattle.sqlite.specs.Held.{state};
 ghost use Rattle.society_tables.specs.Auditing.{KeepsUnreferred, WritesAlone};
-ghost use Rattle.society_tables.specs.Steps.{Does};
+ghost use Rattle.society_book.specs.Steps.{Does};
 
 use crate::entries::set_of_sent;
 use society_core::TransmissionKey;

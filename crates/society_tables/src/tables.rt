@@ -2,20 +2,16 @@
 ghost use Rattle.std.specs.Prelude.{◌≡◌, ◌<◌, ◌^◌, IfOk, false, true};
 ghost use Rattle.sqlite.specs.Held.{state};
 ghost use Rattle.society_core.specs.Book.{empty_book};
-ghost use Rattle.society_tables.specs.Kept.{Rests};
+ghost use Rattle.society_book.specs.Kept.{Rests};
 
-use crate::acknowledgements::ack_of;
-use crate::arrivals::arrive;
 use crate::fault::told;
-use crate::orders::known_pool_of;
-use crate::paying::close;
-use crate::pools::{balance_of, pool_credits};
-use crate::returns::{known_return_of, payment_of, write_return};
-use crate::senders::{front_of, known_of, status_of, verdicts_of};
-use crate::works::work_of;
 use cwr_files::FileReader;
 use pool_split::Credit;
 use share_rules::Office;
+use society_book::{
+    ack_of, arrive, balance_of, close, front_of, known_of, known_pool_of, known_return_of,
+    payment_of, pool_credits, status_of, verdicts_of, work_of, write_return,
+};
 use society_core::{
     Known, KnownTransmission, Payment, PoolOrder, ReturnKey, SenderStatus, Store, StoreFault, Work,
 };
@@ -39,7 +35,7 @@ pub struct Tables<S: Alter> {
 
 impl<S: Alter> Store for Tables<S> {
     ghost use Rattle.sqlite.specs.Held.{state};
-    ghost use Rattle.society_tables.specs.Kept.{tables_state};
+    ghost use Rattle.society_book.specs.Kept.{tables_state};
     ghost use Rattle.society_tables.specs.Laws.{is_state};
 
     ghost state = { λ t. tables_state t.office (state S.Store t.conn) t.failures };

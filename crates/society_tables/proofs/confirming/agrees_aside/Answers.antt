@@ -4,7 +4,7 @@ use Rattle.sqlite.specs.Held.{state}
 use Rattle.sqlite.specs.Steps.{over_memory}
 use Rattle.share_rules.specs.declared.office.Office.{Office}
 use Rattle.society_core.specs.Book.{Book, empty_book}
-use Rattle.society_tables.specs.Kept.{HoldsBook}
+use Rattle.society_book.specs.Kept.{HoldsBook}
 use Rattle.society_tables.proofs.EntryBooks.{keeps_entries, sound_entries}
 use Rattle.society_tables.proofs.EntrySenders.{senders_of_entries}
 use Rattle.society_tables.proofs.OpenLemmas.{as_inspected}

@@ -8,11 +8,12 @@ use Rattle.society_core.specs.Book.{Book}
 use Rattle.society_core.specs.Keys.{ascending, bytes_cmp}
 use Rattle.society_rows.specs.Stored.{HasLayout}
 use Rattle.society_rows.specs.declared.tables.TableName.TheVariants as name
-use Rattle.society_tables.specs.Auditing.{ClosesAside, HasLines, HasTransmissions, KeepsUnlined, works_names}
-use Rattle.society_tables.specs.BookRows.{book_of}
-use Rattle.society_tables.specs.DerivedRows.{has_sent}
+use Rattle.society_tables.specs.Auditing.{ClosesAside, HasLines, KeepsUnlined, works_names}
+use Rattle.society_book.specs.Sources.{HasTransmissions}
+use Rattle.society_book.specs.BookRows.{book_of}
+use Rattle.society_book.specs.DerivedRows.{has_sent}
 use Rattle.society_tables.specs.Opening.{Agree}
-use Rattle.society_tables.specs.Runs.{is_among}
+use Rattle.society_book.specs.Runs.{is_among}
 use Rattle.society_tables.specs.declared.audit_fault.AuditFault.{AuditFault}
 use Rattle.society_tables.proofs.AuditStart.{begins_aside, ends_whole, no_lines}
 use Rattle.society_tables.proofs.OpenLemmas.{inspected_then}

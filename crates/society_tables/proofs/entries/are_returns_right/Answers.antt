@@ -4,9 +4,9 @@ use Rattle.society_core.proofs.KeyOrders.{exact_returns, returns_total}
 use Rattle.society_rows.specs.Layout as layout
 use Rattle.society_core.specs.declared.return_key.ReturnKey.{ReturnKey}
 use Rattle.society_tables.specs.Auditing.{GoneOver, take_over, is_right_return}
-use Rattle.society_tables.specs.BookRows.{is_return_row, return_key_of}
+use Rattle.society_book.specs.BookRows.{is_return_row, return_key_of}
 use Rattle.society_tables.proofs.AloneReads.{reads_as}
-use Rattle.society_tables.proofs.BookLemmas.{returns_tie}
+use Rattle.society_book.proofs.BookLemmas.{returns_tie}
 use Rattle.society_tables.proofs.EntryRows.{entries_taken}
 use Rattle.society_tables.proofs.entries.are_returns_right.Goals as goal
 

@@ -7,8 +7,8 @@ use Rattle.society_core.specs.Keys.{ascending, bytes_cmp}
 use Rattle.society_rows.specs.Layout as layout
 use Rattle.society_rows.specs.Stored.{rows_in}
 use Rattle.society_tables.specs.Auditing.{AreEntries, is_right_return, is_right_sent}
-use Rattle.society_tables.specs.BookRows.{is_return_row, is_transmission_row}
-use Rattle.society_tables.specs.Columns.{text_at}
+use Rattle.society_book.specs.BookRows.{is_return_row, is_transmission_row}
+use Rattle.society_book.specs.Columns.{text_at}
 use Rattle.society_tables.proofs.AloneReads.{reads_as, reads_not_so, reads_then}
 use Rattle.society_tables.proofs.entries.entries_in.Goals as goal
 

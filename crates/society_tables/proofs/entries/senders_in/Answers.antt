@@ -6,9 +6,9 @@ use Rattle.society_core.specs.Keys.{ascending, bytes_cmp}
 use Rattle.society_core.specs.declared.transmission_key.TransmissionKey.{TransmissionKey}
 use Rattle.society_rows.specs.Layout as layout
 use Rattle.society_tables.specs.Auditing.{GoneOver, take_over, is_right_sent}
-use Rattle.society_tables.specs.BookRows.{is_transmission_row, transmission_key_of}
+use Rattle.society_book.specs.BookRows.{is_transmission_row, transmission_key_of}
 use Rattle.society_tables.proofs.AloneReads.{reads_as}
-use Rattle.society_tables.proofs.BookLemmas.{transmissions_tie}
+use Rattle.society_book.proofs.BookLemmas.{transmissions_tie}
 use Rattle.society_tables.proofs.EntryRows.{entries_taken, senders_taken}
 use Rattle.society_tables.proofs.entries.senders_in.Goals as goal
 

@@ -2,9 +2,9 @@ use Rattle.std.proofs.Common.{Ok, List, refl, subst}
 use Rattle.sqlite.specs.Held.{state}
 use Rattle.sqlite.specs.Steps.{over_memory}
 use Rattle.society_tables.specs.Auditing.{SettlesLine}
-use Rattle.society_tables.specs.Runs.{Notes}
+use Rattle.society_book.specs.Runs.{Notes}
 use Rattle.society_tables.specs.declared.audit_fault.AuditFault.{AuditFault}
-use Rattle.society_tables.proofs.AskLemmas.{clean_is}
+use Rattle.society_book.proofs.AskLemmas.{clean_is}
 use Rattle.society_tables.proofs.LineAudits.{line_more}
 use Rattle.society_tables.proofs.OpenLemmas.{inspects_of, then_inspected}
 use Rattle.society_tables.proofs.lines.line_of.Goals as goal

@@ -6,11 +6,11 @@ use Rattle.sqlite.specs.Held.{state}
 use Rattle.sqlite.specs.Steps.{over_memory}
 use Rattle.society_rows.specs.Stored.{HasLayout}
 use Rattle.society_tables.specs.Auditing.{HasLines}
-use Rattle.society_tables.specs.Runs.{is_among}
+use Rattle.society_book.specs.Runs.{is_among}
 use Rattle.society_tables.proofs.LineAudits.{unlined_same, unlined_then}
 use Rattle.society_tables.proofs.OpenLemmas.{as_inspected, inspected_then}
 use Rattle.sqlite_trees.proofs.ListLemmas.{all-get_or}
-use Rattle.society_tables.specs.DerivedRows.{has_sent}
+use Rattle.society_book.specs.DerivedRows.{has_sent}
 use Rattle.society_tables.proofs.SenderLists.{not_before}
 use Rattle.society_tables.proofs.lines.put_lines.Goals as goal
 

@@ -5,10 +5,11 @@ use Rattle.sqlite.specs.Steps.{over_memory}
 use Rattle.society_core.specs.Book.{Book}
 use Rattle.society_core.specs.Keys.{ascending, bytes_cmp}
 use Rattle.society_rows.specs.Stored.{HasLayout}
-use Rattle.society_tables.specs.Auditing.{HasLines, HasTransmissions, KeepsUnlined}
-use Rattle.society_tables.specs.DerivedRows.{has_sent}
+use Rattle.society_tables.specs.Auditing.{HasLines, KeepsUnlined}
+use Rattle.society_book.specs.Sources.{HasTransmissions}
+use Rattle.society_book.specs.DerivedRows.{has_sent}
 use Rattle.society_tables.specs.Opening.{Inspects}
-use Rattle.society_tables.specs.Runs.{is_among}
+use Rattle.society_book.specs.Runs.{is_among}
 use Rattle.society_tables.specs.declared.audit_fault.AuditFault.{AuditFault}
 use Rattle.society_tables.proofs.lines.put_lines.Given as goal
 

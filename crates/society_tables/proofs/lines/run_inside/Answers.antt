@@ -3,13 +3,14 @@ use Rattle.sqlite.specs.Held.{state}
 use Rattle.sqlite.specs.Effect.{Database}
 use Rattle.sqlite_trees.specs.Tree.{Trees}
 use Rattle.society_core.specs.Book.{Book}
-use Rattle.society_tables.specs.Auditing.{AreWhole, HasTransmissions}
-use Rattle.society_tables.specs.Steps.{Looks}
-use Rattle.society_tables.specs.Columns.{blob_at}
-use Rattle.society_tables.specs.Runs.{RunValue, notes_in, take_row}
+use Rattle.society_tables.specs.Auditing.{AreWhole}
+use Rattle.society_book.specs.Sources.{HasTransmissions}
+use Rattle.society_book.specs.Steps.{Looks}
+use Rattle.society_book.specs.Columns.{blob_at}
+use Rattle.society_book.specs.Runs.{RunValue, notes_in, take_row}
 use Rattle.society_tables.proofs.LineAudits.{whole_run}
-use Rattle.society_tables.proofs.RunBooks.{taken_rows}
-use Rattle.society_tables.proofs.StepLemmas.{does_open_then, looks_as, looks_inside, looks_of}
+use Rattle.society_book.proofs.RunBooks.{taken_rows}
+use Rattle.society_book.proofs.StepLemmas.{does_open_then, looks_as, looks_inside, looks_of}
 use Rattle.society_tables.proofs.lines.run_inside.Goals as goal
 
 pub returns-clause-looks : goal.returns-clause-looks

@@ -2,7 +2,8 @@ use Rattle.std.proofs.Common.{rules}
 use Rattle.sqlite.specs.Held.{state}
 use Rattle.society_core.specs.Book.{Book}
 use Rattle.society_rows.specs.Questions.{Asks}
-use Rattle.society_tables.specs.Auditing.{AreWhole, HasTransmissions}
+use Rattle.society_tables.specs.Auditing.{AreWhole}
+use Rattle.society_book.specs.Sources.{HasTransmissions}
 use Rattle.society_tables.proofs.AloneReads.{asks_does}
 use Rattle.society_tables.proofs.lines.run_of.Goals as goal
 

@@ -1,10 +1,10 @@
 use Rattle.std.proofs.Common.{◌∙◌, [], ap, map, w64}
 use Rattle.std.proofs.lemmas.Int.{to_z-of_z}
-use Rattle.society_tables.specs.Outcomes.{settled}
-use Rattle.society_tables.specs.Runs.{KnowsRun, behind_run, is_among}
+use Rattle.society_book.specs.Outcomes.{settled}
+use Rattle.society_book.specs.Runs.{KnowsRun, behind_run, is_among}
 use Rattle.society_tables.proofs.AloneReads.{ok_also}
 use Rattle.society_tables.proofs.LineWrites.{settles_by}
-use Rattle.society_tables.proofs.RunLines.{knows_each}
+use Rattle.society_book.proofs.RunLines.{knows_each}
 use Rattle.society_tables.proofs.lines.settle_line.Goals as goal
 use Rattle.std.proofs.Common.{List, ℕ, subst, sym}
 

@@ -4,9 +4,9 @@ use Rattle.sqlite.specs.Held.{state}
 use Rattle.sqlite.specs.State.{State}
 use Rattle.society_rows.specs.Rows.{front_values}
 use Rattle.society_tables.specs.Auditing.{PutsLine, WritesAlone}
-use Rattle.society_tables.specs.Outcomes.{settled}
-use Rattle.society_tables.specs.Runs.{settled_recordings, settled_verdict, settled_version}
-use Rattle.society_tables.proofs.AloneLemmas.{at_end}
+use Rattle.society_book.specs.Outcomes.{settled}
+use Rattle.society_book.specs.Runs.{settled_recordings, settled_verdict, settled_version}
+use Rattle.society_book.proofs.AloneLemmas.{at_end}
 use Rattle.society_tables.proofs.AloneReads.{written_alone}
 use Rattle.society_tables.proofs.lines.write_line.Goals as goal
 

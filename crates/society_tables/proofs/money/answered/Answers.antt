@@ -1,5 +1,5 @@
 use Rattle.std.proofs.Common.{◌∙◌, refl, sym}
-use Rattle.society_tables.proofs.AskLemmas.{clean_is}
+use Rattle.society_book.proofs.AskLemmas.{clean_is}
 use Rattle.society_tables.proofs.money.answered.Goals as goal
 
 pub returns-clause-rows : goal.returns-clause-rows

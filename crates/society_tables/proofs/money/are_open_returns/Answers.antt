@@ -12,7 +12,7 @@ use Rattle.sqlite.specs.Held.{state}
 use Rattle.society_core.specs.declared.return_key.ReturnKey.{ReturnKey}
 use Rattle.society_rows.specs.Stored.{HasLayout}
 use Rattle.society_tables.specs.Auditing.{IsOpenReturn, mixed}
-use Rattle.society_tables.specs.Kept.{HoldsBook}
+use Rattle.society_book.specs.Kept.{HoldsBook}
 use Rattle.society_tables.proofs.Mixed.{one_more}
 use Rattle.society_tables.proofs.OpenLemmas.{inspected_then, inspects_of, then_inspected}
 use Rattle.society_tables.proofs.money.are_open_returns.Goals as goal

@@ -6,7 +6,7 @@ use Rattle.sqlite.specs.Steps.{over_memory}
 use Rattle.society_core.specs.Book.{Book}
 use Rattle.society_rows.specs.Stored.{HasLayout}
 use Rattle.society_tables.specs.Auditing.{IsOpenReturn, mixed}
-use Rattle.society_tables.specs.Kept.{HoldsBook}
+use Rattle.society_book.specs.Kept.{HoldsBook}
 use Rattle.society_tables.specs.Opening.{Inspects}
 use Rattle.society_tables.specs.declared.audit_fault.AuditFault.{AuditFault}
 use Rattle.society_tables.proofs.money.are_open_returns.Given as goal

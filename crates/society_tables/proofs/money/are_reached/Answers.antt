@@ -7,7 +7,7 @@ use Rattle.society_core.specs.Book.{front}
 use Rattle.society_core.specs.declared.transmission_key.TransmissionKey.{TransmissionKey}
 use Rattle.society_rows.specs.Stored.{HasLayout}
 use Rattle.society_tables.specs.Auditing.{mixed}
-use Rattle.society_tables.specs.Kept.{HoldsBook}
+use Rattle.society_book.specs.Kept.{HoldsBook}
 use Rattle.society_tables.proofs.money.are_reached.Goals as goal
 
 pub loop-key-preserved : goal.loop-key-preserved

@@ -7,7 +7,7 @@ use Rattle.sqlite_trees.specs.Tree.{Trees}
 use Rattle.society_core.specs.Book.{Book, front}
 use Rattle.society_rows.specs.Stored.{HasLayout}
 use Rattle.society_tables.specs.Auditing.{mixed}
-use Rattle.society_tables.specs.Kept.{HoldsBook}
+use Rattle.society_book.specs.Kept.{HoldsBook}
 use Rattle.society_tables.proofs.money.are_reached.Given as goal
 
 abbrev pub invariant-loop-key : goal.invariant-loop-key

@@ -1,7 +1,7 @@
 use Rattle.std.proofs.Common.{◌≡◌, IsTrue, Ok, refl}
 use Rattle.sqlite.specs.Held.{state}
 use Rattle.sqlite.specs.Steps.{over_memory}
-use Rattle.society_tables.proofs.AskLemmas.{clean_is}
+use Rattle.society_book.proofs.AskLemmas.{clean_is}
 use Rattle.society_tables.proofs.Mixed.{referred_aside}
 use Rattle.society_tables.proofs.OpenLemmas.{as_inspected, inspected_after}
 use Rattle.society_tables.proofs.money.close_all.Goals as goal

@@ -4,11 +4,11 @@ use Rattle.sqlite.specs.Held.{state}
 use Rattle.sqlite.specs.Steps.{over_memory}
 use Rattle.society_core.proofs.Stores.{from_one}
 use Rattle.society_rows.specs.Stored.{HasLayout}
-use Rattle.society_tables.specs.BookRows.{book_of}
+use Rattle.society_book.specs.BookRows.{book_of}
 use Rattle.society_tables.specs.Auditing.{mixed}
-use Rattle.society_tables.specs.Closings.{ClosesWith, PaysBy}
+use Rattle.society_book.specs.Closings.{ClosesWith, PaysBy}
 use Rattle.society_tables.specs.declared.audit_fault.AuditFault.{AuditFault}
-use Rattle.society_tables.proofs.AskLemmas.{clean_is}
+use Rattle.society_book.proofs.AskLemmas.{clean_is}
 use Rattle.society_tables.proofs.Mixed.{closed_aside}
 use Rattle.society_tables.proofs.OpenLemmas.{inspected_then, inspects_of, then_inspected}
 use Rattle.society_tables.proofs.money.close_aside.Goals as goal

@@ -1,6 +1,6 @@
 use Rattle.std.proofs.Common.{◌∙◌, subst, sym, ap₂, nat_le}
 use Rattle.society_core.specs.Book.{front}
-use Rattle.society_tables.specs.Shown.{ShowFront}
+use Rattle.society_book.specs.Shown.{ShowFront}
 use Rattle.society_tables.proofs.Mixed.{front_shown}
 use Rattle.society_tables.proofs.money.is_reached.Goals as goal
 

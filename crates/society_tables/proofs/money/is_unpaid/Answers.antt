@@ -1,5 +1,5 @@
 use Rattle.std.proofs.Common.{◌≡◌, ◌∙◌, [], sym}
-use Rattle.society_tables.proofs.KeyRows.{refilled_by}
+use Rattle.society_book.proofs.KeyRows.{refilled_by}
 use Rattle.society_tables.proofs.Mixed.{none_listed, return_unpaid}
 use Rattle.society_tables.proofs.money.is_unpaid.Goals as goal
 

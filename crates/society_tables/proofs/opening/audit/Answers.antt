@@ -2,7 +2,7 @@ use Rattle.std.proofs.Common.{◌≡◌, List, [], ◌∷◌, Result, Ok, Err, I
 use Rattle.std.specs.Result.{IsErrAnd}
 use Rattle.share_rules.specs.declared.office.Office.{Office}
 use Rattle.sqlite_value.specs.Order.{Row}
-use Rattle.society_tables.specs.Kept.{office_row}
+use Rattle.society_book.specs.Kept.{office_row}
 use Rattle.society_tables.specs.Opening.{TellsOffice, opened_by}
 use Rattle.society_tables.specs.declared.audit_fault.AuditFault.{AuditFault}
 use Rattle.society_tables.specs.declared.open_fault.OpenFault.{OpenFault}

@@ -6,8 +6,8 @@ use Rattle.share_rules.specs.declared.office.Office.{Office}
 use Rattle.sqlite_value.specs.Order.{Row}
 use Rattle.society_rows.specs.Rows.{office_values}
 use Rattle.society_rows.specs.declared.office.OfficeRow.{OfficeRow}
-use Rattle.society_tables.specs.Columns.{number_at, text_at}
-use Rattle.society_tables.specs.Kept.{office_row}
+use Rattle.society_book.specs.Columns.{number_at, text_at}
+use Rattle.society_book.specs.Kept.{office_row}
 use Rattle.society_tables.specs.Opening.{IsOneOffice}
 use Rattle.society_tables.proofs.opening.is_office.Goals as goal
 use Rattle.society_tables.proofs.opening.is_office.Goals.{else-row-from-via-then-row-from+then-row-from-2+else-eq, else-row-from-via-then-row-from+else-row-from-2, else-row-from-via-else-row-from}

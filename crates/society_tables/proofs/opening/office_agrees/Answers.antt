@@ -7,7 +7,7 @@ use Rattle.society_rows.specs.Reads.{Lists}
 use Rattle.society_rows.specs.declared.fault.RowFault.{RowFault}
 use Rattle.society_rows.specs.Stored.{rows_in}
 use Rattle.sqlite_trees.specs.Tree.{Trees}
-use Rattle.society_tables.specs.Kept.{office_row}
+use Rattle.society_book.specs.Kept.{office_row}
 use Rattle.society_tables.specs.Opening.{TellsOffice, audit_fault_by, opened_by}
 use Rattle.society_tables.specs.declared.open_fault.OpenFault.{OpenFault}
 use Rattle.society_tables.specs.declared.open_fault.OpenFault.TheVariants as fault

@@ -1,5 +1,5 @@
 -- The pool of a row is closed by the order of its rows, or memory failed.
-use Rattle.society_tables.specs.Columns.{number_at}
+use Rattle.society_book.specs.Columns.{number_at}
 use Rattle.society_tables.proofs.OrdersAgain.{aside_on}
 use Rattle.society_tables.proofs.PoolsAgain.{closed_as}
 use Rattle.society_tables.proofs.rebuilding.close_pool.Goals as goal

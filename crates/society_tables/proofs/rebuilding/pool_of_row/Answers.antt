@@ -2,7 +2,7 @@
 use Rattle.std.proofs.Common.{◌≡◌, ◌∙◌, ap, subst, sym}
 use Rattle.std.proofs.lemmas.Bool.{false≢true}
 use Rattle.society_rows.specs.Forms.{IsOfForms, pool_forms}
-use Rattle.society_tables.specs.Columns.{number_at}
+use Rattle.society_book.specs.Columns.{number_at}
 use Rattle.society_tables.proofs.OrdersAgain.{all_cuts, all_paid, amount_in, amount_read, aside_on, faultless_read, not_some, number_of_pool, number_taken, order_read, pool_form, the_same}
 use Rattle.society_tables.proofs.rebuilding.pool_of_row.Goals as goal
 

@@ -1,8 +1,8 @@
 use Rattle.std.proofs.Common.{List, refl, subst, sym}
 use Rattle.sqlite_value.specs.Order.{Row}
 use Rattle.society_rows.specs.Layout as layout
-use Rattle.society_tables.specs.BookRows.{pool_rows, is_of_pool}
-use Rattle.society_tables.specs.Columns.{HasRows}
+use Rattle.society_book.specs.BookRows.{pool_rows, is_of_pool}
+use Rattle.society_book.specs.Columns.{HasRows}
 use Rattle.society_tables.proofs.ComesAgain.{clean_before, comes_still, listed_rows}
 use Rattle.society_tables.proofs.OpenLemmas.{inspected_then}
 use Rattle.society_tables.proofs.RowsAgain.{aside_told}

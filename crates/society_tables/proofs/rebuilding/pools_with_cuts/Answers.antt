@@ -1,8 +1,8 @@
 use Rattle.std.proofs.Common.{List, subst, sym}
 use Rattle.sqlite_value.specs.Order.{Row}
 use Rattle.society_rows.specs.Layout as layout
-use Rattle.society_tables.specs.BookRows.{paid_rows, is_of_pool}
-use Rattle.society_tables.specs.Columns.{HasRows}
+use Rattle.society_book.specs.BookRows.{paid_rows, is_of_pool}
+use Rattle.society_book.specs.Columns.{HasRows}
 use Rattle.society_tables.proofs.AddLemmas.{any_told}
 use Rattle.society_tables.proofs.ComesAgain.{listed_rows}
 use Rattle.society_tables.proofs.OpenLemmas.{then_inspected}

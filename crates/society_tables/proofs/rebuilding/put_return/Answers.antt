@@ -2,8 +2,8 @@ use Rattle.std.proofs.Common.{ap, refl, subst}
 use Rattle.std.proofs.lemmas.Bool.{false≢true}
 use Rattle.sqlite.specs.Held.{state}
 use Rattle.sqlite.specs.Steps.{over_memory}
-use Rattle.society_tables.specs.BookRows.{book_of}
-use Rattle.society_tables.specs.Columns.{blob_at, number_at, text_at}
+use Rattle.society_book.specs.BookRows.{book_of}
+use Rattle.society_book.specs.Columns.{blob_at, number_at, text_at}
 use Rattle.society_tables.specs.Rebuilding.{ReportedOn}
 use Rattle.society_tables.proofs.PutAgain.{IsTaken, reported_forms, reported_row, reporter_is, reporter_reads, return_number_is, return_number_reads}
 use Rattle.society_tables.proofs.rebuilding.put_return.Goals as goal

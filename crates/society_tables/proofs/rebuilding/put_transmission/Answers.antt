@@ -2,8 +2,8 @@ use Rattle.std.proofs.Common.{ap, refl, subst}
 use Rattle.std.proofs.lemmas.Bool.{false≢true}
 use Rattle.sqlite.specs.Held.{state}
 use Rattle.sqlite.specs.Steps.{over_memory}
-use Rattle.society_tables.specs.BookRows.{book_of}
-use Rattle.society_tables.specs.Columns.{blob_at, number_at, text_at}
+use Rattle.society_book.specs.BookRows.{book_of}
+use Rattle.society_book.specs.Columns.{blob_at, number_at, text_at}
 use Rattle.society_tables.specs.Rebuilding.{SentOn}
 use Rattle.society_tables.proofs.PutAgain.{IsTaken, sent_forms, sent_number_is, sent_number_reads, sent_row, sent_sender_is, sent_sender_reads}
 use Rattle.society_tables.proofs.rebuilding.put_transmission.Goals as goal

@@ -3,7 +3,7 @@ use Rattle.std.proofs.lemmas.List.{take_all}
 use Rattle.sqlite.specs.Held.{state}
 use Rattle.sqlite.specs.Steps.{over_memory}
 use Rattle.sqlite_value.specs.Order.{Row}
-use Rattle.society_tables.specs.BookRows.{book_of}
+use Rattle.society_book.specs.BookRows.{book_of}
 use Rattle.society_tables.specs.Rebuilding.{AllSent, IsSent, SentOn}
 use Rattle.society_tables.proofs.RowsAgain.{all_here, aside_told, sent_more}
 use Rattle.society_tables.proofs.rebuilding.put_transmissions.Goals as goal

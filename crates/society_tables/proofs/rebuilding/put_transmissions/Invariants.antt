@@ -3,7 +3,7 @@ use Rattle.std.specs.List.{AllByRecursion}
 use Rattle.sqlite.specs.Steps.{over_memory}
 use Rattle.sqlite.specs.Held.{state}
 use Rattle.society_core.specs.Book.{Book, IsSound}
-use Rattle.society_tables.specs.BookRows.{book_of}
+use Rattle.society_book.specs.BookRows.{book_of}
 use Rattle.society_tables.specs.Rebuilding.{AllSent, IsSent, IsWithin}
 use Rattle.society_tables.proofs.rebuilding.put_transmissions.Given as goal
 

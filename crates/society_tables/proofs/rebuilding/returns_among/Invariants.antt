@@ -1,6 +1,6 @@
 -- The returns of the pool among the rows so far.
 use Rattle.std.proofs.Common.{◌≡◌, map, filter, take}
-use Rattle.society_tables.specs.BookRows.{is_of_pool}
+use Rattle.society_book.specs.BookRows.{is_of_pool}
 use Rattle.society_tables.specs.Rebuilding.{paid_pair}
 use Rattle.society_tables.proofs.rebuilding.returns_among.Given as goal
 

@@ -1,8 +1,8 @@
 use Rattle.std.proofs.Common.{List, subst, sym}
 use Rattle.sqlite_value.specs.Order.{Row}
 use Rattle.society_rows.specs.Layout as layout
-use Rattle.society_tables.specs.BookRows.{is_return_row, return_rows}
-use Rattle.society_tables.specs.Columns.{HasRows}
+use Rattle.society_book.specs.BookRows.{is_return_row, return_rows}
+use Rattle.society_book.specs.Columns.{HasRows}
 use Rattle.society_tables.proofs.AddLemmas.{any_told}
 use Rattle.society_tables.proofs.ComesAgain.{no_returns_within, listed_rows, reported_end}
 use Rattle.society_tables.proofs.OpenLemmas.{then_inspected}

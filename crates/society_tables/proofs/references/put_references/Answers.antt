@@ -3,7 +3,7 @@ use Rattle.sqlite.specs.Effect.{Database}
 use Rattle.sqlite.specs.Held.{state}
 use Rattle.sqlite.specs.State.{State}
 use Rattle.society_tables.specs.Auditing.{KeepsUnreferred, WritesAlone}
-use Rattle.society_tables.proofs.AloneLemmas.{at_end}
+use Rattle.society_book.proofs.AloneLemmas.{at_end}
 use Rattle.society_tables.proofs.AloneReads.{written_alone}
 use Rattle.society_tables.proofs.references.put_references.Goals as goal
 

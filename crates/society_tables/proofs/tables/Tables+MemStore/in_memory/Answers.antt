@@ -1,5 +1,5 @@
 use Rattle.std.proofs.Common.{refl}
-use Rattle.society_tables.proofs.AskLemmas.{clean_is}
+use Rattle.society_book.proofs.AskLemmas.{clean_is}
 use Rattle.society_tables.proofs.EmptyTables.{begun_book, begun_rests}
 use Rattle.society_tables.proofs.tables.Tables+MemStore.in_memory.Goals as goal
 

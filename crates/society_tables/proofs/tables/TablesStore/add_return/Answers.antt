@@ -4,11 +4,11 @@ use Rattle.std.specs.Bool.{⊤}
 use Rattle.society_core.specs.Book.{with_return}
 use Rattle.society_core.proofs.Stores.{return_entry}
 use Rattle.society_rows.specs.Layout as layout
-use Rattle.society_tables.specs.BookRows.{book_of, return_row}
-use Rattle.society_tables.specs.Shown.{Comes}
+use Rattle.society_book.specs.BookRows.{book_of, return_row}
+use Rattle.society_book.specs.Shown.{Comes}
 use Rattle.society_tables.proofs.AddLemmas.{addition, any_told, one_truth, rests_after}
-use Rattle.society_tables.proofs.KeyRows.{refilled_by}
-use Rattle.society_tables.proofs.QuestionLemmas.{below_greatest}
+use Rattle.society_book.proofs.KeyRows.{refilled_by}
+use Rattle.society_tables.proofs.StoreQuestions.{below_greatest}
 use Rattle.society_tables.proofs.ReturnAdds.{return_added}
 use Rattle.society_tables.proofs.tables.TablesStore.add_return.Goals as goal
 

@@ -1,0 +1,13 @@
+use Rattle.sqlite.specs.Held.{state}
+use Rattle.society_book.proofs.RunWrites.{runs_by}
+use Rattle.society_book.proofs.StepLemmas.{does_then}
+use Rattle.society_book.proofs.arrivals.write_run.Goals as goal
+
+pub returns-clause-does : goal.returns-clause-does
+returns-clause-does g c =
+    let old = state g.S.Store c.args.tx.now.conn.now in
+    let mid = state g.S.Store c.put_line.new.tx.conn.now in
+    let new = state g.S.Store c.add_told.new.tx.conn.now in
+    does_then old mid new _ c.add_told.result _ _ _ c.in_ok-put_line.ensures.does
+    (rw (c.as_slice.ensures.value, c.as_slice-2.ensures.value, c.as_slice-3.ensures.value, c.in_ok-verdicts.ensures, c.in_ok-versions.ensures, c.in_ok-recordings.ensures) at c.add_told.ensures.does)
+    (λ y first second. runs_by _ _ _ _ _ old.now.trees mid.now.trees new.now.trees first second)

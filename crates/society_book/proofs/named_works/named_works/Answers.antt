@@ -1,0 +1,15 @@
+use Rattle.std.proofs.Common.{Ok, ◌∙◌}
+use Rattle.sqlite.specs.Held.{state}
+use Rattle.society_book.proofs.CutNotes.{wanted_noted}
+use Rattle.society_book.proofs.StepLemmas.{looks_as, looks_of}
+use Rattle.society_book.proofs.named_works.named_works.Goals as goal
+
+pub returns-clause-looks : goal.returns-clause-looks
+returns-clause-looks g c =
+    let old = state g.S.Store c.args.tx.now.conn.now in
+    let new = state g.S.Store c.all_rows.new.tx.conn.now in
+    looks_as old new _ (Ok c.note_rows.new.self) _ _ (looks_of old new (Ok _) _ c.in_ok-rows.ensures.read)
+    (λ lists. (
+      (λ s. c.in_ok-note_rows.ensures.more.senders s ∙ c.in_ok-named.ensures s),
+      wanted_noted old.now.trees c.args.recordings.now c.in_ok-wanted.wanted c.note_rows.new.self _ _ c.in_ok-wanted.ensures lists c.as_slice.ensures.value c.in_ok-note_rows.ensures.noted,
+    ))

@@ -1,0 +1,58 @@
+-- What is written of a pool that is closed.
+use Rattle.std.specs.Prelude.{ℕ, ◌≡◌, ◌≢◌, List, [], ◌∷◌, ◌++◌, None, IsPermutation, bytes_eq, filter}
+use Rattle.std.specs.List.{AllByRecursion}
+use Rattle.sqlite_trees.specs.Tree.{Trees}
+use Rattle.sqlite_value.specs.Order.{Row}
+use Rattle.society_rows.specs.Layout as layout
+use Rattle.society_rows.specs.Layout.{all_tables}
+use Rattle.society_rows.specs.Stored.{Adds, rows_in}
+use Rattle.pool_split.specs.declared.claim.Credit.{Credit}
+use Rattle.share_rules.specs.declared.office.Office.{Office}
+use Rattle.society_core.specs.Answers.{close_refusal}
+use Rattle.society_core.specs.Book.{Book, order_at, with_pool}
+use Rattle.society_core.specs.Candidates.{ReachesCut}
+use Rattle.society_core.specs.Orders.{Order}
+use Rattle.society_core.specs.Pools.{credits_of}
+use Rattle.society_book.specs.Sources.{HoldsWorks}
+use Rattle.society_book.specs.DerivedRows.{balance_rows_by}
+use Rattle.society_book.specs.Kept.{HoldsBook}
+use Rattle.society_book.specs.Shown.{AddsEach, Closes}
+use Rattle.sqlite.specs.Effect.{Database}
+use Rattle.work_ids.specs.Account.{account_text}
+
+-- every table but those of an order is as it was
+abbrev pub KeepsUnordered : Trees → Trees → Type 0
+KeepsUnordered old new = AllByRecursion (λ t. t.tree ≢ layout.pools.tree → t.tree ≢ layout.pool_cuts.tree → t.tree ≢ layout.pool_returns.tree → new t.tree ≡ old t.tree) all_tables
+
+-- the tables have this row of a pool more, and these rows of its cut and of the returns that it pays; the other tables are as they were
+pub record AddsOrder (row : Row) (cut paid : List Row) (old new : Trees) : Type 0 where
+  pub pools : IsPermutation ((row ∷ []) ++ rows_in layout.pools old) (rows_in layout.pools new)
+  pub cuts : IsPermutation (cut ++ rows_in layout.pool_cuts old) (rows_in layout.pool_cuts new)
+  pub returns : IsPermutation (paid ++ rows_in layout.pool_returns old) (rows_in layout.pool_returns new)
+  pub others : KeepsUnordered old new
+
+-- these lines are there, and then these credits' units are added
+abbrev pub PaysOut : List Row → List Credit → Database → Database → Type 0
+PaysOut lines credits old new = (mid : Database) × Adds layout.credits lines old mid × AddsEach credits mid new
+
+-- the row of an account by some credits
+abbrev pub row_by : List Credit → List ℕ → List Row
+row_by credits account = balance_rows_by account (filter (λ credit. bytes_eq account (account_text credit.account)) credits)
+
+-- credits that come to the same balances, those of 0 units too
+abbrev pub ComeToTheSame : List Credit → List Credit → Type 0
+ComeToTheSame some others = (account : List ℕ) → row_by some account ≡ row_by others account
+
+-- a pool is closed in the tables, and to balances that were as before the units are added that its credits come to
+abbrev pub ClosesWith : ℕ → Order → List Credit → Database → Database → Type 0
+ClosesWith pool order credits old new =
+    Closes pool order credits old.trees new.trees × (mid : Database) × (mid.trees layout.balances.tree ≡ old.trees layout.balances.tree) × (totals : List Credit) × ComeToTheSame totals credits × AddsEach totals mid new
+
+-- tables that have what a pool is paid by, of a book in which the cut of an order is reached, pay these credits by it
+abbrev pub PaysBy : Office → Order → Trees → List Credit → Type 0
+PaysBy office order db credits = (book : Book) → HoldsWorks office book db → ReachesCut book order → credits ≡ credits_of office book order
+
+-- tables of an office that held a book in which a pool is not closed, and in which nothing refuses its order, hold the book with the pool
+abbrev pub ClosesPool : Office → ℕ → Order → Trees → Trees → Type 0
+ClosesPool office pool order old new =
+    (book : Book) → HoldsBook office book old → order_at book pool ≡ None → close_refusal book order ≡ None → HoldsBook office (with_pool book pool order) new

@@ -1,0 +1,11 @@
+pub mod Columns
+pub mod BookRows
+pub mod DerivedRows
+pub mod Kept
+pub mod Shown
+pub mod Runs
+pub mod Outcomes
+pub mod Steps
+pub mod Sources
+pub mod Closings
+pub mod CutWorks

@@ -1,0 +1,135 @@
+-- A run: the transmissions with which a sender's front goes on, what is noted of them, and what their transactions tell.
+use Rattle.std.specs.Prelude.{ℕ, pos, ◌+◌, ◌≡◌, Bool, List, [], ◌∷◌, ◌++◌, Some, length, map, unwrap_or, bytes_eq}
+use Rattle.std.specs.List.{AllByRecursion, list_any, slice_get}
+use Rattle.cwr_files.specs.Contents.{transactions_of, transmission_in}
+use Rattle.cwr_files.specs.declared.transmission.Transmission.{Transmission}
+use Rattle.share_rules.specs.declared.office.Office.{Office}
+use Rattle.society_core.specs.Book.{Book, body_at, front, transmissions_to, with_transmission}
+use Rattle.society_core.specs.Keys.{ascending, bytes_cmp}
+use Rattle.sqlite_value.specs.declared.value.Value.TheVariants.{Int, Text}
+use Rattle.sqlite_value.specs.Order.{Row}
+use Rattle.society_book.specs.Columns.{blob_at}
+use Rattle.society_book.specs.DerivedRows.{verdict_row}
+use Rattle.work_ids.specs.Blanks.{without_trailing_blanks}
+use Rattle.works_core.specs.Ends.{EndsAt, KnowsWorks}
+use Rattle.works_core.specs.Line.{judged_in, line_of}
+use Rattle.works_core.specs.Recordings.{isrcs_of}
+use Rattle.works_core.specs.Tracks.{number_in}
+use Rattle.works_core.specs.Verdicts.{verdicts_from}
+use Rattle.works_core.specs.Versions.{Placed, judged_of, placed_behind, placed_line}
+use Rattle.works_core.specs.declared.judged.Judged.{Judged}
+use Rattle.works_core.specs.declared.judged.Judged.TheVariants.{Clean, Faulty}
+use Rattle.works_core.specs.declared.line_end.LineEnd.{LineEnd}
+use Rattle.works_core.specs.declared.verdict.Verdict.{Verdict}
+use Rattle.works_core.specs.declared.verdict.Verdict.TheVariants.{Accepted, Rejected}
+
+-- what is noted of a transmission: what is judged of each of its transactions, and the ISRCs of each, ascending, each once
+pub record Notes : Type 0 where
+  pub judged : List Judged
+  pub isrcs : List (List (List ℕ))
+
+-- what an office notes of a transmission
+abbrev pub notes_of : Office → Transmission → Notes
+notes_of office t = record { judged = judged_in office t; isrcs = map (λ x. ascending bytes_cmp (isrcs_of x)) (transactions_of t) }
+
+-- what an office notes of the transmission that a body is
+abbrev pub notes_in : Office → List ℕ → Notes
+notes_in office body = notes_of office (transmission_in body)
+
+-- an office, and what it noted of some transmissions, one after another
+pub record RunValue : Type 0 where
+  pub office : Office
+  pub notes : List Notes
+
+-- a run with the transmission of one more row
+abbrev pub take_row : RunValue → Row → RunValue
+take_row run row = record run { notes = run.notes ++ notes_in run.office (blob_at 2 row) ∷ [] }
+
+-- so are a sender's transmissions from a number on noted
+abbrev pub AreNoted : Office → Book → List ℕ → ℕ → List Notes → Type 0
+AreNoted office book sender from [] = Unit {0}
+AreNoted office book sender from (x ∷ xs) = (x ≡ notes_in office (unwrap_or (body_at book sender from) [])) × AreNoted office book sender (from + 1) xs
+
+-- with one transmission more in the book its sender's front goes on by these transmissions
+pub record GoesOnBy (office : Office) (book : Book) (sender : List ℕ) (number : ℕ) (body : List ℕ) (notes : List Notes) : Type 0 where
+  pub reaches : front (with_transmission book sender number body) sender ≡ front book sender + length notes
+  pub each : AreNoted office (with_transmission book sender number body) sender (front book sender + 1) notes
+
+-- a transaction of a run: its transmission's number, its place there, its work number as text, its ISRCs and its verdict
+pub record Settled : Type 0 where
+  pub number : ℕ
+  pub place : ℕ
+  pub work : List ℕ
+  pub isrcs : List (List ℕ)
+  pub verdict : Verdict
+
+-- the work number of a transaction as text, nothing where it is not clean
+abbrev pub work_in : Judged → List ℕ
+work_in judged = without_trailing_blanks (number_in judged)
+
+-- the transactions of a transmission from a place on
+abbrev pub settled_from : ℕ → ℕ → List Judged → List (List (List ℕ)) → List Verdict → List Settled
+settled_from number place (judged ∷ more) (isrcs ∷ others) (verdict ∷ verdicts) =
+    record { number = number; place = place; work = work_in judged; isrcs = isrcs; verdict = verdict } ∷ settled_from number (place + 1) more others verdicts
+settled_from number place _ _ _ = []
+
+-- some transactions have the one at a place of a transmission more, with this verdict
+pub record AddsAt (number : ℕ) (notes : Notes) (place : ℕ) (verdict : Verdict) (old new : List Settled) : Type 0 where
+  pub judged : Judged
+  pub isrcs : List (List ℕ)
+  pub judged_there : slice_get notes.judged place ≡ Some judged
+  pub isrcs_there : slice_get notes.isrcs place ≡ Some isrcs
+  pub more : new ≡ old ++ record { number = number; place = place; work = work_in judged; isrcs = isrcs; verdict = verdict } ∷ []
+
+-- the transactions of the transmissions from a number on, behind those before them
+abbrev pub settled_run : List Placed → ℕ → List Notes → List Settled
+settled_run past number [] = []
+settled_run past number (x ∷ xs) =
+    settled_from number 0 x.judged x.isrcs (verdicts_from (judged_of past) x.judged) ++ settled_run (placed_behind past number 0 x.judged) (number + 1) xs
+
+-- what stands before once they have come
+abbrev pub behind_run : List Placed → ℕ → List Notes → List Placed
+behind_run past number [] = past
+behind_run past number (x ∷ xs) = behind_run (placed_behind past number 0 x.judged) (number + 1) xs
+
+-- the works of all clean transactions of a run are known
+abbrev pub KnowsRun : (List ℕ → Bool) → List Notes → Type 0
+KnowsRun known notes = AllByRecursion (λ x. KnowsWorks known x.judged) notes
+
+-- the work numbers of the clean ones
+abbrev pub clean_works : List Judged → List (List ℕ)
+clean_works [] = []
+clean_works (Clean kind number ∷ more) = number ∷ clean_works more
+clean_works (Faulty fault ∷ more) = clean_works more
+
+-- whether a work is among some
+abbrev pub is_among : List (List ℕ) → List ℕ → Bool
+is_among works work = list_any (λ other. bytes_eq other work) works
+
+-- a sender's line up to its front
+abbrev pub line_at_front : Office → Book → List ℕ → List Placed
+line_at_front office book sender = placed_line (line_of office (transmissions_to book sender (front book sender)))
+
+-- the end of a sender's line up to its front, at which the works of a run are known
+abbrev pub EndsReady : Office → Book → List ℕ → List Notes → LineEnd → Type 0
+EndsReady office book sender notes end = (known : List ℕ → Bool) × EndsAt known (line_at_front office book sender) end × KnowsRun known notes
+
+-- a transaction's verdict as a row
+abbrev pub settled_verdict : List ℕ → Settled → Row
+settled_verdict sender x = verdict_row sender x.number x.place x.verdict
+
+-- the version that a transaction with a verdict is, as a row
+abbrev pub version_by : List ℕ → Settled → Verdict → List Row
+version_by sender x (Rejected fault) = []
+version_by sender x (Accepted ordinal revision) = (Text sender ∷ Text x.work ∷ Int (pos revision) ∷ Int (pos x.number) ∷ Int (pos x.place) ∷ Int (pos ordinal) ∷ []) ∷ []
+
+abbrev pub settled_version : List ℕ → Settled → List Row
+settled_version sender x = version_by sender x x.verdict
+
+-- its recordings as rows
+abbrev pub recordings_by : List ℕ → Settled → Verdict → List Row
+recordings_by sender x (Rejected fault) = []
+recordings_by sender x (Accepted ordinal revision) = map (λ isrc. Text sender ∷ Text x.work ∷ Int (pos revision) ∷ Text isrc ∷ []) x.isrcs
+
+abbrev pub settled_recordings : List ℕ → Settled → List Row
+settled_recordings sender x = recordings_by sender x x.verdict

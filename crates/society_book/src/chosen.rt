@@ -1,0 +1,151 @@
+//! The versions that works have at a sender's cut.
+ghost use Rattle.std.specs.Prelude.{◌==◌, ◌≡◌, ◌≤◌, ◌||◌, Bool, List, Some, ℕ, false, IfOk, OnOk, bytes_eq, find, if◌then◌else◌, nat_le, option_map, reverse};
+ghost use Rattle.std.specs.BTreeSet.{contains};
+ghost use Rattle.std.specs.List.{list_any};
+ghost use Rattle.std.specs.Ordering.{nat_cmp};
+ghost use Rattle.share_rules.specs.declared.office.Office.{Office as OfficeValue};
+ghost use Rattle.sqlite.specs.Held.{state};
+ghost use Rattle.society_core.specs.Book.{Book, front, version_in};
+ghost use Rattle.society_core.specs.Owners.{is_at};
+ghost use Rattle.society_core.specs.declared.transmission_key.TransmissionKey.{TransmissionKey as KeyValue};
+ghost use Rattle.society_book.specs.Columns.{number_at};
+ghost use Rattle.society_book.specs.CutWorks.{Chooses, chosen_at};
+ghost use Rattle.society_book.specs.Sources.{HoldsWorks};
+ghost use Rattle.society_book.specs.Shown.{version_shown};
+ghost use Rattle.society_book.specs.Steps.{Looks};
+
+use crate::works::version_of;
+use society_core::TransmissionKey;
+use society_rows::{Question, RowFault, answer};
+use sqlite::{Alter, Row, Transaction};
+use std::alloc::{AllocError, Global};
+use std::collections::{BTreeMap, BTreeSet};
+use work_ids::{TransmissionNumber, WorkNumber};
+use works_core::WorkVersion;
+
+/// The last of the versions that rows show whose transmission is up to a cut, none where all are above it; `Unread` where a
+/// row shows none.
+fn last_up_to(rows: &[Row], cut: TransmissionNumber) -> Result<Option<WorkVersion>, RowFault>
+    ensures { IfOk result (λ version. version ≡ option_map version_shown (find (λ row. nat_le (number_at 3 row) cut) (reverse rows.now))) }
+{
+    let mut last = None;
+    for row in rows {
+        let version = version_of(row)?;
+        if version.transmission <= cut {
+            last = Some(version);
+        }
+    }
+    Ok(last)
+}
+
+/// The version that a sender's work has at the sender's cut, none where it has none.
+fn version_at<S: Alter>(
+    tx: &mut Transaction<'_, S>,
+    key: &TransmissionKey,
+    work: &WorkNumber,
+) -> Result<Option<WorkVersion>, RowFault>
+    ensures same_reference { tx.new.conn.ghost_name ≡ tx.old.conn.ghost_name }
+    ensures looks { Looks (state S.Store tx.old.conn.now) (state S.Store tx.new.conn.now) result
+        (λ db version. (office : OfficeValue) (book : Book) → HoldsWorks office book db → key.now.number ≤ front book key.now.sender
+        → version ≡ version_in office book key.now.sender work.now key.now.number) }
+{
+    let rows = answer(
+        tx,
+        Question::Versions(key.sender.as_bytes(), work.as_bytes()),
+    )?;
+    last_up_to(rows.as_slice(), key.number)
+}
+
+/// The versions of some works at a cut, and the numbers of the transmissions that have one of them.
+#[derive(Drop)]
+pub(crate) struct Chosen {
+    versions: BTreeMap<WorkNumber, WorkVersion>,
+    transmissions: BTreeSet<u32>,
+}
+
+impl Chosen {
+    /// No versions.
+    fn new(alloc: Global) -> Chosen
+        ensures { (office : OfficeValue) (book : Book) (key : KeyValue) → Chooses office book key (λ _. false) result }
+    {
+        Chosen {
+            versions: BTreeMap::new(alloc),
+            transmissions: BTreeSet::new(alloc),
+        }
+    }
+
+    /// Chooses a version of a work.
+    fn keep(&mut self, work: WorkNumber, version: WorkVersion) -> Result<(), AllocError>
+        ensures versions { OnOk result ((other : List ℕ) → chosen_at self.new other ≡ (if bytes_eq work other then Some version else chosen_at self.old other)) }
+        ensures transmissions { OnOk result ((number : ℕ) → contains nat_cmp self.new.transmissions number ≡ (version.transmission == number || contains nat_cmp self.old.transmissions number)) }
+    {
+        let number = version.transmission.value();
+        self.versions.insert(work, version)?;
+        self.transmissions.insert(number)?;
+        Ok(())
+    }
+
+    /// Chooses the version of a work at the cut, none where it has none.
+    fn choose(&mut self, work: WorkNumber, version: Option<WorkVersion>) -> Result<(), AllocError>
+        ensures { (office : OfficeValue) (book : Book) (key : KeyValue) (known : List ℕ → Bool) → Chooses office book key known self.old
+            → version ≡ version_in office book key.sender work key.number → OnOk result (Chooses office book key (λ other. known other || bytes_eq work other) self.new) }
+    {
+        match version {
+            Some(version) => self.keep(work, version),
+            None => Ok(()),
+        }
+    }
+
+    /// Whether the version that is chosen of a work is the transaction at this place of this transmission.
+    pub(crate) fn is_at(&self, work: &WorkNumber, number: TransmissionNumber, place: usize) -> bool
+        ensures { result ≡ is_at number place (chosen_at self.now work.now) }
+    {
+        match self.versions.get(work) {
+            None => false,
+            Some(version) => version.transmission == number && version.place == place,
+        }
+    }
+
+    /// Whether a version is chosen that stands in this transmission.
+    pub(crate) fn has_transmission(&self, number: TransmissionNumber) -> bool
+        ensures { result ≡ contains nat_cmp self.now.transmissions number }
+    {
+        self.transmissions.contains(&number.value())
+    }
+}
+
+/// Chooses the version that a sender's work has at the sender's cut.
+fn choose_work<S: Alter>(
+    tx: &mut Transaction<'_, S>,
+    key: &TransmissionKey,
+    work: &WorkNumber,
+    chosen: &mut Chosen,
+) -> Result<(), RowFault>
+    ensures same_reference { tx.new.conn.ghost_name ≡ tx.old.conn.ghost_name }
+    ensures looks { Looks (state S.Store tx.old.conn.now) (state S.Store tx.new.conn.now) result
+        (λ db _. (office : OfficeValue) (book : Book) (known : List ℕ → Bool) → HoldsWorks office book db → key.now.number ≤ front book key.now.sender
+        → Chooses office book key.now known chosen.old → Chooses office book key.now (λ other. known other || bytes_eq work.now other) chosen.new) }
+{
+    let version = version_at(tx, key, work)?;
+    chosen.choose(*work, version)?;
+    Ok(())
+}
+
+/// The versions that works of a sender have at the sender's cut.
+pub(crate) fn chosen_of<S: Alter>(
+    alloc: Global,
+    tx: &mut Transaction<'_, S>,
+    key: &TransmissionKey,
+    works: &[WorkNumber],
+) -> Result<Chosen, RowFault>
+    ensures same_reference { tx.new.conn.ghost_name ≡ tx.old.conn.ghost_name }
+    ensures looks { Looks (state S.Store tx.old.conn.now) (state S.Store tx.new.conn.now) result
+        (λ db chosen. (office : OfficeValue) (book : Book) → HoldsWorks office book db → key.now.number ≤ front book key.now.sender
+        → Chooses office book key.now (λ work. list_any (bytes_eq work) works.now) chosen) }
+{
+    let mut chosen = Chosen::new(alloc);
+    for work in works {
+        choose_work(tx, key, work, &mut chosen)?;
+    }
+    Ok(chosen)
+}

@@ -1,0 +1,34 @@
+//! The office's book over a connection to its tables: what they answer, and what an arrival, a return and a pool write in one transaction.
+//!
+//! Each call holds over the tables of layout 2 where the disk told the truth. Outside a transaction of the caller's, an error leaves the
+//! tables as they were.
+#![tactic(auto)]
+
+mod acknowledgements;
+mod arrivals;
+mod chosen;
+mod closings;
+mod cut_works;
+mod named_works;
+mod orders;
+mod outcomes;
+mod paying;
+mod pools;
+mod returns;
+mod run;
+mod senders;
+mod totals;
+mod works;
+
+pub use acknowledgements::ack_of;
+pub use arrivals::{add_told, arrive};
+pub use closings::write_pool;
+pub use cut_works::candidates_in;
+pub use orders::known_pool_of;
+pub use outcomes::{Outcome, column_of, recording_rows, settle_run, verdict_rows, version_rows};
+pub use paying::{close, credits_in};
+pub use pools::{balance_of, pool_credits};
+pub use returns::{known_return_of, payment_of, write_return};
+pub use run::{Noted, Run, ascending_works};
+pub use senders::{front_of, known_of, shown_front, status_of, verdicts_of};
+pub use works::work_of;

@@ -1,0 +1,186 @@
+//! What is asked of the order that closed a pool.
+ghost use Rattle.std.specs.Prelude.{◌≡◌, Option, Some, false, map, option_map, IfOk};
+ghost use Rattle.sqlite.specs.Held.{state};
+ghost use Rattle.society_core.specs.Answers.{pool_known_as, pool_known_by};
+ghost use Rattle.society_core.specs.Book.{order_at};
+ghost use Rattle.society_core.specs.Keys.{ascending, return_cmp, return_key, transmission_cmp, transmission_key};
+ghost use Rattle.society_core.specs.Orders.{Order, order_of};
+ghost use Rattle.society_rows.specs.Questions.{Asks};
+ghost use Rattle.society_book.specs.BookRows.{cut_key_of, return_key_of};
+ghost use Rattle.society_book.specs.Shown.{ByBook, ShowPool};
+
+use society_core::{Known, OrderError, PoolOrder};
+use society_rows::{PoolCutRow, PoolReturnRow, PoolRow, Question, RowFault, ask};
+use sqlite::{Alter, Connection, Row};
+use std::alloc::Global;
+use work_ids::{Reporter, SenderKey};
+
+/// The amount that the rows of a pool show, none where it is not closed; `Unread` where they are more than one, or below 0.
+fn shown_amount(rows: &[Row]) -> Result<Option<u64>, RowFault>
+    ensures { (kept : Option Order) → ShowPool kept rows.now → IfOk result (λ amount. amount ≡ option_map (λ order. order.amount) kept) }
+{
+    match rows {
+        [] => Ok(None),
+        [row] => match u64::try_from(PoolRow::from_row(row)?.amount) {
+            Ok(amount) => Ok(Some(amount)),
+            Err(_) => Err(RowFault::Unread),
+        },
+        _ => Err(RowFault::Unread),
+    }
+}
+
+/// The amount of a pool, none where it is not closed.
+fn amount_of<S: Alter>(conn: &mut Connection<S>, pool: u32) -> Result<Option<u64>, RowFault>
+    requires { conn.old.in_transaction ≡ false }
+    ensures asked { Asks (state S.Store conn.old) (state S.Store conn.new) result
+        (ByBook (λ _ book amount. amount ≡ option_map (λ order. order.amount) (order_at book pool))) }
+    ensures idle { conn.new.in_transaction ≡ false }
+{
+    let rows = ask(conn, Question::Pool(pool))?;
+    shown_amount(rows.as_slice())
+}
+
+/// The sender and the number of a row of a cut; `Unread` where it has no sender.
+fn cut_in(row: &Row) -> Result<(SenderKey, u64), RowFault>
+    ensures { IfOk result (λ key. transmission_key key.0 key.1 ≡ cut_key_of row.now) }
+{
+    let row = PoolCutRow::from_row(row)?;
+    match SenderKey::from_bytes(row.sender) {
+        Ok(sender) => Ok((sender, u64::from(row.number))),
+        Err(_) => Err(RowFault::Unread),
+    }
+}
+
+/// The senders and the numbers of rows of a cut, in their order.
+fn cuts_in(alloc: Global, rows: &[Row]) -> Result<Vec<(SenderKey, u64)>, RowFault>
+    ensures { IfOk result (λ list. map (λ key. transmission_key key.0 key.1) list.items ≡ map cut_key_of rows.now) }
+{
+    let mut list = Vec::with_capacity(alloc, rows.len())?;
+    for row in rows {
+        list.push(cut_in(row)?)?;
+    }
+    Ok(list)
+}
+
+/// The cut of a pool.
+fn cut_of<S: Alter>(conn: &mut Connection<S>, pool: u32) -> Result<Vec<(SenderKey, u64)>, RowFault>
+    requires { conn.old.in_transaction ≡ false }
+    ensures asked { Asks (state S.Store conn.old) (state S.Store conn.new) result
+        (ByBook (λ _ book list. (order : Order) → order_at book pool ≡ Some order → ascending transmission_cmp (map (λ key. transmission_key key.0 key.1) list.items) ≡ order.cut)) }
+    ensures idle { conn.new.in_transaction ≡ false }
+{
+    let rows = ask(conn, Question::Cuts(pool))?;
+    cuts_in(*rows.allocator(), rows.as_slice())
+}
+
+/// The reporter and the number of a row of a return that is paid; `Unread` where it has no reporter.
+fn return_in(row: &Row) -> Result<(Reporter, u64), RowFault>
+    ensures { IfOk result (λ key. return_key key.0 key.1 ≡ return_key_of row.now) }
+{
+    let row = PoolReturnRow::from_row(row)?;
+    match Reporter::from_bytes(row.reporter) {
+        Ok(reporter) => Ok((reporter, u64::from(row.number))),
+        Err(_) => Err(RowFault::Unread),
+    }
+}
+
+/// The reporters and the numbers of rows of returns that are paid, in their order.
+fn returns_in(alloc: Global, rows: &[Row]) -> Result<Vec<(Reporter, u64)>, RowFault>
+    ensures { IfOk result (λ list. map (λ key. return_key key.0 key.1) list.items ≡ map return_key_of rows.now) }
+{
+    let mut list = Vec::with_capacity(alloc, rows.len())?;
+    for row in rows {
+        list.push(return_in(row)?)?;
+    }
+    Ok(list)
+}
+
+/// The returns that a pool pays.
+fn returns_of<S: Alter>(
+    conn: &mut Connection<S>,
+    pool: u32,
+) -> Result<Vec<(Reporter, u64)>, RowFault>
+    requires { conn.old.in_transaction ≡ false }
+    ensures asked { Asks (state S.Store conn.old) (state S.Store conn.new) result
+        (ByBook (λ _ book list. (order : Order) → order_at book pool ≡ Some order → ascending return_cmp (map (λ key. return_key key.0 key.1) list.items) ≡ order.returns)) }
+    ensures idle { conn.new.in_transaction ≡ false }
+{
+    let rows = ask(conn, Question::PaidBy(pool))?;
+    returns_in(*rows.allocator(), rows.as_slice())
+}
+
+/// Whether an amount, a cut and returns are an order's; `Unread` where they are no order's at all.
+fn compared(
+    alloc: Global,
+    amount: Option<u64>,
+    cut: &[(SenderKey, u64)],
+    returns: &[(Reporter, u64)],
+    order: &PoolOrder,
+) -> Result<Known, RowFault>
+    ensures { IfOk result (λ known. known ≡ pool_known_by order.now (option_map (λ units. order_of units cut.now returns.now) amount)) }
+{
+    let Some(amount) = amount else {
+        return Ok(Known::Absent);
+    };
+    match PoolOrder::new(alloc, amount, cut, returns) {
+        Ok(kept) => {
+            if kept.is_same(order) {
+                Ok(Known::Same)
+            } else {
+                Ok(Known::Other)
+            }
+        }
+        Err(OrderError::Memory) => Err(RowFault::Memory),
+        Err(OrderError::Order(_)) => Err(RowFault::Unread),
+    }
+}
+
+/// Whether a pool of this amount and cut was closed by an order.
+fn known_with_cut<S: Alter>(
+    conn: &mut Connection<S>,
+    pool: u32,
+    amount: Option<u64>,
+    cut: &[(SenderKey, u64)],
+    order: &PoolOrder,
+) -> Result<Known, RowFault>
+    requires { conn.old.in_transaction ≡ false }
+    ensures asked { Asks (state S.Store conn.old) (state S.Store conn.new) result
+        (ByBook (λ _ book known. amount ≡ option_map (λ order. order.amount) (order_at book pool) → ((kept : Order) → order_at book pool ≡ Some kept → ascending transmission_cmp (map (λ key. transmission_key key.0 key.1) cut.now) ≡ kept.cut) → known ≡ pool_known_as book pool order.now)) }
+    ensures idle { conn.new.in_transaction ≡ false }
+{
+    let returns = returns_of(conn, pool)?;
+    compared(*returns.allocator(), amount, cut, returns.as_slice(), order)
+}
+
+/// Whether a pool of this amount was closed by an order.
+fn known_with_amount<S: Alter>(
+    conn: &mut Connection<S>,
+    pool: u32,
+    amount: Option<u64>,
+    order: &PoolOrder,
+) -> Result<Known, RowFault>
+    requires { conn.old.in_transaction ≡ false }
+    ensures asked { Asks (state S.Store conn.old) (state S.Store conn.new) result
+        (ByBook (λ _ book known. amount ≡ option_map (λ order. order.amount) (order_at book pool) → known ≡ pool_known_as book pool order.now)) }
+    ensures idle { conn.new.in_transaction ≡ false }
+{
+    let _settled = conn.is_autocommit();
+    let cut = cut_of(conn, pool)?;
+    known_with_cut(conn, pool, amount, cut.as_slice(), order)
+}
+
+/// Whether the book has an order, another one under its pool, or none.
+pub fn known_pool_of<S: Alter>(
+    conn: &mut Connection<S>,
+    pool: u32,
+    order: &PoolOrder,
+) -> Result<Known, RowFault>
+    requires { conn.old.in_transaction ≡ false }
+    ensures asked { Asks (state S.Store conn.old) (state S.Store conn.new) result
+        (ByBook (λ _ book known. known ≡ pool_known_as book pool order.now)) }
+    ensures idle { conn.new.in_transaction ≡ false }
+{
+    let _settled = conn.is_autocommit();
+    let amount = amount_of(conn, pool)?;
+    known_with_amount(conn, pool, amount, order)
+}

@@ -1,0 +1,163 @@
+//! What is asked of a return.
+ghost use Rattle.std.specs.Prelude.{◌≡◌, ◌∷◌, [], List, ℕ, Option, false, if◌then◌else◌, is_some, IfOk, IsTrue, OnOk, OnErr};
+ghost use Rattle.sqlite.specs.Held.{state};
+ghost use Rattle.society_core.specs.Answers.{known_by, paid_by, payer, payment_in, return_known_as};
+ghost use Rattle.society_core.specs.Book.{return_at};
+ghost use Rattle.society_core.specs.declared.store.Payment.TheVariants.{Unknown};
+ghost use Rattle.sqlite.specs.State.{HasCleanDisk, Survives};
+ghost use Rattle.society_rows.specs.Layout.{returns};
+ghost use Rattle.society_rows.specs.Questions.{Asks};
+ghost use Rattle.society_rows.specs.Rows.{return_values};
+ghost use Rattle.society_rows.specs.Stored.{HasLayout};
+ghost use Rattle.society_book.specs.Shown.{ByBook, Comes, ShowBody, ShowKey, ShowPayer};
+
+use society_core::{Known, Payment, ReturnKey};
+use society_rows::{PoolReturnRow, Question, ReturnRow, RowFault, add_return, ask};
+use sqlite::{Alter, Connection, Row};
+use work_ids::PoolNumber;
+
+/// Whether the rows of a return show these bytes, others, or none; `Unread` where they are more than one.
+fn compared(rows: &[Row], body: &[u8]) -> Result<Known, RowFault>
+    ensures { (kept : Option (List ℕ)) → ShowBody kept rows.now → IfOk result (λ known. known ≡ known_by body.now kept) }
+{
+    match rows {
+        [] => Ok(Known::Absent),
+        [row] => {
+            if ReturnRow::from_row(row)?.body == body {
+                Ok(Known::Same)
+            } else {
+                Ok(Known::Other)
+            }
+        }
+        _ => Err(RowFault::Unread),
+    }
+}
+
+/// Whether the book has a return, another one under its key, or none.
+pub fn known_return_of<S: Alter>(
+    conn: &mut Connection<S>,
+    key: &ReturnKey,
+    body: &[u8],
+) -> Result<Known, RowFault>
+    requires { conn.old.in_transaction ≡ false }
+    ensures asked { Asks (state S.Store conn.old) (state S.Store conn.new) result
+        (ByBook (λ _ book known. known ≡ return_known_as book key.now body.now)) }
+    ensures idle { conn.new.in_transaction ≡ false }
+{
+    let rows = ask(
+        conn,
+        Question::Return(key.reporter.as_bytes(), key.number.value()),
+    )?;
+    compared(rows.as_slice(), body)
+}
+
+/// Whether the keys of returns show one; `Unread` where they are more than one.
+fn shown_there(rows: &[Row]) -> Result<bool, RowFault>
+    ensures { (kept : Option (List ℕ)) → ShowKey kept rows.now → IfOk result (λ there. there ≡ is_some kept) }
+{
+    match rows {
+        [] => Ok(false),
+        [_] => Ok(true),
+        _ => Err(RowFault::Unread),
+    }
+}
+
+/// Whether the book has a return.
+fn is_there<S: Alter>(conn: &mut Connection<S>, key: &ReturnKey) -> Result<bool, RowFault>
+    requires { conn.old.in_transaction ≡ false }
+    ensures asked { Asks (state S.Store conn.old) (state S.Store conn.new) result
+        (ByBook (λ _ book there. there ≡ is_some (return_at book key.now))) }
+    ensures idle { conn.new.in_transaction ≡ false }
+{
+    let rows = ask(
+        conn,
+        Question::HasReturn(key.reporter.as_bytes(), key.number.value()),
+    )?;
+    shown_there(rows.as_slice())
+}
+
+/// The pool that the rows of a return that is paid show; `Unread` where that is no pool's number.
+fn shown_payer(rows: &[Row]) -> Result<Option<PoolNumber>, RowFault>
+    ensures { (payer : Option ℕ) → ShowPayer payer rows.now → IfOk result (λ pool. pool ≡ payer) }
+{
+    match rows {
+        [] => Ok(None),
+        [row, ..] => match PoolNumber::from_u32(PoolReturnRow::from_row(row)?.pool) {
+            Some(pool) => Ok(Some(pool)),
+            None => Err(RowFault::Unread),
+        },
+    }
+}
+
+/// The pool that pays a return.
+fn payer_of<S: Alter>(
+    conn: &mut Connection<S>,
+    key: &ReturnKey,
+) -> Result<Option<PoolNumber>, RowFault>
+    requires { conn.old.in_transaction ≡ false }
+    ensures asked { Asks (state S.Store conn.old) (state S.Store conn.new) result
+        (ByBook (λ _ book pool. pool ≡ payer book key.now)) }
+    ensures idle { conn.new.in_transaction ≡ false }
+{
+    let rows = ask(
+        conn,
+        Question::Payer(key.reporter.as_bytes(), key.number.value()),
+    )?;
+    shown_payer(rows.as_slice())
+}
+
+/// Whether a return is paid, by whether it is there.
+fn payment_with<S: Alter>(
+    conn: &mut Connection<S>,
+    key: &ReturnKey,
+    there: bool,
+) -> Result<Payment, RowFault>
+    requires { conn.old.in_transaction ≡ false }
+    ensures asked { Asks (state S.Store conn.old) (state S.Store conn.new) result
+        (ByBook (λ _ book payment. payment ≡ (if there then paid_by (payer book key.now) else Unknown))) }
+    ensures idle { conn.new.in_transaction ≡ false }
+{
+    let payer = payer_of(conn, key)?;
+    Ok(match (there, payer) {
+        (false, _) => Payment::Unknown,
+        (true, None) => Payment::Unpaid,
+        (true, Some(pool)) => Payment::Paid(pool),
+    })
+}
+
+/// Whether a return is there, and which pool pays it.
+pub fn payment_of<S: Alter>(
+    conn: &mut Connection<S>,
+    key: &ReturnKey,
+) -> Result<Payment, RowFault>
+    requires { conn.old.in_transaction ≡ false }
+    ensures asked { Asks (state S.Store conn.old) (state S.Store conn.new) result
+        (ByBook (λ _ book payment. payment ≡ payment_in book key.now)) }
+    ensures idle { conn.new.in_transaction ≡ false }
+{
+    let _settled = conn.is_autocommit();
+    let there = is_there(conn, key)?;
+    payment_with(conn, key, there)
+}
+
+/// Adds a return in a transaction of its own.
+pub fn write_return<S: Alter>(
+    conn: &mut Connection<S>,
+    row: &ReturnRow<'_>,
+) -> Result<(), RowFault>
+    requires { conn.old.in_transaction ≡ false }
+    ensures changed { HasCleanDisk (state S.Store conn.new) → HasLayout (state S.Store conn.old).now
+        → OnOk result (Comes returns (return_values row.now ∷ []) (state S.Store conn.old).now.trees (state S.Store conn.new).now.trees × HasLayout (state S.Store conn.new).now) }
+    ensures settled { HasCleanDisk (state S.Store conn.new) → OnOk result (IsTrue (state S.Store conn.old).is_open × ((state S.Store conn.new).now ≡ (state S.Store conn.new).committed)) }
+    ensures was_open { HasCleanDisk (state S.Store conn.new) → IsTrue (state S.Store conn.new).is_open → IsTrue (state S.Store conn.old).is_open }
+    ensures neither { HasCleanDisk (state S.Store conn.new) → IsTrue (state S.Store conn.new).is_open
+        → OnErr result (((state S.Store conn.new).now ≡ (state S.Store conn.old).committed) × ((state S.Store conn.new).committed ≡ (state S.Store conn.old).committed)) }
+    ensures survives { Survives (state S.Store conn.old) (state S.Store conn.new)
+        (λ db. IsTrue (state S.Store conn.old).is_open × (HasLayout (state S.Store conn.old).now → Comes returns (return_values row.now ∷ []) (state S.Store conn.old).now.trees db)) }
+    ensures idle { conn.new.in_transaction ≡ false }
+{
+    let mut tx = conn.transaction();
+    add_return(&mut tx, row)?;
+    tx.commit()?;
+    Ok(())
+}

@@ -1,0 +1,140 @@
+//! A work as its version at the front shows it.
+ghost use Rattle.std.specs.Prelude.{◌≡◌, [], List, ℕ, Option, false, IfOk, option_map, unwrap_or};
+ghost use Rattle.std.specs.List.{slice_get};
+ghost use Rattle.cwr_files.specs.Contents.{transactions_of, transmission_in};
+ghost use Rattle.sqlite.specs.Held.{state};
+ghost use Rattle.society_core.specs.Answers.{shown_by, shown_in, shown_version};
+ghost use Rattle.society_core.specs.Book.{front, version_in};
+ghost use Rattle.society_core.specs.Requests.{shown_of};
+ghost use Rattle.society_rows.specs.Questions.{Asks};
+ghost use Rattle.society_book.specs.Shown.{ByBook, ByOwnBook, ShowBody, ShowVersion, version_shown};
+ghost use Rattle.works_core.specs.declared.version.WorkVersion.{WorkVersion as Version};
+
+use crate::acknowledgements::read;
+use share_rules::Office;
+use society_core::{Work, show};
+use society_rows::{Question, RowFault, TransmissionRow, VersionRow, ask};
+use sqlite::{Alter, Connection, Row};
+use std::alloc::Global;
+use work_ids::{SenderKey, TransmissionNumber, WorkNumber};
+use works_core::WorkVersion;
+
+/// The version that a row is; `Unread` where it is none.
+pub(crate) fn version_of(row: &Row) -> Result<WorkVersion, RowFault>
+    ensures { IfOk result (λ version. version ≡ version_shown row.now) }
+{
+    let row = VersionRow::from_row(row)?;
+    let Some(transmission) = TransmissionNumber::from_u32(row.number) else {
+        return Err(RowFault::Unread);
+    };
+    let (Ok(ordinal), Ok(revision)) = (u64::try_from(row.ordinal), u64::try_from(row.revision))
+    else {
+        return Err(RowFault::Unread);
+    };
+    Ok(WorkVersion {
+        transmission,
+        place: row.place as usize,
+        ordinal,
+        revision,
+    })
+}
+
+/// The last version that the rows of a work show, none where there is no row; `Unread` where they are more than one.
+pub(crate) fn last_version(rows: &[Row]) -> Result<Option<WorkVersion>, RowFault>
+    ensures { (v : Option Version) → ShowVersion v rows.now → IfOk result (λ version. version ≡ v) }
+{
+    match rows {
+        [] => Ok(None),
+        [row] => {
+            let version = version_of(row)?;
+            Ok(Some(version))
+        }
+        _ => Err(RowFault::Unread),
+    }
+}
+
+/// The version of a sender's work at the sender's front.
+fn version_at_front<S: Alter>(
+    conn: &mut Connection<S>,
+    sender: &SenderKey,
+    work: &WorkNumber,
+) -> Result<Option<WorkVersion>, RowFault>
+    requires { conn.old.in_transaction ≡ false }
+    ensures asked { Asks (state S.Store conn.old) (state S.Store conn.new) result
+        (ByBook (λ office book version. version ≡ version_in office book sender.now work.now (front book sender.now))) }
+    ensures idle { conn.new.in_transaction ≡ false }
+{
+    let rows = ask(
+        conn,
+        Question::LastVersion(sender.as_bytes(), work.as_bytes()),
+    )?;
+    last_version(rows.as_slice())
+}
+
+/// What a version of a work shows, by the rows of its transmission; `Unread` where these are not one row, or its body is no
+/// transmission of the sender.
+fn shown(
+    alloc: Global,
+    office: &Office,
+    sender: &SenderKey,
+    work: &WorkNumber,
+    version: WorkVersion,
+    rows: &[Row],
+) -> Result<Option<Work>, RowFault>
+    ensures { (kept : Option (List ℕ)) → ShowBody kept rows.now → IfOk result (λ shown. option_map shown_of shown
+        ≡ option_map (shown_by office.now sender.now work.now version) (slice_get (transactions_of (transmission_in (unwrap_or kept []))) version.place)) }
+{
+    let [row] = rows else {
+        return Err(RowFault::Unread);
+    };
+    let row = TransmissionRow::from_row(row)?;
+    let transmission = read(alloc, row.body, sender)?;
+    match transmission.transaction(version.place) {
+        None => Ok(None),
+        Some(transaction) => {
+            let shown = show(alloc, office, sender, work, version, transaction)?;
+            Ok(Some(shown))
+        }
+    }
+}
+
+/// What a version of a sender's work shows.
+fn shown_at<S: Alter>(
+    alloc: Global,
+    conn: &mut Connection<S>,
+    office: &Office,
+    sender: &SenderKey,
+    work: &WorkNumber,
+    version: WorkVersion,
+) -> Result<Option<Work>, RowFault>
+    requires { conn.old.in_transaction ≡ false }
+    ensures asked { Asks (state S.Store conn.old) (state S.Store conn.new) result
+        (ByBook (λ _ book shown. option_map shown_of shown ≡ shown_version office.now book sender.now work.now version)) }
+    ensures idle { conn.new.in_transaction ≡ false }
+{
+    let rows = ask(
+        conn,
+        Question::Transmission(sender.as_bytes(), version.transmission.value()),
+    )?;
+    shown(alloc, office, sender, work, version, rows.as_slice())
+}
+
+/// A sender's work at this office as its version at the sender's front shows it, none where it has none.
+pub fn work_of<S: Alter>(
+    alloc: Global,
+    conn: &mut Connection<S>,
+    office: &Office,
+    sender: &SenderKey,
+    work: &WorkNumber,
+) -> Result<Option<Work>, RowFault>
+    requires { conn.old.in_transaction ≡ false }
+    ensures asked { Asks (state S.Store conn.old) (state S.Store conn.new) result
+        (ByOwnBook office.now (λ book shown. option_map shown_of shown ≡ shown_in office.now book sender.now work.now)) }
+    ensures idle { conn.new.in_transaction ≡ false }
+{
+    let _settled = conn.is_autocommit();
+    let Some(version) = version_at_front(conn, sender, work)? else {
+        return Ok(None);
+    };
+    shown_at(alloc, conn, office, sender, work, version)
+}

@@ -1,0 +1,186 @@
+-- Connections come one after another: their requests are one run, and their lines stand behind one another.
+use Rattle.std.proofs.Common.{◌≡◌, ℕ, ◌+◌, IsTrue, List, [], ◌∷◌, ◌++◌, Option, Some, None, Result, Ok, Err, arith, ap, append_assoc, append-nil, inl, inr, length, map, refl, subst, sym, zero, ◌∙◌}
+use Rattle.std.specs.Prelude.{IfOk, IfErr, codes}
+use Rattle.std.specs.Io.KnownBytes.{Appends}
+use Rattle.std.specs.List.{AllByRecursion}
+use Rattle.std.proofs.lemmas.List.{length-append, map-append}
+use Rattle.std.proofs.lemmas.Grind.{flat_map-append}
+use Rattle.http_desk.specs.Counted.{failures_of, inner_of}
+use Rattle.http_desk.specs.Part.{Part}
+use Rattle.http_desk.specs.Path.{request_of}
+use Rattle.http_desk.specs.Serves.{AreAnswered, IsGivenUp, IsServed}
+use Rattle.http_desk.specs.declared.connection.Served.{Served}
+use Rattle.http_desk.specs.declared.counted.Counted.{Counted}
+use Rattle.http_desk.specs.declared.fault.DeskFault.{DeskFault}
+use Rattle.share_rules.specs.declared.office.Office.{Office}
+use Rattle.society_core.proofs.HeadlineLemmas.{holds_what_came}
+use Rattle.society_core.specs.Book.{Book}
+use Rattle.society_core.specs.Requests.{Query, Reply}
+use Rattle.society_core.specs.Runs.{Run}
+use Rattle.society_core.specs.State.{Rises, State}
+use Rattle.society_commands.specs.Connections.{Brings, Connection, IsCounted, Prints, ServesConnections, ServesStore, connection_line, connection_lines, parts_of, replies_of, requests_of}
+
+-- ---- a run goes on by a run
+
+run_append : (o : Office) (b : Book) (qs : List Query) (rs : List Reply) (c : Book) (ps : List Query) (ss : List Reply) (d : Book)
+    → Run o b qs rs c → Run o c ps ss d → Run o b (qs ++ ps) (rs ++ ss) d
+run_append o b [] [] c ps ss d same run = subst (λ (x : Book). Run o x ps ss d) same run
+run_append o b (q ∷ qs) (r ∷ rs) c ps ss d first run = (first.0, first.1, run_append o first.0 qs rs c ps ss d first.2 run)
+run_append o b [] (r ∷ rs) c ps ss d first run = absurd first
+run_append o b (q ∷ qs) [] c ps ss d first run = absurd first
+
+pub nothing_answered : (state : State) → AreAnswered [] [] state state
+nothing_answered state = record {
+  each = refl;
+  office = refl;
+  run = λ clean. refl;
+  came = λ clean. holds_what_came state.office state.book [] [] state.book refl;
+}
+
+answered_on : (ps qs : List Part) (rs ss : List Reply) (old mid new : State)
+    → AreAnswered ps rs old mid → AreAnswered qs ss mid new → (IsTrue new.is_clean → IsTrue mid.is_clean) → AreAnswered (ps ++ qs) (rs ++ ss) old new
+answered_on ps qs rs ss old mid new a b clean = record {
+  each = omega (arith, length-append rs ss, length-append ps qs, a.each, b.each);
+  office = b.office ∙ a.office;
+  run = ran;
+  came = λ c. holds_what_came old.office old.book _ _ new.book (ran c);
+}
+  where
+    ran : IsTrue new.is_clean → Run old.office old.book (map request_of (ps ++ qs)) (rs ++ ss) new.book
+    ran c =
+        let P : List Query → Type 0 = λ queries. Run old.office old.book queries (rs ++ ss) new.book in
+        let Q : Office → Type 0 = λ o. Run o mid.book (map request_of qs) ss new.book in
+        subst P (sym (map-append request_of ps qs))
+        (run_append old.office old.book (map request_of ps) rs mid.book (map request_of qs) ss new.book (a.run (clean c)) (subst Q a.office (b.run c)))
+
+-- ---- what is printed
+
+rises_on : (a b c : ℕ) → Rises a b → (Rises b c) → Rises a c
+rises_on a b c (inl less) (inl more) = inl (omega (arith, less, more))
+rises_on a b c (inl less) (inr (most, same)) = inl (omega (arith, less, same))
+rises_on a b c (inr (most, same)) (inl more) = inl (omega (arith, same, more))
+rises_on a b c (inr (most, same)) (inr (top, kept)) = inr (most, kept ∙ same)
+
+rises_kept : (a b c : ℕ) → Rises a b → c ≡ b → Rises a c
+rises_kept a b c rises same = subst (λ (n : ℕ). Rises a n) (sym same) rises
+
+rises_after : (a b c : ℕ) → b ≡ a → Rises b c → Rises a c
+rises_after a b c same rises = subst (λ (n : ℕ). Rises n c) same rises
+
+appends_on : (a b c : Option (List ℕ)) (xs ys : List ℕ) → Appends a b xs → Appends b c ys → Appends a c (xs ++ ys)
+appends_on None b c xs ys first then = tt
+appends_on (Some zs) None c xs ys first then = absurd first
+appends_on (Some zs) (Some ws) None xs ys first then = absurd then
+appends_on (Some zs) (Some ws) (Some vs) xs ys first then = then ∙ ap (λ (l : List ℕ). l ++ ys) first ∙ append_assoc zs xs ys
+
+pub appends_nothing : (a : Option (List ℕ)) → Appends a a []
+appends_nothing None = tt
+appends_nothing (Some zs) = sym (append-nil zs)
+
+module _ {W : Type 0} (contents : W → Option (List ℕ)) where
+  pub prints_nothing : (out : Counted W) → Prints contents out out []
+  prints_nothing out = inr (refl, appends_nothing (contents (inner_of out)))
+
+  pub prints_on : (a b c : Counted W) (xs ys : List ℕ) → Prints contents a b xs → Prints contents b c ys → Prints contents a c (xs ++ ys)
+  prints_on a b c xs ys (inl failed) (inl again) = inl (rises_on (failures_of a) (failures_of b) (failures_of c) failed again)
+  prints_on a b c xs ys (inl failed) (inr (same, more)) = inl (rises_kept (failures_of a) (failures_of b) (failures_of c) failed same)
+  prints_on a b c xs ys (inr (same, more)) (inl failed) = inl (rises_after (failures_of a) (failures_of b) (failures_of c) same failed)
+  prints_on a b c xs ys (inr (same, more)) (inr (kept, most)) =
+      inr (kept ∙ same, appends_on (contents (inner_of a)) (contents (inner_of b)) (contents (inner_of c)) xs ys more most)
+
+-- ---- connections
+
+lines_more : (number : ℕ) (cs : List Connection) (c : Connection)
+    → connection_lines number (cs ++ c ∷ []) ≡ connection_lines number cs ++ connection_line (number + length cs) c.outcome
+lines_more number [] c =
+    append-nil (connection_line number c.outcome) ∙ ap (λ (n : ℕ). connection_line n c.outcome) (let e : number ≡ number + zero = omega arith in e)
+lines_more number (d ∷ cs) c =
+    ap (λ (l : List ℕ). connection_line number d.outcome ++ l)
+    (lines_more (number + 1) cs c ∙ ap (λ (n : ℕ). connection_lines (number + 1) cs ++ connection_line n c.outcome) (let e : number + 1 + length cs ≡ number + length (d ∷ cs) = omega arith in e))
+    ∙ sym (append_assoc (connection_line number d.outcome) (connection_lines (number + 1) cs) (connection_line (number + length (d ∷ cs)) c.outcome))
+
+counted_more : (cs : List Connection) (c : Connection) → AllByRecursion IsCounted cs → IsCounted c → AllByRecursion IsCounted (cs ++ c ∷ [])
+counted_more [] c all is = (is, tt)
+counted_more (d ∷ cs) c all is = (all.0, counted_more cs c all.1 is)
+
+parts_more : (cs : List Connection) (c : Connection) → parts_of (cs ++ c ∷ []) ≡ parts_of cs ++ c.parts
+parts_more cs c = flat_map-append (λ (d : Connection). d.parts) cs (c ∷ []) ∙ ap (λ (v : List Part). parts_of cs ++ v) (append-nil c.parts)
+
+replies_more : (cs : List Connection) (c : Connection) → replies_of (cs ++ c ∷ []) ≡ replies_of cs ++ c.replies
+replies_more cs c = flat_map-append (λ (d : Connection). d.replies) cs (c ∷ []) ∙ ap (λ (v : List Reply). replies_of cs ++ v) (append-nil c.replies)
+
+-- no connection came yet
+pub serves_none : {W : Type 0} (contents : W → Option (List ℕ)) (state : State) (out : Counted W) → ServesConnections contents state state out out 0
+serves_none contents state out = record {
+  connections = [];
+  number = refl;
+  counted = tt;
+  answers = nothing_answered state;
+  printed = prints_nothing contents out;
+}
+
+-- one more connection came
+pub serves_more : {W : Type 0} (contents : W → Option (List ℕ)) (old mid new : State) (first out new_out : Counted W) (count : ℕ) (outcome : Result Served DeskFault)
+    → ServesConnections contents old mid first out count → Brings mid new outcome → Prints contents out new_out (connection_line (count + 1) outcome)
+    → ServesConnections contents old new first new_out (count + 1)
+serves_more contents old mid new first out new_out count outcome so b printed =
+    let c : Connection = record { parts = b.parts; replies = b.replies; outcome = outcome } in
+    let cs = so.connections in
+    let number : 1 + length cs ≡ count + 1 = omega (arith, so.number) in
+    record {
+      connections = cs ++ c ∷ [];
+      number = omega (arith, length-append cs (c ∷ []), so.number);
+      counted = counted_more cs c so.counted b.count;
+      answers =
+          subst (λ (ps : List Part). AreAnswered ps (replies_of (cs ++ c ∷ [])) old new) (sym (parts_more cs c))
+          (subst (λ (rs : List Reply). AreAnswered (parts_of cs ++ b.parts) rs old new) (sym (replies_more cs c))
+          (answered_on (parts_of cs) b.parts (replies_of cs) b.replies old mid new so.answers b.answers b.clean));
+      printed =
+          subst (λ (l : List ℕ). Prints contents first new_out l)
+          (sym (lines_more 1 cs c ∙ ap (λ (n : ℕ). connection_lines 1 cs ++ connection_line n outcome) number))
+          (prints_on contents first out new_out (connection_lines 1 cs) (connection_line (count + 1) outcome) so.printed printed);
+    }
+
+-- a connection that is not served brings nothing
+pub brings_nothing : (state : State) (outcome : Result Served DeskFault) → requests_of outcome ≡ 0 → Brings state state outcome
+brings_nothing state outcome none = record {
+  parts = [];
+  replies = [];
+  count = none;
+  answers = nothing_answered state;
+  clean = λ clean. clean;
+}
+
+-- a connection that was served, or given up, brought the requests of which that is told
+pub brings : {S R W : Type 0} (state : S → State) (remaining : R → Option (List ℕ)) (contents : W → Option (List ℕ)) (desk new_desk : S) (reader new_reader : Counted R) (writer new_writer : Counted W) (turns : ℕ)
+    (outcome : Result Served DeskFault)
+    → IfOk outcome (IsServed state remaining contents desk new_desk reader writer new_writer)
+    → IfErr outcome (IsGivenUp state remaining contents desk new_desk reader new_reader writer new_writer turns)
+    → (IsTrue (state new_desk).is_clean → IsTrue (state desk).is_clean) → Brings (state desk) (state new_desk) outcome
+brings state remaining contents desk new_desk reader new_reader writer new_writer turns (Ok served) is none clean = record {
+  parts = is.parts;
+  replies = is.replies;
+  count = is.count;
+  answers = is.answers;
+  clean = clean;
+}
+brings state remaining contents desk new_desk reader new_reader writer new_writer turns (Err fault) none is clean = record {
+  parts = is.breaks.parts;
+  replies = is.breaks.replies;
+  count = is.breaks.count;
+  answers = is.breaks.answers;
+  clean = clean;
+}
+
+-- what was served over a store, behind `listening`
+pub serves_store : {S W : Type 0} (state : S → State) (store begun ended : S) (contents : W → Option (List ℕ)) (first out new_out : Counted W) (count : ℕ)
+    → begun ≡ store → Prints contents first out (codes "listening\n") → ServesConnections contents (state begun) (state ended) out new_out count
+    → ServesStore state store contents first new_out count
+serves_store state store begun ended contents first out new_out count same listening s = record {
+  ended = ended;
+  connections = s.connections;
+  number = s.number;
+  counted = s.counted;
+  answers = subst (λ (b : State). AreAnswered (parts_of s.connections) (replies_of s.connections) b (state ended)) (ap state same) s.answers;
+  printed = prints_on contents first out new_out (codes "listening\n") (connection_lines 1 s.connections) listening s.printed;
+}

@@ -1,0 +1,172 @@
+-- What the options of the program give, and what its words are read as.
+use Rattle.std.proofs.Common.{◌≡◌, ◌≢◌, ◌⊎◌, ◌∙◌, inl, inr, sym, ◌^◌, ◌<◌, ◌&&◌, ap, ℕ, Bool, Option, List, true, false, refl, subst, [], ◌∷◌, Some, None, Result, Ok, Err, nat_lt, option_and_then, option_map}
+use Rattle.std.proofs.lemmas.Bool.{ltb-true, lt-ltb}
+use Rattle.std.specs.Char.{digit_value}
+use Rattle.std.specs.List.{list_all}
+use Rattle.std.specs.Str.Parse.{AllDigits, IsNumeral, ParsesUnsigned, digits_value, without_leading_plus}
+use Rattle.clap.proofs.WalkLemmas.{both, one_text-rows}
+use Rattle.clap.specs.Matches.{ReadsOne, one_text, subcommand_name_of}
+use Rattle.clap.specs.Simple.{subcommand_rows, subcommand_rows_of}
+use Rattle.clap.specs.declared.error.kind.ErrorKind.{ErrorKind}
+use Rattle.clap.specs.declared.error.kind.ErrorKind.TheVariants.{DisplayHelp, OutOfMemory}
+use Rattle.clap.specs.declared.parser.matches.ArgMatches.{ArgMatches}
+use Rattle.clap.specs.declared.parser.matches.ArgMatches.TheViews.{out-ArgMatches, out-SubCommand}
+use Rattle.clap.specs.declared.parser.matches.SubCommand.{SubCommand}
+use Rattle.std.specs.Box.{box_value}
+use Rattle.std.specs.Prelude.{Box, IfOk, IsErr}
+use Rattle.std.specs.Borrow.{Bor}
+use Rattle.clap.specs.ValueTests.{is_numeral}
+use Rattle.clap.specs.Walk.{Row, Text, rows_of}
+use Rattle.clap.specs.declared.parser.matches.Found.{Found}
+use Rattle.share_rules.specs.declared.office.Office.{Office}
+use Rattle.society_commands.specs.Words.{Asked, AsksFor, AsksHelp, AsksReplay, AsksServe, AsksToServe, HasBadName, HasBadWords, IsReadAs, IsRefusedAs, IsWrong, number_given, number_of, serving}
+use Rattle.society_commands.specs.declared.words.Place.{Place}
+use Rattle.society_commands.specs.declared.words.Words.{Words}
+use Rattle.society_commands.specs.declared.words.Words.TheVariants as words
+
+digits_from : (ds : Text) → list_all (λ d. nat_lt (digit_value d) 10) ds ≡ true → AllDigits 10 ds
+digits_from [] e = tt
+digits_from (d ∷ ds) e = let parts = both _ _ e in (ltb-true _ _ parts.0, digits_from ds parts.1)
+
+digits_back : (ds : Text) → AllDigits 10 ds → list_all (λ d. nat_lt (digit_value d) 10) ds ≡ true
+digits_back [] h = refl
+digits_back (d ∷ ds) h = rw (lt-ltb (digit_value d) 10 h.0) (digits_back ds h.1)
+
+numeral_from : (ds : Text) → is_numeral ds ≡ true → IsNumeral 10 ds
+numeral_from ds e = let parts = both _ _ e in (ltb-true _ _ parts.0, digits_from ds parts.1)
+
+numeral_back : (ds : Text) → IsNumeral 10 ds → is_numeral ds ≡ true
+numeral_back ds h = rw (lt-ltb _ _ h.0, digits_back ds h.1) refl
+
+not_spelled : (bits : ℕ) (text : Text) (b : Bool) → (is_numeral (without_leading_plus text) && nat_lt (digits_value 10 (without_leading_plus text)) (2 ^ bits)) ≡ b
+    → (IsNumeral 10 (without_leading_plus text) × (digits_value 10 (without_leading_plus text) < 2 ^ bits) → ⊥) → None ≡ number_of bits text
+not_spelled bits text true test not = let parts = both _ _ test in absurd (not (numeral_from _ parts.0, ltb-true _ _ parts.1))
+not_spelled bits text false test not = rw test refl
+
+module _ {E : Type 0} (Gives : Text → Result ℕ E → Type 0) (bits : ℕ) (only : (text : Text) (x : Result ℕ E) → Gives text x → ParsesUnsigned bits 10 text x) where
+  -- a number that is read of a text is the one that it spells
+  number_read : (text : Text) (r : Option ℕ) → ReadsOne Gives text r → r ≡ number_of bits text
+  number_read text (Some n) read =
+      let parsed = only text (Ok n) read in
+      rw (parsed.1, numeral_back _ parsed.0.0, lt-ltb _ _ parsed.0.1) refl
+  number_read text None read = not_spelled bits text _ refl (only text (Err read.0) read.1)
+
+  number_found : (o : Option Text) (r : Option ℕ) → (o ≡ None → r ≡ None) → ((text : Text) → o ≡ Some text → ReadsOne Gives text r) → r ≡ option_and_then (number_of bits) o
+  number_found None r none value = none refl
+  number_found (Some text) r none value = number_read text r (value text refl)
+
+  -- a number that is read of an option is the one that it gives
+  pub number_is : (f : Found) (option : Text) (r : Option ℕ) → (one_text f option ≡ None → r ≡ None) → ((text : Text) → one_text f option ≡ Some text → ReadsOne Gives text r)
+      → r ≡ number_given bits option (rows_of f)
+  number_is f option r none value = number_found (one_text f option) r none value ∙ ap (option_and_then (number_of bits)) (one_text-rows f option)
+
+entered_from : {Z : Type 0} (o : Option (Box SubCommand Z)) (name : Text) (rows : List Row) → option_map (λ b. (out-SubCommand (box_value b)).name.now) o ≡ Some name
+    → option_map (λ p. p.1) (subcommand_rows o) ≡ Some rows → subcommand_rows o ≡ Some (name, rows)
+entered_from None name rows named given = cc
+entered_from (Some b) name rows named given = cc
+
+none_from : {Z : Type 0} (o : Option (Box SubCommand Z)) → option_map (λ b. (out-SubCommand (box_value b)).name.now) o ≡ None → subcommand_rows o ≡ None
+none_from None named = refl
+none_from (Some b) named = cc
+
+-- the command that the words name, and what they give to its options
+pub entered_is : (m : ArgMatches) (name : Text) (rows : List Row) → subcommand_name_of m ≡ Some name → option_map (λ p. p.1) (subcommand_rows_of m) ≡ Some rows → subcommand_rows_of m ≡ Some (name, rows)
+entered_is m name rows named given = entered_from (out-ArgMatches m).subcommand name rows named given
+
+-- and where they name none
+pub not_entered : (m : ArgMatches) → subcommand_name_of m ≡ None → subcommand_rows_of m ≡ None
+not_entered m named = none_from (out-ArgMatches m).subcommand named
+
+-- words that are read as a replay ask for one
+pub asks_for : (a : Asked) (office : Office) → IsReadAs a (words.Replay office) → AsksFor a office
+asks_for (AsksReplay society territory name) office reads = reads
+asks_for (AsksServe path place society territory name) office reads = absurd reads
+asks_for AsksHelp office reads = absurd reads
+asks_for HasBadName office reads = absurd reads
+asks_for HasBadWords office reads = absurd reads
+
+-- words that are read so as to serve ask for it
+pub asks_to_serve : (a : Asked) (path : Bor Text) (place : Place) (office : Office) → IsReadAs a (words.Serve path place office) → AsksToServe a path.now place office
+asks_to_serve (AsksReplay society territory name) path place office reads = absurd reads
+asks_to_serve (AsksServe asked there society territory name) path place office reads = reads
+asks_to_serve AsksHelp path place office reads = absurd reads
+asks_to_serve HasBadName path place office reads = absurd reads
+asks_to_serve HasBadWords path place office reads = absurd reads
+
+-- words that are read so as to be done are not wrong, and ask for no help
+pub replay_not_wrong : (a : Asked) (office : Office) → IsReadAs a (words.Replay office) → IsWrong a → ⊥
+replay_not_wrong (AsksReplay society territory name) office reads wrong = wrong
+replay_not_wrong (AsksServe path place society territory name) office reads wrong = wrong
+replay_not_wrong AsksHelp office reads wrong = wrong
+replay_not_wrong HasBadName office reads wrong = reads
+replay_not_wrong HasBadWords office reads wrong = reads
+
+pub serve_not_wrong : (a : Asked) (path : Bor Text) (place : Place) (office : Office) → IsReadAs a (words.Serve path place office) → IsWrong a → ⊥
+serve_not_wrong (AsksReplay society territory name) path place office reads wrong = wrong
+serve_not_wrong (AsksServe asked there society territory name) path place office reads wrong = wrong
+serve_not_wrong AsksHelp path place office reads wrong = wrong
+serve_not_wrong HasBadName path place office reads wrong = reads
+serve_not_wrong HasBadWords path place office reads wrong = reads
+
+pub read_no_help : (a : Asked) (read : Words) → IsReadAs a read → a ≡ AsksHelp → ⊥
+read_no_help a read reads help = no_help read (subst (λ (b : Asked). IsReadAs b read) help reads)
+  where
+    no_help : (read : Words) → IsReadAs AsksHelp read → ⊥
+    no_help (words.Replay office) reads = reads
+    no_help (words.Serve path place office) reads = reads
+    no_help words.BadName reads = reads
+    no_help words.BadWords reads = reads
+
+-- words with a name that is none, and words that are none, are wrong
+pub name_is_wrong : (a : Asked) → IsReadAs a words.BadName → IsWrong a
+name_is_wrong (AsksReplay society territory name) reads = absurd reads
+name_is_wrong (AsksServe path place society territory name) reads = absurd reads
+name_is_wrong AsksHelp reads = absurd reads
+name_is_wrong HasBadName reads = reads
+name_is_wrong HasBadWords reads = absurd reads
+
+pub words_are_wrong : (a : Asked) → IsReadAs a words.BadWords → IsWrong a
+words_are_wrong (AsksReplay society territory name) reads = absurd reads
+words_are_wrong (AsksServe path place society territory name) reads = absurd reads
+words_are_wrong AsksHelp reads = absurd reads
+words_are_wrong HasBadName reads = absurd reads
+words_are_wrong HasBadWords reads = reads
+
+-- words of a replay, over a database and at a place
+pub replay_served : (path : Bor Text) (place : Place) (office : Office) (a : Asked) → IsReadAs a (words.Replay office)
+    → IsReadAs (serving (Some path.now) (Some place) a) (words.Serve path place office)
+replay_served path place office (AsksReplay society territory name) reads = (refl, refl, reads)
+replay_served path place office (AsksServe asked there society territory name) reads = absurd reads
+replay_served path place office AsksHelp reads = absurd reads
+replay_served path place office HasBadName reads = absurd reads
+replay_served path place office HasBadWords reads = absurd reads
+
+pub serve_served : (path opened : Bor Text) (place other : Place) (office : Office) (a : Asked) → IsReadAs a (words.Serve opened other office)
+    → IsReadAs (serving (Some path.now) (Some place) a) (words.Serve opened other office)
+serve_served path opened place other office (AsksReplay society territory name) reads = absurd reads
+serve_served path opened place other office (AsksServe asked there society territory name) reads = reads
+serve_served path opened place other office AsksHelp reads = absurd reads
+serve_served path opened place other office HasBadName reads = absurd reads
+serve_served path opened place other office HasBadWords reads = absurd reads
+
+pub name_served : (path : Bor Text) (place : Place) (a : Asked) → IsReadAs a words.BadName → IsReadAs (serving (Some path.now) (Some place) a) words.BadName
+name_served path place (AsksReplay society territory name) reads = absurd reads
+name_served path place (AsksServe asked there society territory name) reads = absurd reads
+name_served path place AsksHelp reads = absurd reads
+name_served path place HasBadName reads = reads
+name_served path place HasBadWords reads = absurd reads
+
+pub words_served : (path : Bor Text) (place : Place) (a : Asked) → IsReadAs a words.BadWords → IsReadAs (serving (Some path.now) (Some place) a) words.BadWords
+words_served path place (AsksReplay society territory name) reads = absurd reads
+words_served path place (AsksServe asked there society territory name) reads = absurd reads
+words_served path place AsksHelp reads = absurd reads
+words_served path place HasBadName reads = absurd reads
+words_served path place HasBadWords reads = reads
+
+-- words that are refused are answered with 0 where they ask for help alone
+pub refused_served : {E : Type 0} (X Y : Type 0) (a : Asked) (kind : ErrorKind) (result : Result ℕ E) → IsRefusedAs a kind → (kind ≡ OutOfMemory → IsErr result)
+    → (kind ≢ DisplayHelp → IfOk result (λ status. (status ≡ 2) × Y)) → IfOk result (λ status. status ≡ 0 → (a ≡ AsksHelp) ⊎ X)
+refused_served X Y a kind (Err e) refused memory wrong = tt
+refused_served X Y a kind (Ok status) (inl none) memory wrong = (let no : false ≡ true = memory none in cc)
+refused_served X Y a kind (Ok status) (inr (inl (help, is))) memory wrong = λ zero. inl is
+refused_served X Y a kind (Ok status) (inr (inr (other, is))) memory wrong = λ zero. (let two : status ≡ 2 = (wrong other).0 in cc)

@@ -1,0 +1,27 @@
+use Rattle.std.proofs.Common.{ap, ◌∙◌, refl}
+use Rattle.sqlite.specs.Held.{state}
+use Rattle.sqlite.specs.Steps.{over_memory}
+use Rattle.society_core.specs.State.{State}
+use Rattle.society_book.specs.Kept.{tables_state}
+use Rattle.society_commands.proofs.ReplayLemmas.{replays_from, breaks_off_from}
+use Rattle.society_commands.proofs.TableLemmas.{no_tables}
+use Rattle.society_commands.proofs.replay.replay.Goals as goal
+
+pub returns-in_default-clause-broken_off : goal.returns-in_default-clause-broken_off
+returns-in_default-clause-broken_off g c = λ one. no_tables c.args.office.now g.R.Read.remaining g.W.Write.contents c.args.reader.now c.args.out.now
+
+pub returns-in-Ok-serve-clause-served : goal.returns-in-Ok-serve-clause-served
+returns-in-Ok-serve-clause-served g c = λ zero.
+    let first = c.new-desk.result in
+    let last = c.serve.new.desk in
+    let same = ap (λ s. s.office) c.new-desk.ensures ∙ c.in-Ok.ensures.office in
+    let empty = ap (λ s. (tables_state s.office (state over_memory s.conn) s.failures).book) c.new-desk.ensures ∙ c.in-Ok.ensures.empty in
+    replays_from c.args.office.now g.R.Read.remaining g.W.Write.contents c.args.reader.now c.serve.new.reader c.args.out.now c.serve.new.writer (tables_state first.office (state over_memory first.conn) first.failures) (tables_state last.office (state over_memory last.conn) last.failures) same empty refl c.in-Ok-serve.field-0.requests c.in-Ok-serve.ensures.served
+
+pub returns-clause-broken_off : goal.returns-clause-broken_off
+returns-clause-broken_off g c = λ one.
+    let first = c.new-desk.result in
+    let last = c.serve.new.desk in
+    let same = ap (λ s. s.office) c.new-desk.ensures ∙ c.in-Ok.ensures.office in
+    let empty = ap (λ s. (tables_state s.office (state over_memory s.conn) s.failures).book) c.new-desk.ensures ∙ c.in-Ok.ensures.empty in
+    breaks_off_from c.args.office.now g.R.Read.remaining g.W.Write.contents c.args.reader.now c.serve.new.reader c.args.out.now c.serve.new.writer (tables_state first.office (state over_memory first.conn) first.failures) (tables_state last.office (state over_memory last.conn) last.failures) same empty refl c.in-Err.fault c.in-Err.ensures.fault.breaks c.in-Err.ensures.fault.cause

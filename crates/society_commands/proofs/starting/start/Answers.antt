@@ -1,0 +1,46 @@
+use Rattle.std.proofs.Common.{inl, inr}
+use Rattle.society_commands.proofs.WordLemmas.{asks_for, asks_to_serve, name_is_wrong, read_no_help, refused_served, replay_not_wrong, serve_not_wrong, words_are_wrong}
+use Rattle.society_commands.proofs.starting.start.Goals as goal
+
+pub returns-in-Ok-Replay-clause-wrong : goal.returns-in-Ok-Replay-clause-wrong
+returns-in-Ok-Replay-clause-wrong g c = λ wrong. absurd (replay_not_wrong _ c.in-Ok-Replay.office (rw c.in-Ok-Replay.field-0-is at c.in-Ok-Replay.ensures.ok) wrong)
+
+pub returns-in-Ok-Replay-clause-help : goal.returns-in-Ok-Replay-clause-help
+returns-in-Ok-Replay-clause-help g c = λ help. absurd (read_no_help _ _ c.in-Ok-Replay.ensures.ok help)
+
+pub returns-in-Ok-Replay-clause-served : goal.returns-in-Ok-Replay-clause-served
+returns-in-Ok-Replay-clause-served g c = λ zero.
+    inr (inl (c.in-Ok-Replay.office, asks_for _ c.in-Ok-Replay.office (rw c.in-Ok-Replay.field-0-is at c.in-Ok-Replay.ensures.ok), c.replay.ensures.served zero))
+
+pub returns-in-Ok-Replay-clause-broken_off : goal.returns-in-Ok-Replay-clause-broken_off
+returns-in-Ok-Replay-clause-broken_off g c = λ one.
+    inl (c.in-Ok-Replay.office, asks_for _ c.in-Ok-Replay.office (rw c.in-Ok-Replay.field-0-is at c.in-Ok-Replay.ensures.ok), c.replay.ensures.broken_off one)
+
+pub returns-in-Ok-Serve-clause-wrong : goal.returns-in-Ok-Serve-clause-wrong
+returns-in-Ok-Serve-clause-wrong g c = λ wrong. absurd (serve_not_wrong _ c.in-Ok-Serve.path c.in-Ok-Serve.place c.in-Ok-Serve.office (rw c.in-Ok-Serve.field-0-is at c.in-Ok-Serve.ensures.ok) wrong)
+
+pub returns-in-Ok-Serve-clause-help : goal.returns-in-Ok-Serve-clause-help
+returns-in-Ok-Serve-clause-help g c = λ help. absurd (read_no_help _ _ c.in-Ok-Serve.ensures.ok help)
+
+pub returns-in-Ok-Serve-clause-served : goal.returns-in-Ok-Serve-clause-served
+returns-in-Ok-Serve-clause-served g c = λ zero.
+    inr (inr (c.in-Ok-Serve.path.now, c.in-Ok-Serve.place, c.in-Ok-Serve.office, asks_to_serve _ c.in-Ok-Serve.path c.in-Ok-Serve.place c.in-Ok-Serve.office (rw c.in-Ok-Serve.field-0-is at c.in-Ok-Serve.ensures.ok), c.serve_file.ensures.served zero))
+
+pub returns-in-Ok-Serve-clause-broken_off : goal.returns-in-Ok-Serve-clause-broken_off
+returns-in-Ok-Serve-clause-broken_off g c = λ one.
+    inr (c.in-Ok-Serve.path.now, c.in-Ok-Serve.place, c.in-Ok-Serve.office, asks_to_serve _ c.in-Ok-Serve.path c.in-Ok-Serve.place c.in-Ok-Serve.office (rw c.in-Ok-Serve.field-0-is at c.in-Ok-Serve.ensures.ok), c.serve_file.ensures.broken_off one)
+
+pub returns-in-Ok-BadName-clause-help : goal.returns-in-Ok-BadName-clause-help
+returns-in-Ok-BadName-clause-help g c = λ help. absurd (read_no_help _ _ c.in-Ok-BadName.ensures.ok help)
+
+pub returns-in-Ok-BadName-clause-status : goal.returns-in-Ok-BadName-clause-status
+returns-in-Ok-BadName-clause-status g c = inr (inr (c.refuse.ensures, name_is_wrong _ (rw c.in-Ok-BadName.field-0-is at c.in-Ok-BadName.ensures.ok)))
+
+pub returns-in-Ok-BadWords-clause-help : goal.returns-in-Ok-BadWords-clause-help
+returns-in-Ok-BadWords-clause-help g c = λ help. absurd (read_no_help _ _ c.in-Ok-BadWords.ensures.ok help)
+
+pub returns-in-Ok-BadWords-clause-status : goal.returns-in-Ok-BadWords-clause-status
+returns-in-Ok-BadWords-clause-status g c = inr (inr (c.refuse-in-Ok-BadWords.ensures, words_are_wrong _ (rw c.in-Ok-BadWords.field-0-is at c.in-Ok-BadWords.ensures.ok)))
+
+pub returns-in-Err-clause-served : goal.returns-in-Err-clause-served
+returns-in-Err-clause-served g c = refused_served _ _ _ _ c.explain.result c.in-Err.ensures.err c.explain.ensures.memory c.explain.ensures.wrong

@@ -1,0 +1,131 @@
+-- What connections come to that are served one after another, and the lines that are printed of them.
+use Rattle.std.specs.Prelude.{◌≡◌, ◌⊎◌, ℕ, ◌+◌, ◌<◌, IsTrue, List, [], ◌∷◌, ◌++◌, Option, Result, Ok, Err, codes, decimal, length}
+use Rattle.std.specs.Io.KnownBytes.{Appends}
+use Rattle.std.specs.List.{flat_map, AllByRecursion}
+use Rattle.http_desk.specs.Counted.{failures_of, inner_of}
+use Rattle.http_desk.specs.Part.{Part}
+use Rattle.http_desk.specs.Serves.{AreAnswered}
+use Rattle.http_desk.specs.declared.connection.Served.{Served}
+use Rattle.http_desk.specs.declared.counted.Counted.{Counted}
+use Rattle.http_desk.specs.declared.fault.DeskFault.{DeskFault}
+use Rattle.share_rules.specs.declared.office.Office.{Office}
+use Rattle.sqlite.specs.State as connection
+use Rattle.society_core.specs.Book.{empty_book}
+use Rattle.society_core.specs.Requests.{Reply}
+use Rattle.society_core.specs.State.{Rises, State}
+use Rattle.society_rows.specs.NewBook.{IsBare}
+use Rattle.society_rows.specs.Stored.{HasLayout}
+use Rattle.society_book.specs.BookRows.{book_of}
+use Rattle.society_tables.specs.Opening.{HoldsOne, IsOpenable}
+use Rattle.society_commands.specs.Replays.{fault_name}
+
+-- how many requests a connection brought, by what it came to
+abbrev pub requests_of : Result Served DeskFault → ℕ
+requests_of (Ok served) = served.requests
+requests_of (Err fault) = fault.requests
+
+-- a connection brought requests, as many as it tells, and they were answered in turn
+pub record Brings (old new : State) (outcome : Result Served DeskFault) : Type 0 where
+  pub parts : List Part
+  pub replies : List Reply
+  pub count : requests_of outcome ≡ length parts
+  pub answers : AreAnswered parts replies old new
+  pub clean : IsTrue new.is_clean → IsTrue old.is_clean
+
+-- a connection: the requests that it brought, their answers, and what it came to
+pub record Connection : Type 0 where
+  pub parts : List Part
+  pub replies : List Reply
+  pub outcome : Result Served DeskFault
+
+-- what a connection came to tells how many requests it brought
+abbrev pub IsCounted : Connection → Type 0
+IsCounted connection = requests_of connection.outcome ≡ length connection.parts
+
+-- the requests of connections, in order
+abbrev pub parts_of : List Connection → List Part
+parts_of connections = flat_map (λ (c : Connection). c.parts) connections
+
+-- their answers
+abbrev pub replies_of : List Connection → List Reply
+replies_of connections = flat_map (λ (c : Connection). c.replies) connections
+
+-- how a connection ended, and after how many requests (profile)
+abbrev pub outcome_text : Result Served DeskFault → List ℕ
+outcome_text (Ok served) = decimal served.requests
+outcome_text (Err fault) = fault_name fault.kind ++ codes " fault after " ++ decimal fault.requests
+
+-- the line of a connection under its number (profile)
+abbrev pub connection_line : ℕ → Result Served DeskFault → List ℕ
+connection_line number outcome = codes "connection " ++ decimal number ++ codes ": " ++ outcome_text outcome ++ codes " requests\n"
+
+-- the lines of connections that are numbered from here on
+abbrev pub connection_lines : ℕ → List Connection → List ℕ
+connection_lines number [] = []
+connection_lines number (c ∷ connections) = connection_line number c.outcome ++ connection_lines (number + 1) connections
+
+-- these bytes were printed, or the printer failed
+abbrev pub Prints : {W : Type 0} → (W → Option (List ℕ)) → Counted W → Counted W → List ℕ → Type 0
+Prints contents out new_out bytes =
+    Rises (failures_of out) (failures_of new_out)
+    ⊎ ((failures_of new_out ≡ failures_of out) × Appends (contents (inner_of out)) (contents (inner_of new_out)) bytes)
+
+-- so many connections were served one after another: their requests were answered in turn, and a line was printed for each
+pub record ServesConnections {W : Type 0} (contents : W → Option (List ℕ)) (old new : State) (out new_out : Counted W) (count : ℕ) : Type 0 where
+  pub connections : List Connection
+  pub number : length connections ≡ count
+  pub counted : AllByRecursion IsCounted connections
+  pub answers : AreAnswered (parts_of connections) (replies_of connections) old new
+  pub printed : Prints contents out new_out (connection_lines 1 connections)
+
+-- so many connections were served over a store; `listening` was printed before, and a line for each
+pub record ServesStore {S : Type 0} (state : S → State) (begun : S) {W : Type 0} (contents : W → Option (List ℕ)) (out new_out : Counted W) (count : ℕ) : Type 0 where
+  pub ended : S
+  pub connections : List Connection
+  pub number : length connections ≡ count
+  pub counted : AllByRecursion IsCounted connections
+  pub answers : AreAnswered (parts_of connections) (replies_of connections) (state begun) (state ended)
+  pub printed : Prints contents out new_out (codes "listening\n" ++ connection_lines 1 connections)
+
+-- serving over a store ended early: it could not listen, and printed nothing; or fewer connections came
+abbrev pub StopsServingStore : {S : Type 0} → (S → State) → S → {W : Type 0} → (W → Option (List ℕ)) → Counted W → Counted W → ℕ → Type 0
+StopsServingStore state begun contents out new_out connections =
+    (new_out ≡ out) ⊎ ((count : ℕ) × (count < connections) × ServesStore state begun contents out new_out count)
+
+-- What a store shows that is opened over what a connection was found with: it is the office's; where there was no table its book is
+-- empty, and where there were those of layout 2 they held a sound book with what is derived from it, and that is its book.
+pub record IsOver (office : Office) (found : connection.State) (begun : State) : Type 0 where
+  pub office_is : begun.office ≡ office
+  pub known : IsTrue found.is_open → IsTrue begun.is_clean → IsOpenable found.committed
+  pub bare : IsTrue found.is_open → IsTrue begun.is_clean → IsBare found.committed → begun.book ≡ empty_book
+  pub kept : IsTrue found.is_open → IsTrue begun.is_clean → HasLayout found.committed
+      → HoldsOne office found.committed.trees × (begun.book ≡ book_of found.committed.trees)
+
+-- what a connection shows of a file that was opened: over a disk that tells the truth it is open, and shows what the files recovered to
+abbrev pub IsFound : connection.State → Type 0
+IsFound s = connection.HasCleanDisk s → connection.Opens s × connection.IsLive s
+
+-- so many connections were served over a store that was opened over what a connection was found with
+abbrev pub ServesDatabase : {S : Type 0} → (S → State) → Office → connection.State → {W : Type 0} → (W → Option (List ℕ)) → Counted W → Counted W → ℕ → Type 0
+ServesDatabase {S} state office found contents out new_out count =
+    (begun : S) × IsOver office found (state begun) × ServesStore state begun contents out new_out count
+
+-- serving so ended early: nothing was printed, or fewer connections came
+abbrev pub StopsServingDatabase : {S : Type 0} → (S → State) → Office → connection.State → {W : Type 0} → (W → Option (List ℕ)) → Counted W → Counted W → ℕ → Type 0
+StopsServingDatabase state office found contents out new_out connections =
+    (new_out ≡ out) ⊎ ((count : ℕ) × (count < connections) × ServesDatabase state office found contents out new_out count)
+
+-- so many connections were served over a database that was opened so
+abbrev pub ServesOpened : {C S : Type 0} → (C → connection.State) → (connection.State → Type 0) → (S → State) → Office → {W : Type 0} → (W → Option (List ℕ)) → Counted W → Counted W → ℕ → Type 0
+ServesOpened {C} show MayOpen state office contents out new_out count =
+    (conn : C) × MayOpen (show conn) × ServesDatabase state office (show conn) contents out new_out count
+
+-- serving so ended early: the database was not opened, and nothing was printed; or fewer connections came
+abbrev pub StopsServingOpened : {C S : Type 0} → (C → connection.State) → (connection.State → Type 0) → (S → State) → Office → {W : Type 0} → (W → Option (List ℕ)) → Counted W → Counted W → ℕ → Type 0
+StopsServingOpened show MayOpen state office contents out new_out connections =
+    (new_out ≡ out) ⊎ ((count : ℕ) × (count < connections) × ServesOpened show MayOpen state office contents out new_out count)
+
+-- fewer connections than were asked for were served
+abbrev pub StopsEarly : {W : Type 0} → (W → Option (List ℕ)) → State → State → Counted W → Counted W → ℕ → Type 0
+StopsEarly contents old new out new_out connections =
+    (count : ℕ) × (count < connections) × ServesConnections contents old new out new_out count

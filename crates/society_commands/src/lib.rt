@@ -1,0 +1,18 @@
+//! What the program does by its arguments: `replay` serves a reader to a writer over a book in memory, `serve` serves connections on
+//! this machine over the database at a path, `--help` tells both.
+#![tactic(auto)]
+
+mod command_line;
+mod connections;
+mod opening;
+mod replay;
+mod serving;
+mod starting;
+mod words;
+
+pub use connections::{AcceptFault, serve_connections};
+pub use opening::{OpenDatabase, open_fault, serve_file};
+pub use replay::{BROKEN_OFF, SERVED, TURNS, replay, report};
+pub use serving::serve_store;
+pub use starting::{NoWords, start, why_no_words, without_words};
+pub use words::{Place, Words, words_in};

@@ -1,0 +1,126 @@
+//! The office over a database: how one is opened, and what is said where it is not.
+ghost use Rattle.std.specs.Prelude.{◌≡◌, ◌⊎◌, IfOk, List, ℕ, false};
+ghost use Rattle.sqlite.specs.Held.{state};
+ghost use Rattle.sqlite.specs.State as connection;
+ghost use Rattle.society_commands.specs.Connections.{IsFound, ServesDatabase, ServesOpened, StopsServingDatabase, StopsServingOpened};
+
+use crate::replay::BROKEN_OFF;
+use crate::serving::serve_store;
+use crate::words::Place;
+use http_desk::Counted;
+use share_rules::Office;
+use society_core::Store;
+use society_tables::{OpenFault, Tables};
+use sqlite::{Alter, Connection, Error, ErrorCode, FileFrom, FileStore, Wary};
+use std::alloc::Global;
+use std::io::Write;
+use std::net::{Net, TcpListener, TcpStream};
+
+/// What opens databases by their paths.
+pub trait OpenDatabase {
+    /// What holds a database.
+    type Medium: Alter + Drop;
+
+    /// What a connection may show that was opened at a path.
+    ghost may_open: { List ℕ → connection.State → Type 0 };
+
+    /// A connection to the database at a path, which is made where there is none. `Memory` where memory was refused, `Schema` where the
+    /// file holds no tables that can be read, `Damaged` where it is not as it was written, else `Store`.
+    fn open_database(&self, path: &str) -> Result<Connection<Self::Medium>, OpenFault>
+        ensures opened { IfOk result (λ c. may_open path.now (state Self.Medium.Store c)) }
+        ensures idle { IfOk result (λ c. c.in_transaction ≡ false) };
+}
+
+impl OpenDatabase for HostRuntime {
+    type Medium = FileStore<FileFrom<Wary>>;
+
+    ghost may_open = { λ path s. IsFound s };
+
+    fn open_database(&self, path: &str) -> Result<Connection<Self::Medium>, OpenFault> {
+        match Connection::open_from(self, path, false, Wary) {
+            Ok(connection) => Ok(connection),
+            Err((error, _)) => Err(fault_of(&error)),
+        }
+    }
+}
+
+/// What an error of opening a file says.
+fn fault_of(error: &Error) -> OpenFault {
+    match error {
+        Error::SqliteFailure(ErrorCode::OutOfMemory) => OpenFault::Memory,
+        Error::SqliteFailure(ErrorCode::NotADatabase) => OpenFault::Schema,
+        Error::SqliteFailure(ErrorCode::DatabaseCorrupt) => OpenFault::Damaged,
+        _ => OpenFault::Store,
+    }
+}
+
+/// Opens the database at a path as the office's, and serves so many connections over it. Answers the exit status: 0, or 1 with
+/// one line on `err` where the database is not opened, or the port cannot be listened on or a connection not accepted.
+pub fn serve_file<
+    H: Net<Listener = TcpListener, Stream = TcpStream> + OpenDatabase,
+    W: Write,
+    E: Write,
+>(
+    host: &H,
+    alloc: Global,
+    path: &str,
+    place: Place,
+    office: &Office,
+    out: &mut Counted<W>,
+    err: &mut E,
+) -> u8
+    ensures status { (result ≡ 0) ⊎ (result ≡ 1) }
+    ensures served { result ≡ 0 → ServesOpened (state H.Medium.Store) (H.may_open path.now)
+        ⟦<Tables<H::Medium> as Store>⟧.state office.now W.contents out.old out.new place.connections }
+    // Nothing is printed where the database is not opened, or nothing can be listened on; else fewer connections came.
+    ensures broken_off { result ≡ 1 → StopsServingOpened (state H.Medium.Store) (H.may_open path.now)
+        ⟦<Tables<H::Medium> as Store>⟧.state office.now W.contents out.old out.new place.connections }
+{
+    match host.open_database(path) {
+        Ok(connection) => serve_database(host, alloc, connection, place, office, out, err),
+        Err(fault) => open_fault(fault, err),
+    }
+}
+
+/// Opens a database as the office's, and serves so many connections over it. Answers the exit status as `serve_file`.
+fn serve_database<
+    N: Net<Listener = TcpListener, Stream = TcpStream>,
+    M: Alter + Drop,
+    W: Write,
+    E: Write,
+>(
+    net: &N,
+    alloc: Global,
+    connection: Connection<M>,
+    place: Place,
+    office: &Office,
+    out: &mut Counted<W>,
+    err: &mut E,
+) -> u8
+    requires { connection.in_transaction ≡ false }
+    ensures status { (result ≡ 0) ⊎ (result ≡ 1) }
+    ensures served { result ≡ 0 → ServesDatabase ⟦<Tables<M> as Store>⟧.state office.now (state M.Store connection)
+        W.contents out.old out.new place.connections }
+    ensures broken_off { result ≡ 1 → StopsServingDatabase ⟦<Tables<M> as Store>⟧.state office.now (state M.Store connection)
+        W.contents out.old out.new place.connections }
+{
+    match Tables::open(alloc, connection, office) {
+        Ok(tables) => serve_store(net, alloc, tables, place, out, err),
+        Err((fault, _)) => open_fault(fault, err),
+    }
+}
+
+/// Writes why a database is not opened; a line that is not taken is passed over. Answers the status.
+pub fn open_fault<E: Write>(fault: OpenFault, err: &mut E) -> u8
+    ensures { result ≡ 1 }
+{
+    let why = match fault {
+        OpenFault::Memory => "memory",
+        OpenFault::Store => "store",
+        OpenFault::Schema => "schema",
+        OpenFault::OtherOffice => "of another office",
+        OpenFault::Damaged => "damaged",
+    };
+    let _ = writeln!(err, "society: database {why}");
+    BROKEN_OFF
+}

@@ -1,0 +1,72 @@
+ghost use Rattle.std.specs.Prelude.{◌≡◌, ◌⊎◌};
+ghost use Rattle.society_commands.specs.Replays.{Replays, BreaksOff, fault_name};
+
+use http_desk::{Counted, DeskFault, FaultKind, serve};
+use share_rules::Office;
+use society_core::Desk;
+use society_tables::Tables;
+use std::alloc::Global;
+use std::io::{Read, Write};
+
+/// Most reads of one stream.
+pub const TURNS: u64 = 100_000_000;
+
+/// Status of a stream that was served to its end.
+pub const SERVED: u8 = 0;
+
+/// Status of a stream that broke off.
+pub const BROKEN_OFF: u8 = 1;
+
+/// Serves what a reader gives at an office to which nothing has come, over tables in memory: the answers go to
+/// `out`. Answers the exit status: 0 where the input was served to its end; 1 where the reader or the writer
+/// failed, the turns ran out or memory was refused at the start, with one line on `err`.
+pub fn replay<R: Read, W: Write, E: Write>(
+    alloc: Global,
+    office: &Office,
+    reader: &mut Counted<R>,
+    out: &mut Counted<W>,
+    err: &mut E,
+) -> u8
+    ensures status { (result ≡ 0) ⊎ (result ≡ 1) }
+    // What was written are the texts of the answers to the requests that were read, in order, and of the end.
+    ensures served { result ≡ 0 → Replays office.now R.remaining W.contents reader.old out.old out.new }
+    // A stream breaks off only by a fault that has its cause; the answers up to it are written as far as they could be.
+    ensures broken_off { result ≡ 1
+        → BreaksOff office.now R.remaining W.contents reader.old reader.new out.old out.new }
+{
+    let Ok(tables) = Tables::in_memory(alloc, office) else {
+        let fault = DeskFault {
+            kind: FaultKind::Memory,
+            requests: 0,
+        };
+        report(err, &fault);
+        return BROKEN_OFF;
+    };
+    let mut desk = Desk::new(tables);
+    match serve(alloc, &mut desk, reader, out, TURNS) {
+        Ok(_) => SERVED,
+        Err(fault) => {
+            report(err, &fault);
+            BROKEN_OFF
+        }
+    }
+}
+
+/// What a fault is called.
+pub fn fault_name(kind: FaultKind) -> &'static str
+    ensures { result.now ≡ fault_name kind }
+{
+    match kind {
+        FaultKind::Read => "read",
+        FaultKind::Write => "write",
+        FaultKind::Turns => "turns",
+        FaultKind::Memory => "memory",
+    }
+}
+
+/// Writes why a stream broke off; a line that is not taken is passed over.
+pub fn report<E: Write>(err: &mut E, fault: &DeskFault) {
+    let kind = fault_name(fault.kind);
+    let requests = fault.requests;
+    let _ = writeln!(err, "society: {kind} fault after {requests} requests");
+}

@@ -1,0 +1,141 @@
+//! What the program does, by its words.
+ghost use Rattle.std.specs.Prelude.{◌≡◌, ◌≢◌, ◌⊎◌, IfOk, IsErr, OnErr, map, string_bytes};
+ghost use Rattle.clap.specs.Words.{kind_of};
+ghost use Rattle.clap.specs.declared.error.kind.ErrorKind.TheVariants.{DisplayHelp, OutOfMemory};
+ghost use Rattle.sqlite.specs.Held.{state};
+ghost use Rattle.society_commands.specs.Connections.{ServesOpened, StopsServingOpened};
+ghost use Rattle.society_commands.specs.Replays.{Replays, BreaksOff};
+ghost use Rattle.society_commands.specs.Words.{IsWrong, StartsReplay, StartsServing, AsksHelp, asked, status_without};
+
+use crate::connections::print;
+use crate::opening::{OpenDatabase, serve_file};
+use crate::replay::{BROKEN_OFF, SERVED, replay, report};
+use crate::words::{Words, words_in};
+use clap::Error;
+use clap::error::ErrorKind as ClapKind;
+use http_desk::{Counted, DeskFault, FaultKind};
+use society_core::Store;
+use society_tables::Tables;
+use std::alloc::Global;
+use std::io::{self, ErrorKind, Read, Write};
+use std::net::{Net, TcpListener, TcpStream};
+
+/// Status where the words are none that the program knows.
+const WRONG_WORDS: u8 = 2;
+
+/// Why the program's words could not be had.
+#[derive(Clone, Copy, Debug, PartialEq, Eq)]
+pub enum NoWords {
+    /// A word is no text.
+    NoText,
+    /// Memory was refused for them.
+    Memory,
+}
+
+/// Does what the program's words ask for: replays the reader at the office that they name, or serves connections there over the
+/// database that they name, or tells of the words on `out`; where they are wrong, says so on `err` and reads and writes nothing
+/// else. Answers the exit status: that of `replay` or of `serve_file`, 0 for help, 2 for wrong words; else memory was refused for
+/// the words.
+pub fn start<
+    H: Net<Listener = TcpListener, Stream = TcpStream> + OpenDatabase,
+    R: Read,
+    W: Write,
+    E: Write,
+>(
+    host: &H,
+    alloc: Global,
+    words: &[String],
+    reader: &mut Counted<R>,
+    out: &mut Counted<W>,
+    err: &mut E,
+) -> Result<u8, NoWords>
+    ensures err { OnErr result ((reader.new ≡ reader.old) × (out.new ≡ out.old)) }
+    ensures wrong { IsWrong (asked (map string_bytes words.now))
+        → IfOk result (λ status. (status ≡ 2) × (reader.new ≡ reader.old) × (out.new ≡ out.old)) }
+    ensures help { asked (map string_bytes words.now) ≡ AsksHelp
+        → IfOk result (λ status. (status ≡ 0) × (reader.new ≡ reader.old)) }
+    ensures status { IfOk result (λ status.
+        (status ≡ 0) ⊎ ((status ≡ 1) ⊎ ((status ≡ 2) × IsWrong (asked (map string_bytes words.now))))) }
+    ensures served { IfOk result (λ status. status ≡ 0 → (asked (map string_bytes words.now) ≡ AsksHelp)
+        ⊎ (StartsReplay (asked (map string_bytes words.now)) (λ office.
+        Replays office R.remaining W.contents reader.old out.old out.new)
+        ⊎ StartsServing (asked (map string_bytes words.now)) (λ path place office.
+        ServesOpened (state H.Medium.Store) (H.may_open path) ⟦<Tables<H::Medium> as Store>⟧.state office W.contents out.old out.new place.connections))) }
+    ensures broken_off { IfOk result (λ status. status ≡ 1
+        → StartsReplay (asked (map string_bytes words.now)) (λ office.
+        BreaksOff office R.remaining W.contents reader.old reader.new out.old out.new)
+        ⊎ StartsServing (asked (map string_bytes words.now)) (λ path place office.
+        StopsServingOpened (state H.Medium.Store) (H.may_open path) ⟦<Tables<H::Medium> as Store>⟧.state office W.contents out.old out.new place.connections)) }
+{
+    match words_in(alloc, words) {
+        Ok(Words::Replay(office)) => Ok(replay(alloc, &office, reader, out, err)),
+        Ok(Words::Serve(path, place, office)) => {
+            Ok(serve_file(host, alloc, path, place, &office, out, err))
+        }
+        Ok(Words::BadName) => Ok(refuse(err, "bad name")),
+        Ok(Words::BadWords) => Ok(refuse(err, "bad words")),
+        Err(error) => explain(alloc, &error, out, err),
+    }
+}
+
+// Writes what `clap` says of the words, help on `out`; text that is not taken is passed over. Answers the status.
+fn explain<W: Write, E: Write>(
+    alloc: Global,
+    error: &Error,
+    out: &mut Counted<W>,
+    err: &mut E,
+) -> Result<u8, NoWords>
+    ensures err { OnErr result (out.new ≡ out.old) }
+    ensures memory { kind_of error.now ≡ OutOfMemory → IsErr result }
+    ensures help { kind_of error.now ≡ DisplayHelp → IfOk result (λ status. status ≡ 0) }
+    ensures wrong { kind_of error.now ≢ DisplayHelp
+        → IfOk result (λ status. (status ≡ 2) × (out.new ≡ out.old)) }
+{
+    match error.kind() {
+        ClapKind::DisplayHelp => {
+            let Ok(text) = format!(in alloc; "{error}") else {
+                return Err(NoWords::Memory);
+            };
+            print(out, text.as_bytes());
+            Ok(SERVED)
+        }
+        ClapKind::OutOfMemory => Err(NoWords::Memory),
+        _ => {
+            let _ = write!(err, "{error}");
+            Ok(WRONG_WORDS)
+        }
+    }
+}
+
+// Writes why the words are wrong; a line that is not taken is passed over. Answers the status.
+fn refuse<E: Write>(err: &mut E, why: &str) -> u8
+    ensures { result ≡ 2 }
+{
+    let _ = writeln!(err, "society: {why}");
+    WRONG_WORDS
+}
+
+/// What an error of the program's words says: that a word is no text, or else that memory was refused.
+pub fn why_no_words(error: &io::Error) -> NoWords {
+    match error.kind() {
+        ErrorKind::InvalidData => NoWords::NoText,
+        _ => NoWords::Memory,
+    }
+}
+
+/// Ends before any request where the words could not be had: writes one line on `err`. Answers the status.
+pub fn without_words<E: Write>(why: NoWords, err: &mut E) -> u8
+    ensures { result ≡ status_without why }
+{
+    match why {
+        NoWords::NoText => refuse(err, "bad words"),
+        NoWords::Memory => {
+            let fault = DeskFault {
+                kind: FaultKind::Memory,
+                requests: 0,
+            };
+            report(err, &fault);
+            BROKEN_OFF
+        }
+    }
+}

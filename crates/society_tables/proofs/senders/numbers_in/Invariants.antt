@@ -1,6 +1,0 @@
-use Rattle.std.proofs.Common.{◌≡◌, map, take}
-use Rattle.society_tables.specs.Columns.{number_at}
-use Rattle.society_tables.proofs.senders.numbers_in.Given as goal
-
-abbrev pub invariant-loop-row : goal.invariant-loop-row
-invariant-loop-row l = l.list.items ≡ map (number_at 1) (take l.row-index l.rows)

@@ -1,6 +1,0 @@
-use Rattle.std.proofs.Common.{◌≡◌, Some, map, take}
-use Rattle.society_tables.specs.Shown.{verdict_in}
-use Rattle.society_tables.proofs.senders.verdicts_in.Given as goal
-
-abbrev pub invariant-loop-row : goal.invariant-loop-row
-invariant-loop-row l = map Some l.list.items ≡ map verdict_in (take l.row-index l.rows)

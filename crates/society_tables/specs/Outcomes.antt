@@ -1,7 +1,0 @@
--- Settled transactions as the office works them out.
-use Rattle.society_tables.specs.Runs.{Settled}
-use Rattle.society_tables.specs.declared.outcomes.Outcome.{Outcome}
-
--- a transaction as it is settled
-abbrev pub settled : Outcome → Settled
-settled x = record { number = x.number; place = x.place; work = x.work.now; isrcs = x.isrcs.now; verdict = x.verdict }

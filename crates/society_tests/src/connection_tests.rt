@@ -1,0 +1,129 @@
+//! Connections over TCP, in one process: what each peer gets, and the lines that are printed.
+use crate::samples::{F1, F1_ACK, F3, F3_ACK};
+use crate::streams::{answer, get, office, put};
+use http_desk::Counted;
+use society_core::{Desk, PlainStore};
+use society_commands::serve_connections;
+use std::alloc::Global;
+use std::io::{Read, Write};
+use std::net::{Ipv4Addr, Shutdown, TcpListener, TcpStream};
+use std::process::Abort;
+use std::test::Fail;
+
+/// A connection that has sent these bytes, and sends no more. The system keeps it until it is accepted.
+fn sent(rt: &HostRuntime, listener: &TcpListener, bytes: &[u8]) -> Result<TcpStream, Fail> {
+    let mut stream = TcpStream::connect(rt, listener.local_addr()?)?;
+    stream.write_all(bytes)?;
+    stream.shutdown(Shutdown::Write)?;
+    Ok(stream)
+}
+
+/// What the peer of a connection got.
+fn got(alloc: Global, stream: &mut TcpStream) -> Result<Vec<u8>, Fail> {
+    let mut bytes = Vec::new(alloc);
+    stream.read_to_end(&mut bytes)?;
+    Ok(bytes)
+}
+
+/// What is answered to a put that is applied, under this front.
+fn add_applied(alloc: Global, wanted: &mut Vec<u8>, front: u32) -> Result<(), Fail> {
+    let json = format!(in alloc; "{{\"front\":{front},\"state\":\"applied\"}}")?;
+    answer(alloc, wanted, "201 Created", "json", json.as_bytes())?;
+    Ok(())
+}
+
+#[test]
+fn one_connection(rt: HostRuntime) -> Result<(), Fail> {
+    let alloc = rt.alloc();
+    let mut input = Vec::new(alloc);
+    put(alloc, &mut input, "1", F1)?;
+    get(alloc, &mut input, "1")?;
+    let mut wanted = Vec::new(alloc);
+    add_applied(alloc, &mut wanted, 1)?;
+    answer(alloc, &mut wanted, "200 OK", "octet-stream", F1_ACK)?;
+    let listener = TcpListener::bind(&rt, (Ipv4Addr::LOCALHOST, 0))?;
+    let mut peer = sent(&rt, &listener, input.as_slice())?;
+    let mut desk = Desk::new(PlainStore::new(alloc, &office()?));
+    let mut out = Counted::new(Vec::<u8>::new(alloc));
+    assert!(rt; serve_connections(alloc, &mut desk, &listener, 1, &mut out).is_ok());
+    assert_eq!(rt; got(alloc, &mut peer)?.as_slice(), wanted.as_slice());
+    assert_eq!(rt;
+        out.into_inner().as_slice(),
+        b"connection 1: 2 requests\n".as_slice()
+    );
+    Ok(())
+}
+
+#[test]
+fn connections_share_one_book(rt: HostRuntime) -> Result<(), Fail> {
+    let alloc = rt.alloc();
+    let mut first = Vec::new(alloc);
+    put(alloc, &mut first, "1", F1)?;
+    let mut second = Vec::new(alloc);
+    put(alloc, &mut second, "2", F3)?;
+    get(alloc, &mut second, "2")?;
+    let mut first_wanted = Vec::new(alloc);
+    add_applied(alloc, &mut first_wanted, 1)?;
+    let mut second_wanted = Vec::new(alloc);
+    add_applied(alloc, &mut second_wanted, 2)?;
+    answer(alloc, &mut second_wanted, "200 OK", "octet-stream", F3_ACK)?;
+    let listener = TcpListener::bind(&rt, (Ipv4Addr::LOCALHOST, 0))?;
+    let mut one = sent(&rt, &listener, first.as_slice())?;
+    let mut none = sent(&rt, &listener, b"")?;
+    let mut two = sent(&rt, &listener, second.as_slice())?;
+    let mut desk = Desk::new(PlainStore::new(alloc, &office()?));
+    let mut out = Counted::new(Vec::<u8>::new(alloc));
+    assert!(rt; serve_connections(alloc, &mut desk, &listener, 3, &mut out).is_ok());
+    assert_eq!(rt; got(alloc, &mut one)?.as_slice(), first_wanted.as_slice());
+    assert!(rt; got(alloc, &mut none)?.is_empty());
+    assert_eq!(rt; got(alloc, &mut two)?.as_slice(), second_wanted.as_slice());
+    let lines = b"connection 1: 1 requests\nconnection 2: 0 requests\nconnection 3: 2 requests\n";
+    assert_eq!(rt; out.into_inner().as_slice(), lines.as_slice());
+    Ok(())
+}
+
+/// A body that breaks off, and a peer that takes no answer, end their connections alone.
+#[test]
+fn a_connection_that_breaks_off(rt: HostRuntime) -> Result<(), Fail> {
+    let alloc = rt.alloc();
+    let mut whole = Vec::new(alloc);
+    put(alloc, &mut whole, "1", F1)?;
+    let mut wanted = Vec::new(alloc);
+    add_applied(alloc, &mut wanted, 1)?;
+    let bad =
+        b"HTTP/1.1 400 Bad Request\r\nContent-Type: application/json\r\nContent-Length: 19\r\nConnection: close\r\n\r\n{\"error\":\"request\"}";
+    let listener = TcpListener::bind(&rt, (Ipv4Addr::LOCALHOST, 0))?;
+    let mut cut = sent(&rt, &listener, whole.get(..1_000).unwrap_or(b""))?;
+    let mut after = sent(&rt, &listener, whole.as_slice())?;
+    let mut desk = Desk::new(PlainStore::new(alloc, &office()?));
+    let mut out = Counted::new(Vec::<u8>::new(alloc));
+    assert!(rt; serve_connections(alloc, &mut desk, &listener, 2, &mut out).is_ok());
+    assert_eq!(rt; got(alloc, &mut cut)?.as_slice(), bad.as_slice());
+    assert_eq!(rt; got(alloc, &mut after)?.as_slice(), wanted.as_slice());
+    let lines = b"connection 1: 0 requests\nconnection 2: 1 requests\n";
+    assert_eq!(rt; out.into_inner().as_slice(), lines.as_slice());
+    Ok(())
+}
+
+/// A peer that is gone before it is answered.
+#[test]
+fn a_peer_that_is_gone(rt: HostRuntime) -> Result<(), Fail> {
+    let alloc = rt.alloc();
+    let mut whole = Vec::new(alloc);
+    put(alloc, &mut whole, "1", F1)?;
+    let mut wanted = Vec::new(alloc);
+    add_applied(alloc, &mut wanted, 1)?;
+    let listener = TcpListener::bind(&rt, (Ipv4Addr::LOCALHOST, 0))?;
+    let mut gone = TcpStream::connect(&rt, listener.local_addr()?)?;
+    gone.write_all(b"GET /v1")?;
+    drop(gone);
+    let mut after = sent(&rt, &listener, whole.as_slice())?;
+    let mut desk = Desk::new(PlainStore::new(alloc, &office()?));
+    let mut out = Counted::new(Vec::<u8>::new(alloc));
+    assert!(rt; serve_connections(alloc, &mut desk, &listener, 2, &mut out).is_ok());
+    assert_eq!(rt; got(alloc, &mut after)?.as_slice(), wanted.as_slice());
+    let lines = out.into_inner();
+    assert!(rt; lines.starts_with(b"connection 1: "));
+    assert!(rt; lines.ends_with(b"connection 2: 1 requests\n"));
+    Ok(())
+}

@@ -1,0 +1,143 @@
+//! Databases in which one value was changed, opened as the tables of an office.
+use crate::listing::{TABLES, rows_by};
+use crate::row_tests::left_by_pool;
+use crate::samples::{REGISTERED, changed, office};
+use share_rules::Office;
+use society_tables::{OpenFault, Tables};
+use sqlite::{Connection, MemStore, params};
+use std::alloc::Global;
+use std::process::Abort;
+use std::test::Fail;
+
+/// How the bodies are read, each behind its number.
+const BODIES: [&str; 1] = ["SELECT number, body FROM transmissions ORDER BY number"];
+
+/// Changes of rows that no requests leave so.
+const DAMAGES: [&str; 7] = [
+    "UPDATE balances SET units = 502 WHERE account = 'I00000000199'",
+    "UPDATE fronts SET front = 4",
+    "DELETE FROM versions",
+    "UPDATE verdicts SET fault = 5",
+    "INSERT INTO recordings (sender, work, revision, isrc) VALUES ('PB000000012', 'W1', 0, 'GBXYZ2600002')",
+    "UPDATE credits SET account = 'I00000000493' WHERE line = 1",
+    "UPDATE credits SET line = 9 WHERE line = 0; UPDATE credits SET line = 0 WHERE line = 1; UPDATE credits SET line = 1 WHERE line = 9",
+];
+
+/// Makes changes.
+fn change(conn: &mut Connection<MemStore>, changes: &str) -> Result<(), Fail> {
+    conn.execute_batch(changes)?;
+    Ok(())
+}
+
+/// The database that the pool closed at a cut leaves, with changes.
+fn damaged(alloc: Global, changes: &str) -> Result<Connection<MemStore>, Fail> {
+    let mut conn = left_by_pool(alloc)?;
+    change(&mut conn, changes)?;
+    Ok(conn)
+}
+
+/// The fault with which a database is opened, and the connection that comes back.
+fn refused(
+    alloc: Global,
+    conn: Connection<MemStore>,
+    office: &Office,
+) -> Result<(OpenFault, Connection<MemStore>), Fail> {
+    if !conn.is_autocommit() {
+        return Err(Fail::new("no transaction"));
+    }
+    match Tables::open(alloc, conn, office) {
+        Ok(_) => Err(Fail::new("a fault")),
+        Err(refused) => Ok(refused),
+    }
+}
+
+/// Checks that a database is refused with this fault, and that what these statements read is as before.
+fn check_refused(
+    rt: &impl Abort,
+    alloc: Global,
+    mut conn: Connection<MemStore>,
+    statements: &[&str],
+    wanted: OpenFault,
+) -> Result<(), Fail> {
+    let before = rows_by(alloc, &mut conn, statements)?;
+    let (fault, mut conn) = refused(alloc, conn, &office()?)?;
+    let after = rows_by(alloc, &mut conn, statements)?;
+    assert_eq!(rt; fault, wanted);
+    assert!(rt; conn.is_autocommit());
+    assert_eq!(rt; after.as_str(), before.as_str());
+    Ok(())
+}
+
+/// Checks that the database of the pool is refused with this fault after changes, and all its rows are as before.
+fn check_changed(
+    rt: &impl Abort,
+    alloc: Global,
+    changes: &str,
+    wanted: OpenFault,
+) -> Result<(), Fail> {
+    check_refused(rt, alloc, damaged(alloc, changes)?, &TABLES, wanted)
+}
+
+#[test]
+fn an_unchanged_database_is_opened(rt: HostRuntime) -> Result<(), Fail> {
+    let conn = left_by_pool(rt.alloc())?;
+    if !conn.is_autocommit() {
+        return Err(Fail::new("no transaction"));
+    }
+    assert!(rt; Tables::open(rt.alloc(), conn, &office()?).is_ok());
+    Ok(())
+}
+
+#[test]
+fn a_changed_row_is_damage(rt: HostRuntime) -> Result<(), Fail> {
+    for changes in DAMAGES {
+        check_changed(&rt, rt.alloc(), changes, OpenFault::Damaged)?;
+    }
+    Ok(())
+}
+
+/// Sets the body of the first transmission.
+fn set_body(conn: &mut Connection<MemStore>, body: &Vec<u8>) -> Result<(), Fail> {
+    conn.execute(
+        "UPDATE transmissions SET body = ?1 WHERE number = 1",
+        params![body],
+    )?;
+    Ok(())
+}
+
+#[test]
+fn a_changed_byte_of_a_body_is_damage(rt: HostRuntime) -> Result<(), Fail> {
+    let alloc = rt.alloc();
+    let mut conn = left_by_pool(alloc)?;
+    set_body(&mut conn, &changed(alloc, REGISTERED, &[(0, b'X')])?)?;
+    check_refused(&rt, alloc, conn, &BODIES, OpenFault::Damaged)
+}
+
+#[test]
+fn another_office_is_told_before_damage(rt: HostRuntime) -> Result<(), Fail> {
+    let other = "UPDATE office SET society = 901";
+    let both =
+        "UPDATE office SET society = 901; UPDATE balances SET units = 502 WHERE account = 'I00000000199'";
+    check_changed(&rt, rt.alloc(), other, OpenFault::OtherOffice)?;
+    check_changed(&rt, rt.alloc(), both, OpenFault::OtherOffice)
+}
+
+#[test]
+fn another_layout_is_no_office(rt: HostRuntime) -> Result<(), Fail> {
+    let later = "UPDATE office SET layout = 9";
+    check_changed(&rt, rt.alloc(), later, OpenFault::Schema)
+}
+
+#[test]
+fn pools_alone_are_no_office(rt: HostRuntime) -> Result<(), Fail> {
+    let alloc = rt.alloc();
+    let mut conn = Connection::open_in_memory(alloc)?;
+    let pools =
+        "CREATE TABLE pools (pool INTEGER NOT NULL PRIMARY KEY, amount INTEGER NOT NULL) STRICT; INSERT INTO pools (pool, amount) VALUES (7, 1001)";
+    change(&mut conn, pools)?;
+    let statements = [
+        "SELECT name FROM sqlite_master ORDER BY name",
+        "SELECT pool, amount FROM pools ORDER BY pool",
+    ];
+    check_refused(&rt, alloc, conn, &statements, OpenFault::Schema)
+}

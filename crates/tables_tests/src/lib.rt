@@ -1,0 +1,23 @@
+//! Tests of the office's tables: what arrives, pools, rows, and databases that are opened, damaged ones among them.
+#![tactic(auto)]
+
+#[cfg(test)]
+mod arrival_tests;
+#[cfg(test)]
+mod cut_tests;
+#[cfg(test)]
+mod damage_tests;
+#[cfg(test)]
+mod empty_tests;
+#[cfg(test)]
+mod listing;
+#[cfg(test)]
+mod open_tests;
+#[cfg(test)]
+mod pool_tests;
+#[cfg(test)]
+mod row_tests;
+#[cfg(test)]
+mod samples;
+#[cfg(test)]
+mod steps;

@@ -1,0 +1,186 @@
+//! Databases that are opened as the tables of an office.
+ghost use Rattle.std.specs.Prelude.{◌≡◌, IfOk, false};
+
+use crate::samples::REGISTERED;
+use share_rules::Office;
+use society_core::{Desk, PoolOrder, ReturnKey, Store};
+use society_tables::{AuditFault, OpenFault, Tables, confirm};
+use sqlite::{Connection, MemStore};
+use std::alloc::Global;
+use std::test::Fail;
+use work_ids::{Account, PoolNumber, Reporter, ReturnNumber, SenderKey, TransmissionNumber};
+
+/// A return of one reporter.
+const PLAYED: &[u8] = b"isrc,plays,seconds\nATABC2600001,3,200\n";
+
+fn office(society: u16) -> Result<Office, Fail> {
+    let office = Office::new(society, 40, b"EXAMPLE SOCIETY").ok_or("an office")?;
+    Ok(office)
+}
+
+fn sender() -> Result<SenderKey, Fail> {
+    let sender = SenderKey::from_bytes(b"PB000000012")
+        .ok()
+        .ok_or("a sender")?;
+    Ok(sender)
+}
+
+/// The first return of a reporter.
+fn played() -> Result<ReturnKey, Fail> {
+    Ok(ReturnKey {
+        reporter: Reporter::from_bytes(b"RADIO1").ok().ok_or("a reporter")?,
+        number: ReturnNumber::from_u32(1).ok_or("a number")?,
+    })
+}
+
+/// Puts a transmission, a return and a pool that pays it.
+fn put_all(alloc: Global, desk: &mut Desk<Tables<MemStore>>) -> Result<(), Fail> {
+    let sender = sender()?;
+    let first = TransmissionNumber::from_u32(1).ok_or("a number")?;
+    let third = TransmissionNumber::from_u32(3).ok_or("a number")?;
+    desk.put_transmission(alloc, &sender, third, REGISTERED)
+        .ok()
+        .ok_or("a transmission")?;
+    desk.put_transmission(alloc, &sender, first, REGISTERED)
+        .ok()
+        .ok_or("a transmission")?;
+    let key = played()?;
+    desk.put_return(alloc, &key, PLAYED).ok().ok_or("a return")?;
+    let order = PoolOrder::new(alloc, 1_000, &[(sender, 1)], &[(key.reporter, 1)])
+        .ok()
+        .ok_or("an order")?;
+    let pool = PoolNumber::from_u32(7).ok_or("a pool")?;
+    desk.close_pool(alloc, pool, &order).ok().ok_or("a pool")?;
+    Ok(())
+}
+
+/// The database of an office to which a transmission, a return and a pool have come.
+fn filled(alloc: Global) -> Result<Connection<MemStore>, Fail>
+    ensures { IfOk result (λ c. c.in_transaction ≡ false) }
+{
+    let tables = Tables::in_memory(alloc, &office(900)?)
+        .ok()
+        .ok_or("memory")?;
+    let mut desk = Desk::new(tables);
+    put_all(alloc, &mut desk)?;
+    Ok(desk.into_store().into_connection())
+}
+
+/// A statement that changes a database, and the fault with which it is opened then.
+fn fault_after(alloc: Global, change: &str, society: u16) -> Result<Option<OpenFault>, Fail> {
+    let mut conn = filled(alloc)?;
+    conn.execute_batch(change).ok().ok_or("a change")?;
+    if !conn.is_autocommit() {
+        return Err(Fail::new("no transaction"));
+    }
+    match Tables::open(alloc, conn, &office(society)?) {
+        Ok(_) => Ok(None),
+        Err((fault, _)) => Ok(Some(fault)),
+    }
+}
+
+/// Whether a database is confirmed with a body in memory at a time.
+fn is_confirmed(alloc: Global, conn: &mut Connection<MemStore>, society: u16) -> Result<bool, Fail>
+    requires { conn.old.in_transaction ≡ false }
+    ensures { conn.new.in_transaction ≡ false }
+{
+    match confirm(alloc, conn, &office(society)?) {
+        Ok(()) => Ok(true),
+        Err(AuditFault::Damaged) => Ok(false),
+        Err(AuditFault::Memory | AuditFault::Store) => Err(Fail::new("a reading")),
+    }
+}
+
+#[test]
+fn a_database_opens_as_it_was_left(rt: HostRuntime) -> Result<(), Fail> {
+    let Ok(mut tables) = Tables::open(rt.alloc(), filled(rt.alloc())?, &office(900)?) else {
+        return Err(Fail::new("an opening"));
+    };
+    assert!(rt; tables.front(&sender()?) == Ok(1));
+    let status = tables
+        .standing(rt.alloc(), &sender()?)
+        .ok()
+        .ok_or("a standing")?;
+    assert!(rt; status.held.len() == 1);
+    let account = Account::from_bytes(b"I00000000295")
+        .ok()
+        .ok_or("an account")?;
+    assert!(rt;
+        tables
+            .balance(rt.alloc(), &account)
+            .is_ok_and(|units| units > 0)
+    );
+    Ok(())
+}
+
+#[test]
+fn a_sound_database_is_confirmed_with_a_body_in_memory_at_a_time(
+    rt: HostRuntime,
+) -> Result<(), Fail> {
+    let mut conn = filled(rt.alloc())?;
+    assert!(rt; is_confirmed(rt.alloc(), &mut conn, 900)?);
+    assert!(rt; !is_confirmed(rt.alloc(), &mut conn, 901)?);
+    assert!(rt; is_confirmed(rt.alloc(), &mut conn, 900)?);
+    Ok(())
+}
+
+#[test]
+fn an_empty_database_becomes_a_new_book(rt: HostRuntime) -> Result<(), Fail> {
+    let conn = Connection::open_in_memory(rt.alloc()).ok().ok_or("memory")?;
+    if !conn.is_autocommit() {
+        return Err(Fail::new("no transaction"));
+    }
+    let Ok(mut tables) = Tables::open(rt.alloc(), conn, &office(900)?) else {
+        return Err(Fail::new("an opening"));
+    };
+    assert!(rt; tables.front(&sender()?) == Ok(0));
+    Ok(())
+}
+
+#[test]
+fn what_is_not_the_offices_is_refused(rt: HostRuntime) -> Result<(), Fail> {
+    assert!(rt; fault_after(rt.alloc(), "", 900)?.is_none());
+    assert!(rt; fault_after(rt.alloc(), "", 901)? == Some(OpenFault::OtherOffice));
+    let stray = fault_after(rt.alloc(), "CREATE TABLE stray (one INTEGER) STRICT", 900)?;
+    assert!(rt; stray == Some(OpenFault::Schema));
+    let nobody = fault_after(rt.alloc(), "DELETE FROM office", 900)?;
+    assert!(rt; nobody == Some(OpenFault::Schema));
+    Ok(())
+}
+
+#[test]
+fn what_was_changed_is_damage(rt: HostRuntime) -> Result<(), Fail> {
+    let changes = [
+        "UPDATE balances SET units = 502",
+        "UPDATE fronts SET front = 2",
+        "DELETE FROM fronts",
+        "DELETE FROM versions",
+        "UPDATE transmissions SET body = x'00' WHERE number = 3",
+        "DELETE FROM credits WHERE line = 0",
+        "INSERT INTO recordings (sender, work, revision, isrc) VALUES ('PB000000012', 'W9', 0, 'ATABC2600009')",
+    ];
+    for change in changes {
+        assert!(rt; fault_after(rt.alloc(), change, 900)? == Some(OpenFault::Damaged));
+    }
+    Ok(())
+}
+
+#[test]
+fn a_damaged_database_stays_as_it_is(rt: HostRuntime) -> Result<(), Fail> {
+    let mut conn = filled(rt.alloc())?;
+    conn.execute("UPDATE balances SET units = 502", &[])
+        .ok()
+        .ok_or("a change")?;
+    if !conn.is_autocommit() {
+        return Err(Fail::new("no transaction"));
+    }
+    let Err((OpenFault::Damaged, mut conn)) = Tables::open(rt.alloc(), conn, &office(900)?) else {
+        return Err(Fail::new("damage"));
+    };
+    let row = conn
+        .query_row("SELECT MIN(units), MAX(units) FROM balances", &[])
+        .ok()
+        .ok_or("a row")?;
+    assert!(rt; row.get::<i64>(0) == Ok(502) && row.get::<i64>(1) == Ok(502));
+    Ok(())
+}

@@ -1,0 +1,102 @@
+//! The rows that requests leave in the tables, read by plain SQL.
+use crate::listing::{TABLES, lines, rows_by};
+use crate::samples::office;
+use crate::steps::{
+    BEFORE_RETURN, Step, closed_at_a_cut, gap_filled, order_at_a_cut, reverse_arrival, send_all,
+};
+use society_core::Desk;
+use society_tables::Tables;
+use sqlite::{Connection, MemStore};
+use std::alloc::Global;
+use std::process::Abort;
+use std::test::Fail;
+
+/// What a registration, its revision and a file with no group leave, in whichever order they come.
+const THREE_FILES: [&str; 11] = [
+    "office|1|2|900|40|EXAMPLE SOCIETY",
+    "transmissions|PB000000012|1",
+    "transmissions|PB000000012|2",
+    "transmissions|PB000000012|3",
+    "fronts|PB000000012|3|1",
+    "verdicts|PB000000012|1|0|0|1|0",
+    "verdicts|PB000000012|2|0|0|1|1",
+    "versions|PB000000012|W1|0|1|0|1",
+    "versions|PB000000012|W1|1|2|0|1",
+    "recordings|PB000000012|W1|0|ATABC2600001",
+    "recordings|PB000000012|W1|1|ATABC2600001",
+];
+
+/// What a registration, two files with no group, a return and a pool over it leave.
+const CLOSED_POOL: [&str; 18] = [
+    "office|1|2|900|40|EXAMPLE SOCIETY",
+    "transmissions|PB000000012|1",
+    "transmissions|PB000000012|2",
+    "transmissions|PB000000012|3",
+    "fronts|PB000000012|3|1",
+    "verdicts|PB000000012|1|0|0|1|0",
+    "versions|PB000000012|W1|0|1|0|1",
+    "recordings|PB000000012|W1|0|ATABC2600001",
+    "returns|RADIO1|1|isrc,plays,seconds\nATABC2600001,10,200\n",
+    "pools|7|1001",
+    "pool_cuts|7|PB000000012|3",
+    "pool_returns|RADIO1|1|7",
+    "credits|7|0|ATABC2600001|I00000000199|501",
+    "credits|7|1|ATABC2600001|I00000000295|500",
+    "credits|7|2|ATABC2600001|UNCLAIMED|0",
+    "balances|I00000000199|501",
+    "balances|I00000000295|500",
+    "balances|UNCLAIMED|0",
+];
+
+/// A desk over tables in memory to which nothing has come.
+fn new_desk(alloc: Global) -> Result<Desk<Tables<MemStore>>, Fail> {
+    let tables = Tables::in_memory(alloc, &office()?).ok().ok_or("memory")?;
+    Ok(Desk::new(tables))
+}
+
+/// The database that requests leave.
+fn left_by(alloc: Global, steps: &[Step<'_>]) -> Result<Connection<MemStore>, Fail> {
+    let mut desk = new_desk(alloc)?;
+    send_all(alloc, &mut desk, steps)?;
+    Ok(desk.into_store().into_connection())
+}
+
+/// The database that the pool closed at a cut leaves.
+pub fn left_by_pool(alloc: Global) -> Result<Connection<MemStore>, Fail> {
+    let order = order_at_a_cut(alloc)?;
+    let mut desk = new_desk(alloc)?;
+    send_all(alloc, &mut desk, &BEFORE_RETURN)?;
+    send_all(alloc, &mut desk, &closed_at_a_cut(&order))?;
+    Ok(desk.into_store().into_connection())
+}
+
+/// Checks the rows of all tables.
+fn check_rows(
+    rt: &impl Abort,
+    alloc: Global,
+    conn: &mut Connection<MemStore>,
+    wanted: &[&str],
+) -> Result<(), Fail> {
+    let rows = rows_by(alloc, conn, &TABLES)?;
+    let wanted = lines(alloc, wanted)?;
+    assert_eq!(rt; rows.as_str(), wanted.as_str());
+    Ok(())
+}
+
+#[test]
+fn rows_of_a_gap_filled(rt: HostRuntime) -> Result<(), Fail> {
+    let mut conn = left_by(rt.alloc(), &gap_filled())?;
+    check_rows(&rt, rt.alloc(), &mut conn, &THREE_FILES)
+}
+
+#[test]
+fn rows_of_a_reverse_arrival(rt: HostRuntime) -> Result<(), Fail> {
+    let mut conn = left_by(rt.alloc(), &reverse_arrival())?;
+    check_rows(&rt, rt.alloc(), &mut conn, &THREE_FILES)
+}
+
+#[test]
+fn rows_of_a_pool_closed_at_a_cut(rt: HostRuntime) -> Result<(), Fail> {
+    let mut conn = left_by_pool(rt.alloc())?;
+    check_rows(&rt, rt.alloc(), &mut conn, &CLOSED_POOL)
+}
