@@ -29,7 +29,6 @@ use Rattle.society_core.specs.declared.store.StoreFault.{StoreFault}
 use Rattle.society_rows.specs.declared.fault.RowFault.{RowFault}
 use Rattle.society_rows.specs.declared.fault.RowFault.TheVariants.{Memory, Overflow, Refused, Schema, Unread}
 use Rattle.society_book.specs.BookRows.{book_of}
-use Rattle.society_tables.specs.Faults.{Told, counted, store_fault}
 use Rattle.society_rows.specs.Questions as Rows
 use Rattle.sqlite_trees.specs.Tree.{Trees}
 use Rattle.society_book.specs.Shown.{ByBook, ByOwnBook}

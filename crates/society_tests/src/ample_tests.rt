@@ -1,4 +1,5 @@
 //! With ample memory nothing is answered 503: the greatest body, many transactions, groups, numbers and requests.
+use crate::checks::{holds, is_number, is_status};
 use crate::samples::{F1, F2, F3};
 use crate::streams::{answer, get, put, replayed};
 use std::alloc::{AllocError, Global};
@@ -67,10 +68,13 @@ fn two_hundred_groups(alloc: Global) -> Result<Vec<u8>, AllocError> {
     Ok(body)
 }
 
-/// How many of the answers begin with this status line.
-fn count_of(answers: &[u8], status: &str) -> Result<usize, Fail> {
+/// Each of these texts stands in the answers so often.
+fn check_counts(rt: &impl Abort, answers: &[u8], counts: &[(&str, usize)]) -> Result<(), Fail> {
     let text = str::from_utf8(answers).map_err(|_| "text")?;
-    Ok(text.matches(status).count())
+    for (part, count) in counts {
+        is_number(rt, part, text.matches(*part).count(), *count);
+    }
+    Ok(())
 }
 
 /// One put under number 1 and the request of its acknowledgement: the put is applied, and the acknowledgement is there.
@@ -82,10 +86,9 @@ fn check_accepted(rt: &impl Abort, alloc: Global, body: &[u8]) -> Result<(), Fai
     let applied = b"{\"front\":1,\"state\":\"applied\"}";
     answer(alloc, &mut first, "201 Created", "json", applied)?;
     let (out, status) = replayed(alloc, input.as_slice())?;
-    assert!(rt; out.starts_with(first.as_slice()));
-    assert_eq!(rt; count_of(out.as_slice(), "HTTP/1.1 200 OK\r\n")?, 1);
-    assert_eq!(rt; count_of(out.as_slice(), "HTTP/1.1 ")?, 2);
-    assert_eq!(rt; status, 0);
+    holds(rt, "it is applied", out.starts_with(first.as_slice()));
+    check_counts(rt, out.as_slice(), &[("HTTP/1.1 200 OK\r\n", 1), ("HTTP/1.1 ", 2)])?;
+    is_status(rt, "it is served", status, 0);
     Ok(())
 }
 
@@ -101,7 +104,7 @@ fn greatest_body(rt: HostRuntime) -> Result<(), Fail> {
 fn one_thousand_transactions(rt: HostRuntime) -> Result<(), Fail> {
     let alloc = rt.alloc();
     let body = thousand_transactions(alloc)?;
-    assert_eq!(rt; body.len(), 880_168);
+    is_number(&rt, "the body's bytes", body.len(), 880_168);
     check_accepted(&rt, alloc, body.as_slice())
 }
 
@@ -123,11 +126,14 @@ fn three_hundred_numbers(rt: HostRuntime) -> Result<(), Fail> {
         get(alloc, &mut input, number_text.as_str())?;
     }
     let (out, status) = replayed(alloc, input.as_slice())?;
-    assert_eq!(rt; count_of(out.as_slice(), "HTTP/1.1 201 Created\r\n")?, 300);
-    assert_eq!(rt; count_of(out.as_slice(), "HTTP/1.1 200 OK\r\n")?, 300);
-    assert_eq!(rt; count_of(out.as_slice(), "20260106AS\r\n")?, 300);
-    assert_eq!(rt; count_of(out.as_slice(), "HTTP/1.1 ")?, 600);
-    assert_eq!(rt; status, 0);
+    let counts = [
+        ("HTTP/1.1 201 Created\r\n", 300),
+        ("HTTP/1.1 200 OK\r\n", 300),
+        ("20260106AS\r\n", 300),
+        ("HTTP/1.1 ", 600),
+    ];
+    check_counts(&rt, out.as_slice(), &counts)?;
+    is_status(&rt, "they are served", status, 0);
     Ok(())
 }
 
@@ -143,7 +149,7 @@ fn run_of_one_hundred_thousand_puts(rt: HostRuntime) -> Result<(), Fail> {
         answer(alloc, &mut wanted, "201 Created", "json", json.as_bytes())?;
     }
     let (out, status) = replayed(alloc, input.as_slice())?;
-    assert!(rt; out.as_slice() == wanted.as_slice());
-    assert_eq!(rt; status, 0);
+    holds(&rt, "each is applied", out.as_slice() == wanted.as_slice());
+    is_status(&rt, "they are served", status, 0);
     Ok(())
 }

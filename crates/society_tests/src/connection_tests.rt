@@ -1,4 +1,5 @@
 //! Connections over TCP, in one process: what each peer gets, and the lines that are printed.
+use crate::checks::{holds, is_text};
 use crate::samples::{F1, F1_ACK, F3, F3_ACK};
 use crate::streams::{answer, get, office, put};
 use http_desk::Counted;
@@ -7,7 +8,6 @@ use society_commands::serve_connections;
 use std::alloc::Global;
 use std::io::{Read, Write};
 use std::net::{Ipv4Addr, Shutdown, TcpListener, TcpStream};
-use std::process::Abort;
 use std::test::Fail;
 
 /// A connection that has sent these bytes, and sends no more. The system keeps it until it is accepted.
@@ -45,12 +45,10 @@ fn one_connection(rt: HostRuntime) -> Result<(), Fail> {
     let mut peer = sent(&rt, &listener, input.as_slice())?;
     let mut desk = Desk::new(PlainStore::new(alloc, &office()?));
     let mut out = Counted::new(Vec::<u8>::new(alloc));
-    assert!(rt; serve_connections(alloc, &mut desk, &listener, 1, &mut out).is_ok());
-    assert_eq!(rt; got(alloc, &mut peer)?.as_slice(), wanted.as_slice());
-    assert_eq!(rt;
-        out.into_inner().as_slice(),
-        b"connection 1: 2 requests\n".as_slice()
-    );
+    let served = serve_connections(alloc, &mut desk, &listener, 1, &mut out);
+    holds(&rt, "it is served", served.is_ok());
+    is_text(&rt, "the peer", &got(alloc, &mut peer)?, &wanted);
+    is_text(&rt, "lines", &out.into_inner(), b"connection 1: 2 requests\n");
     Ok(())
 }
 
@@ -73,12 +71,13 @@ fn connections_share_one_book(rt: HostRuntime) -> Result<(), Fail> {
     let mut two = sent(&rt, &listener, second.as_slice())?;
     let mut desk = Desk::new(PlainStore::new(alloc, &office()?));
     let mut out = Counted::new(Vec::<u8>::new(alloc));
-    assert!(rt; serve_connections(alloc, &mut desk, &listener, 3, &mut out).is_ok());
-    assert_eq!(rt; got(alloc, &mut one)?.as_slice(), first_wanted.as_slice());
-    assert!(rt; got(alloc, &mut none)?.is_empty());
-    assert_eq!(rt; got(alloc, &mut two)?.as_slice(), second_wanted.as_slice());
+    let served = serve_connections(alloc, &mut desk, &listener, 3, &mut out);
+    holds(&rt, "they are served", served.is_ok());
+    is_text(&rt, "the first", &got(alloc, &mut one)?, &first_wanted);
+    is_text(&rt, "one without a request", &got(alloc, &mut none)?, b"");
+    is_text(&rt, "the last", &got(alloc, &mut two)?, &second_wanted);
     let lines = b"connection 1: 1 requests\nconnection 2: 0 requests\nconnection 3: 2 requests\n";
-    assert_eq!(rt; out.into_inner().as_slice(), lines.as_slice());
+    is_text(&rt, "lines", &out.into_inner(), lines);
     Ok(())
 }
 
@@ -97,11 +96,12 @@ fn a_connection_that_breaks_off(rt: HostRuntime) -> Result<(), Fail> {
     let mut after = sent(&rt, &listener, whole.as_slice())?;
     let mut desk = Desk::new(PlainStore::new(alloc, &office()?));
     let mut out = Counted::new(Vec::<u8>::new(alloc));
-    assert!(rt; serve_connections(alloc, &mut desk, &listener, 2, &mut out).is_ok());
-    assert_eq!(rt; got(alloc, &mut cut)?.as_slice(), bad.as_slice());
-    assert_eq!(rt; got(alloc, &mut after)?.as_slice(), wanted.as_slice());
+    let served = serve_connections(alloc, &mut desk, &listener, 2, &mut out);
+    holds(&rt, "they are served", served.is_ok());
+    is_text(&rt, "the one that breaks off", &got(alloc, &mut cut)?, bad);
+    is_text(&rt, "the one after it", &got(alloc, &mut after)?, &wanted);
     let lines = b"connection 1: 0 requests\nconnection 2: 1 requests\n";
-    assert_eq!(rt; out.into_inner().as_slice(), lines.as_slice());
+    is_text(&rt, "lines", &out.into_inner(), lines);
     Ok(())
 }
 
@@ -120,10 +120,12 @@ fn a_peer_that_is_gone(rt: HostRuntime) -> Result<(), Fail> {
     let mut after = sent(&rt, &listener, whole.as_slice())?;
     let mut desk = Desk::new(PlainStore::new(alloc, &office()?));
     let mut out = Counted::new(Vec::<u8>::new(alloc));
-    assert!(rt; serve_connections(alloc, &mut desk, &listener, 2, &mut out).is_ok());
-    assert_eq!(rt; got(alloc, &mut after)?.as_slice(), wanted.as_slice());
+    let served = serve_connections(alloc, &mut desk, &listener, 2, &mut out);
+    holds(&rt, "they are served", served.is_ok());
+    is_text(&rt, "the one after it", &got(alloc, &mut after)?, &wanted);
     let lines = out.into_inner();
-    assert!(rt; lines.starts_with(b"connection 1: "));
-    assert!(rt; lines.ends_with(b"connection 2: 1 requests\n"));
+    holds(&rt, "a line of the first", lines.starts_with(b"connection 1: "));
+    let last = lines.ends_with(b"connection 2: 1 requests\n");
+    holds(&rt, "the line of the other", last);
     Ok(())
 }

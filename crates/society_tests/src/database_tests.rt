@@ -1,6 +1,7 @@
 //! The office over a database that is a file.
 ghost use Rattle.std.specs.Prelude.{⊤};
 
+use crate::checks::{holds, is_status, is_text};
 use crate::day_tests::{ANSWERS, DAY};
 use crate::streams::office;
 use http_desk::{Counted, serve};
@@ -43,10 +44,11 @@ fn answered(rt: &HostRuntime, path: &str, input: &[u8]) -> Result<Vec<u8>, Fail>
 #[test]
 fn a_day_over_a_file(rt: HostRuntime) -> Result<(), Fail> {
     let (before, behind) = DAY.split_at(3_992);
-    assert!(rt; behind.starts_with(b"PUT /v1/returns/RADIO1/1"));
+    let is_cut = behind.starts_with(b"PUT /v1/returns/RADIO1/1");
+    holds(&rt, "the day is cut where its returns begin", is_cut);
     let mut written = answered(&rt, "day.db", before)?;
     written.extend_from_slice(answered(&rt, "day.db", behind)?.as_slice())?;
-    assert_eq!(rt; written.as_slice(), ANSWERS);
+    is_text(&rt, "the day's answers", &written, ANSWERS);
     Ok(())
 }
 
@@ -134,9 +136,9 @@ const SERVED: [(&str, u16, u8, &str, &str); 4] = [
 fn connections_over_a_file(rt: HostRuntime) -> Result<(), Fail> {
     for (path, society, status, printed, told) in SERVED {
         let (out, err, ended) = served(&rt, path, society)?;
-        assert_eq!(rt; ended, status);
-        assert_eq!(rt; out.as_slice(), printed.as_bytes());
-        assert_eq!(rt; err.as_slice(), told.as_bytes());
+        is_status(&rt, path, ended, status);
+        is_text(&rt, path, &out, printed.as_bytes());
+        is_text(&rt, path, &err, told.as_bytes());
     }
     Ok(())
 }

@@ -1,4 +1,5 @@
 //! One day of the office, as it lies in the examples: what `replay` answers to its requests, byte for byte.
+use crate::checks::{is_status, is_text};
 use http_desk::Counted;
 use society_commands::start;
 use std::process::Abort;
@@ -43,8 +44,8 @@ fn a_day_is_answered(rt: HostRuntime) -> Result<(), Fail> {
         &mut err,
     )
     .map_err(|_| "memory")?;
-    assert_eq!(rt; out.into_inner().as_slice(), ANSWERS);
-    assert_eq!(rt; status, 0);
-    assert!(rt; err.is_empty());
+    is_text(&rt, "the day's answers", &out.into_inner(), ANSWERS);
+    is_status(&rt, "the day", status, 0);
+    is_text(&rt, "its lines", &err, b"");
     Ok(())
 }

@@ -1,4 +1,5 @@
 //! Streams and words that fail: what is written, the exit status, and the lines on standard error.
+use crate::checks::{holds, is_status, is_text};
 use crate::streams::{get, office};
 use http_desk::{Counted, DeskFault, FaultKind};
 use society_commands::{NoWords, replay, report, why_no_words, without_words};
@@ -113,9 +114,10 @@ fn ends_of_streams(rt: HostRuntime) -> Result<(), Fail> {
             fails: *fails,
         };
         let (out, seen, err) = ended(alloc, source)?;
-        assert_eq!(rt; str::from_utf8(&out), str::from_utf8(wanted));
-        assert_eq!(rt; seen, *status);
-        assert_eq!(rt; str::from_utf8(&err), str::from_utf8(line));
+        let row = str::from_utf8(bytes).unwrap_or("a stream");
+        is_text(&rt, row, &out, wanted);
+        is_status(&rt, row, seen, *status);
+        is_text(&rt, row, &err, line);
     }
     Ok(())
 }
@@ -133,8 +135,8 @@ fn broken_streams(rt: HostRuntime) -> Result<(), Fail> {
         &mut out,
         &mut err,
     );
-    assert_eq!(rt; status, 1);
-    assert_eq!(rt; out.into_inner().len(), 0);
+    is_status(&rt, "a broken reader", status, 1);
+    is_text(&rt, "what is written for it", &out.into_inner(), b"");
     let mut input = Vec::new(alloc);
     get(alloc, &mut input, "1")?;
     get(alloc, &mut input, "2")?;
@@ -146,9 +148,9 @@ fn broken_streams(rt: HostRuntime) -> Result<(), Fail> {
         &mut Counted::new(Broken),
         &mut err,
     );
-    assert_eq!(rt; status, 1);
+    is_status(&rt, "a broken writer", status, 1);
     let lines = b"society: read fault after 0 requests\nsociety: write fault after 2 requests\n";
-    assert_eq!(rt; err.as_slice(), lines.as_slice());
+    is_text(&rt, "the lines of both", &err, lines);
     Ok(())
 }
 
@@ -167,25 +169,24 @@ fn lines_of_faults(rt: HostRuntime) -> Result<(), Fail> {
     }
     let lines =
         b"society: read fault after 7 requests\nsociety: write fault after 7 requests\nsociety: turns fault after 7 requests\nsociety: memory fault after 7 requests\n";
-    assert_eq!(rt; err.as_slice(), lines.as_slice());
+    is_text(&rt, "a line for each fault", &err, lines);
     Ok(())
 }
 
 #[test]
 fn words_that_cannot_be_had(rt: HostRuntime) -> Result<(), Fail> {
     let alloc = rt.alloc();
-    assert_eq!(rt;
-        why_no_words(&ErrorKind::InvalidData.into()),
-        NoWords::NoText
-    );
-    assert_eq!(rt;
-        why_no_words(&ErrorKind::OutOfMemory.into()),
-        NoWords::Memory
-    );
+    let rows = [
+        (ErrorKind::InvalidData, NoWords::NoText, 2),
+        (ErrorKind::OutOfMemory, NoWords::Memory, 1),
+    ];
     let mut err = Vec::<u8>::new(alloc);
-    assert_eq!(rt; without_words(NoWords::NoText, &mut err), 2);
-    assert_eq!(rt; without_words(NoWords::Memory, &mut err), 1);
+    for (kind, why, status) in rows {
+        let found = why_no_words(&kind.into());
+        holds(&rt, "why there are no words", found == why);
+        is_status(&rt, "no words", without_words(why, &mut err), status);
+    }
     let lines = b"society: bad words\nsociety: memory fault after 0 requests\n";
-    assert_eq!(rt; err.as_slice(), lines.as_slice());
+    is_text(&rt, "the line of each", &err, lines);
     Ok(())
 }

@@ -1,4 +1,5 @@
 //! The rows of every request over HTTP, byte for byte: each table is one stream, sent to an office to which nothing has come.
+use crate::checks::{is_status, is_text};
 use crate::samples::{Body, F3_ACK, Sample};
 use crate::streams::replayed;
 use std::alloc::{AllocError, Global};
@@ -616,8 +617,8 @@ fn tell(
 /// Sends a stream, and compares all that is written.
 fn compare(rt: &impl Abort, alloc: Global, input: &[u8], wanted: &[u8]) -> Result<(), Fail> {
     let (out, status) = replayed(alloc, input)?;
-    assert_eq!(rt; str::from_utf8(&out), str::from_utf8(wanted));
-    assert_eq!(rt; status, 0);
+    is_text(rt, "the answers to a table", &out, wanted);
+    is_status(rt, "a table", status, 0);
     Ok(())
 }
 

@@ -4,6 +4,8 @@
 #[cfg(test)]
 mod ample_tests;
 #[cfg(test)]
+mod checks;
+#[cfg(test)]
 mod connection_tests;
 #[cfg(test)]
 mod database_tests;

@@ -1,4 +1,5 @@
 //! The limits of heads and returns: what is just within them is served, and what is just past them refused.
+use crate::checks::{holds, is_number, is_status, is_text};
 use crate::samples::{F1, F2};
 use crate::streams::{answer, office, put, put_return, replayed};
 use http_desk::{Counted, Served, serve};
@@ -44,8 +45,9 @@ fn check_head(rt: &impl Abort, alloc: Global, head: &[u8], served: bool) -> Resu
         wanted.extend_from_slice(BAD)?;
     }
     let (out, status) = replayed(alloc, head)?;
-    assert_eq!(rt; str::from_utf8(&out), str::from_utf8(&wanted));
-    assert_eq!(rt; status, 0);
+    let row = str::from_utf8(head).unwrap_or("a head");
+    is_text(rt, row, &out, &wanted);
+    is_status(rt, row, status, 0);
     Ok(())
 }
 
@@ -61,7 +63,7 @@ fn heads_at_their_limits(rt: HostRuntime) -> Result<(), Fail> {
         (lines, MAX_HEAD + 1, false),
     ] {
         let head = head_of(alloc, front, length)?;
-        assert_eq!(rt; head.len(), length);
+        is_number(&rt, "the head's bytes", head.len(), length);
         check_head(&rt, alloc, head.as_slice(), served)?;
     }
     check_head(&rt, alloc, head_with(alloc, 64)?.as_slice(), true)?;
@@ -118,8 +120,8 @@ fn returns_of_the_most_rows(rt: HostRuntime) -> Result<(), Fail> {
         answer(alloc, &mut wanted, status, "json", text.as_bytes())?;
     }
     let (out, status) = replayed(alloc, input.as_slice())?;
-    assert_eq!(rt; str::from_utf8(&out), str::from_utf8(&wanted));
-    assert_eq!(rt; status, 0);
+    is_text(&rt, "returns", &out, &wanted);
+    is_status(&rt, "returns", status, 0);
     Ok(())
 }
 
@@ -142,10 +144,10 @@ fn fronts_to_three_hundred(rt: HostRuntime) -> Result<(), Fail> {
     let mut reader = Counted::new(input.as_slice());
     let mut writer = Counted::new(Vec::new(alloc));
     let end = serve(alloc, &mut desk, &mut reader, &mut writer, u64::MAX);
-    assert_eq!(rt; end, Ok(Served { requests: 301 }));
-    assert!(rt; writer.into_inner().as_slice() == wanted.as_slice());
+    holds(&rt, "all are served", end == Ok(Served { requests: 301 }));
+    is_text(&rt, "over the plain store", &writer.into_inner(), &wanted);
     let (out, status) = replayed(alloc, input.as_slice())?;
-    assert!(rt; out.as_slice() == wanted.as_slice());
-    assert_eq!(rt; status, 0);
+    is_text(&rt, "over the tables", &out, &wanted);
+    is_status(&rt, "over the tables", status, 0);
     Ok(())
 }

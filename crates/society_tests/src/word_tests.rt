@@ -1,4 +1,5 @@
 //! Words of the program: what is answered, and what is said of them.
+use crate::checks::{holds, is_status, is_text};
 use crate::streams::get;
 use http_desk::Counted;
 use society_commands::start;
@@ -224,9 +225,9 @@ fn started(rt: &HostRuntime, words: &str) -> Result<(Vec<u8>, Vec<u8>, u8), Fail
 fn words_that_are_taken(rt: HostRuntime) -> Result<(), Fail> {
     for (words, status, line) in TAKEN {
         let (out, err, told) = started(&rt, words)?;
-        assert_eq!(rt; told, status, "{words}");
-        assert_eq!(rt; err.as_slice(), line.as_bytes(), "{words}");
-        assert_eq!(rt; out.is_empty(), status != 0, "{words}");
+        is_status(&rt, words, told, status);
+        is_text(&rt, words, &err, line.as_bytes());
+        holds(&rt, words, out.is_empty() == (status != 0));
     }
     Ok(())
 }
@@ -235,9 +236,10 @@ fn words_that_are_taken(rt: HostRuntime) -> Result<(), Fail> {
 fn words_that_are_wrong(rt: HostRuntime) -> Result<(), Fail> {
     for (words, status, line) in WRONG {
         let (out, err, told) = started(&rt, words)?;
-        assert_eq!(rt; told, status, "{words}");
-        assert!(rt; err.starts_with(line.as_bytes()), "{words}");
-        assert!(rt; out.is_empty(), "{words}");
+        is_status(&rt, words, told, status);
+        let front = err.get(..line.len()).unwrap_or(&err);
+        is_text(&rt, words, front, line.as_bytes());
+        is_text(&rt, words, &out, b"");
     }
     Ok(())
 }
@@ -246,9 +248,9 @@ fn words_that_are_wrong(rt: HostRuntime) -> Result<(), Fail> {
 fn help_is_told(rt: HostRuntime) -> Result<(), Fail> {
     for (words, text) in [("--help", HELP), ("-h", HELP), ("serve|--help", SERVE_HELP)] {
         let (out, err, told) = started(&rt, words)?;
-        assert_eq!(rt; told, 0);
-        assert_eq!(rt; out.as_slice(), text.as_bytes());
-        assert!(rt; err.is_empty());
+        is_status(&rt, words, told, 0);
+        is_text(&rt, words, &out, text.as_bytes());
+        is_text(&rt, words, &err, b"");
     }
     Ok(())
 }
@@ -262,8 +264,8 @@ fn a_port_that_is_taken(rt: HostRuntime) -> Result<(), Fail> {
         "serve|--db|F|--port|{port}|--connections|1|--society|900|--territory|40|--name|X"
     )?;
     let (out, err, told) = started(&rt, words.as_str())?;
-    assert_eq!(rt; told, 1);
-    assert_eq!(rt; err.as_slice(), b"society: cannot listen\n".as_slice());
-    assert!(rt; out.is_empty());
+    is_status(&rt, "a port that is taken", told, 1);
+    is_text(&rt, "its line", &err, b"society: cannot listen\n");
+    is_text(&rt, "its output", &out, b"");
     Ok(())
 }

@@ -1,0 +1,122 @@
+#!/usr/bin/env python3
+"""Runs `rt ci`, passes on what it prints, and tells before its last line the processor minutes of each crate and part.
+
+A part is what a process of the prover works on: a proof, a crate's tests, its first edit (the seed, a whole proof from nothing), or one of
+the further edits, which go over what the seed kept. Processes are looked at twice a second, so what a process did in its last half second
+counts under 'other', as do rt itself, linking, and the tests and programs that are run.
+"""
+import collections
+import os
+import re
+import resource
+import subprocess
+import sys
+import threading
+import time
+
+PARTS = ("proofs", "tests", "seeds", "edits")
+LAST_LINE = re.compile(r"\d+ passed, \d+ failed\s*")
+TICKS = os.sysconf("SC_CLK_TCK")
+
+
+def words_of(process):
+    """The words of a process, none where it has ended."""
+    try:
+        with open(f"/proc/{process}/cmdline", "rb") as file:
+            return file.read().decode(errors="replace").split("\0")
+    except OSError:
+        return []
+
+
+def state_of(process):
+    """The parent of a process, when it began, and the processor seconds of it and of the children that it waited for; none where it has ended."""
+    try:
+        with open(f"/proc/{process}/stat", encoding="utf-8", errors="replace") as file:
+            fields = file.read().rpartition(")")[2].split()
+    except OSError:
+        return None
+    return fields[1], fields[19], sum(int(it) for it in fields[11:15]) / TICKS
+
+
+def folder_of(process):
+    """The name of the folder in which a process works, none where it has ended."""
+    try:
+        return os.path.basename(os.readlink(f"/proc/{process}/cwd"))
+    except OSError:
+        return ""
+
+
+class Meter:
+    """The processor seconds of each process of the prover under this one, by crate and part."""
+
+    def __init__(self):
+        self.spent = {}
+        self.seeded = set()
+        self.ended = threading.Event()
+
+    def kind_of(self, process, words):
+        """The crate and the part of a process of the prover, none for another process."""
+        if len(words) < 2 or os.path.basename(words[0]) != "rattle" or "--crate-name" not in words:
+            return None
+        crate = words[words.index("--crate-name") + 1]
+        if not folder_of(process).startswith("rt-edit-"):
+            return crate, "tests" if "--test" in words else "proofs"
+        # The first edit of a crate finds nothing kept; each further one has its work.
+        part = "edits" if crate in self.seeded else "seeds"
+        self.seeded.add(crate)
+        return crate, part
+
+    def look(self):
+        """Reads how far each process of the prover is."""
+        states = {process: state_of(process) for process in os.listdir("/proc") if process.isdigit()}
+        states = {process: state for process, state in states.items() if state}
+        for process, (parent, begun, seconds) in states.items():
+            above = process
+            while above in states and above != str(os.getpid()):
+                above = states[above][0]
+            # What the prover's own children do is counted with it once it has waited for them.
+            if above != str(os.getpid()) or (parent, states.get(parent, ("", ""))[1]) in self.spent:
+                continue
+            # (a number can be given to another process once the first has ended)
+            key = process, begun
+            kind = self.spent[key][0] if key in self.spent else self.kind_of(process, words_of(process))
+            if kind:
+                self.spent[key] = kind, seconds
+
+    def run(self):
+        while not self.ended.wait(0.5):
+            self.look()
+
+    def table(self, minutes):
+        """Lines that tell the processor minutes of each crate, of each part and in all, and the minutes that went by."""
+        by_crate = collections.defaultdict(collections.Counter)
+        for (crate, part), seconds in self.spent.values():
+            by_crate[crate][part] += seconds / 60
+        total = sum(resource.getrusage(resource.RUSAGE_CHILDREN)[:2]) / 60
+        sums = {part: sum(row[part] for row in by_crate.values()) for part in PARTS}
+        yield f"{'processor minutes':18}" + "".join(f"{part:>8}" for part in PARTS)
+        for crate, row in by_crate.items():
+            yield f"{crate:18}" + "".join(f"{row[part]:8.1f}" for part in PARTS)
+        yield f"{'all crates':18}" + "".join(f"{sums[part]:8.1f}" for part in PARTS)
+        other = total - sum(sums.values())
+        yield f"in all {total:.1f} processor minutes, {other:.1f} of them other; {minutes:.1f} minutes on {os.cpu_count()} processors"
+
+
+def main():
+    meter, begun, last = Meter(), time.monotonic(), []
+    threading.Thread(target=meter.run, daemon=True).start()
+    with subprocess.Popen(sys.argv[1:], stdin=subprocess.DEVNULL, stdout=subprocess.PIPE, text=True, errors="replace") as ran:
+        for line in ran.stdout:
+            if LAST_LINE.fullmatch(line):
+                last.append(line)
+            else:
+                print(line, end="", flush=True)
+    meter.ended.set()
+    for line in meter.table((time.monotonic() - begun) / 60):
+        print(line)
+    print("".join(last), end="", flush=True)
+    return ran.returncode
+
+
+if __name__ == "__main__":
+    sys.exit(main())
