@@ -1,39 +1,12 @@
 -- What questions of the tables, asked one after another, find.
-use Rattle.std.proofs.Common.{◌≡◌, ⊎_elim, ◌≤◌, ◌<◌, ◌-◌, ◌^◌, inl, ℕ, ◌&&◌, IsTrue, Result, Ok, Err, IfOk, IfErr, OnOk, refl, subst, sym, arith, ◌∙◌}
-use Rattle.std.specs.Coded.{Coded, Coded-set, code_by, coded×, coded_ℕ, coded_list}
-use Rattle.std.specs.FinMap as finite
-use Rattle.std.proofs.Math.Logic.{∥∥₁_elim, ∥∥₁_map}
-use Rattle.std.proofs.lemmas.Bool.{cases_lt}
+use Rattle.std.proofs.Common.{◌≡◌, inl, IsTrue, Result, Ok, Err, IfOk, OnOk, refl, subst, sym, arith, ◌∙◌}
 use Rattle.share_rules.specs.declared.office.Office.{Office}
 use Rattle.society_core.specs.Book.{Book}
-use Rattle.society_core.specs.Keys.{coded_return_key, coded_transmission_key}
-use Rattle.society_core.specs.Orders.{coded_order}
-use Rattle.society_core.specs.Requests.{Shown}
-use Rattle.share_rules.specs.contracts.holder.Holder as holder
-use Rattle.works_core.specs.contracts.version.WorkVersion as version
-use Rattle.society_core.specs.State as store
-use Rattle.society_core.specs.State.{HasCause, Question}
-use Rattle.pool_split.specs.contracts.claim.Credit as credit
-use Rattle.pool_split.specs.declared.claim.Credit.{Credit}
-use Rattle.works_core.specs.contracts.verdict.Verdict as verdict
-use Rattle.works_core.specs.declared.verdict.Verdict.{Verdict}
-use Rattle.std.specs.Coded.{coded_option}
-use Rattle.std.proofs.Common.{List, Option}
-use Rattle.society_core.specs.contracts.store.Known as known
-use Rattle.society_core.specs.contracts.store.KnownTransmission as known_transmission
-use Rattle.society_core.specs.contracts.store.Payment as payment
-use Rattle.society_core.specs.declared.store.Known.{Known}
-use Rattle.society_core.specs.declared.store.KnownTransmission.{KnownTransmission}
-use Rattle.society_core.specs.declared.store.Payment.{Payment}
-use Rattle.society_core.specs.declared.store.StoreFault.{StoreFault}
 use Rattle.society_rows.specs.declared.fault.RowFault.{RowFault}
-use Rattle.society_rows.specs.declared.fault.RowFault.TheVariants.{Memory, Overflow, Refused, Schema, Unread}
-use Rattle.society_book.specs.BookRows.{book_of}
 use Rattle.society_rows.specs.Questions as Rows
 use Rattle.sqlite_trees.specs.Tree.{Trees}
-use Rattle.society_book.specs.Shown.{ByBook, ByOwnBook}
-use Rattle.society_book.specs.Kept.{AsksOf, HoldsBook, IsKept, Rests, tables_state}
-use Rattle.society_book.proofs.AskLemmas.{asks, clean_before, clean_is, first_true, goes, rests_on}
+use Rattle.society_book.specs.Shown.{ByBook}
+use Rattle.society_book.specs.Kept.{HoldsBook}
 use Rattle.sqlite.specs.Effect.{Database}
 use Rattle.sqlite.specs.State.{HasCleanDisk, State}
 use Rattle.sqlite.proofs.StateLemmas.{survives_then}

@@ -1,4 +1,5 @@
 //! Transmissions that come to the tables in any order, beside the store in memory, and a return.
+use crate::checks::told;
 use crate::samples::{EMPTY, REGISTERED, REVISED, office};
 use cwr_files::FileReader;
 use perf_returns::read_return;
@@ -154,8 +155,24 @@ fn a_return_is_kept(rt: HostRuntime) -> Result<(), Fail> {
     };
     let body = b"isrc,plays,seconds\nATABC2600001,10,200\n";
     put_return(rt.alloc(), &mut tables, &key, body)?;
-    assert!(rt; tables.known_return(&key, body) == Ok(Known::Same));
-    assert!(rt; tables.known_return(&key, b"isrc,plays,seconds\n") == Ok(Known::Other));
-    assert!(rt; tables.payment(&key) == Ok(Payment::Unpaid));
+    let other = b"isrc,plays,seconds\n";
+    told(
+        &rt,
+        "the same bytes",
+        &tables.known_return(&key, body),
+        &Ok(Known::Same),
+    );
+    told(
+        &rt,
+        "other bytes",
+        &tables.known_return(&key, other),
+        &Ok(Known::Other),
+    );
+    told(
+        &rt,
+        "its payment",
+        &tables.payment(&key),
+        &Ok(Payment::Unpaid),
+    );
     Ok(())
 }

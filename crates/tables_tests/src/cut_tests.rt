@@ -1,6 +1,7 @@
 //! The candidates of a pool, out of tables to which works of two senders have come.
 ghost use Rattle.std.specs.Prelude.{◌≡◌, false};
 
+use crate::checks::holds;
 use crate::samples::{REGISTERED, REVISED, changed};
 use cwr_files::FileReader;
 use perf_returns::read_return;
@@ -101,8 +102,8 @@ fn a_first_version_names_its_recording(rt: HostRuntime) -> Result<(), Fail> {
     let [one, other] = candidates.as_slice() else {
         return Err(Fail::new("two candidates"));
     };
-    assert!(rt; is_of(one, ONE, b'1'));
-    assert!(rt; is_of(other, OTHER, b'2'));
+    holds(&rt, "the first recording", is_of(one, ONE, b'1'));
+    holds(&rt, "the other sender's", is_of(other, OTHER, b'2'));
     Ok(())
 }
 
@@ -112,8 +113,8 @@ fn a_revision_before_the_cut_names_another(rt: HostRuntime) -> Result<(), Fail> 
     let [one, other] = candidates.as_slice() else {
         return Err(Fail::new("two candidates"));
     };
-    assert!(rt; is_of(one, ONE, b'2'));
-    assert!(rt; is_of(other, OTHER, b'2'));
+    holds(&rt, "the second recording", is_of(one, ONE, b'2'));
+    holds(&rt, "the other sender's", is_of(other, OTHER, b'2'));
     Ok(())
 }
 
@@ -123,6 +124,6 @@ fn a_work_that_drops_its_recordings_is_no_candidate(rt: HostRuntime) -> Result<(
     let [other] = candidates.as_slice() else {
         return Err(Fail::new("one candidate"));
     };
-    assert!(rt; is_of(other, OTHER, b'2'));
+    holds(&rt, "the other sender's", is_of(other, OTHER, b'2'));
     Ok(())
 }

@@ -1,4 +1,5 @@
 //! Databases in which one value was changed, opened as the tables of an office.
+use crate::checks::{holds, told};
 use crate::listing::{TABLES, rows_by};
 use crate::row_tests::left_by_pool;
 use crate::samples::{REGISTERED, changed, office};
@@ -62,9 +63,9 @@ fn check_refused(
     let before = rows_by(alloc, &mut conn, statements)?;
     let (fault, mut conn) = refused(alloc, conn, &office()?)?;
     let after = rows_by(alloc, &mut conn, statements)?;
-    assert_eq!(rt; fault, wanted);
-    assert!(rt; conn.is_autocommit());
-    assert_eq!(rt; after.as_str(), before.as_str());
+    told(rt, "the fault", &fault, &wanted);
+    holds(rt, "no transaction is left", conn.is_autocommit());
+    told(rt, "the rows", &after, &before);
     Ok(())
 }
 
@@ -84,7 +85,8 @@ fn an_unchanged_database_is_opened(rt: HostRuntime) -> Result<(), Fail> {
     if !conn.is_autocommit() {
         return Err(Fail::new("no transaction"));
     }
-    assert!(rt; Tables::open(rt.alloc(), conn, &office()?).is_ok());
+    let opened = Tables::open(rt.alloc(), conn, &office()?);
+    holds(&rt, "it is opened", opened.is_ok());
     Ok(())
 }
 

@@ -1,4 +1,5 @@
 //! The store over tables in memory, asked before anything has come.
+use crate::checks::{holds, told};
 use crate::samples::office;
 use society_core::{Known, KnownTransmission, Payment, PoolOrder, ReturnKey, Store};
 use society_tables::Tables;
@@ -23,35 +24,46 @@ fn nothing_is_known_of_an_empty_book(rt: HostRuntime) -> Result<(), Fail> {
         .ok()
         .ok_or("a sender")?;
     let number = TransmissionNumber::from_u32(1).ok_or("a number")?;
-    assert!(rt; tables.front(&sender) == Ok(0));
-    assert!(rt; tables.known(&sender, number, b"") == Ok(KnownTransmission::Absent));
-    assert!(rt;
-        tables
-            .verdicts(rt.alloc(), &sender, number)
-            .is_ok_and(|verdicts| verdicts.is_none())
-    );
+    told(&rt, "the front", &tables.front(&sender), &Ok(0));
+    let known = tables.known(&sender, number, b"");
+    told(&rt, "a number", &known, &Ok(KnownTransmission::Absent));
+    let verdicts = tables.verdicts(rt.alloc(), &sender, number);
+    holds(&rt, "verdicts", verdicts.is_ok_and(|found| found.is_none()));
     let status = tables
         .standing(rt.alloc(), &sender)
         .ok()
         .ok_or("a standing")?;
-    assert!(rt; status.front == 0 && status.held.is_empty());
-    assert!(rt;
-        tables
-            .ack(rt.alloc(), &sender, number)
-            .is_ok_and(|text| text.is_none())
+    told(
+        &rt,
+        "front and held",
+        &(status.front, status.held.len()),
+        &(0, 0),
+    );
+    let text = tables.ack(rt.alloc(), &sender, number);
+    holds(
+        &rt,
+        "an acknowledgement",
+        text.is_ok_and(|found| found.is_none()),
     );
     let work = WorkNumber::from_bytes(b"W1").ok().ok_or("a work")?;
-    assert!(rt;
-        tables
-            .work(rt.alloc(), &sender, &work)
-            .is_ok_and(|shown| shown.is_none())
-    );
+    let shown = tables.work(rt.alloc(), &sender, &work);
+    holds(&rt, "a work", shown.is_ok_and(|found| found.is_none()));
     let key = ReturnKey {
         reporter: Reporter::from_bytes(b"RADIO1").ok().ok_or("a reporter")?,
         number: ReturnNumber::from_u32(1).ok_or("a number")?,
     };
-    assert!(rt; tables.known_return(&key, b"") == Ok(Known::Absent));
-    assert!(rt; tables.payment(&key) == Ok(Payment::Unknown));
+    told(
+        &rt,
+        "a return",
+        &tables.known_return(&key, b""),
+        &Ok(Known::Absent),
+    );
+    told(
+        &rt,
+        "its payment",
+        &tables.payment(&key),
+        &Ok(Payment::Unknown),
+    );
     Ok(())
 }
 
@@ -61,17 +73,24 @@ fn nobody_has_money_of_an_empty_book(rt: HostRuntime) -> Result<(), Fail> {
     let texts: [&[u8]; 3] = [b"UNCLAIMED", b"I00000000199", b"PPB000000012W1"];
     for text in texts {
         let account = Account::from_bytes(text).ok().ok_or("an account")?;
-        assert!(rt; tables.balance(rt.alloc(), &account) == Ok(0));
+        told(
+            &rt,
+            "a balance",
+            &tables.balance(rt.alloc(), &account),
+            &Ok(0),
+        );
     }
     let pool = PoolNumber::from_u32(1).ok_or("a pool")?;
-    assert!(rt;
-        tables
-            .credits(rt.alloc(), pool)
-            .is_ok_and(|credits| credits.is_none())
-    );
+    let credits = tables.credits(rt.alloc(), pool);
+    holds(&rt, "credits", credits.is_ok_and(|found| found.is_none()));
     let order = PoolOrder::new(rt.alloc(), 0, &[], &[])
         .ok()
         .ok_or("an order")?;
-    assert!(rt; tables.known_pool(pool, &order) == Ok(Known::Absent));
+    told(
+        &rt,
+        "a pool",
+        &tables.known_pool(pool, &order),
+        &Ok(Known::Absent),
+    );
     Ok(())
 }

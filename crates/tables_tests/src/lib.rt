@@ -4,6 +4,8 @@
 #[cfg(test)]
 mod arrival_tests;
 #[cfg(test)]
+mod checks;
+#[cfg(test)]
 mod cut_tests;
 #[cfg(test)]
 mod damage_tests;

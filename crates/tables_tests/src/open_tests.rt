@@ -1,6 +1,7 @@
 //! Databases that are opened as the tables of an office.
 ghost use Rattle.std.specs.Prelude.{◌≡◌, IfOk, false};
 
+use crate::checks::{holds, told};
 use crate::samples::REGISTERED;
 use share_rules::Office;
 use society_core::{Desk, PoolOrder, ReturnKey, Store};
@@ -96,20 +97,17 @@ fn a_database_opens_as_it_was_left(rt: HostRuntime) -> Result<(), Fail> {
     let Ok(mut tables) = Tables::open(rt.alloc(), filled(rt.alloc())?, &office(900)?) else {
         return Err(Fail::new("an opening"));
     };
-    assert!(rt; tables.front(&sender()?) == Ok(1));
+    told(&rt, "the front", &tables.front(&sender()?), &Ok(1));
     let status = tables
         .standing(rt.alloc(), &sender()?)
         .ok()
         .ok_or("a standing")?;
-    assert!(rt; status.held.len() == 1);
+    told(&rt, "what waits", &status.held.len(), &1);
     let account = Account::from_bytes(b"I00000000295")
         .ok()
         .ok_or("an account")?;
-    assert!(rt;
-        tables
-            .balance(rt.alloc(), &account)
-            .is_ok_and(|units| units > 0)
-    );
+    let balance = tables.balance(rt.alloc(), &account);
+    holds(&rt, "a balance", balance.is_ok_and(|units| units > 0));
     Ok(())
 }
 
@@ -118,9 +116,10 @@ fn a_sound_database_is_confirmed_with_a_body_in_memory_at_a_time(
     rt: HostRuntime,
 ) -> Result<(), Fail> {
     let mut conn = filled(rt.alloc())?;
-    assert!(rt; is_confirmed(rt.alloc(), &mut conn, 900)?);
-    assert!(rt; !is_confirmed(rt.alloc(), &mut conn, 901)?);
-    assert!(rt; is_confirmed(rt.alloc(), &mut conn, 900)?);
+    for (society, confirmed) in [(900, true), (901, false), (900, true)] {
+        let found = is_confirmed(rt.alloc(), &mut conn, society)?;
+        told(&rt, "whether it is confirmed", &found, &confirmed);
+    }
     Ok(())
 }
 
@@ -133,18 +132,28 @@ fn an_empty_database_becomes_a_new_book(rt: HostRuntime) -> Result<(), Fail> {
     let Ok(mut tables) = Tables::open(rt.alloc(), conn, &office(900)?) else {
         return Err(Fail::new("an opening"));
     };
-    assert!(rt; tables.front(&sender()?) == Ok(0));
+    told(&rt, "the front", &tables.front(&sender()?), &Ok(0));
     Ok(())
 }
 
 #[test]
 fn what_is_not_the_offices_is_refused(rt: HostRuntime) -> Result<(), Fail> {
-    assert!(rt; fault_after(rt.alloc(), "", 900)?.is_none());
-    assert!(rt; fault_after(rt.alloc(), "", 901)? == Some(OpenFault::OtherOffice));
-    let stray = fault_after(rt.alloc(), "CREATE TABLE stray (one INTEGER) STRICT", 900)?;
-    assert!(rt; stray == Some(OpenFault::Schema));
-    let nobody = fault_after(rt.alloc(), "DELETE FROM office", 900)?;
-    assert!(rt; nobody == Some(OpenFault::Schema));
+    let stray = "CREATE TABLE stray (one INTEGER) STRICT";
+    let nobody = "DELETE FROM office";
+    let rows = [
+        ("", 900, None),
+        ("", 901, Some(OpenFault::OtherOffice)),
+        (stray, 900, Some(OpenFault::Schema)),
+        (nobody, 900, Some(OpenFault::Schema)),
+    ];
+    for (change, society, fault) in rows {
+        told(
+            &rt,
+            change,
+            &fault_after(rt.alloc(), change, society)?,
+            &fault,
+        );
+    }
     Ok(())
 }
 
@@ -160,7 +169,8 @@ fn what_was_changed_is_damage(rt: HostRuntime) -> Result<(), Fail> {
         "INSERT INTO recordings (sender, work, revision, isrc) VALUES ('PB000000012', 'W9', 0, 'ATABC2600009')",
     ];
     for change in changes {
-        assert!(rt; fault_after(rt.alloc(), change, 900)? == Some(OpenFault::Damaged));
+        let fault = fault_after(rt.alloc(), change, 900)?;
+        told(&rt, change, &fault, &Some(OpenFault::Damaged));
     }
     Ok(())
 }
@@ -181,6 +191,7 @@ fn a_damaged_database_stays_as_it_is(rt: HostRuntime) -> Result<(), Fail> {
         .query_row("SELECT MIN(units), MAX(units) FROM balances", &[])
         .ok()
         .ok_or("a row")?;
-    assert!(rt; row.get::<i64>(0) == Ok(502) && row.get::<i64>(1) == Ok(502));
+    let is_kept = row.get::<i64>(0) == Ok(502) && row.get::<i64>(1) == Ok(502);
+    holds(&rt, "the balances are as they were", is_kept);
     Ok(())
 }

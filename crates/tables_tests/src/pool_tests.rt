@@ -1,4 +1,5 @@
 //! The rows of money on the desk, each over tables in memory and over the plain store: returns, pools at a cut, credits and balances.
+use crate::checks::{holds, told};
 use crate::samples::{EMPTY, REGISTERED, REVISED, changed, office};
 use pool_split::Credit;
 use society_core::{Desk, OrderError, PlainStore, PoolOrder, Receipt, Refusal, ReturnKey, Store};
@@ -82,7 +83,7 @@ fn check_credits<S: Store>(
     wanted: &[(&[u8], &[u8], u64)],
 ) -> Result<(), Fail> {
     let credits = desk.credits(alloc, pool(number)?).ok().ok_or("credits")?;
-    assert_eq!(rt; credits.len(), wanted.len());
+    told(rt, "credits", &credits.len(), &wanted.len());
     for (credit, (isrc, account, units)) in credits.iter().zip(wanted.iter()) {
         let account = Account::from_bytes(account).ok().ok_or("an account")?;
         let recording = if isrc.is_empty() {
@@ -90,14 +91,13 @@ fn check_credits<S: Store>(
         } else {
             Some(Isrc::from_text(isrc).ok().ok_or("an ISRC")?)
         };
-        assert!(rt;
-            *credit
-                == Credit {
-                    isrc: recording,
-                    account,
-                    units: *units
-                }
-        );
+        let units = *units;
+        let paid = Credit {
+            isrc: recording,
+            account,
+            units,
+        };
+        told(rt, "a credit", credit, &paid);
     }
     Ok(())
 }
@@ -111,7 +111,7 @@ fn check_balances<S: Store>(
 ) -> Result<(), Fail> {
     for (account, units) in wanted {
         let account = Account::from_bytes(account).ok().ok_or("an account")?;
-        assert!(rt; desk.balance(alloc, &account) == Ok(*units));
+        told(rt, "a balance", &desk.balance(alloc, &account), &Ok(*units));
     }
     Ok(())
 }
@@ -124,15 +124,30 @@ fn close_at_a_cut<S: Store>(
 ) -> Result<(), Fail> {
     put(alloc, desk, FIRST, 1, REGISTERED)?;
     put(alloc, desk, FIRST, 2, EMPTY)?;
-    assert!(rt; desk.put_return(alloc, &key(1)?, TEN_PLAYS) == Ok(Receipt::New));
+    told(
+        rt,
+        "a return",
+        &desk.put_return(alloc, &key(1)?, TEN_PLAYS),
+        &Ok(Receipt::New),
+    );
     let first = order(alloc, 1_001, 3, &[1])?;
     let waits = Refusal::Cut {
         sender: sender(FIRST)?,
         front: 2,
     };
-    assert!(rt; desk.close_pool(alloc, pool(7)?, &first) == Err(waits));
+    told(
+        rt,
+        "a close",
+        &desk.close_pool(alloc, pool(7)?, &first),
+        &Err(waits),
+    );
     put(alloc, desk, FIRST, 3, EMPTY)?;
-    assert!(rt; desk.close_pool(alloc, pool(7)?, &first) == Ok(Receipt::New));
+    told(
+        rt,
+        "a close",
+        &desk.close_pool(alloc, pool(7)?, &first),
+        &Ok(Receipt::New),
+    );
     Ok(())
 }
 
@@ -159,10 +174,21 @@ fn check_pool_closed_at_a_cut<S: Store>(
     close_at_a_cut(rt, alloc, desk)?;
     let same = order(alloc, 1_001, 3, &[1])?;
     let other = order(alloc, 1_002, 3, &[1])?;
-    assert!(rt; desk.close_pool(alloc, pool(7)?, &same) == Ok(Receipt::Repeated));
-    assert!(rt; desk.close_pool(alloc, pool(7)?, &other) == Err(Refusal::Reused));
+    told(
+        rt,
+        "a close",
+        &desk.close_pool(alloc, pool(7)?, &same),
+        &Ok(Receipt::Repeated),
+    );
+    told(
+        rt,
+        "a close",
+        &desk.close_pool(alloc, pool(7)?, &other),
+        &Err(Refusal::Reused),
+    );
     check_credits(rt, alloc, desk, 7, SHARED)?;
-    assert!(rt; matches!(desk.credits(alloc, pool(8)?), Err(Refusal::Unknown)));
+    let unknown = matches!(desk.credits(alloc, pool(8)?), Err(Refusal::Unknown));
+    holds(rt, "no such pool", unknown);
     check_balances(rt, alloc, desk, BALANCES)
 }
 
@@ -185,10 +211,14 @@ fn check_later_revision_changes_no_credit<S: Store>(
     check_balances(rt, alloc, desk, BALANCES)?;
     put(alloc, early, FIRST, 1, REGISTERED)?;
     put(alloc, early, FIRST, 2, REVISED)?;
-    assert!(rt; early.put_return(alloc, &key(1)?, TEN_PLAYS) == Ok(Receipt::New));
-    assert!(rt;
-        early.close_pool(alloc, pool(7)?, &order(alloc, 1_001, 1, &[1])?) == Ok(Receipt::New)
+    told(
+        rt,
+        "a return",
+        &early.put_return(alloc, &key(1)?, TEN_PLAYS),
+        &Ok(Receipt::New),
     );
+    let closed = early.close_pool(alloc, pool(7)?, &order(alloc, 1_001, 1, &[1])?);
+    told(rt, "a close", &closed, &Ok(Receipt::New));
     check_credits(rt, alloc, early, 7, SHARED)
 }
 
@@ -218,7 +248,12 @@ fn check_two_claimants<S: Store>(
     put(alloc, desk, FIRST, 1, REGISTERED)?;
     put(alloc, desk, SECOND, 1, &other)?;
     let played = b"isrc,plays,seconds\nATABC2600001,1,100\nGBXYZ2600002,1,300\n";
-    assert!(rt; desk.put_return(alloc, &key(1)?, played) == Ok(Receipt::New));
+    told(
+        rt,
+        "a return",
+        &desk.put_return(alloc, &key(1)?, played),
+        &Ok(Receipt::New),
+    );
     let reporter = Reporter::from_bytes(b"RADIO1").ok().ok_or("a reporter")?;
     let both = PoolOrder::new(
         alloc,
@@ -228,7 +263,12 @@ fn check_two_claimants<S: Store>(
     )
     .ok()
     .ok_or("an order")?;
-    assert!(rt; desk.close_pool(alloc, pool(1)?, &both) == Ok(Receipt::New));
+    told(
+        rt,
+        "a close",
+        &desk.close_pool(alloc, pool(1)?, &both),
+        &Ok(Receipt::New),
+    );
     check_credits(
         rt,
         alloc,
@@ -239,10 +279,25 @@ fn check_two_claimants<S: Store>(
             (b"GBXYZ2600002", b"UNCLAIMED", 7),
         ],
     )?;
-    assert!(rt; desk.put_return(alloc, &key(2)?, b"isrc,plays,seconds\n") == Ok(Receipt::New));
-    assert!(rt; desk.close_pool(alloc, pool(2)?, &order(alloc, 0, 0, &[2])?) == Ok(Receipt::New));
+    told(
+        rt,
+        "a return",
+        &desk.put_return(alloc, &key(2)?, b"isrc,plays,seconds\n"),
+        &Ok(Receipt::New),
+    );
+    told(
+        rt,
+        "a close",
+        &desk.close_pool(alloc, pool(2)?, &order(alloc, 0, 0, &[2])?),
+        &Ok(Receipt::New),
+    );
     check_credits(rt, alloc, desk, 2, &[(b"", b"UNCLAIMED", 0)])?;
-    assert!(rt; desk.close_pool(alloc, pool(3)?, &order(alloc, 5, 0, &[])?) == Ok(Receipt::New));
+    told(
+        rt,
+        "a close",
+        &desk.close_pool(alloc, pool(3)?, &order(alloc, 5, 0, &[])?),
+        &Ok(Receipt::New),
+    );
     check_credits(rt, alloc, desk, 3, &[(b"", b"UNCLAIMED", 5)])?;
     check_balances(rt, alloc, desk, &[(b"UNCLAIMED", 15)])
 }
@@ -257,8 +312,18 @@ fn two_claimants(rt: HostRuntime) -> Result<(), Fail> {
 fn check_splits<S: Store>(rt: &impl Abort, alloc: Global, desk: &mut Desk<S>) -> Result<(), Fail> {
     put(alloc, desk, FIRST, 1, REGISTERED)?;
     let played = b"isrc,plays,seconds\nATABC2600001,1,1\nATABC2600002,1,1\nATABC2600003,1,1\n";
-    assert!(rt; desk.put_return(alloc, &key(1)?, played) == Ok(Receipt::New));
-    assert!(rt; desk.close_pool(alloc, pool(1)?, &order(alloc, 10, 1, &[1])?) == Ok(Receipt::New));
+    told(
+        rt,
+        "a return",
+        &desk.put_return(alloc, &key(1)?, played),
+        &Ok(Receipt::New),
+    );
+    told(
+        rt,
+        "a close",
+        &desk.close_pool(alloc, pool(1)?, &order(alloc, 10, 1, &[1])?),
+        &Ok(Receipt::New),
+    );
     check_credits(
         rt,
         alloc,
@@ -273,7 +338,12 @@ fn check_splits<S: Store>(rt: &impl Abort, alloc: Global, desk: &mut Desk<S>) ->
         ],
     )?;
     let great = order(alloc, 1_000_000_000_000, 1, &[])?;
-    assert!(rt; desk.close_pool(alloc, pool(2)?, &great) == Ok(Receipt::New));
+    told(
+        rt,
+        "a close",
+        &desk.close_pool(alloc, pool(2)?, &great),
+        &Ok(Receipt::New),
+    );
     check_balances(
         rt,
         alloc,
@@ -304,9 +374,10 @@ fn check_return_paid_once<S: Store>(
         key: key(1)?,
         pool: pool(7)?,
     };
-    assert!(rt; again == Err(paid));
+    told(rt, "a return that is paid", &again, &Err(paid));
     let missing = desk.close_pool(alloc, pool(8)?, &order(alloc, 5, 0, &[2])?);
-    assert!(rt; missing == Err(Refusal::ReturnUnknown(key(2)?)));
+    let unknown = Refusal::ReturnUnknown(key(2)?);
+    told(rt, "a return that is missing", &missing, &Err(unknown));
     Ok(())
 }
 
@@ -323,16 +394,35 @@ fn check_points_of_one_recording<S: Store>(
     desk: &mut Desk<S>,
 ) -> Result<(), Fail> {
     let played = b"isrc,plays,seconds\nat-abc-26-00001,1,60\nATABC2600001,2,30\n";
-    assert!(rt; desk.put_return(alloc, &key(1)?, played) == Ok(Receipt::New));
-    assert!(rt; desk.put_return(alloc, &key(1)?, played) == Ok(Receipt::Repeated));
-    assert!(rt; desk.put_return(alloc, &key(1)?, TEN_PLAYS) == Err(Refusal::Reused));
-    assert!(rt; desk.close_pool(alloc, pool(1)?, &order(alloc, 5, 0, &[1])?) == Ok(Receipt::New));
+    told(
+        rt,
+        "a return",
+        &desk.put_return(alloc, &key(1)?, played),
+        &Ok(Receipt::New),
+    );
+    told(
+        rt,
+        "a return",
+        &desk.put_return(alloc, &key(1)?, played),
+        &Ok(Receipt::Repeated),
+    );
+    told(
+        rt,
+        "a return",
+        &desk.put_return(alloc, &key(1)?, TEN_PLAYS),
+        &Err(Refusal::Reused),
+    );
+    told(
+        rt,
+        "a close",
+        &desk.close_pool(alloc, pool(1)?, &order(alloc, 5, 0, &[1])?),
+        &Ok(Receipt::New),
+    );
     check_credits(rt, alloc, desk, 1, &[(b"ATABC2600001", b"UNCLAIMED", 5)])?;
     let none = b"isrc,plays,seconds\nATABC2600001,0,60\n";
     match desk.put_return(alloc, &key(2)?, none) {
         Err(Refusal::Csv(fault)) => {
-            assert_eq!(rt; fault.number, 4);
-            assert_eq!(rt; fault.row, 2);
+            told(rt, "fault and row", &(fault.number, fault.row), &(4, 2));
             Ok(())
         }
         _ => Err(Fail::from("a return fault")),
@@ -352,14 +442,23 @@ fn faults_of_orders(rt: HostRuntime) -> Result<(), Fail> {
     let one = sender(FIRST)?;
     let twice = [(one, 1), (one, 2)];
     let above = PoolOrder::new(alloc, 1_000_000_000_001, &twice, &[]);
-    assert!(rt; matches!(above, Err(OrderError::Order(2))));
+    holds(
+        &rt,
+        "order fault 2",
+        matches!(above, Err(OrderError::Order(2))),
+    );
     let named_twice = PoolOrder::new(alloc, 1, &twice, &[]);
-    assert!(rt; matches!(named_twice, Err(OrderError::Order(4))));
+    let fourth = matches!(named_twice, Err(OrderError::Order(4)));
+    holds(&rt, "order fault 4", fourth);
     let mut senders = Vec::new(alloc);
     for _ in 0..201 {
         senders.push((one, 1))?;
     }
     let many = PoolOrder::new(alloc, 1, &senders, &[]);
-    assert!(rt; matches!(many, Err(OrderError::Order(3))));
+    holds(
+        &rt,
+        "order fault 3",
+        matches!(many, Err(OrderError::Order(3))),
+    );
     Ok(())
 }

@@ -1,4 +1,5 @@
 //! The rows that requests leave in the tables, read by plain SQL.
+use crate::checks::told;
 use crate::listing::{TABLES, lines, rows_by};
 use crate::samples::office;
 use crate::steps::{
@@ -79,7 +80,7 @@ fn check_rows(
 ) -> Result<(), Fail> {
     let rows = rows_by(alloc, conn, &TABLES)?;
     let wanted = lines(alloc, wanted)?;
-    assert_eq!(rt; rows.as_str(), wanted.as_str());
+    told(rt, "rows", &rows, &wanted);
     Ok(())
 }
 
