@@ -1,5 +1,5 @@
 -- What every question of a store promises, by what became of its connection.
-use Rattle.std.proofs.Common.{◌≡◌, ⊎_elim, ◌≤◌, ◌<◌, ◌-◌, ◌^◌, inl, ℕ, ◌&&◌, IsTrue, Result, Ok, Err, IfOk, IfErr, OnOk, refl, subst, sym, arith, ◌∙◌}
+use Rattle.std.proofs.Common.{◌≡◌, ⊎_elim, ◌≤◌, ◌<◌, ◌-◌, ◌^◌, inl, ℕ, ◌&&◌, IsTrue, Result, Ok, Err, IfOk, IfErr, refl, subst, sym, arith}
 use Rattle.std.specs.Coded.{Coded, Coded-set, code_by, coded×, coded_ℕ, coded_list}
 use Rattle.std.specs.FinMap as finite
 use Rattle.std.proofs.Math.Logic.{∥∥₁_elim, ∥∥₁_map}
@@ -35,10 +35,7 @@ use Rattle.sqlite_trees.specs.Tree.{Trees}
 use Rattle.society_book.specs.Shown.{ByBook, ByOwnBook}
 use Rattle.society_book.specs.Kept.{AsksOf, HoldsBook, IsKept, Rests, tables_state}
 use Rattle.society_book.proofs.AskLemmas.{asks, clean_before, clean_is, first_true, goes, rests_on}
-use Rattle.sqlite.specs.Effect.{Database}
-use Rattle.sqlite.specs.State.{HasCleanDisk, State}
-use Rattle.sqlite.proofs.StateLemmas.{survives_then}
-use Rattle.society_rows.specs.Stored.{HasLayout}
+use Rattle.sqlite.specs.State.{State}
 
 pub coded_book : Coded Book
 coded_book =

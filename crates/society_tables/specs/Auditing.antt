@@ -7,7 +7,7 @@ use Rattle.std.specs.List.{AllByRecursion, flat_map, list_all}
 use Rattle.share_rules.specs.declared.office.Office.{Office}
 use Rattle.sqlite_trees.specs.Tree.{Trees}
 use Rattle.society_core.specs.Answers.{payer}
-use Rattle.society_core.specs.Book.{Book, IsSound, front, is_entry, is_return_entry, order_at, return_at}
+use Rattle.society_core.specs.Book.{Book, front, is_entry, is_return_entry, order_at, return_at}
 use Rattle.society_core.specs.Orders.{Order}
 use Rattle.society_book.specs.Kept.{Holds}
 use Rattle.society_tables.specs.Opening.{Agree}
@@ -21,10 +21,9 @@ use Rattle.society_rows.specs.declared.tables.TableName.{TableName}
 use Rattle.society_rows.specs.declared.tables.TableName.TheVariants as name
 use Rattle.sqlite.specs.Effect.{Database}
 use Rattle.sqlite.specs.State.{HasCleanDisk, State}
-use Rattle.society_book.specs.BookRows.{is_return_row, is_transmission_row, return_key_of, return_rows, transmission_rows}
+use Rattle.society_book.specs.BookRows.{is_return_row, is_transmission_row, return_key_of}
 use Rattle.society_book.specs.Columns.{HasRows, blob_at, number_at, text_at}
 use Rattle.society_book.specs.DerivedRows.{front_rows, has_sent, is_named, tells_recordings, tells_verdict, tells_version, told_to_front}
-use Rattle.society_book.specs.Sources.{HasTransmissions, KeepsBodies}
 use Rattle.society_book.specs.Runs.{AreNoted, Notes, behind_run, is_among, settled_recordings, settled_run, settled_verdict, settled_version}
 use Rattle.works_core.specs.Verdicts.{works_in}
 use Rattle.works_core.specs.Versions.{judged_of}

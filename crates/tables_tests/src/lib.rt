@@ -12,6 +12,8 @@ mod damage_tests;
 #[cfg(test)]
 mod empty_tests;
 #[cfg(test)]
+mod fused;
+#[cfg(test)]
 mod listing;
 #[cfg(test)]
 mod open_tests;
@@ -23,3 +25,7 @@ mod row_tests;
 mod samples;
 #[cfg(test)]
 mod steps;
+#[cfg(test)]
+mod stop_tests;
+#[cfg(test)]
+mod stops;

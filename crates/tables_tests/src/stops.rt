@@ -1,5 +1,6 @@
 //! Runs of requests that stop at a call of a file, and what is found then: what was answered is there, and what was not is
 //! there whole or not at all.
+use crate::checks::{holds, told};
 use crate::fused::{
     Calls, File, Fused, Kept, Opened, calls_of, files_of, files_under, open, reopened, synced,
     written,
@@ -48,8 +49,8 @@ struct Stopped {
 
 /// Checks that the answers before a stop are those of the run without one.
 fn check_answers(rt: &impl Abort, answers: &[Told], wanted: &[Told]) {
-    for (told, wanted) in answers.iter().zip(wanted.iter()) {
-        assert_eq!(rt; *told, *wanted);
+    for (answer, wanted) in answers.iter().zip(wanted.iter()) {
+        told(rt, "an answer before the stop", answer, wanted);
     }
 }
 
@@ -101,7 +102,8 @@ fn check_known(
     for (step, wanted) in requests.take(answered) {
         // A request that was refused may be taken now.
         if !wanted.is_refusal() {
-            assert!(rt; send(alloc, desk, step)?.is_known());
+            let is_known = send(alloc, desk, step)?.is_known();
+            holds(rt, "what was answered is known", is_known);
         }
     }
     Ok(())
@@ -120,10 +122,12 @@ fn check_rest(
     let requests = course.steps.iter().zip(course.wanted.iter());
     for (index, (step, wanted)) in requests.enumerate() {
         if index >= answered {
-            let told = send(alloc, desk, step)?;
-            let again = index < sent && told == wanted.again();
-            assert!(rt; told == *wanted || again);
-            kept |= told != *wanted;
+            let answer = send(alloc, desk, step)?;
+            let is_kept = index < sent && answer == wanted.again();
+            if !is_kept {
+                told(rt, "an answer after the stop", &answer, wanted);
+            }
+            kept |= answer != *wanted;
         }
     }
     Ok(kept)
@@ -201,7 +205,7 @@ pub fn check_opening(
     let mut seen = Seen::default();
     for passing in 0..calls_of_opening(alloc, course.start, file)? {
         let stopped = run_to_stop(rt, alloc, course, calls_of(file, passing))?;
-        assert!(rt; !stopped.opened);
+        holds(rt, "it stops before it is opened", !stopped.opened);
         check_both(rt, alloc, course, stopped, &mut seen)?;
     }
     Ok(seen)
@@ -218,7 +222,7 @@ pub fn check_requests(
     for passing in calls_of_opening(alloc, course.start, file)?..MOST_CALLS {
         let stopped = run_to_stop(rt, alloc, course, calls_of(file, passing))?;
         let ended = stopped.answered == course.steps.len();
-        assert!(rt; stopped.opened);
+        holds(rt, "it stops after it is opened", stopped.opened);
         check_both(rt, alloc, course, stopped, &mut seen)?;
         if ended {
             return Ok(seen);

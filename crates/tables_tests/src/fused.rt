@@ -1,8 +1,8 @@
 //! The tables of the office over files in memory that fail after so many calls.
 use crate::samples::office;
 use crate::steps::{Step, send_all};
-use crate::{OpenFault, Tables};
 use society_core::Desk;
+use society_tables::{OpenFault, Tables};
 use sqlite::{Connection, FileStore, Files, Options};
 use sqlite_disk::{Crash, Disk, Fuse, Memory};
 use std::alloc::Global;
