@@ -2,7 +2,7 @@
 ghost use Rattle.std.specs.Prelude.{decimal, OnOk, OnErr};
 ghost use Rattle.society_commands.specs.Connections.{Brings, Prints, ServesConnections, StopsEarly, connection_line, outcome_text};
 
-use crate::replay::{TURNS, fault_name};
+use crate::replaying::{TURNS, fault_name};
 use http_desk::{Counted, DeskFault, FaultKind, Served, serve};
 use itoa::Buffer;
 use society_core::{Desk, Store};

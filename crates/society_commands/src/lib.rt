@@ -5,14 +5,14 @@
 mod command_line;
 mod connections;
 mod opening;
-mod replay;
+mod replaying;
 mod serving;
 mod starting;
 mod words;
 
 pub use connections::{AcceptFault, serve_connections};
 pub use opening::{OpenDatabase, open_fault, serve_file};
-pub use replay::{BROKEN_OFF, SERVED, TURNS, replay, report};
+pub use replaying::{BROKEN_OFF, SERVED, TURNS, replay, report};
 pub use serving::serve_store;
 pub use starting::{NoWords, start, why_no_words, without_words};
 pub use words::{Place, Words, words_in};

@@ -4,7 +4,7 @@ ghost use Rattle.sqlite.specs.Held.{state};
 ghost use Rattle.sqlite.specs.State as connection;
 ghost use Rattle.society_commands.specs.Connections.{IsFound, ServesDatabase, ServesOpened, StopsServingDatabase, StopsServingOpened};
 
-use crate::replay::BROKEN_OFF;
+use crate::replaying::BROKEN_OFF;
 use crate::serving::serve_store;
 use crate::words::Place;
 use http_desk::Counted;

@@ -3,7 +3,7 @@ ghost use Rattle.std.specs.Prelude.{◌≡◌, ◌⊎◌};
 ghost use Rattle.society_commands.specs.Connections.{ServesStore, StopsServingStore};
 
 use crate::connections::{AcceptFault, print, serve_connections};
-use crate::replay::{BROKEN_OFF, SERVED};
+use crate::replaying::{BROKEN_OFF, SERVED};
 use crate::words::Place;
 use http_desk::Counted;
 use society_core::{Desk, Store};

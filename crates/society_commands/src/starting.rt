@@ -9,7 +9,7 @@ ghost use Rattle.society_commands.specs.Words.{IsWrong, StartsReplay, StartsServ
 
 use crate::connections::print;
 use crate::opening::{OpenDatabase, serve_file};
-use crate::replay::{BROKEN_OFF, SERVED, replay, report};
+use crate::replaying::{BROKEN_OFF, SERVED, replay, report};
 use crate::words::{Words, words_in};
 use clap::Error;
 use clap::error::ErrorKind as ClapKind;

@@ -1,12 +1,15 @@
 //! The rows on the desk: what is answered about works, verdicts and acknowledgements, whatever the order of arrival.
-use crate::samples::{F1, F1_ACK, F3, F3_ACK, F4, changed, f2, f8, with_writer_share};
-use crate::{Answer, Arrival, Desk, PlainStore, Refusal, Request, Standing, Work, run};
+use crate::checks::{holds, is_text, told};
 use cwr_files::{FileFault, FileReader};
-use share_rules::{Holder, Office};
+use society_core::{Answer, Arrival, Desk, PlainStore, Refusal, Request, Standing, Work, run};
 use std::alloc::Global;
 use std::process::Abort;
 use std::test::Fail;
-use work_ids::{Account, SenderKey, TransmissionNumber, WorkNumber};
+use test_bodies::{
+    EMPTY, EMPTY_ACK, EXCLUDED, REGISTERED, REGISTERED_ACK, REVISED, changed, holders,
+    number as numbered, office, sender, with_unread_group, work as work_of,
+};
+use work_ids::WorkNumber;
 use works_core::{Verdict, WorkVersion};
 
 /// One request of a row with the answer that is wanted.
@@ -31,28 +34,19 @@ enum Row<'a> {
 }
 
 /// The first work, as the first version of it and as the second one.
-const REGISTERED: Verdict = Verdict::Accepted {
+const FIRST_VERSION: Verdict = Verdict::Accepted {
     ordinal: 1,
     revision: 0,
 };
 
-const REVISED_ONCE: Verdict = Verdict::Accepted {
+const SECOND_VERSION: Verdict = Verdict::Accepted {
     ordinal: 1,
     revision: 1,
 };
 
-fn office() -> Result<Office, &'static str> {
-    Office::new(900, 40, b"EXAMPLE SOCIETY").ok_or("an office")
-}
-
-fn sender() -> Result<SenderKey, &'static str> {
-    SenderKey::from_bytes(b"PB000000012")
-        .ok()
-        .ok_or("a sender key")
-}
-
+/// The work that the samples register.
 fn first_work() -> Result<WorkNumber, &'static str> {
-    WorkNumber::from_bytes(b"W1").ok().ok_or("a work number")
+    work_of(b"W1")
 }
 
 /// A new transmission that is applied, under this front.
@@ -71,35 +65,6 @@ fn arrived(known: bool, front: u32, standing: Standing) -> Result<Arrival, Refus
         front,
         standing,
     })
-}
-
-/// A number within the limits.
-fn numbered(number: u32) -> Result<TransmissionNumber, &'static str> {
-    TransmissionNumber::from_u32(number).ok_or("a number within the limits")
-}
-
-/// The holders of F1 with these weights.
-fn holders(weights: [u64; 3]) -> Result<[Holder; 3], &'static str> {
-    let publisher = Account::from_bytes(b"I00000000199")
-        .ok()
-        .ok_or("an account")?;
-    let writer = Account::from_bytes(b"I00000000295")
-        .ok()
-        .ok_or("an account")?;
-    Ok([
-        Holder {
-            account: publisher,
-            weight: weights[0],
-        },
-        Holder {
-            account: writer,
-            weight: weights[1],
-        },
-        Holder {
-            account: Account::Unclaimed,
-            weight: weights[2],
-        },
-    ])
 }
 
 /// Checks how W1 is shown.
@@ -123,22 +88,23 @@ fn check_work(
         isrcs,
         holders: shown,
     } = work;
-    assert!(rt; number == first_work()?);
+    told(rt, "the work's number", &number, &first_work()?);
     let wanted = WorkVersion {
         transmission: numbered(transmission)?,
         place: 0,
         ordinal: 1,
         revision,
     };
-    assert!(rt; version == wanted);
-    assert_eq!(rt; title.as_slice(), b"FIRST SONG".as_slice());
+    told(rt, "the version", &version, &wanted);
+    is_text(rt, "the title", &title, b"FIRST SONG");
     let iswc = iswc.ok_or("an ISWC")?;
-    assert_eq!(rt; iswc.to_text().as_slice(), b"T-034.524.680-1".as_slice());
-    assert_eq!(rt; isrcs.len(), 1);
-    for isrc in isrcs.as_slice() {
-        assert_eq!(rt; isrc.as_bytes(), b"ATABC2600001".as_slice());
-    }
-    assert!(rt; shown.as_slice() == holders(weights)?.as_slice());
+    is_text(rt, "the ISWC", &iswc.to_text(), b"T-034.524.680-1");
+    let [isrc] = isrcs.as_slice() else {
+        return Err(Fail::new("one ISRC"));
+    };
+    is_text(rt, "the ISRC", isrc.as_bytes(), b"ATABC2600001");
+    let are_right = shown.as_slice() == holders(weights)?.as_slice();
+    holds(rt, "the holders and their weights", are_right);
     Ok(())
 }
 
@@ -170,20 +136,20 @@ fn check(
     match row {
         Row::Put(number, body, wanted) => {
             let answer = desk.put_transmission(alloc, &sender, numbered(*number)?, body);
-            assert!(rt; answer == *wanted);
+            told(rt, "a put", &answer, wanted);
             Ok(())
         }
         Row::Fed(number, bytes, second, wanted) => {
             let answer = put_fed(alloc, desk, *number, bytes, *second)?;
-            assert!(rt; answer == *wanted);
+            told(rt, "a put in pieces", &answer, wanted);
             Ok(())
         }
         Row::Sender(front, waiting) => {
             let status = desk.sender(alloc, &sender).ok().ok_or("a sender")?;
-            assert_eq!(rt; status.front, *front);
-            assert_eq!(rt; status.held.len(), waiting.len());
+            let seen = (status.front, status.held.len());
+            told(rt, "front and held", &seen, &(*front, waiting.len()));
             for (held, wanted) in status.held.iter().zip(waiting.iter()) {
-                assert_eq!(rt; held.value(), *wanted);
+                told(rt, "a held number", &held.value(), wanted);
             }
             Ok(())
         }
@@ -193,24 +159,26 @@ fn check(
                 .verdicts(alloc, &sender, number)
                 .ok()
                 .ok_or("verdicts")?;
-            assert!(rt; verdicts.as_slice() == *wanted);
+            told(rt, "verdicts", &verdicts.as_slice(), wanted);
             Ok(())
         }
         Row::Ack(number, wanted) => {
             let number = numbered(*number)?;
             let text = desk.ack(alloc, &sender, number).ok().ok_or("a text")?;
-            assert_eq!(rt; text.as_slice(), *wanted);
+            is_text(rt, "an acknowledgement", &text, wanted);
             Ok(())
         }
         Row::Waits(number) => {
             let number = numbered(*number)?;
-            assert!(rt; matches!(desk.verdicts(alloc, &sender, number), Err(Refusal::Unknown)));
-            assert!(rt; matches!(desk.ack(alloc, &sender, number), Err(Refusal::Unknown)));
+            let verdicts = desk.verdicts(alloc, &sender, number);
+            holds(rt, "no verdicts", matches!(verdicts, Err(Refusal::Unknown)));
+            let text = desk.ack(alloc, &sender, number);
+            holds(rt, "no text", matches!(text, Err(Refusal::Unknown)));
             Ok(())
         }
         Row::NoWork => {
             let work = desk.work(alloc, &sender, &first_work()?);
-            assert!(rt; matches!(work, Err(Refusal::Unknown)));
+            holds(rt, "no work", matches!(work, Err(Refusal::Unknown)));
             Ok(())
         }
         Row::Work(transmission, revision, weights) => {
@@ -230,22 +198,20 @@ fn check_rows(rt: &impl Abort, alloc: Global, rows: &[Row<'_>]) -> Result<Desk<P
 
 #[test]
 fn gap_filled(rt: HostRuntime) -> Result<(), Fail> {
-    let f2 = f2(rt.alloc())?;
-    let f2 = f2.as_slice();
     check_rows(
         &rt,
         rt.alloc(),
         &[
-            Row::Put(1, F1, applied(1)),
-            Row::Put(3, F3, held(1)),
+            Row::Put(1, REGISTERED, applied(1)),
+            Row::Put(3, EMPTY, held(1)),
             Row::Waits(3),
             Row::Sender(1, &[3]),
-            Row::Put(2, f2, applied(3)),
+            Row::Put(2, REVISED, applied(3)),
             Row::Sender(3, &[]),
-            Row::Ack(1, F1_ACK),
-            Row::Ack(3, F3_ACK),
-            Row::Verdicts(1, &[REGISTERED]),
-            Row::Verdicts(2, &[REVISED_ONCE]),
+            Row::Ack(1, REGISTERED_ACK),
+            Row::Ack(3, EMPTY_ACK),
+            Row::Verdicts(1, &[FIRST_VERSION]),
+            Row::Verdicts(2, &[SECOND_VERSION]),
             Row::Verdicts(3, &[]),
             Row::Work(2, 1, [0, 10_000, 0]),
         ],
@@ -256,8 +222,8 @@ fn gap_filled(rt: HostRuntime) -> Result<(), Fail> {
 #[test]
 fn put_in_pieces(rt: HostRuntime) -> Result<(), Fail> {
     // One record fewer than the group says, which the tenth line tells.
-    let f7 = changed(rt.alloc(), F1, 1_019, b"8")?;
-    let f7 = f7.as_slice();
+    let miscounted = changed(rt.alloc(), REGISTERED, &[(1_019, b"8")])?;
+    let miscounted = miscounted.as_slice();
     let fault = FileFault {
         number: 8,
         line: 10,
@@ -266,12 +232,12 @@ fn put_in_pieces(rt: HostRuntime) -> Result<(), Fail> {
         &rt,
         rt.alloc(),
         &[
-            Row::Fed(1, f7, 7, Err(Refusal::File(fault))),
-            Row::Fed(1, f7, 1_022, Err(Refusal::File(fault))),
+            Row::Fed(1, miscounted, 7, Err(Refusal::File(fault))),
+            Row::Fed(1, miscounted, 1_022, Err(Refusal::File(fault))),
             Row::Sender(0, &[]),
-            Row::Fed(1, F1, 7, applied(1)),
-            Row::Fed(1, F1, 1_048, arrived(true, 1, Standing::Applied)),
-            Row::Fed(1, f7, 1_022, Err(Refusal::Reused)),
+            Row::Fed(1, REGISTERED, 7, applied(1)),
+            Row::Fed(1, REGISTERED, 1_048, arrived(true, 1, Standing::Applied)),
+            Row::Fed(1, miscounted, 1_022, Err(Refusal::Reused)),
         ],
     )?;
     Ok(())
@@ -280,17 +246,15 @@ fn put_in_pieces(rt: HostRuntime) -> Result<(), Fail> {
 #[test]
 fn reverse_arrival(rt: HostRuntime) -> Result<(), Fail> {
     let alloc = rt.alloc();
-    let f2 = f2(alloc)?;
-    let f2 = f2.as_slice();
     let mut there = check_rows(
         &rt,
         alloc,
         &[
-            Row::Put(3, F3, held(0)),
-            Row::Put(2, f2, held(0)),
+            Row::Put(3, EMPTY, held(0)),
+            Row::Put(2, REVISED, held(0)),
             Row::Sender(0, &[2, 3]),
             Row::NoWork,
-            Row::Put(1, F1, applied(3)),
+            Row::Put(1, REGISTERED, applied(3)),
             Row::Work(2, 1, [0, 10_000, 0]),
         ],
     )?;
@@ -298,34 +262,32 @@ fn reverse_arrival(rt: HostRuntime) -> Result<(), Fail> {
         &rt,
         alloc,
         &[
-            Row::Put(1, F1, applied(1)),
-            Row::Put(2, f2, applied(2)),
-            Row::Put(3, F3, applied(3)),
+            Row::Put(1, REGISTERED, applied(1)),
+            Row::Put(2, REVISED, applied(2)),
+            Row::Put(3, EMPTY, applied(3)),
         ],
     )?;
     for number in 1..4 {
         let number = numbered(number)?;
         let one = there.ack(alloc, &sender()?, number).ok().ok_or("a text")?;
         let other = here.ack(alloc, &sender()?, number).ok().ok_or("a text")?;
-        assert_eq!(rt; one.as_slice(), other.as_slice());
+        is_text(&rt, "the text of both orders of arrival", &one, &other);
     }
     Ok(())
 }
 
 #[test]
 fn held_revision_repeated(rt: HostRuntime) -> Result<(), Fail> {
-    let f2 = f2(rt.alloc())?;
-    let f2 = f2.as_slice();
     check_rows(
         &rt,
         rt.alloc(),
         &[
-            Row::Put(1, F1, applied(1)),
-            Row::Put(3, f2, held(1)),
-            Row::Put(3, f2, arrived(true, 1, Standing::Held)),
-            Row::Put(2, F3, applied(3)),
-            Row::Put(3, f2, arrived(true, 3, Standing::Applied)),
-            Row::Verdicts(3, &[REVISED_ONCE]),
+            Row::Put(1, REGISTERED, applied(1)),
+            Row::Put(3, REVISED, held(1)),
+            Row::Put(3, REVISED, arrived(true, 1, Standing::Held)),
+            Row::Put(2, EMPTY, applied(3)),
+            Row::Put(3, REVISED, arrived(true, 3, Standing::Applied)),
+            Row::Verdicts(3, &[SECOND_VERSION]),
         ],
     )?;
     Ok(())
@@ -333,16 +295,16 @@ fn held_revision_repeated(rt: HostRuntime) -> Result<(), Fail> {
 
 #[test]
 fn held_number_reused_on_the_desk(rt: HostRuntime) -> Result<(), Fail> {
-    let other = changed(rt.alloc(), F1, 144, b"H")?;
+    let other = changed(rt.alloc(), REGISTERED, &[(144, b"H")])?;
     let other = other.as_slice();
     check_rows(
         &rt,
         rt.alloc(),
         &[
-            Row::Put(3, F1, held(0)),
+            Row::Put(3, REGISTERED, held(0)),
             Row::Put(3, other, Err(Refusal::Reused)),
-            Row::Put(1, F3, applied(1)),
-            Row::Put(2, F3, applied(3)),
+            Row::Put(1, EMPTY, applied(1)),
+            Row::Put(2, EMPTY, applied(3)),
             Row::Put(3, other, Err(Refusal::Reused)),
         ],
     )?;
@@ -351,17 +313,16 @@ fn held_number_reused_on_the_desk(rt: HostRuntime) -> Result<(), Fail> {
 
 #[test]
 fn revision_before_its_work(rt: HostRuntime) -> Result<(), Fail> {
-    let f2 = f2(rt.alloc())?;
     check_rows(
         &rt,
         rt.alloc(),
         &[
             Row::Sender(0, &[]),
-            Row::Put(2, F1, held(0)),
+            Row::Put(2, REGISTERED, held(0)),
             Row::NoWork,
-            Row::Put(1, f2.as_slice(), applied(2)),
+            Row::Put(1, REVISED, applied(2)),
             Row::Verdicts(1, &[Verdict::Rejected(21)]),
-            Row::Verdicts(2, &[REGISTERED]),
+            Row::Verdicts(2, &[FIRST_VERSION]),
         ],
     )?;
     Ok(())
@@ -370,31 +331,31 @@ fn revision_before_its_work(rt: HostRuntime) -> Result<(), Fail> {
 #[test]
 fn ownership_sum(rt: HostRuntime) -> Result<(), Fail> {
     let alloc = rt.alloc();
-    let f5 = with_writer_share(alloc, b"05007")?;
+    let over = changed(alloc, REGISTERED, &[(551, b"05007")])?;
     let mut desk = check_rows(
         &rt,
         alloc,
         &[
-            Row::Put(1, f5.as_slice(), applied(1)),
+            Row::Put(1, over.as_slice(), applied(1)),
             Row::Verdicts(1, &[Verdict::Rejected(5)]),
-            Row::Put(2, F1, applied(2)),
-            Row::Verdicts(2, &[REGISTERED]),
+            Row::Put(2, REGISTERED, applied(2)),
+            Row::Verdicts(2, &[FIRST_VERSION]),
         ],
     )?;
-    let unnumbered = changed(alloc, F1_ACK, 262, b"                    ")?;
-    let rejected = changed(alloc, unnumbered.as_slice(), 290, b"RJ")?;
+    let unnumbered = (262, b"                    ".as_slice());
+    let rejected = changed(alloc, REGISTERED_ACK, &[unnumbered, (290, b"RJ")])?;
     check(&rt, alloc, &mut desk, &Row::Ack(1, rejected.as_slice()))
 }
 
 #[test]
 fn ownership_sum_at_the_limit(rt: HostRuntime) -> Result<(), Fail> {
-    let f6 = with_writer_share(rt.alloc(), b"05006")?;
+    let at_the_limit = changed(rt.alloc(), REGISTERED, &[(551, b"05006")])?;
     check_rows(
         &rt,
         rt.alloc(),
         &[
-            Row::Put(1, f6.as_slice(), applied(1)),
-            Row::Verdicts(1, &[REGISTERED]),
+            Row::Put(1, at_the_limit.as_slice(), applied(1)),
+            Row::Verdicts(1, &[FIRST_VERSION]),
         ],
     )?;
     Ok(())
@@ -403,9 +364,13 @@ fn ownership_sum_at_the_limit(rt: HostRuntime) -> Result<(), Fail> {
 #[test]
 fn unread_group(rt: HostRuntime) -> Result<(), Fail> {
     let alloc = rt.alloc();
-    let f8 = f8(alloc)?;
-    let second_group = changed(alloc, F1_ACK, 166, b"00002")?;
-    let mut desk = check_rows(&rt, alloc, &[Row::Put(1, f8.as_slice(), applied(1))])?;
+    let behind_agreements = with_unread_group(alloc)?;
+    let second_group = changed(alloc, REGISTERED_ACK, &[(166, b"00002")])?;
+    let mut desk = check_rows(
+        &rt,
+        alloc,
+        &[Row::Put(1, behind_agreements.as_slice(), applied(1))],
+    )?;
     check(&rt, alloc, &mut desk, &Row::Ack(1, second_group.as_slice()))
 }
 
@@ -415,7 +380,7 @@ fn exclusion_row(rt: HostRuntime) -> Result<(), Fail> {
         &rt,
         rt.alloc(),
         &[
-            Row::Put(1, F4, applied(1)),
+            Row::Put(1, EXCLUDED, applied(1)),
             Row::Work(1, 0, [0, 5_000, 5_000]),
         ],
     )?;
@@ -425,14 +390,14 @@ fn exclusion_row(rt: HostRuntime) -> Result<(), Fail> {
 #[test]
 fn held_number_reused_in_a_run(rt: HostRuntime) -> Result<(), Fail> {
     let alloc = rt.alloc();
-    let other = changed(alloc, F1, 144, b"H")?;
+    let other = changed(alloc, REGISTERED, &[(144, b"H")])?;
     let mut desk = Desk::new(PlainStore::new(alloc, &office()?));
     let sender = sender()?;
     let requests = [
         Request::PutTransmission {
             sender,
             number: numbered(3)?,
-            body: F1,
+            body: REGISTERED,
         },
         Request::PutTransmission {
             sender,
@@ -449,22 +414,21 @@ fn held_number_reused_in_a_run(rt: HostRuntime) -> Result<(), Fail> {
             Answer::Refused(Refusal::Reused) => index == 1,
             _ => false,
         };
-        assert!(rt; right);
+        holds(&rt, "the first waits, the second is refused", right);
         seen = index + 1;
     }
-    assert_eq!(rt; seen, 2);
+    told(&rt, "answers", &seen, &2);
     Ok(())
 }
 
 #[test]
 fn three_hundred_versions(rt: HostRuntime) -> Result<(), Fail> {
     let alloc = rt.alloc();
-    let f2 = f2(alloc)?;
     let sender = sender()?;
     let mut desk = Desk::new(PlainStore::new(alloc, &office()?));
     let mut answers = Vec::new(alloc);
     for number in 1..301 {
-        let body = if number == 1 { F1 } else { f2.as_slice() };
+        let body = if number == 1 { REGISTERED } else { REVISED };
         let requests = [Request::PutTransmission {
             sender,
             number: numbered(number)?,
@@ -472,11 +436,11 @@ fn three_hundred_versions(rt: HostRuntime) -> Result<(), Fail> {
         }];
         run(alloc, &mut desk, &requests, &mut answers)?;
     }
-    assert_eq!(rt; answers.len(), 300);
+    told(&rt, "answers", &answers.len(), &300);
     let work = desk
         .work(alloc, &sender, &first_work()?)
         .ok()
         .ok_or("a work")?;
-    assert_eq!(rt; work.version.revision, 299);
+    told(&rt, "the revision", &work.version.revision, &299);
     Ok(())
 }

@@ -1,14 +1,13 @@
 //! Bodies that are fed while they come: one byte a read, faulty ones, and ones that are cut short.
-use crate::connection::{Served, serve};
-use crate::counted::Counted;
-use crate::fault::DeskFault;
-use crate::samples::{F1, first_stream, office, put, tell};
+use crate::checks::{is_text, told};
+use crate::streams::{first_stream, put, tell};
+use http_desk::{Counted, DeskFault, Served, serve};
 use society_core::{Desk, PlainStore};
 use std::alloc::{AllocError, Global};
 use std::io::Read;
 use std::process::Abort;
-use std::str;
 use std::test::Fail;
+use test_bodies::{REGISTERED, changed, office};
 
 const BAD: &str = "{\"error\":\"request\"}";
 
@@ -61,23 +60,15 @@ fn check_puts(
         BAD,
     )?;
     let (out, served) = served_slowly(alloc, input.as_slice())?;
-    assert_eq!(rt; str::from_utf8(&out), str::from_utf8(&wanted));
-    assert_eq!(rt;
-        served,
-        Ok(Served {
-            requests: rows.len() as u128
-        })
-    );
+    is_text(rt, "bodies put in turn", &out, &wanted);
+    let requests = rows.len() as u128;
+    told(rt, "how many are served", &served, &Ok(Served { requests }));
     Ok(())
 }
 
-/// F1 with one record too many told by its trailer of the group.
+/// The registration with one record too few in the count of its group's trailer.
 fn miscounted(alloc: Global) -> Result<Vec<u8>, AllocError> {
-    let mut body = Vec::from_slice(alloc, F1)?;
-    if let Some(digit) = body.get_mut(1_019) {
-        *digit = b'8';
-    }
-    Ok(body)
+    changed(alloc, REGISTERED, &[(1_019, b"8")])
 }
 
 #[test]
@@ -85,8 +76,13 @@ fn first_acknowledgement(rt: HostRuntime) -> Result<(), Fail> {
     let alloc = rt.alloc();
     let stream = first_stream(alloc)?;
     let (out, served) = served_slowly(alloc, stream.input.as_slice())?;
-    assert_eq!(rt; str::from_utf8(&out), str::from_utf8(&stream.output));
-    assert_eq!(rt; served, Ok(Served { requests: 2 }));
+    is_text(&rt, "the first stream", &out, &stream.output);
+    told(
+        &rt,
+        "how many are served",
+        &served,
+        &Ok(Served { requests: 2 }),
+    );
     Ok(())
 }
 
@@ -102,9 +98,9 @@ fn record_count_off_by_one(rt: HostRuntime) -> Result<(), Fail> {
         alloc,
         &[
             (faulty.as_slice(), "422 Unprocessable Entity", refused),
-            (F1, "201 Created", applied),
+            (REGISTERED, "201 Created", applied),
             (faulty.as_slice(), "409 Conflict", "{\"error\":\"reused\"}"),
-            (F1, "200 OK", applied),
+            (REGISTERED, "200 OK", applied),
         ],
         b"GARBAGE\r\n\r\n",
     )
@@ -125,9 +121,9 @@ fn cut_files(rt: HostRuntime) -> Result<(), Fail> {
         &rt,
         alloc,
         &[
-            (&F1[..1_022], refused, no_trailer.as_str()),
-            (&F1[..1_044], refused, cut_trailer.as_str()),
-            (&F1[..40], refused, cut_header.as_str()),
+            (&REGISTERED[..1_022], refused, no_trailer.as_str()),
+            (&REGISTERED[..1_044], refused, cut_trailer.as_str()),
+            (&REGISTERED[..40], refused, cut_header.as_str()),
             (b"", refused, nothing.as_str()),
         ],
         b"POST / HTTP/1.1\r\n\r\n",
@@ -140,8 +136,8 @@ fn broken_requests(rt: HostRuntime) -> Result<(), Fail> {
     let alloc = rt.alloc();
     let faulty = miscounted(alloc)?;
     for (length, body) in [
-        (F1.len(), &F1[..1_047]),
-        (F1.len(), b"".as_slice()),
+        (REGISTERED.len(), &REGISTERED[..1_047]),
+        (REGISTERED.len(), b"".as_slice()),
         (faulty.len(), faulty.get(..1_040).unwrap_or(b"")),
         (1_048_576, faulty.as_slice()),
     ] {

@@ -1,16 +1,15 @@
 //! Files that are cut, streams that fail at each of their bytes, and connections without an end in sight: what is answered,
 //! how it is given up, and what the book is then.
-use crate::connection::{Served, serve};
-use crate::counted::Counted;
-use crate::fault::{DeskFault, FaultKind};
-use crate::samples::{F1, F1_ACK, Stream, first_stream, office, tell};
+use crate::checks::{holds, is_text, told};
+use crate::streams::{Stream, first_stream, tell};
 use cwr_files::FileFault;
+use http_desk::{Counted, DeskFault, FaultKind, Served, serve};
 use society_core::{Desk, PlainStore, Refusal};
 use std::alloc::{AllocError, Global};
 use std::io::{ErrorKind, Read, Write};
 use std::process::Abort;
 use std::test::Fail;
-use work_ids::{SenderKey, TransmissionNumber};
+use test_bodies::{REGISTERED, REGISTERED_ACK, number as numbered, office, sender};
 
 /// A reader that gives at most so many bytes a read; behind its last byte it ends, or fails.
 #[derive(Drop)]
@@ -62,16 +61,6 @@ struct Ended {
     acknowledgement: Option<Vec<u8>>,
 }
 
-fn sender() -> Result<SenderKey, &'static str> {
-    SenderKey::from_bytes(b"PB000000012")
-        .ok()
-        .ok_or("a sender key")
-}
-
-fn first_number() -> Result<TransmissionNumber, &'static str> {
-    TransmissionNumber::from_u32(1).ok_or("a number")
-}
-
 /// Serves what a source gives to a sink of this room, at an office to which nothing has come.
 fn outcome(alloc: Global, source: Source<'_>, room: usize, turns: u64) -> Result<Ended, Fail> {
     let mut desk = Desk::new(PlainStore::new(alloc, &office()?));
@@ -82,7 +71,7 @@ fn outcome(alloc: Global, source: Source<'_>, room: usize, turns: u64) -> Result
     });
     let end = serve(alloc, &mut desk, &mut reader, &mut writer, turns);
     let status = desk.sender(alloc, &sender()?).ok().ok_or("a sender")?;
-    let acknowledgement = desk.ack(alloc, &sender()?, first_number()?).ok();
+    let acknowledgement = desk.ack(alloc, &sender()?, numbered(1)?).ok();
     let Sink { taken, room: _ } = writer.into_inner();
     Ok(Ended {
         end,
@@ -105,26 +94,31 @@ fn check(
     written: &[u8],
     requests: u128,
 ) {
-    assert_eq!(rt; &seen.end, end);
-    assert_eq!(rt; seen.written.as_slice(), written);
+    told(rt, "how it ended", &seen.end, end);
+    is_text(rt, "what was written", &seen.written, written);
     let front = if requests == 0 { 0 } else { 1 };
-    assert_eq!(rt; seen.front, front);
+    told(rt, "the front", &seen.front, &front);
     match &seen.acknowledgement {
-        Some(text) => assert_eq!(rt; text.as_slice(), F1_ACK),
-        None => assert_eq!(rt; requests, 0),
+        Some(text) => is_text(rt, "the acknowledgement", text, REGISTERED_ACK),
+        None => told(rt, "no acknowledgement after", &requests, &0),
     }
 }
 
 #[test]
 fn prefixes_of_a_file(rt: HostRuntime) -> Result<(), Fail> {
     let alloc = rt.alloc();
-    for length in 0..F1.len() + 1 {
-        let body = F1.get(..length).ok_or("a prefix")?;
+    for length in 0..REGISTERED.len() + 1 {
+        let body = REGISTERED.get(..length).ok_or("a prefix")?;
         let mut desk = Desk::new(PlainStore::new(alloc, &office()?));
-        let arrival = desk.put_transmission(alloc, &sender()?, first_number()?, body);
+        let arrival = desk.put_transmission(alloc, &sender()?, numbered(1)?, body);
         let faulty = matches!(&arrival, Err(Refusal::File(_)));
-        assert_eq!(rt; arrival.is_ok(), length >= 1_046);
-        assert_eq!(rt; faulty, length < 1_046);
+        let seen = (length, arrival.is_ok(), faulty);
+        told(
+            &rt,
+            "a prefix",
+            &seen,
+            &(length, length >= 1_046, length < 1_046),
+        );
     }
     Ok(())
 }
@@ -132,9 +126,9 @@ fn prefixes_of_a_file(rt: HostRuntime) -> Result<(), Fail> {
 /// The greatest body, in bytes.
 const MAX_BODY: usize = 1_048_576;
 
-/// F1 and line feeds behind it, so many bytes in all.
+/// REGISTERED and line feeds behind it, so many bytes in all.
 fn with_line_feeds(alloc: Global, length: usize) -> Result<Vec<u8>, AllocError> {
-    let mut body = Vec::from_slice(alloc, F1)?;
+    let mut body = Vec::from_slice(alloc, REGISTERED)?;
     body.resize(length, b'\n')?;
     Ok(body)
 }
@@ -143,7 +137,7 @@ fn with_line_feeds(alloc: Global, length: usize) -> Result<Vec<u8>, AllocError> 
 fn one_byte_over_the_greatest_body(rt: HostRuntime) -> Result<(), Fail> {
     let alloc = rt.alloc();
     let sender = sender()?;
-    let number = first_number()?;
+    let number = numbered(1)?;
     let mut desk = Desk::new(PlainStore::new(alloc, &office()?));
     let over = with_line_feeds(alloc, MAX_BODY + 1)?;
     let fault = FileFault {
@@ -151,12 +145,15 @@ fn one_byte_over_the_greatest_body(rt: HostRuntime) -> Result<(), Fail> {
         line: 1_047_540,
     };
     let refused = desk.put_transmission(alloc, &sender, number, &over);
-    assert!(rt; refused == Err(Refusal::File(fault)));
+    let too_long = refused == Err(Refusal::File(fault));
+    holds(&rt, "one byte over the greatest body is fault 12", too_long);
     let greatest = with_line_feeds(alloc, MAX_BODY)?;
     let arrival = desk.put_transmission(alloc, &sender, number, &greatest);
-    assert!(rt; matches!(arrival, Ok(new) if !new.known && new.front == 1));
+    let is_taken = matches!(arrival, Ok(new) if !new.known && new.front == 1);
+    holds(&rt, "the greatest body is taken", is_taken);
     let refused = desk.put_transmission(alloc, &sender, number, &over);
-    assert!(rt; refused == Err(Refusal::Reused));
+    let is_other = refused == Err(Refusal::Reused);
+    holds(&rt, "another content is refused before its fault", is_other);
     Ok(())
 }
 
@@ -375,13 +372,9 @@ fn a_million_requests(rt: HostRuntime) -> Result<(), Fail> {
         bytes: 0,
     });
     let end = serve(alloc, &mut desk, &mut reader, &mut writer, u64::MAX);
-    assert_eq!(rt;
-        end,
-        Ok(Served {
-            requests: 1_000_000
-        })
-    );
+    let requests = 1_000_000;
+    told(&rt, "how many are served", &end, &Ok(Served { requests }));
     let bytes = (output.len() as u64).saturating_mul(ROUNDS);
-    assert_eq!(rt; writer.into_inner().bytes, bytes);
+    told(&rt, "bytes written", &writer.into_inner().bytes, &bytes);
     Ok(())
 }

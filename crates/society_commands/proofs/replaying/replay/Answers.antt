@@ -5,7 +5,7 @@ use Rattle.society_core.specs.State.{State}
 use Rattle.society_book.specs.Kept.{tables_state}
 use Rattle.society_commands.proofs.ReplayLemmas.{replays_from, breaks_off_from}
 use Rattle.society_commands.proofs.TableLemmas.{no_tables}
-use Rattle.society_commands.proofs.replay.replay.Goals as goal
+use Rattle.society_commands.proofs.replaying.replay.Goals as goal
 
 pub returns-in_default-clause-broken_off : goal.returns-in_default-clause-broken_off
 returns-in_default-clause-broken_off g c = λ one. no_tables c.args.office.now g.R.Read.remaining g.W.Write.contents c.args.reader.now c.args.out.now
