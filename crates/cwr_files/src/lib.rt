@@ -20,6 +20,3 @@ pub use fault_finder::find_fault;
 pub use file_reader::FileReader;
 pub use reader::{known_transmission, one_or_the_other, read_transmission};
 pub use transmission::{Group, Groups, Records, Transaction, Transactions, Transmission};
-
-#[cfg(test)]
-mod tests;

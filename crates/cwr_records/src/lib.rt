@@ -50,6 +50,3 @@ pub use work::{TransactionKind, WorkRecord};
 pub use write::write_record;
 pub use writer::{WriterRecord, WriterRole};
 pub use writer_territory::WriterTerritory;
-
-#[cfg(test)]
-mod tests;

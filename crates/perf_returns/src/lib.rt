@@ -15,6 +15,3 @@ pub use performances::{Performances, Return};
 pub use plays::Plays;
 pub use reading::read_return;
 pub use seconds::Seconds;
-
-#[cfg(test)]
-mod tests;

@@ -1,4 +1,3 @@
-pub mod Ascending
 pub mod Counts
 pub mod Thresholds
 pub mod Parts

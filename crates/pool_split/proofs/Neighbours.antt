@@ -1,6 +1,7 @@
 -- Claims of which each is below the next ascend, and the other way round.
 use Rattle.std.proofs.Common.{◌≡◌, ℕ, ◌+◌, ◌<◌, ◌≤◌, List, [], ◌∷◌, ap, arith, get_or, length, map, subst₂, sym, ◌∙◌}
 use Rattle.std.specs.Cmp.Lexicographic.{slice_cmp}
+use Rattle.std.specs.List.Sorted.{IsStrictlySortedBy}
 use Rattle.std.specs.Ordering.{nat_cmp}
 use Rattle.std.specs.declared.cmp.Ordering.TheVariants.{Less}
 use Rattle.std.proofs.lemmas.Cmp.{nat_list_cmp_total}
@@ -8,7 +9,6 @@ use Rattle.std.proofs.lemmas.List.{get_or-map, length-map}
 use Rattle.std.proofs.lemmas.Map.Keys.{Less-from_sorted, sorted_from_all_adjacent}
 use Rattle.pool_split.specs.Credits.{Ascend}
 use Rattle.pool_split.specs.declared.claim.Claim.{Claim}
-use Rattle.pool_split.proofs.Ascending.{none_ascends}
 
 abbrev isrc_of : Claim → List ℕ
 isrc_of claim = claim.isrc
@@ -20,6 +20,11 @@ IsBelow earlier later = slice_cmp nat_cmp earlier.isrc later.isrc ≡ Less
 -- each of so many claims is below the one behind it
 abbrev pub AreBelowNext : List Claim → ℕ → Type 0
 AreBelowNext claims n = (k : ℕ) → k < n → (d : Claim) → IsBelow (get_or claims k d) (get_or claims (k + 1) d)
+
+-- the empty list ascends
+none_ascends : IsStrictlySortedBy (slice_cmp nat_cmp) []
+unfolding IsStrictlySortedBy
+none_ascends = tt
 
 -- claims ascend where each but the last is below the one behind it
 pub ascend_by_neighbours : (claims : List Claim) (n : ℕ) → length claims ≤ n + 1 → AreBelowNext claims n → Ascend claims

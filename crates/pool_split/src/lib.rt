@@ -12,6 +12,3 @@ pub use claim::{Claim, Credit, Holders};
 pub use crediting::credits;
 pub use payable::are_payable;
 pub use splitting::split;
-
-#[cfg(test)]
-mod tests;

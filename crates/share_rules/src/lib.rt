@@ -17,8 +17,6 @@ mod party_search;
 mod share_fields;
 mod shares;
 mod territory_row;
-#[cfg(test)]
-mod tests;
 mod totals;
 mod weighing;
 

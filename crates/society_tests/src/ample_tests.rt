@@ -1,16 +1,16 @@
 //! With ample memory nothing is answered 503: the greatest body, many transactions, groups, numbers and requests.
 use crate::checks::{holds, is_number, is_status};
-use crate::samples::{F1, F2, F3};
 use crate::streams::{answer, get, put, replayed};
 use std::alloc::{AllocError, Global};
 use std::process::Abort;
 use std::str;
 use std::test::Fail;
+use test_bodies::{EMPTY, REGISTERED, REVISED};
 
 /// The greatest body, in bytes.
 const MAX_BODY: usize = 1_048_576;
 
-/// Where the records of F1's transaction begin and end.
+/// Where the records of REGISTERED's transaction begin and end.
 const RECORDS: [(usize, usize); 7] = [
     (116, 224),
     (224, 362),
@@ -21,12 +21,12 @@ const RECORDS: [(usize, usize); 7] = [
     (733, 996),
 ];
 
-/// The bytes of F1 at these places.
+/// The bytes of REGISTERED at these places.
 fn part(start: usize, end: usize) -> &'static [u8] {
-    F1.get(start..end).unwrap_or(b"")
+    REGISTERED.get(start..end).unwrap_or(b"")
 }
 
-/// Appends the transaction of F1 under this sequence number.
+/// Appends the transaction of REGISTERED under this sequence number.
 fn add_transaction(alloc: Global, body: &mut Vec<u8>, sequence: u32) -> Result<(), AllocError> {
     let digits = format!(in alloc; "{sequence:08}")?;
     for (start, end) in RECORDS {
@@ -95,7 +95,7 @@ fn check_accepted(rt: &impl Abort, alloc: Global, body: &[u8]) -> Result<(), Fai
 #[test]
 fn greatest_body(rt: HostRuntime) -> Result<(), Fail> {
     let alloc = rt.alloc();
-    let mut body = Vec::from_slice(alloc, F1)?;
+    let mut body = Vec::from_slice(alloc, REGISTERED)?;
     body.resize(MAX_BODY, b'\n')?;
     check_accepted(&rt, alloc, body.as_slice())
 }
@@ -121,7 +121,7 @@ fn three_hundred_numbers(rt: HostRuntime) -> Result<(), Fail> {
     let mut input = Vec::new(alloc);
     for number in 1..301 {
         let number_text = format!(in alloc; "{number}")?;
-        let body = if number == 1 { F1 } else { F2 };
+        let body = if number == 1 { REGISTERED } else { REVISED };
         put(alloc, &mut input, number_text.as_str(), body)?;
         get(alloc, &mut input, number_text.as_str())?;
     }
@@ -144,7 +144,7 @@ fn run_of_one_hundred_thousand_puts(rt: HostRuntime) -> Result<(), Fail> {
     let mut wanted = Vec::new(alloc);
     for number in 1..100_001 {
         let number_text = format!(in alloc; "{number}")?;
-        put(alloc, &mut input, number_text.as_str(), F3)?;
+        put(alloc, &mut input, number_text.as_str(), EMPTY)?;
         let json = format!(in alloc; "{{\"front\":{number},\"state\":\"applied\"}}")?;
         answer(alloc, &mut wanted, "201 Created", "json", json.as_bytes())?;
     }

@@ -1,7 +1,6 @@
 //! Connections over TCP, in one process: what each peer gets, and the lines that are printed.
 use crate::checks::{holds, is_text};
-use crate::samples::{F1, F1_ACK, F3, F3_ACK};
-use crate::streams::{answer, get, office, put};
+use crate::streams::{answer, get, put};
 use http_desk::Counted;
 use society_core::{Desk, PlainStore};
 use society_commands::serve_connections;
@@ -9,6 +8,7 @@ use std::alloc::Global;
 use std::io::{Read, Write};
 use std::net::{Ipv4Addr, Shutdown, TcpListener, TcpStream};
 use std::test::Fail;
+use test_bodies::{EMPTY, EMPTY_ACK, REGISTERED, REGISTERED_ACK, office};
 
 /// A connection that has sent these bytes, and sends no more. The system keeps it until it is accepted.
 fn sent(rt: &HostRuntime, listener: &TcpListener, bytes: &[u8]) -> Result<TcpStream, Fail> {
@@ -36,11 +36,11 @@ fn add_applied(alloc: Global, wanted: &mut Vec<u8>, front: u32) -> Result<(), Fa
 fn one_connection(rt: HostRuntime) -> Result<(), Fail> {
     let alloc = rt.alloc();
     let mut input = Vec::new(alloc);
-    put(alloc, &mut input, "1", F1)?;
+    put(alloc, &mut input, "1", REGISTERED)?;
     get(alloc, &mut input, "1")?;
     let mut wanted = Vec::new(alloc);
     add_applied(alloc, &mut wanted, 1)?;
-    answer(alloc, &mut wanted, "200 OK", "octet-stream", F1_ACK)?;
+    answer(alloc, &mut wanted, "200 OK", "octet-stream", REGISTERED_ACK)?;
     let listener = TcpListener::bind(&rt, (Ipv4Addr::LOCALHOST, 0))?;
     let mut peer = sent(&rt, &listener, input.as_slice())?;
     let mut desk = Desk::new(PlainStore::new(alloc, &office()?));
@@ -56,15 +56,15 @@ fn one_connection(rt: HostRuntime) -> Result<(), Fail> {
 fn connections_share_one_book(rt: HostRuntime) -> Result<(), Fail> {
     let alloc = rt.alloc();
     let mut first = Vec::new(alloc);
-    put(alloc, &mut first, "1", F1)?;
+    put(alloc, &mut first, "1", REGISTERED)?;
     let mut second = Vec::new(alloc);
-    put(alloc, &mut second, "2", F3)?;
+    put(alloc, &mut second, "2", EMPTY)?;
     get(alloc, &mut second, "2")?;
     let mut first_wanted = Vec::new(alloc);
     add_applied(alloc, &mut first_wanted, 1)?;
     let mut second_wanted = Vec::new(alloc);
     add_applied(alloc, &mut second_wanted, 2)?;
-    answer(alloc, &mut second_wanted, "200 OK", "octet-stream", F3_ACK)?;
+    answer(alloc, &mut second_wanted, "200 OK", "octet-stream", EMPTY_ACK)?;
     let listener = TcpListener::bind(&rt, (Ipv4Addr::LOCALHOST, 0))?;
     let mut one = sent(&rt, &listener, first.as_slice())?;
     let mut none = sent(&rt, &listener, b"")?;
@@ -86,7 +86,7 @@ fn connections_share_one_book(rt: HostRuntime) -> Result<(), Fail> {
 fn a_connection_that_breaks_off(rt: HostRuntime) -> Result<(), Fail> {
     let alloc = rt.alloc();
     let mut whole = Vec::new(alloc);
-    put(alloc, &mut whole, "1", F1)?;
+    put(alloc, &mut whole, "1", REGISTERED)?;
     let mut wanted = Vec::new(alloc);
     add_applied(alloc, &mut wanted, 1)?;
     let bad =
@@ -110,7 +110,7 @@ fn a_connection_that_breaks_off(rt: HostRuntime) -> Result<(), Fail> {
 fn a_peer_that_is_gone(rt: HostRuntime) -> Result<(), Fail> {
     let alloc = rt.alloc();
     let mut whole = Vec::new(alloc);
-    put(alloc, &mut whole, "1", F1)?;
+    put(alloc, &mut whole, "1", REGISTERED)?;
     let mut wanted = Vec::new(alloc);
     add_applied(alloc, &mut wanted, 1)?;
     let listener = TcpListener::bind(&rt, (Ipv4Addr::LOCALHOST, 0))?;

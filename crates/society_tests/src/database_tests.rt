@@ -3,7 +3,6 @@ ghost use Rattle.std.specs.Prelude.{⊤};
 
 use crate::checks::{holds, is_status, is_text};
 use crate::day_tests::{ANSWERS, DAY};
-use crate::streams::office;
 use http_desk::{Counted, serve};
 use share_rules::Office;
 use society_core::Desk;
@@ -15,6 +14,7 @@ use std::io;
 use std::net::{Net, SocketAddr, TcpListener, TcpStream};
 use std::process::Abort;
 use std::test::Fail;
+use test_bodies::office;
 
 /// A desk over the database at a path, opened as the office's.
 fn opened(rt: &HostRuntime, path: &str) -> Result<Desk<Tables<FileStore<FileFrom<Wary>>>>, Fail> {

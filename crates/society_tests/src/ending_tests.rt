@@ -1,12 +1,13 @@
 //! Streams and words that fail: what is written, the exit status, and the lines on standard error.
 use crate::checks::{holds, is_status, is_text};
-use crate::streams::{get, office};
+use crate::streams::get;
 use http_desk::{Counted, DeskFault, FaultKind};
 use society_commands::{NoWords, replay, report, why_no_words, without_words};
 use std::alloc::Global;
 use std::io::{ErrorKind, Read, Write};
 use std::str;
 use std::test::Fail;
+use test_bodies::office;
 
 /// A reader and a writer that fail at once.
 #[derive(Drop)]

@@ -1,11 +1,12 @@
 //! The rows of every request over HTTP, byte for byte: each table is one stream, sent to an office to which nothing has come.
 use crate::checks::{is_status, is_text};
-use crate::samples::{Body, F3_ACK, Sample};
+use crate::samples::{Body, Sample};
 use crate::streams::replayed;
 use std::alloc::{AllocError, Global};
 use std::process::Abort;
 use std::str;
 use std::test::Fail;
+use test_bodies::EMPTY_ACK;
 
 /// A request line without its version, the body, and the answer's status, content type and body.
 type Row = (
@@ -82,19 +83,19 @@ const ORDER: Body = Body::Bytes(
 );
 
 const EMPTY_FILE: &[Row] = &[
-    (PUT_1, Body::Whole(Sample::F3), CREATED, JSON, FRONT_1),
+    (PUT_1, Body::Whole(Sample::Empty), CREATED, JSON, FRONT_1),
     (
         "GET /v1/senders/PB000000012/acks/1",
         NOTHING,
         DONE,
         OCTETS,
-        F3_ACK,
+        EMPTY_ACK,
     ),
 ];
 
 const FIRST_GAP_FILLED: &[Row] = &[
-    (PUT_3, Body::Whole(Sample::F3), ACCEPTED, JSON, HELD),
-    (PUT_2, Body::Whole(Sample::F2), ACCEPTED, JSON, HELD),
+    (PUT_3, Body::Whole(Sample::Empty), ACCEPTED, JSON, HELD),
+    (PUT_2, Body::Whole(Sample::Revised), ACCEPTED, JSON, HELD),
     (SENDER, NOTHING, DONE, JSON, b"{\"front\":0,\"held\":[2,3]}"),
     (
         "GET /v1/senders/PB000000012/works/W1",
@@ -110,7 +111,7 @@ const FIRST_GAP_FILLED: &[Row] = &[
         JSON,
         UNKNOWN,
     ),
-    (PUT_1, Body::Whole(Sample::F1), CREATED, JSON, FRONT_3),
+    (PUT_1, Body::Whole(Sample::Registered), CREATED, JSON, FRONT_3),
     (
         "GET /v1/senders/PB000000012/works/W1",
         NOTHING,
@@ -137,57 +138,57 @@ const FIRST_GAP_FILLED: &[Row] = &[
         NOTHING,
         DONE,
         OCTETS,
-        F3_ACK,
+        EMPTY_ACK,
     ),
 ];
 
 /// The second puts an H in place of a letter of the title.
 const HELD_NUMBER_REUSED: &[Row] = &[
-    (PUT_3, Body::Whole(Sample::F1), ACCEPTED, JSON, HELD),
+    (PUT_3, Body::Whole(Sample::Registered), ACCEPTED, JSON, HELD),
     (
         PUT_3,
-        Body::Changed(Sample::F1, &[(144, b"H")]),
+        Body::Changed(Sample::Registered, &[(144, b"H")]),
         CONFLICT,
         JSON,
         REUSED,
     ),
-    (PUT_1, Body::Whole(Sample::F3), CREATED, JSON, FRONT_1),
-    (PUT_2, Body::Whole(Sample::F3), CREATED, JSON, FRONT_3),
+    (PUT_1, Body::Whole(Sample::Empty), CREATED, JSON, FRONT_1),
+    (PUT_2, Body::Whole(Sample::Empty), CREATED, JSON, FRONT_3),
     (
         PUT_3,
-        Body::Changed(Sample::F1, &[(144, b"H")]),
+        Body::Changed(Sample::Registered, &[(144, b"H")]),
         CONFLICT,
         JSON,
         REUSED,
     ),
-    (PUT_3, Body::Whole(Sample::F1), DONE, JSON, FRONT_3),
+    (PUT_3, Body::Whole(Sample::Registered), DONE, JSON, FRONT_3),
 ];
 
 const NUMBERS_AT_THE_LIMITS: &[Row] = &[
     (
         "PUT /v1/senders/PB000000012/transmissions/999999",
-        Body::Whole(Sample::F3),
+        Body::Whole(Sample::Empty),
         ACCEPTED,
         JSON,
         HELD,
     ),
     (
         "PUT /v1/senders/PB000000012/transmissions/1000000",
-        Body::Whole(Sample::F3),
+        Body::Whole(Sample::Empty),
         NOT_FOUND,
         JSON,
         UNKNOWN,
     ),
     (
         "PUT /v1/senders/PB000000012/transmissions/0",
-        Body::Whole(Sample::F3),
+        Body::Whole(Sample::Empty),
         NOT_FOUND,
         JSON,
         UNKNOWN,
     ),
     (
         "PUT /v1/senders/PB000000012/transmissions/01",
-        Body::Whole(Sample::F3),
+        Body::Whole(Sample::Empty),
         NOT_FOUND,
         JSON,
         UNKNOWN,
@@ -198,32 +199,32 @@ const NUMBERS_AT_THE_LIMITS: &[Row] = &[
 const RECORD_COUNT_OFF_BY_ONE: &[Row] = &[
     (
         PUT_1,
-        Body::Changed(Sample::F1, &[(1_019, b"8")]),
+        Body::Changed(Sample::Registered, &[(1_019, b"8")]),
         UNPROCESSABLE,
         JSON,
         b"{\"error\":\"file\",\"fault\":8,\"line\":10}",
     ),
-    (PUT_1, Body::Whole(Sample::F1), CREATED, JSON, FRONT_1),
+    (PUT_1, Body::Whole(Sample::Registered), CREATED, JSON, FRONT_1),
 ];
 
 const CUT_FILES: &[Row] = &[
     (
         PUT_1,
-        Body::Cut(Sample::F1, 1_022),
+        Body::Cut(Sample::Registered, 1_022),
         UNPROCESSABLE,
         JSON,
         b"{\"error\":\"file\",\"fault\":10,\"line\":11}",
     ),
     (
         PUT_1,
-        Body::Cut(Sample::F1, 1_044),
+        Body::Cut(Sample::Registered, 1_044),
         UNPROCESSABLE,
         JSON,
         b"{\"error\":\"file\",\"fault\":9,\"line\":11}",
     ),
     (
         PUT_1,
-        Body::Cut(Sample::F1, 40),
+        Body::Cut(Sample::Registered, 40),
         UNPROCESSABLE,
         JSON,
         b"{\"error\":\"file\",\"fault\":3,\"line\":1}",
@@ -237,19 +238,19 @@ const CUT_FILES: &[Row] = &[
     ),
 ];
 
-const LINE_FEEDS_ALONE: &[Row] = &[(PUT_1, Body::LineFeeds(Sample::F1), CREATED, JSON, FRONT_1)];
+const LINE_FEEDS_ALONE: &[Row] = &[(PUT_1, Body::LineFeeds(Sample::Registered), CREATED, JSON, FRONT_1)];
 
 /// A revision of a work that is not there, a share over the whole by seven hundredths of a percent, and a registration.
 const VERDICTS_BY_FAULT: &[Row] = &[
-    (PUT_1, Body::Whole(Sample::F2), CREATED, JSON, FRONT_1),
+    (PUT_1, Body::Whole(Sample::Revised), CREATED, JSON, FRONT_1),
     (
         PUT_2,
-        Body::Changed(Sample::F1, &[(551, b"05007")]),
+        Body::Changed(Sample::Registered, &[(551, b"05007")]),
         CREATED,
         JSON,
         FRONT_2,
     ),
-    (PUT_3, Body::Whole(Sample::F1), CREATED, JSON, FRONT_3),
+    (PUT_3, Body::Whole(Sample::Registered), CREATED, JSON, FRONT_3),
     (
         "GET /v1/senders/PB000000012/verdicts/1",
         NOTHING,
@@ -276,7 +277,7 @@ const VERDICTS_BY_FAULT: &[Row] = &[
 const TITLE_AND_NAMES_ESCAPED: &[Row] = &[
     (
         PUT_1,
-        Body::Changed(Sample::F4, &[(135, b"\xc3\x89T%\"\\    "), (197, b"W\"")]),
+        Body::Changed(Sample::Excluded, &[(135, b"\xc3\x89T%\"\\    "), (197, b"W\"")]),
         CREATED,
         JSON,
         FRONT_1,
@@ -321,8 +322,8 @@ const RETURNS_STORED_REPEATED_AND_REFUSED: &[Row] = &[
 ];
 
 const POOL_CLOSED_AND_PAID: &[Row] = &[
-    (PUT_1, Body::Whole(Sample::F1), CREATED, JSON, FRONT_1),
-    (PUT_2, Body::Whole(Sample::F3), CREATED, JSON, FRONT_2),
+    (PUT_1, Body::Whole(Sample::Registered), CREATED, JSON, FRONT_1),
+    (PUT_2, Body::Whole(Sample::Empty), CREATED, JSON, FRONT_2),
     (RETURN_1, TEN_PLAYS, CREATED, JSON, STORED),
     (
         "PUT /v1/pools/7",
@@ -332,7 +333,7 @@ const POOL_CLOSED_AND_PAID: &[Row] = &[
         b"{\"error\":\"cut\",\"front\":2,\"sender\":\"PB000000012\"}",
     ),
     ("GET /v1/pools/7", NOTHING, NOT_FOUND, JSON, UNKNOWN),
-    (PUT_3, Body::Whole(Sample::F3), CREATED, JSON, FRONT_3),
+    (PUT_3, Body::Whole(Sample::Empty), CREATED, JSON, FRONT_3),
     ("PUT /v1/pools/7", ORDER, CREATED, JSON, POOL_7_CLOSED),
     ("PUT /v1/pools/7", ORDER, DONE, JSON, POOL_7_CLOSED),
     (
@@ -421,7 +422,7 @@ const POOLS_WITHOUT_OWNERS: &[Row] = &[
 ];
 
 const BALANCES: &[Row] = &[
-    (PUT_1, Body::Whole(Sample::F1), CREATED, JSON, FRONT_1),
+    (PUT_1, Body::Whole(Sample::Registered), CREATED, JSON, FRONT_1),
     (RETURN_1, TEN_PLAYS, CREATED, JSON, STORED),
     (
         "PUT /v1/pools/7",

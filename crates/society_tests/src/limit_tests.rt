@@ -1,13 +1,13 @@
 //! The limits of heads and returns: what is just within them is served, and what is just past them refused.
 use crate::checks::{holds, is_number, is_status, is_text};
-use crate::samples::{F1, F2};
-use crate::streams::{answer, office, put, put_return, replayed};
+use crate::streams::{answer, put, put_return, replayed};
 use http_desk::{Counted, Served, serve};
 use society_core::{Desk, PlainStore};
 use std::alloc::{AllocError, Global};
 use std::process::Abort;
 use std::str;
 use std::test::Fail;
+use test_bodies::{REGISTERED, REVISED, office};
 
 /// The greatest head, in bytes.
 const MAX_HEAD: usize = 8_192;
@@ -132,7 +132,7 @@ fn fronts_to_three_hundred(rt: HostRuntime) -> Result<(), Fail> {
     let mut wanted = Vec::new(alloc);
     for number in 1..301 {
         let text = format!(in alloc; "{number}")?;
-        let body = if number == 1 { F1 } else { F2 };
+        let body = if number == 1 { REGISTERED } else { REVISED };
         put(alloc, &mut input, text.as_str(), body)?;
         let json = format!(in alloc; "{{\"front\":{number},\"state\":\"applied\"}}")?;
         answer(alloc, &mut wanted, "201 Created", "json", json.as_bytes())?;

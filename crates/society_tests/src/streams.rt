@@ -1,14 +1,9 @@
 //! Streams of requests and what is written for them.
 use http_desk::Counted;
-use share_rules::Office;
 use society_commands::replay;
 use std::alloc::{AllocError, Global};
 use std::test::Fail;
-
-/// The office of the rows.
-pub fn office() -> Result<Office, &'static str> {
-    Office::new(900, 40, b"EXAMPLE SOCIETY").ok_or("an office")
-}
+use test_bodies::office;
 
 /// What is written for these requests, and the exit status.
 pub fn replayed(alloc: Global, input: &[u8]) -> Result<(Vec<u8>, u8), Fail> {

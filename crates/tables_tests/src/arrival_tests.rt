@@ -1,6 +1,5 @@
 //! Transmissions that come to the tables in any order, beside the store in memory, and a return.
 use crate::checks::told;
-use crate::samples::{EMPTY, REGISTERED, REVISED, office};
 use cwr_files::FileReader;
 use perf_returns::read_return;
 use society_core::{Known, KnownTransmission, Payment, PlainStore, ReturnKey, Store};
@@ -8,6 +7,7 @@ use society_tables::Tables;
 use sqlite::MemStore;
 use std::alloc::Global;
 use std::test::Fail;
+use test_bodies::{EMPTY, REGISTERED, REVISED, office};
 use work_ids::{Reporter, ReturnNumber, SenderKey, TransmissionNumber};
 
 /// The tables and the store in memory of the example society, with nothing in them.

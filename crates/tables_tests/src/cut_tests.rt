@@ -2,7 +2,6 @@
 ghost use Rattle.std.specs.Prelude.{◌≡◌, false};
 
 use crate::checks::holds;
-use crate::samples::{REGISTERED, REVISED, changed};
 use cwr_files::FileReader;
 use perf_returns::read_return;
 use share_rules::Office;
@@ -12,6 +11,7 @@ use society_rows::{OfficeRow, create};
 use sqlite::{Connection, MemStore};
 use std::alloc::Global;
 use std::test::Fail;
+use test_bodies::{REGISTERED, REVISED, changed};
 use work_ids::{SenderKey, TransmissionNumber};
 
 /// Two senders, who differ in their last two digits.
@@ -49,9 +49,9 @@ fn put_all(alloc: Global, conn: &mut Connection<MemStore>, office: &Office) -> R
     requires { conn.old.in_transaction ≡ false }
     ensures { conn.new.in_transaction ≡ false }
 {
-    let second = changed(alloc, REVISED, &[(993, b'2')])?;
-    let third = changed(alloc, REVISED, &[(993, b'3')])?;
-    let others = changed(alloc, REGISTERED, &[(12, b'3'), (13, b'4'), (993, b'2')])?;
+    let second = changed(alloc, REVISED, &[(993, b"2")])?;
+    let third = changed(alloc, REVISED, &[(993, b"3")])?;
+    let others = changed(alloc, REGISTERED, &[(12, b"3"), (13, b"4"), (993, b"2")])?;
     put(alloc, conn, office, ONE, 1, REGISTERED)?;
     put(alloc, conn, office, ONE, 2, second.as_slice())?;
     put(alloc, conn, office, ONE, 3, third.as_slice())?;

@@ -2,13 +2,13 @@
 use crate::checks::{holds, told};
 use crate::listing::{TABLES, rows_by};
 use crate::row_tests::left_by_pool;
-use crate::samples::{REGISTERED, changed, office};
 use share_rules::Office;
 use society_tables::{OpenFault, Tables};
 use sqlite::{Connection, MemStore, params};
 use std::alloc::Global;
 use std::process::Abort;
 use std::test::Fail;
+use test_bodies::{REGISTERED, changed, office};
 
 /// How the bodies are read, each behind its number.
 const BODIES: [&str; 1] = ["SELECT number, body FROM transmissions ORDER BY number"];
@@ -111,7 +111,7 @@ fn set_body(conn: &mut Connection<MemStore>, body: &Vec<u8>) -> Result<(), Fail>
 fn a_changed_byte_of_a_body_is_damage(rt: HostRuntime) -> Result<(), Fail> {
     let alloc = rt.alloc();
     let mut conn = left_by_pool(alloc)?;
-    set_body(&mut conn, &changed(alloc, REGISTERED, &[(0, b'X')])?)?;
+    set_body(&mut conn, &changed(alloc, REGISTERED, &[(0, b"X")])?)?;
     check_refused(&rt, alloc, conn, &BODIES, OpenFault::Damaged)
 }
 

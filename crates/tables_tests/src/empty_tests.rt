@@ -1,11 +1,11 @@
 //! The store over tables in memory, asked before anything has come.
 use crate::checks::{holds, told};
-use crate::samples::office;
 use society_core::{Known, KnownTransmission, Payment, PoolOrder, ReturnKey, Store};
 use society_tables::Tables;
 use sqlite::MemStore;
 use std::alloc::Global;
 use std::test::Fail;
+use test_bodies::office;
 use work_ids::{
     Account, PoolNumber, Reporter, ReturnNumber, SenderKey, TransmissionNumber, WorkNumber,
 };

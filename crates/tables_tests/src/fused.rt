@@ -1,5 +1,4 @@
 //! The tables of the office over files in memory that fail after so many calls.
-use crate::samples::office;
 use crate::steps::{Step, send_all};
 use society_core::Desk;
 use society_tables::{OpenFault, Tables};
@@ -7,6 +6,7 @@ use sqlite::{Connection, FileStore, Files, Options};
 use sqlite_disk::{Crash, Disk, Fuse, Memory};
 use std::alloc::Global;
 use std::test::Fail;
+use test_bodies::office;
 
 /// A file that fails each call after so many.
 pub type Fused = Fuse<Memory>;

@@ -22,8 +22,6 @@ mod pool_tests;
 #[cfg(test)]
 mod row_tests;
 #[cfg(test)]
-mod samples;
-#[cfg(test)]
 mod steps;
 #[cfg(test)]
 mod stop_tests;

@@ -2,13 +2,13 @@
 ghost use Rattle.std.specs.Prelude.{◌≡◌, IfOk, false};
 
 use crate::checks::{holds, told};
-use crate::samples::REGISTERED;
 use share_rules::Office;
 use society_core::{Desk, PoolOrder, ReturnKey, Store};
 use society_tables::{AuditFault, OpenFault, Tables, confirm};
 use sqlite::{Connection, MemStore};
 use std::alloc::Global;
 use std::test::Fail;
+use test_bodies::REGISTERED;
 use work_ids::{Account, PoolNumber, Reporter, ReturnNumber, SenderKey, TransmissionNumber};
 
 /// A return of one reporter.

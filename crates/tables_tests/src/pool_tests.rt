@@ -1,6 +1,5 @@
 //! The rows of money on the desk, each over tables in memory and over the plain store: returns, pools at a cut, credits and balances.
 use crate::checks::{holds, told};
-use crate::samples::{EMPTY, REGISTERED, REVISED, changed, office};
 use pool_split::Credit;
 use society_core::{Desk, OrderError, PlainStore, PoolOrder, Receipt, Refusal, ReturnKey, Store};
 use society_tables::Tables;
@@ -8,6 +7,7 @@ use sqlite::MemStore;
 use std::alloc::Global;
 use std::process::Abort;
 use std::test::Fail;
+use test_bodies::{EMPTY, REGISTERED, REVISED, changed, office};
 use work_ids::{Account, Isrc, PoolNumber, Reporter, ReturnNumber, SenderKey, TransmissionNumber};
 
 /// A return of one recording: 10 plays of 200 seconds.
@@ -244,7 +244,7 @@ fn check_two_claimants<S: Store>(
     alloc: Global,
     desk: &mut Desk<S>,
 ) -> Result<(), Fail> {
-    let other = changed(alloc, REGISTERED, &[(12, b'3'), (13, b'4')])?;
+    let other = changed(alloc, REGISTERED, &[(12, b"3"), (13, b"4")])?;
     put(alloc, desk, FIRST, 1, REGISTERED)?;
     put(alloc, desk, SECOND, 1, &other)?;
     let played = b"isrc,plays,seconds\nATABC2600001,1,100\nGBXYZ2600002,1,300\n";

@@ -1,7 +1,6 @@
 //! The rows that requests leave in the tables, read by plain SQL.
 use crate::checks::told;
 use crate::listing::{TABLES, lines, rows_by};
-use crate::samples::office;
 use crate::steps::{
     BEFORE_RETURN, Step, closed_at_a_cut, gap_filled, order_at_a_cut, reverse_arrival, send_all,
 };
@@ -11,6 +10,7 @@ use sqlite::{Connection, MemStore};
 use std::alloc::Global;
 use std::process::Abort;
 use std::test::Fail;
+use test_bodies::office;
 
 /// What a registration, its revision and a file with no group leave, in whichever order they come.
 const THREE_FILES: [&str; 11] = [

@@ -1,8 +1,8 @@
 //! Requests that are sent one after another, and what is answered to each.
-use crate::samples::{EMPTY, REGISTERED, REVISED};
 use society_core::{Arrival, Desk, PoolOrder, Receipt, Refusal, ReturnKey, Store};
 use std::alloc::Global;
 use std::test::Fail;
+use test_bodies::{EMPTY, REGISTERED, REVISED};
 use work_ids::{PoolNumber, Reporter, ReturnNumber, SenderKey, TransmissionNumber};
 
 /// A return of one recording: 10 plays of 200 seconds.

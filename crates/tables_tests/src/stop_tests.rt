@@ -1,7 +1,6 @@
 //! Requests over files that stop: a gap that is filled, a pool closed at a cut, and a run that is let go.
 use crate::checks::holds;
 use crate::fused::{File, left_by};
-use crate::samples::{REGISTERED, REVISED, office};
 use crate::steps::{
     BEFORE_RETURN, Step, Told, closed_at_a_cut, gap_filled, order_at_a_cut, send_all,
 };
@@ -10,6 +9,7 @@ use society_core::{Desk, PlainStore};
 use std::alloc::Global;
 use std::process::Abort;
 use std::test::Fail;
+use test_bodies::{REGISTERED, REVISED, office};
 
 /// Which stops of a run are tried.
 #[derive(Clone, Copy, Debug, PartialEq, Eq)]

@@ -35,6 +35,3 @@ pub use return_number::ReturnNumber;
 pub use sender_key::SenderKey;
 pub use transmission_number::TransmissionNumber;
 pub use work_number::WorkNumber;
-
-#[cfg(test)]
-mod tests;

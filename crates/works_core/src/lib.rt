@@ -16,6 +16,3 @@ pub use recordings::isrcs;
 pub use sender_line::{SenderLine, judge_all};
 pub use verdict::{Verdict, next_verdict};
 pub use version::WorkVersion;
-
-#[cfg(test)]
-mod tests;

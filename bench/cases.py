@@ -1,0 +1,126 @@
+#!/usr/bin/env python3
+"""Lists what a revision tests: the names of its tests, the values that stand in them, and the edits that the check must refuse.
+
+    bench/cases.py REVISION             each test and each edit by name, with counts for each crate
+    bench/cases.py BEFORE AFTER         what BEFORE has and AFTER lacks, by name; then each value that stands in the
+                                        tests of AFTER fewer times than in those of BEFORE, with both counts
+
+Run it anywhere in the repository. A value is a number or a text in a file of tests: a module that the root of its crate names
+under cfg(test), and the library of sample bodies. "a" and b"a" are one value. A value that stands fewer times need not be a
+case that was dropped, since several tests may share one table or one sample: read the list.
+"""
+import ast
+import collections
+import re
+import subprocess
+import sys
+
+LIBRARY_OF_BODIES = "test_bodies"
+TOKEN = re.compile(
+    r"""(?P<comment>//[^\n]*)
+      |(?P<text>b?"(?:[^"\\]|\\.)*")
+      |(?P<byte>b'(?:[^'\\]|\\.)')
+      |(?P<number>(?<![\w.])\d[\d_]*(?![\w.]*["']))""",
+    re.X | re.S,
+)
+
+
+def git(*words):
+    return subprocess.run(["git", *words], capture_output=True, check=True).stdout.decode()
+
+
+def files(revision):
+    return git("ls-tree", "-r", "--name-only", "--full-tree", revision).splitlines()
+
+
+def test_files(revision, names):
+    """The crate and the path of each file of tests."""
+    for root in names:
+        found = re.fullmatch(r"crates/(\w+)/src/(?:lib|main)\.rt", root)
+        if not found:
+            continue
+        crate = found[1]
+        source = f"crates/{crate}/src/"
+        if crate == LIBRARY_OF_BODIES:
+            modules = re.findall(r"^mod (\w+);", git("show", f"{revision}:{root}"), re.M)
+        else:
+            modules = re.findall(r"^#\[cfg\(test\)\]\n(?:pub )?mod (\w+);", git("show", f"{revision}:{root}"), re.M)
+        for module in modules:
+            for name in names:
+                if name == f"{source}{module}.rt" or name.startswith(f"{source}{module}/"):
+                    yield crate, name
+
+
+def value(token):
+    if token["number"]:
+        return int(token["number"].replace("_", ""))
+    text = token["text"] or token["byte"]
+    if text.startswith("b'"):
+        return ast.literal_eval(text)
+    text = re.sub(r"\\u\{(\w+)\}", lambda code: "\\U" + code[1].zfill(8), text)
+    text = re.sub(r"\\\n\s*", "", text)
+    read = ast.literal_eval(text.replace("\n", "\\n"))
+    return read if isinstance(read, bytes) else read.encode()
+
+
+class Cases:
+    def __init__(self, revision):
+        names = files(revision)
+        self.tests, self.values, self.edits = [], collections.Counter(), []
+        self.counts = collections.defaultdict(collections.Counter)
+        for crate, name in test_files(revision, names):
+            text = git("show", f"{revision}:{name}")
+            module = name.split("/src/")[1][:-3].replace("/", "::")
+            tests = re.findall(r"#\[test\]\s*(?:#\[[^\]]*\]\s*)*fn (\w+)", text)
+            self.tests += [(crate, module, test) for test in tests]
+            found = [value(token) for token in TOKEN.finditer(text) if not token["comment"]]
+            self.values.update(found)
+            self.counts[crate].update(tests=len(tests), values=len(found), asserts=len(re.findall(r"\bassert\w*!\(", text)))
+        for name in names:
+            edit = re.fullmatch(r"crates/(\w+)/must-fail/(\w+)\.edit", name)
+            if edit:
+                self.edits.append((edit[1], edit[2]))
+                self.counts[edit[1]].update(edits=1)
+
+
+def print_counts(cases):
+    columns = ["tests", "values", "asserts", "edits"]
+    print(f"{'crate':16}" + "".join(f"{column:>9}" for column in columns))
+    rows = sorted(cases.counts.items())
+    total = collections.Counter()
+    for crate, counts in rows:
+        total.update(counts)
+        print(f"{crate:16}" + "".join(f"{counts[column]:9}" for column in columns))
+    print(f"{'all':16}" + "".join(f"{total[column]:9}" for column in columns))
+
+
+def main():
+    if len(sys.argv) not in (2, 3):
+        sys.exit(__doc__)
+    before = Cases(sys.argv[1])
+    if len(sys.argv) == 2:
+        for crate, module, test in before.tests:
+            print(f"test {crate} {module}::{test}")
+        for crate, edit in before.edits:
+            print(f"edit {crate} {edit}")
+        print_counts(before)
+        return
+    after = Cases(sys.argv[2])
+    names = collections.Counter(test for _, _, test in before.tests)
+    names.subtract(test for _, _, test in after.tests)
+    for crate, module, test in before.tests:
+        if names[test] > 0:
+            print(f"test {crate} {module}::{test}")
+    edits = collections.Counter(edit for _, edit in before.edits)
+    edits.subtract(edit for _, edit in after.edits)
+    for crate, edit in before.edits:
+        if edits[edit] > 0:
+            print(f"edit {crate} {edit}")
+    fewer = [(item, count, after.values[item]) for item, count in before.values.items() if after.values[item] < count]
+    for item, count, rest in sorted(fewer, key=lambda row: (row[2] > 0, str(row[0]))):
+        print(f"value {count} to {rest}: {item!r}"[:200])
+    print_counts(before)
+    print_counts(after)
+
+
+main()

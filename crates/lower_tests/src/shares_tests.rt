@@ -1,0 +1,167 @@
+//! Transactions: the faults of a changed work, and who is paid with which weight.
+use crate::checks::told;
+use cwr_files::{Records, Transaction};
+use cwr_records::{Line, TransactionKind, read_record};
+use share_rules::{Holder, judge, weights};
+use std::alloc::{AllocError, Global};
+use std::test::Fail;
+use test_bodies::{EXCLUDED, REGISTERED, REVISED, changed, holders, lines, office, sender};
+use work_ids::Account;
+
+/// What is changed in the work, and how; a line of it from 0, a place there from 0, and the bytes that stand there in place of
+/// its own; and the fault.
+type Changed = (&'static str, usize, usize, &'static [u8], Option<u8>);
+
+const ROWS: [Changed; 13] = [
+    (
+        "a blank title and no work number",
+        0,
+        19,
+        b"                                                                            ",
+        Some(1),
+    ),
+    ("a blank work number", 0, 81, b"  ", Some(2)),
+    ("a wrong check digit", 0, 105, b"2", Some(3)),
+    ("a share over the whole", 3, 129, b"10001", Some(4)),
+    ("ownership of 10007", 3, 129, b"05007", Some(5)),
+    ("ownership of 10006", 3, 129, b"05006", None),
+    ("a row of nobody", 2, 19, b"P2", Some(6)),
+    ("a link to nobody", 5, 19, b"P2", Some(7)),
+    ("collection of 10007", 2, 34, b"05007", Some(8)),
+    ("an IPI name number with a letter", 3, 125, b"A", Some(9)),
+    ("an ISRC with a digit for a letter", 6, 250, b"1", Some(10)),
+    (
+        "a number of a party that is not ASCII",
+        5,
+        101,
+        b"\xC3",
+        Some(11),
+    ),
+    ("nothing changed", 6, 0, b"REC", None),
+];
+
+/// The lines of the work of a body of one group: those between its headers and its trailers.
+fn song_of<'a>(alloc: Global, body: &'a [u8]) -> Result<Vec<&'a [u8]>, Fail> {
+    let all = lines(alloc, body)?;
+    let end = all.len().saturating_sub(2);
+    let own = all.as_slice().get(2..end).ok_or("a work")?;
+    Ok(Vec::from_slice(alloc, own)?)
+}
+
+/// A transaction of these records.
+fn transaction<'a>(alloc: Global, lines: &[&'a [u8]]) -> Result<Transaction<'a>, AllocError> {
+    let mut records = Vec::new(alloc);
+    for line in lines {
+        records.push(read_record(Line::new(*line)))?;
+    }
+    Ok(Transaction {
+        kind: TransactionKind::Nwr,
+        group: 1,
+        sequence: 0,
+        records: Records::from_vec(records),
+    })
+}
+
+/// Where a place of a line of the work stands in the registration.
+fn place_in_body(alloc: Global, line: usize, place: usize) -> Result<usize, AllocError> {
+    let mut at = place;
+    for before in lines(alloc, REGISTERED)?
+        .iter()
+        .take(line.saturating_add(2))
+    {
+        at = at.saturating_add(before.len()).saturating_add(2);
+    }
+    Ok(at)
+}
+
+#[test]
+fn changed_works(rt: HostRuntime) -> Result<(), Fail> {
+    let alloc = rt.alloc();
+    for (row, line, place, bytes, fault) in ROWS {
+        let place = place_in_body(alloc, line, place)?;
+        let body = changed(alloc, REGISTERED, &[(place, bytes)])?;
+        let song = transaction(alloc, &song_of(alloc, &body)?)?;
+        told(&rt, row, judge(&song, &office()?), fault);
+    }
+    Ok(())
+}
+
+/// A work, and what its publisher, its writer and nobody are paid with.
+const WEIGHTS: [(&str, &[u8], [u64; 3]); 3] = [
+    ("registered", REGISTERED, [5_000, 5_000, 0]),
+    ("revised", REVISED, [0, 10_000, 0]),
+    ("excluded", EXCLUDED, [0, 5_000, 5_000]),
+];
+
+#[test]
+fn weights_of_works(rt: HostRuntime) -> Result<(), Fail> {
+    let alloc = rt.alloc();
+    for (row, body, wanted) in WEIGHTS {
+        let song = transaction(alloc, &song_of(alloc, body)?)?;
+        told(&rt, row, judge(&song, &office()?), None);
+        let paid = weights(alloc, &sender()?, &song, &office()?)?;
+        told(&rt, row, paid.as_slice(), holders(wanted)?.as_slice());
+    }
+    Ok(())
+}
+
+#[test]
+fn holders_without_an_ipi_name_number(rt: HostRuntime) -> Result<(), Fail> {
+    let named = Account::from_bytes(b"PPB000000012P1")?;
+    let lines: [&[u8]; 2] = [b"SPU000000000000000101P1", b"SWR0000000000000002"];
+    let song = transaction(rt.alloc(), &lines)?;
+    let paid = weights(rt.alloc(), &sender()?, &song, &office()?)?;
+    let held = |account, weight| Holder { account, weight };
+    let wanted = [
+        held(named, 0),
+        held(Account::Unclaimed, 0),
+        held(Account::Unclaimed, 10_000),
+    ];
+    told(&rt, "holders", paid.as_slice(), wanted.as_slice());
+    Ok(())
+}
+
+/// Publishers of one number, more than a block of records has.
+const PUBLISHERS: usize = 2_100;
+
+/// What stands behind these publishers, and the fault.
+const BEHIND: [(&str, &str, Option<u8>); 3] = [
+    (
+        "a row",
+        "SPT0000000000000002P1             050001000010000I2136 001",
+        None,
+    ),
+    (
+        "a row of nobody",
+        "SPT0000000000000002P2             050001000010000I2136 001",
+        Some(6),
+    ),
+    ("a link to nobody", "PWR0000000000000002P2", Some(7)),
+];
+
+/// A work of as many publishers, with this line behind them.
+fn with_publishers(alloc: Global, behind: &'static str) -> Result<Transaction<'static>, Fail> {
+    let song = song_of(alloc, REGISTERED)?;
+    let mut lines = Vec::new(alloc);
+    lines.push(*song.first().ok_or("a line")?)?;
+    for _ in 0..PUBLISHERS {
+        lines.push(b"SPU000000000000000101P1")?;
+    }
+    lines.push(behind.as_bytes())?;
+    Ok(transaction(alloc, &lines)?)
+}
+
+#[test]
+fn works_of_many_parties(rt: HostRuntime) -> Result<(), Fail> {
+    let alloc = rt.alloc();
+    for (row, behind, fault) in BEHIND {
+        let song = with_publishers(alloc, behind)?;
+        told(&rt, row, judge(&song, &office()?), fault);
+        let paid = weights(alloc, &sender()?, &song, &office()?)?;
+        told(&rt, row, paid.len(), PUBLISHERS + 1);
+        let last = paid.get(PUBLISHERS - 1).ok_or("a holder")?;
+        let wanted = if fault.is_none() { 5_000 } else { 0 };
+        told(&rt, row, last.weight, wanted);
+    }
+    Ok(())
+}

@@ -1,0 +1,132 @@
+//! Lines of a sender: a work that is registered and revised twice, with its versions at each cut.
+use crate::checks::told;
+use cwr_files::{Transmission, read_transmission};
+use cwr_records::TransactionKind;
+use std::alloc::Global;
+use std::test::Fail;
+use test_bodies::{REGISTERED, REVISED, number, office, sender, work};
+use works_core::{Judged, LineEnd, SenderLine, Verdict, WorkVersion, isrcs, judge_all};
+
+fn read(alloc: Global, body: &'static [u8]) -> Result<Transmission<'static>, Fail> {
+    Ok(read_transmission(alloc, body, &sender()?)?)
+}
+
+/// Applies a file to a line that is not at its end, as the line's next transmission.
+fn send(alloc: Global, line: &mut SenderLine, body: &'static [u8]) -> Result<(), Fail> {
+    let transmission = read(alloc, body)?;
+    let next = number(line.front() + 1)?;
+    if next.value() == line.front() + 1 {
+        line.apply(next, &transmission)?;
+    }
+    Ok(())
+}
+
+/// The line of a work that was registered and revised twice.
+fn revised_twice(alloc: Global) -> Result<SenderLine, Fail> {
+    let mut line = SenderLine::new(alloc, &office()?);
+    send(alloc, &mut line, REGISTERED)?;
+    send(alloc, &mut line, REVISED)?;
+    send(alloc, &mut line, REVISED)?;
+    Ok(line)
+}
+
+#[test]
+fn verdicts_of_each_transmission(rt: HostRuntime) -> Result<(), Fail> {
+    let alloc = rt.alloc();
+    let line = revised_twice(alloc)?;
+    told(&rt, "front", line.front(), 3);
+    for (n, revision) in [(1, 0), (2, 1), (3, 2)] {
+        let row = format!(in alloc; "transmission {n}")?;
+        let wanted = [Verdict::Accepted {
+            ordinal: 1,
+            revision,
+        }];
+        let verdicts = line.verdicts(number(n)?).ok_or("verdicts")?;
+        told(&rt, &row, verdicts, wanted.as_slice());
+    }
+    told(&rt, "none", line.verdicts(number(4)?).is_none(), true);
+    Ok(())
+}
+
+#[test]
+fn versions_at_each_cut(rt: HostRuntime) -> Result<(), Fail> {
+    let alloc = rt.alloc();
+    let line = revised_twice(alloc)?;
+    for (cut, transmission) in [(1, 1), (2, 2), (3, 3), (4, 3)] {
+        let row = format!(in alloc; "cut {cut}")?;
+        let wanted = WorkVersion {
+            transmission: number(transmission)?,
+            place: 0,
+            ordinal: 1,
+            revision: u64::from(transmission) - 1,
+        };
+        told(
+            &rt,
+            &row,
+            line.work_at(&work(b"W1")?, number(cut)?),
+            Some(wanted),
+        );
+    }
+    let other = line.work_at(&work(b"W2")?, number(3)?);
+    told(&rt, "W2", other, None);
+    Ok(())
+}
+
+#[test]
+fn isrcs_of_a_transaction(rt: HostRuntime) -> Result<(), Fail> {
+    let transmission = read(rt.alloc(), REGISTERED)?;
+    let [group] = transmission.groups.as_slice() else {
+        return Err(Fail::from("one group"));
+    };
+    let [transaction] = group.transactions.as_slice() else {
+        return Err(Fail::from("one transaction"));
+    };
+    let list = isrcs(rt.alloc(), transaction)?;
+    let [isrc] = list.as_slice() else {
+        return Err(Fail::from("one ISRC"));
+    };
+    told(&rt, "ISRC", isrc.as_bytes(), b"ATABC2600001");
+    Ok(())
+}
+
+#[test]
+fn the_end_of_a_line_goes_on(rt: HostRuntime) -> Result<(), Fail> {
+    let (first, second) = (work(b"W1")?, work(b"W2")?);
+    let mut end = LineEnd::new(rt.alloc(), 7);
+    let last = WorkVersion {
+        transmission: number(3)?,
+        place: 0,
+        ordinal: 4,
+        revision: 2,
+    };
+    end.learn(first, Some(last))?;
+    end.learn(second, None)?;
+    let transactions = [
+        Judged::Clean(TransactionKind::Rev, first),
+        Judged::Clean(TransactionKind::Nwr, second),
+        Judged::Clean(TransactionKind::Rev, second),
+        Judged::Clean(TransactionKind::Nwr, first),
+        Judged::Faulty(9),
+    ];
+    let verdicts = end.apply(rt.alloc(), number(5)?, transactions.as_slice())?;
+    let accepted = |ordinal, revision| Verdict::Accepted { ordinal, revision };
+    let wanted = [
+        accepted(4, 3),
+        accepted(8, 0),
+        accepted(8, 1),
+        Verdict::Rejected(20),
+        Verdict::Rejected(9),
+    ];
+    told(&rt, "verdicts", verdicts.as_slice(), wanted.as_slice());
+    told(&rt, "works", end.works(), 8);
+    Ok(())
+}
+
+#[test]
+fn what_is_judged_of_a_transmission(rt: HostRuntime) -> Result<(), Fail> {
+    let transmission = read(rt.alloc(), REVISED)?;
+    let judged = judge_all(rt.alloc(), &transmission, &office()?)?;
+    let wanted = [Judged::Clean(TransactionKind::Rev, work(b"W1")?)];
+    told(&rt, "judged", judged.as_slice(), wanted.as_slice());
+    Ok(())
+}
