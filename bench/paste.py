@@ -1,7 +1,8 @@
 #!/usr/bin/env python3
 """Pastes every block of commands of the documents into a shell, in order, and compares what is printed with what the document says.
 
-A block of commands is a fenced block with the word `sh`; a fenced block with the word `text` directly after it is what it prints.
+A block of commands is a fenced block with the word `sh`; what it prints is a fenced block with the word `text`, where that is the
+next fenced block under the same heading.
 Each document begins in a fresh copy of the checkout, in a folder of its own, with the program in its place there and on the PATH as
 `society`; its blocks go into one bash. Standard output and standard error are compared with the text block line by line, but for
 blanks at the ends of lines and the shell's own lines on jobs; a block without a text block has to end with status 0. What the blocks
@@ -43,7 +44,7 @@ class Block:
 
 
 def fenced(text):
-    """Each fenced block: the number of its first line, its word, its text, and what stands between it and the one before."""
+    """Each fenced block: the number of its first line, its word, its text, and whether a heading stands between it and the one before."""
     lines, opened, between = text.splitlines(), None, []
     for number, line in enumerate(lines, 1):
         fence = FENCE.match(line)
@@ -52,7 +53,7 @@ def fenced(text):
         elif opened is None:
             between.append(line)
         elif fence and fence[2].startswith(opened[1]) and not fence[3]:
-            yield opened[3], opened[2], "\n".join(inside) + "\n", "".join(between).strip()
+            yield opened[3], opened[2], "\n".join(inside) + "\n", any(it.startswith("#") for it in between)
             opened, between = None, []
         else:
             inside.append(line.removeprefix(opened[0]))
@@ -63,12 +64,12 @@ def fenced(text):
 def blocks(text):
     """The blocks of commands of a document."""
     found, last = [], None
-    for line, word, inside, between in fenced(text):
+    for line, word, inside, has_heading in fenced(text):
         if word == "sh":
             last = Block(line, inside)
             found.append(last)
         else:
-            if word == "text" and last is not None and not between:
+            if word == "text" and last is not None and not has_heading:
                 last.wanted = inside
             last = None
     return found
