@@ -106,18 +106,24 @@ def descendants():
     return found
 
 
+def ended(seconds):
+    """Waits for the end of all that was started, no longer than this; answers what is still running."""
+    end = time.monotonic() + seconds
+    while (left := descendants()) and time.monotonic() < end:
+        time.sleep(0.02)
+    return left
+
+
 def stopped():
-    """Ends all that is still running of what was started; answers their commands."""
-    left = descendants()
-    for how, seconds in (signal.SIGTERM, 2), (signal.SIGKILL, 2):
+    """Ends all that is still running of what was started; answers their commands. What was stopped by the blocks has a moment to end."""
+    left = ended(2)
+    for how in signal.SIGTERM, signal.SIGKILL:
         for pid in descendants():
             try:
                 os.kill(pid, how)
             except ProcessLookupError:
                 pass
-        end = time.monotonic() + seconds
-        while descendants() and time.monotonic() < end:
-            time.sleep(0.02)
+        ended(2)
     return list(left.values())
 
 

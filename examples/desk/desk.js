@@ -254,6 +254,7 @@ function showKind(form) {
   }
   form.reporter.required = kind === "return";
   form.body.required = kind !== "order";
+  form.number.max = kind === "order" ? 99_999 : 999_999;
   form.number.value = nextNumber(form);
   if (kind === "order" && !form.order.value) {
     form.order.value = orderDraft();
