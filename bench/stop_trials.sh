@@ -4,7 +4,7 @@
 #
 # usage: bench/stop_trials.sh [NAME]     (a part of the tests' names; all: some 30 minutes)
 #
-# The tests lie in bench/stops and run in a copy of the crates under `rt try`, unproved: they would make the gate's longest proof half as long again.
+# The trials are crates/tables_tests/src/stop_trials.rt. Here they are made tests of, in a copy of the crates, and run under `rt try`, unproved.
 set -eu
 case ${1:-} in
 -h | --help)
@@ -16,10 +16,6 @@ here=$(cd "$(dirname "$0")/.." && pwd)
 copy=$(mktemp -d)
 trap 'rm -rf "$copy"' EXIT
 tar -C "$here" --exclude=out -cf - crates crates.txt HANDLES | tar -C "$copy" -xf -
-for name in fused stops stop_tests; do
-  cp "$here/bench/stops/$name.rt.txt" "$copy/crates/society_tables/src/$name.rt"
-  sed -i "s/^mod steps;\$/&\n#[cfg(test)]\nmod $name;/" "$copy/crates/society_tables/src/lib.rt"
-done
-sed -i 's/^society_tables: .*/& sqlite_disk/' "$copy/crates.txt"
-cd "$copy/crates/society_tables"
+cd "$copy/crates/tables_tests"
+sed -i 's|^// bench/stop_trials.sh: #\[test\]$|#[test]|' src/stop_trials.rt
 rt try --test --seconds 900 -- "${1:-stops_in}"

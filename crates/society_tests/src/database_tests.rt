@@ -10,6 +10,7 @@ use society_tables::{OpenFault, Tables};
 use sqlite::{Connection, FileFrom, FileStore, Wary};
 use society_commands::{OpenDatabase, Place, TURNS, serve_file};
 use std::alloc::Global;
+use std::fs;
 use std::io;
 use std::net::{Net, SocketAddr, TcpListener, TcpStream};
 use std::process::Abort;
@@ -30,6 +31,13 @@ fn opened(rt: &HostRuntime, path: &str) -> Result<Desk<Tables<FileStore<FileFrom
     }
 }
 
+/// Empties a database's file and its log: an earlier run may have left both.
+fn empty(rt: &HostRuntime, path: &str, log: &str) -> Result<(), Fail> {
+    fs::write(rt, path, "")?;
+    fs::write(rt, log, "")?;
+    Ok(())
+}
+
 /// Opens the database at a path as the office's and answers requests over it.
 fn answered(rt: &HostRuntime, path: &str, input: &[u8]) -> Result<Vec<u8>, Fail> {
     let alloc = rt.alloc();
@@ -43,6 +51,7 @@ fn answered(rt: &HostRuntime, path: &str, input: &[u8]) -> Result<Vec<u8>, Fail>
 /// The day's requests up to its returns, and those behind them from the opened file: all answers are those of one run in memory.
 #[test]
 fn a_day_over_a_file(rt: HostRuntime) -> Result<(), Fail> {
+    empty(&rt, "day.db", "day.db-wal")?;
     let (before, behind) = DAY.split_at(3_992);
     let is_cut = behind.starts_with(b"PUT /v1/returns/RADIO1/1");
     holds(&rt, "the day is cut where its returns begin", is_cut);
@@ -134,6 +143,7 @@ const SERVED: [(&str, u16, u8, &str, &str); 4] = [
 
 #[test]
 fn connections_over_a_file(rt: HostRuntime) -> Result<(), Fail> {
+    empty(&rt, "served.db", "served.db-wal")?;
     for (path, society, status, printed, told) in SERVED {
         let (out, err, ended) = served(&rt, path, society)?;
         is_status(&rt, path, ended, status);

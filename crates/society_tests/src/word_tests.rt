@@ -4,6 +4,7 @@ use crate::streams::get;
 use http_desk::Counted;
 use society_commands::start;
 use std::alloc::{AllocError, Global};
+use std::fs;
 use std::net::{Ipv4Addr, TcpListener};
 use std::process::Abort;
 use std::test::Fail;
@@ -258,6 +259,9 @@ fn help_is_told(rt: HostRuntime) -> Result<(), Fail> {
 #[test]
 fn a_port_that_is_taken(rt: HostRuntime) -> Result<(), Fail> {
     let alloc = rt.alloc();
+    // An earlier run may have left the file and its log.
+    fs::write(&rt, "F", "")?;
+    fs::write(&rt, "F-wal", "")?;
     let listener = TcpListener::bind(&rt, (Ipv4Addr::LOCALHOST, 0))?;
     let port = listener.local_addr()?.port();
     let words = format!(in alloc;

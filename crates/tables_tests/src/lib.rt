@@ -24,6 +24,6 @@ mod row_tests;
 #[cfg(test)]
 mod steps;
 #[cfg(test)]
-mod stop_tests;
+mod stop_trials;
 #[cfg(test)]
 mod stops;

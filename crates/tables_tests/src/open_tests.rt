@@ -116,10 +116,15 @@ fn a_sound_database_is_confirmed_with_a_body_in_memory_at_a_time(
     rt: HostRuntime,
 ) -> Result<(), Fail> {
     let mut conn = filled(rt.alloc())?;
-    for (society, confirmed) in [(900, true), (901, false), (900, true)] {
-        let found = is_confirmed(rt.alloc(), &mut conn, society)?;
-        told(&rt, "whether it is confirmed", &found, &confirmed);
-    }
+    let first = is_confirmed(rt.alloc(), &mut conn, 900)?;
+    let other = is_confirmed(rt.alloc(), &mut conn, 901)?;
+    let again = is_confirmed(rt.alloc(), &mut conn, 900)?;
+    told(
+        &rt,
+        "whether it is confirmed",
+        &[first, other, again],
+        &[true, false, true],
+    );
     Ok(())
 }
 

@@ -1,4 +1,6 @@
 //! Requests over files that stop: a gap that is filled, a pool closed at a cut, and a run that is let go.
+//!
+//! They take a minute and more each, so the gate only compiles them: bench/stop_trials.sh makes tests of them in a copy, and runs those.
 use crate::checks::holds;
 use crate::fused::{File, left_by};
 use crate::steps::{
@@ -107,31 +109,31 @@ fn check_run(rt: &impl Abort, alloc: Global, part: Part, file: File) -> Result<S
     check_steps(rt, alloc, &eleven_held(), &steps, part, file)
 }
 
-#[test]
+// bench/stop_trials.sh: #[test]
 fn a_new_office_stops_in_its_log(rt: HostRuntime) -> Result<(), Fail> {
     check_gap(&rt, rt.alloc(), Part::Opening, File::Log)?;
     Ok(())
 }
 
-#[test]
+// bench/stop_trials.sh: #[test]
 fn a_new_office_stops_in_its_database(rt: HostRuntime) -> Result<(), Fail> {
     check_gap(&rt, rt.alloc(), Part::Opening, File::Database)?;
     Ok(())
 }
 
-#[test]
+// bench/stop_trials.sh: #[test]
 fn an_opening_stops_in_the_log(rt: HostRuntime) -> Result<(), Fail> {
     check_repeats(&rt, rt.alloc(), Part::Opening, File::Log)?;
     Ok(())
 }
 
-#[test]
+// bench/stop_trials.sh: #[test]
 fn an_opening_stops_in_the_database(rt: HostRuntime) -> Result<(), Fail> {
     check_repeats(&rt, rt.alloc(), Part::Opening, File::Database)?;
     Ok(())
 }
 
-#[test]
+// bench/stop_trials.sh: #[test]
 fn a_gap_is_filled_over_stops_in_the_log(rt: HostRuntime) -> Result<(), Fail> {
     let seen = check_gap(&rt, rt.alloc(), Part::Requests, File::Log)?;
     holds(
@@ -142,14 +144,14 @@ fn a_gap_is_filled_over_stops_in_the_log(rt: HostRuntime) -> Result<(), Fail> {
     Ok(())
 }
 
-#[test]
+// bench/stop_trials.sh: #[test]
 fn a_gap_is_filled_over_stops_in_the_database(rt: HostRuntime) -> Result<(), Fail> {
     let seen = check_gap(&rt, rt.alloc(), Part::Requests, File::Database)?;
     holds(&rt, "some are lost", seen.lost > 0);
     Ok(())
 }
 
-#[test]
+// bench/stop_trials.sh: #[test]
 fn a_pool_is_closed_over_stops_in_the_log(rt: HostRuntime) -> Result<(), Fail> {
     let seen = check_pool(&rt, rt.alloc(), Part::Requests, File::Log)?;
     holds(
@@ -160,14 +162,14 @@ fn a_pool_is_closed_over_stops_in_the_log(rt: HostRuntime) -> Result<(), Fail> {
     Ok(())
 }
 
-#[test]
+// bench/stop_trials.sh: #[test]
 fn a_pool_is_closed_over_stops_in_the_database(rt: HostRuntime) -> Result<(), Fail> {
     let seen = check_pool(&rt, rt.alloc(), Part::Requests, File::Database)?;
     holds(&rt, "some are lost", seen.lost > 0);
     Ok(())
 }
 
-#[test]
+// bench/stop_trials.sh: #[test]
 fn a_run_is_let_go_over_stops_in_the_log(rt: HostRuntime) -> Result<(), Fail> {
     let seen = check_run(&rt, rt.alloc(), Part::Requests, File::Log)?;
     holds(
@@ -178,7 +180,7 @@ fn a_run_is_let_go_over_stops_in_the_log(rt: HostRuntime) -> Result<(), Fail> {
     Ok(())
 }
 
-#[test]
+// bench/stop_trials.sh: #[test]
 fn a_run_is_let_go_over_stops_in_the_database(rt: HostRuntime) -> Result<(), Fail> {
     let seen = check_run(&rt, rt.alloc(), Part::Requests, File::Database)?;
     holds(&rt, "some are lost", seen.lost > 0);
