@@ -126,10 +126,7 @@ fn payment_with<S: Alter>(
 }
 
 /// Whether a return is there, and which pool pays it.
-pub fn payment_of<S: Alter>(
-    conn: &mut Connection<S>,
-    key: &ReturnKey,
-) -> Result<Payment, RowFault>
+pub fn payment_of<S: Alter>(conn: &mut Connection<S>, key: &ReturnKey) -> Result<Payment, RowFault>
     requires { conn.old.in_transaction ≡ false }
     ensures asked { Asks (state S.Store conn.old) (state S.Store conn.new) result
         (ByBook (λ _ book payment. payment ≡ payment_in book key.now)) }
@@ -141,10 +138,7 @@ pub fn payment_of<S: Alter>(
 }
 
 /// Adds a return in a transaction of its own.
-pub fn write_return<S: Alter>(
-    conn: &mut Connection<S>,
-    row: &ReturnRow<'_>,
-) -> Result<(), RowFault>
+pub fn write_return<S: Alter>(conn: &mut Connection<S>, row: &ReturnRow<'_>) -> Result<(), RowFault>
     requires { conn.old.in_transaction ≡ false }
     ensures changed { HasCleanDisk (state S.Store conn.new) → HasLayout (state S.Store conn.old).now
         → OnOk result (Comes returns (return_values row.now ∷ []) (state S.Store conn.old).now.trees (state S.Store conn.new).now.trees × HasLayout (state S.Store conn.new).now) }

@@ -87,7 +87,11 @@ fn check_accepted(rt: &impl Abort, alloc: Global, body: &[u8]) -> Result<(), Fai
     answer(alloc, &mut first, "201 Created", "json", applied)?;
     let (out, status) = replayed(alloc, input.as_slice())?;
     holds(rt, "it is applied", out.starts_with(first.as_slice()));
-    check_counts(rt, out.as_slice(), &[("HTTP/1.1 200 OK\r\n", 1), ("HTTP/1.1 ", 2)])?;
+    check_counts(
+        rt,
+        out.as_slice(),
+        &[("HTTP/1.1 200 OK\r\n", 1), ("HTTP/1.1 ", 2)],
+    )?;
     is_status(rt, "it is served", status, 0);
     Ok(())
 }

@@ -2,8 +2,8 @@
 use crate::checks::{holds, is_text};
 use crate::streams::{answer, get, put};
 use http_desk::Counted;
-use society_core::{Desk, PlainStore};
 use society_commands::serve_connections;
+use society_core::{Desk, PlainStore};
 use std::alloc::Global;
 use std::io::{Read, Write};
 use std::net::{Ipv4Addr, Shutdown, TcpListener, TcpStream};
@@ -48,7 +48,12 @@ fn one_connection(rt: HostRuntime) -> Result<(), Fail> {
     let served = serve_connections(alloc, &mut desk, &listener, 1, &mut out);
     holds(&rt, "it is served", served.is_ok());
     is_text(&rt, "the peer", &got(alloc, &mut peer)?, &wanted);
-    is_text(&rt, "lines", &out.into_inner(), b"connection 1: 2 requests\n");
+    is_text(
+        &rt,
+        "lines",
+        &out.into_inner(),
+        b"connection 1: 2 requests\n",
+    );
     Ok(())
 }
 
@@ -64,7 +69,13 @@ fn connections_share_one_book(rt: HostRuntime) -> Result<(), Fail> {
     add_applied(alloc, &mut first_wanted, 1)?;
     let mut second_wanted = Vec::new(alloc);
     add_applied(alloc, &mut second_wanted, 2)?;
-    answer(alloc, &mut second_wanted, "200 OK", "octet-stream", EMPTY_ACK)?;
+    answer(
+        alloc,
+        &mut second_wanted,
+        "200 OK",
+        "octet-stream",
+        EMPTY_ACK,
+    )?;
     let listener = TcpListener::bind(&rt, (Ipv4Addr::LOCALHOST, 0))?;
     let mut one = sent(&rt, &listener, first.as_slice())?;
     let mut none = sent(&rt, &listener, b"")?;
@@ -124,7 +135,11 @@ fn a_peer_that_is_gone(rt: HostRuntime) -> Result<(), Fail> {
     holds(&rt, "they are served", served.is_ok());
     is_text(&rt, "the one after it", &got(alloc, &mut after)?, &wanted);
     let lines = out.into_inner();
-    holds(&rt, "a line of the first", lines.starts_with(b"connection 1: "));
+    holds(
+        &rt,
+        "a line of the first",
+        lines.starts_with(b"connection 1: "),
+    );
     let last = lines.ends_with(b"connection 2: 1 requests\n");
     holds(&rt, "the line of the other", last);
     Ok(())

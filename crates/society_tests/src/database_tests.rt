@@ -5,16 +5,15 @@ use crate::checks::{holds, is_status, is_text};
 use crate::day_tests::{ANSWERS, DAY};
 use http_desk::{Counted, serve};
 use share_rules::Office;
+use society_commands::{OpenDatabase, Place, TURNS, serve_file};
 use society_core::Desk;
 use society_tables::{OpenFault, Tables};
 use sqlite::{Connection, FileFrom, FileStore, Wary};
-use society_commands::{OpenDatabase, Place, TURNS, serve_file};
 use std::alloc::Global;
-use std::fs;
-use std::io;
 use std::net::{Net, SocketAddr, TcpListener, TcpStream};
 use std::process::Abort;
 use std::test::Fail;
+use std::{fs, io};
 use test_bodies::office;
 
 /// A desk over the database at a path, opened as the office's.

@@ -111,7 +111,13 @@ const FIRST_GAP_FILLED: &[Row] = &[
         JSON,
         UNKNOWN,
     ),
-    (PUT_1, Body::Whole(Sample::Registered), CREATED, JSON, FRONT_3),
+    (
+        PUT_1,
+        Body::Whole(Sample::Registered),
+        CREATED,
+        JSON,
+        FRONT_3,
+    ),
     (
         "GET /v1/senders/PB000000012/works/W1",
         NOTHING,
@@ -204,7 +210,13 @@ const RECORD_COUNT_OFF_BY_ONE: &[Row] = &[
         JSON,
         b"{\"error\":\"file\",\"fault\":8,\"line\":10}",
     ),
-    (PUT_1, Body::Whole(Sample::Registered), CREATED, JSON, FRONT_1),
+    (
+        PUT_1,
+        Body::Whole(Sample::Registered),
+        CREATED,
+        JSON,
+        FRONT_1,
+    ),
 ];
 
 const CUT_FILES: &[Row] = &[
@@ -238,7 +250,13 @@ const CUT_FILES: &[Row] = &[
     ),
 ];
 
-const LINE_FEEDS_ALONE: &[Row] = &[(PUT_1, Body::LineFeeds(Sample::Registered), CREATED, JSON, FRONT_1)];
+const LINE_FEEDS_ALONE: &[Row] = &[(
+    PUT_1,
+    Body::LineFeeds(Sample::Registered),
+    CREATED,
+    JSON,
+    FRONT_1,
+)];
 
 /// A revision of a work that is not there, a share over the whole by seven hundredths of a percent, and a registration.
 const VERDICTS_BY_FAULT: &[Row] = &[
@@ -250,7 +268,13 @@ const VERDICTS_BY_FAULT: &[Row] = &[
         JSON,
         FRONT_2,
     ),
-    (PUT_3, Body::Whole(Sample::Registered), CREATED, JSON, FRONT_3),
+    (
+        PUT_3,
+        Body::Whole(Sample::Registered),
+        CREATED,
+        JSON,
+        FRONT_3,
+    ),
     (
         "GET /v1/senders/PB000000012/verdicts/1",
         NOTHING,
@@ -277,7 +301,10 @@ const VERDICTS_BY_FAULT: &[Row] = &[
 const TITLE_AND_NAMES_ESCAPED: &[Row] = &[
     (
         PUT_1,
-        Body::Changed(Sample::Excluded, &[(135, b"\xc3\x89T%\"\\    "), (197, b"W\"")]),
+        Body::Changed(
+            Sample::Excluded,
+            &[(135, b"\xc3\x89T%\"\\    "), (197, b"W\"")],
+        ),
         CREATED,
         JSON,
         FRONT_1,
@@ -322,7 +349,13 @@ const RETURNS_STORED_REPEATED_AND_REFUSED: &[Row] = &[
 ];
 
 const POOL_CLOSED_AND_PAID: &[Row] = &[
-    (PUT_1, Body::Whole(Sample::Registered), CREATED, JSON, FRONT_1),
+    (
+        PUT_1,
+        Body::Whole(Sample::Registered),
+        CREATED,
+        JSON,
+        FRONT_1,
+    ),
     (PUT_2, Body::Whole(Sample::Empty), CREATED, JSON, FRONT_2),
     (RETURN_1, TEN_PLAYS, CREATED, JSON, STORED),
     (
@@ -422,7 +455,13 @@ const POOLS_WITHOUT_OWNERS: &[Row] = &[
 ];
 
 const BALANCES: &[Row] = &[
-    (PUT_1, Body::Whole(Sample::Registered), CREATED, JSON, FRONT_1),
+    (
+        PUT_1,
+        Body::Whole(Sample::Registered),
+        CREATED,
+        JSON,
+        FRONT_1,
+    ),
     (RETURN_1, TEN_PLAYS, CREATED, JSON, STORED),
     (
         "PUT /v1/pools/7",
