@@ -4,7 +4,8 @@
 #
 # usage: bench/stop_trials.sh [NAME]     (a part of the tests' names; all: some 30 minutes)
 #
-# The trials are crates/tables_tests/src/stop_trials.rt. Here they are made tests of, in a copy of the crates, and run under `rt try`, unproved.
+# The trials are crates/tables_tests/src/stop_trials.rt. Tests of them are made here, in a copy of the crates, and run under `rt try`,
+# unproved.
 set -eu
 case ${1:-} in
 -h | --help)
@@ -17,5 +18,17 @@ copy=$(mktemp -d)
 trap 'rm -rf "$copy"' EXIT
 tar -C "$here" --exclude=out -cf - crates crates.txt HANDLES | tar -C "$copy" -xf -
 cd "$copy/crates/tables_tests"
-sed -i 's|^// bench/stop_trials.sh: #\[test\]$|#[test]|' src/stop_trials.rt
+trial() {
+  printf '\n#[test]\nfn %s(rt: HostRuntime) -> Result<(), Fail> {\n    check_trial(&rt, rt.alloc(), Trial::%s, Part::%s, File::%s)\n}\n' "$@" >>src/stop_trials.rt
+}
+trial a_new_office_stops_in_its_log Gap Opening Log
+trial a_new_office_stops_in_its_database Gap Opening Database
+trial an_opening_stops_in_the_log Repeats Opening Log
+trial an_opening_stops_in_the_database Repeats Opening Database
+trial a_gap_is_filled_over_stops_in_the_log Gap Requests Log
+trial a_gap_is_filled_over_stops_in_the_database Gap Requests Database
+trial a_pool_is_closed_over_stops_in_the_log Pool Requests Log
+trial a_pool_is_closed_over_stops_in_the_database Pool Requests Database
+trial a_run_is_let_go_over_stops_in_the_log Run Requests Log
+trial a_run_is_let_go_over_stops_in_the_database Run Requests Database
 rt try --test --seconds 900 -- "${1:-stops_in}"

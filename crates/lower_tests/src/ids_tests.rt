@@ -98,6 +98,7 @@ fn ipi_names(rt: HostRuntime) -> Result<(), Fail> {
     let name = IpiName::from_field(b"199        ")?.ok_or("an IPI name number")?;
     told(&rt, "name", name.as_bytes(), b"00000000199");
     for (field, wanted) in [
+        ("199", Ok(true)),
         ("0000000019A", Err(IdFault::Character)),
         ("00000000000", Ok(false)),
         ("000000000199", Err(IdFault::Length)),

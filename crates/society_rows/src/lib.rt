@@ -62,6 +62,3 @@ pub use verdicts::{VerdictRow, add_verdict, add_verdicts, all_verdicts, verdicts
 pub use versions::{
     VersionRow, add_version, add_versions, all_versions, last_version_of, versions_of,
 };
-
-#[cfg(test)]
-mod tests;

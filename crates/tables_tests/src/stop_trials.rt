@@ -109,80 +109,37 @@ fn check_run(rt: &impl Abort, alloc: Global, part: Part, file: File) -> Result<S
     check_steps(rt, alloc, &eleven_held(), &steps, part, file)
 }
 
-// bench/stop_trials.sh: #[test]
-fn a_new_office_stops_in_its_log(rt: HostRuntime) -> Result<(), Fail> {
-    check_gap(&rt, rt.alloc(), Part::Opening, File::Log)?;
-    Ok(())
+/// Requests that stop.
+#[derive(Clone, Copy, Debug, PartialEq, Eq)]
+enum Trial {
+    /// A gap is filled, over files to which nothing has come.
+    Gap,
+    /// Requests that had come before come again.
+    Repeats,
+    /// A pool is closed at a cut.
+    Pool,
+    /// A transmission lets twelve go that wait for it.
+    Run,
 }
 
-// bench/stop_trials.sh: #[test]
-fn a_new_office_stops_in_its_database(rt: HostRuntime) -> Result<(), Fail> {
-    check_gap(&rt, rt.alloc(), Part::Opening, File::Database)?;
-    Ok(())
-}
-
-// bench/stop_trials.sh: #[test]
-fn an_opening_stops_in_the_log(rt: HostRuntime) -> Result<(), Fail> {
-    check_repeats(&rt, rt.alloc(), Part::Opening, File::Log)?;
-    Ok(())
-}
-
-// bench/stop_trials.sh: #[test]
-fn an_opening_stops_in_the_database(rt: HostRuntime) -> Result<(), Fail> {
-    check_repeats(&rt, rt.alloc(), Part::Opening, File::Database)?;
-    Ok(())
-}
-
-// bench/stop_trials.sh: #[test]
-fn a_gap_is_filled_over_stops_in_the_log(rt: HostRuntime) -> Result<(), Fail> {
-    let seen = check_gap(&rt, rt.alloc(), Part::Requests, File::Log)?;
-    holds(
-        &rt,
-        "some are kept, some are lost",
-        seen.kept > 0 && seen.lost > 0,
-    );
-    Ok(())
-}
-
-// bench/stop_trials.sh: #[test]
-fn a_gap_is_filled_over_stops_in_the_database(rt: HostRuntime) -> Result<(), Fail> {
-    let seen = check_gap(&rt, rt.alloc(), Part::Requests, File::Database)?;
-    holds(&rt, "some are lost", seen.lost > 0);
-    Ok(())
-}
-
-// bench/stop_trials.sh: #[test]
-fn a_pool_is_closed_over_stops_in_the_log(rt: HostRuntime) -> Result<(), Fail> {
-    let seen = check_pool(&rt, rt.alloc(), Part::Requests, File::Log)?;
-    holds(
-        &rt,
-        "some are kept, some are lost",
-        seen.kept > 0 && seen.lost > 0,
-    );
-    Ok(())
-}
-
-// bench/stop_trials.sh: #[test]
-fn a_pool_is_closed_over_stops_in_the_database(rt: HostRuntime) -> Result<(), Fail> {
-    let seen = check_pool(&rt, rt.alloc(), Part::Requests, File::Database)?;
-    holds(&rt, "some are lost", seen.lost > 0);
-    Ok(())
-}
-
-// bench/stop_trials.sh: #[test]
-fn a_run_is_let_go_over_stops_in_the_log(rt: HostRuntime) -> Result<(), Fail> {
-    let seen = check_run(&rt, rt.alloc(), Part::Requests, File::Log)?;
-    holds(
-        &rt,
-        "some are kept, some are lost",
-        seen.kept > 0 && seen.lost > 0,
-    );
-    Ok(())
-}
-
-// bench/stop_trials.sh: #[test]
-fn a_run_is_let_go_over_stops_in_the_database(rt: HostRuntime) -> Result<(), Fail> {
-    let seen = check_run(&rt, rt.alloc(), Part::Requests, File::Database)?;
-    holds(&rt, "some are lost", seen.lost > 0);
+/// Checks requests that stop at each call of a file in a part of their run. After the opening some requests are lost, and where the log stops
+/// some are kept.
+fn check_trial(
+    rt: &impl Abort,
+    alloc: Global,
+    trial: Trial,
+    part: Part,
+    file: File,
+) -> Result<(), Fail> {
+    let seen = match trial {
+        Trial::Gap => check_gap(rt, alloc, part, file)?,
+        Trial::Repeats => check_repeats(rt, alloc, part, file)?,
+        Trial::Pool => check_pool(rt, alloc, part, file)?,
+        Trial::Run => check_run(rt, alloc, part, file)?,
+    };
+    if part == Part::Requests {
+        holds(rt, "some are lost", seen.lost > 0);
+        holds(rt, "some are kept", file == File::Database || seen.kept > 0);
+    }
     Ok(())
 }

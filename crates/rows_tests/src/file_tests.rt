@@ -2,9 +2,16 @@
 ghost use Rattle.std.specs.Prelude.{IsTrue, IfOk};
 ghost use Rattle.sqlite_disk.specs.Memory.{memory_is_usable};
 
-use super::*;
-use sqlite::{Error, FileStore, Files, Options};
+use crate::book::{
+    begin, write_balances, write_book, write_fronts, write_pools, write_verdicts, write_works,
+};
+use crate::checks::told;
+use crate::reads::{read_book, read_fronts, read_office, read_pools, read_verdicts, read_works};
+use society_rows::RowFault;
+use sqlite::{Alter, Connection, FileStore, Files, Options, Transaction};
 use sqlite_disk::Memory;
+use std::alloc::Global;
+use std::test::Fail;
 
 type Filed = Connection<FileStore<Memory>>;
 
@@ -54,10 +61,6 @@ fn write_all<S: Alter>(conn: &mut Connection<S>) -> Result<(), RowFault> {
     Ok(())
 }
 
-fn read_office<S: Alter>(tx: &mut Transaction<'_, S>, alloc: Global) -> Result<String, RowFault> {
-    Ok(told(alloc, all_offices(tx)?)?)
-}
-
 fn read_orders<S: Alter>(tx: &mut Transaction<'_, S>, alloc: Global) -> Result<String, RowFault> {
     let mut text = read_office(tx, alloc)?;
     text.push_str(read_book(tx, alloc)?.as_str())?;
@@ -100,9 +103,12 @@ fn written(alloc: Global) -> Result<Memory, RowFault>
 fn a_file_holds_what_was_committed(rt: HostRuntime) -> Result<(), Fail> {
     let alloc = rt.alloc();
     let mut conn = open(alloc, written(alloc)?)?;
-    assert_eq!(rt;
-        read_all(&mut conn, alloc)?.as_str(),
-        "1|2|900|40|EXAMPLE SOCIETY|;PB000000012|1||;PB000000012|2|second|;RADIO1|3|isrc,plays,seconds|;7|1000000000000|;7|PB000000012|2|;RADIO1|3|7|;PB000000012|W1|0|1|0|99999999999|;PB000000012|W1|1|2|4|99999999999|;PB000000012|W1|0|ATABC2600001|;PB000000012|1|0|21|0|0|;7|0|-|UNCLAIMED|5|;PB000000012|2|1|;PB000000034|1|0|;UNCLAIMED|999999999999999999|;"
+    let seen = read_all(&mut conn, alloc)?;
+    told(
+        &rt,
+        "all tables",
+        seen.as_str(),
+        "1|2|900|40|EXAMPLE SOCIETY|;PB000000012|1||;PB000000012|2|second|;RADIO1|3|isrc,plays,seconds|;7|1000000000000|;7|PB000000012|2|;RADIO1|3|7|;PB000000012|W1|0|1|0|99999999999|;PB000000012|W1|1|2|4|99999999999|;PB000000012|W1|0|ATABC2600001|;PB000000012|1|0|21|0|0|;7|0|-|UNCLAIMED|5|;PB000000012|2|1|;PB000000034|1|0|;UNCLAIMED|999999999999999999|;",
     );
     Ok(())
 }

@@ -2,7 +2,13 @@
 ghost use Rattle.std.specs.Prelude.{◌+◌, ◌≡◌};
 ghost use Rattle.society_rows.specs.declared.fault.RowFault.TheVariants.{Memory};
 
-use super::*;
+use crate::book::{SENDER, book, shown, write_book, write_fronts, write_works};
+use crate::checks::told;
+use society_rows::{Question, RowFault, RowFold, TableName, ask, fold_above, fold_run, fold_table};
+use sqlite::{Alter, Connection, MemStore, Row};
+use std::alloc::Global;
+use std::process::Abort;
+use std::test::Fail;
 
 /// Counts the rows that it takes.
 #[derive(Drop)]
@@ -64,7 +70,7 @@ fn run_from<S: Alter>(conn: &mut Connection<S>, first: u32) -> Result<u64, RowFa
     Ok(count.rows)
 }
 
-fn told_of<S: Alter>(
+fn shown_of<S: Alter>(
     conn: &mut Connection<S>,
     alloc: Global,
     question: Question<'_>,
@@ -73,60 +79,71 @@ fn told_of<S: Alter>(
         return Err(RowFault::Unread);
     }
     let rows = ask(conn, question)?;
-    Ok(told(alloc, rows)?)
+    Ok(shown(alloc, rows)?)
+}
+
+fn check_counts<S: Alter>(rt: &impl Abort, conn: &mut Connection<S>) -> Result<(), Fail> {
+    for (row, table, wanted) in [
+        ("transmissions", TableName::Transmissions, 2),
+        ("fronts", TableName::Fronts, 2),
+        ("credits", TableName::Credits, 0),
+    ] {
+        told(rt, row, count_of(conn, table)?, wanted);
+    }
+    told(rt, "above 1", count_above(conn, 1)?, 1);
+    Ok(())
 }
 
 #[test]
 fn rows_are_taken_one_at_a_time(rt: HostRuntime) -> Result<(), Fail> {
-    let mut conn = committed(rt.alloc())?;
-    assert_eq!(rt; count_of(&mut conn, TableName::Transmissions)?, 2);
-    assert_eq!(rt; count_of(&mut conn, TableName::Fronts)?, 2);
-    assert_eq!(rt; count_of(&mut conn, TableName::Credits)?, 0);
-    assert_eq!(rt; count_above(&mut conn, 1)?, 1);
+    check_counts(&rt, &mut committed(rt.alloc())?)
+}
+
+fn check_runs<S: Alter>(rt: &impl Abort, conn: &mut Connection<S>) -> Result<(), Fail> {
+    for (row, first, wanted) in [
+        ("from 1", 1, 2),
+        ("from 2", 2, 1),
+        ("from 3", 3, 0),
+        ("from 0", 0, 0),
+    ] {
+        told(rt, row, run_from(conn, first)?, wanted);
+    }
     Ok(())
 }
 
 #[test]
 fn a_run_ends_at_the_first_gap(rt: HostRuntime) -> Result<(), Fail> {
-    let mut conn = committed(rt.alloc())?;
-    assert_eq!(rt; run_from(&mut conn, 1)?, 2);
-    assert_eq!(rt; run_from(&mut conn, 2)?, 1);
-    assert_eq!(rt; run_from(&mut conn, 3)?, 0);
-    assert_eq!(rt; run_from(&mut conn, 0)?, 0);
+    check_runs(&rt, &mut committed(rt.alloc())?)
+}
+
+fn check_questions<S: Alter>(
+    rt: &impl Abort,
+    alloc: Global,
+    conn: &mut Connection<S>,
+) -> Result<(), Fail> {
+    for (row, question, wanted) in [
+        ("front", Question::Front(SENDER), "PB000000012|2|1|;"),
+        ("no transmission", Question::Transmission(SENDER, 3), ""),
+        (
+            "numbers",
+            Question::NumbersAbove(SENDER, 1),
+            "PB000000012|2|;",
+        ),
+        ("return", Question::HasReturn(b"RADIO1", 3), "RADIO1|3|;"),
+        ("no return", Question::HasReturn(b"RADIO1", 2), ""),
+        (
+            "version",
+            Question::LastVersion(SENDER, b"W1"),
+            "PB000000012|W1|1|2|4|99999999999|;",
+        ),
+        ("no version", Question::LastVersion(SENDER, b"W2"), ""),
+    ] {
+        told(rt, row, shown_of(conn, alloc, question)?.as_str(), wanted);
+    }
     Ok(())
 }
 
 #[test]
 fn a_question_leaves_the_book(rt: HostRuntime) -> Result<(), Fail> {
-    let alloc = rt.alloc();
-    let mut conn = committed(alloc)?;
-    assert_eq!(rt;
-        told_of(&mut conn, alloc, Question::Front(SENDER))?.as_str(),
-        "PB000000012|2|1|;"
-    );
-    assert_eq!(rt;
-        told_of(&mut conn, alloc, Question::Transmission(SENDER, 3))?.as_str(),
-        ""
-    );
-    assert_eq!(rt;
-        told_of(&mut conn, alloc, Question::NumbersAbove(SENDER, 1))?.as_str(),
-        "PB000000012|2|;"
-    );
-    assert_eq!(rt;
-        told_of(&mut conn, alloc, Question::HasReturn(b"RADIO1", 3))?.as_str(),
-        "RADIO1|3|;"
-    );
-    assert_eq!(rt;
-        told_of(&mut conn, alloc, Question::HasReturn(b"RADIO1", 2))?.as_str(),
-        ""
-    );
-    assert_eq!(rt;
-        told_of(&mut conn, alloc, Question::LastVersion(SENDER, b"W1"))?.as_str(),
-        "PB000000012|W1|1|2|4|99999999999|;"
-    );
-    assert_eq!(rt;
-        told_of(&mut conn, alloc, Question::LastVersion(SENDER, b"W2"))?.as_str(),
-        ""
-    );
-    Ok(())
+    check_questions(&rt, rt.alloc(), &mut committed(rt.alloc())?)
 }
