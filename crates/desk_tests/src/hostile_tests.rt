@@ -1,124 +1,80 @@
 //! Files that are cut, streams that fail at each of their bytes, and connections without an end in sight: what is answered,
 //! how it is given up, and what the book is then.
-use crate::checks::{holds, is_text, told};
-use crate::streams::{Stream, first_stream, tell};
+use crate::checks::told;
+use crate::desk_rows::{applied, new_desk};
+use crate::streams::{Ended, Source, Stream, answer, first_stream, outcome};
 use cwr_files::FileFault;
 use http_desk::{Counted, DeskFault, FaultKind, Served, serve};
-use society_core::{Desk, PlainStore, Refusal};
+use society_core::{Desk, Refusal, Store};
 use std::alloc::{AllocError, Global};
 use std::io::{ErrorKind, Read, Write};
 use std::process::Abort;
 use std::test::Fail;
-use test_bodies::{REGISTERED, REGISTERED_ACK, number as numbered, office, sender};
-
-/// A reader that gives at most so many bytes a read; behind its last byte it ends, or fails.
-#[derive(Drop)]
-struct Source<'a> {
-    bytes: &'a [u8],
-    piece: usize,
-    fails: bool,
-}
-
-impl Read for Source<'_> {
-    fn read(&mut self, buf: &mut [u8]) -> std::io::Result<usize> {
-        if self.bytes.is_empty() && self.fails {
-            return Err(ErrorKind::ConnectionReset.into());
-        }
-        let count = self.piece.min(buf.len());
-        self.bytes.read(&mut buf[..count])
-    }
-}
-
-/// A writer that keeps what it is given, takes so many bytes, and then fails.
-#[derive(Drop)]
-struct Sink {
-    taken: Vec<u8>,
-    room: usize,
-}
-
-impl Write for Sink {
-    fn write(&mut self, buf: &[u8]) -> std::io::Result<usize> {
-        let count = self.room.min(buf.len());
-        if count == 0 {
-            return Err(ErrorKind::BrokenPipe.into());
-        }
-        let taken = self.taken.write(&buf[..count])?;
-        self.room = self.room.saturating_sub(taken);
-        Ok(taken)
-    }
-
-    fn flush(&mut self) -> std::io::Result<()> {
-        Ok(())
-    }
-}
-
-/// What a connection came to.
-#[derive(Drop)]
-struct Ended {
-    end: Result<Served, DeskFault>,
-    written: Vec<u8>,
-    front: u32,
-    acknowledgement: Option<Vec<u8>>,
-}
-
-/// Serves what a source gives to a sink of this room, at an office to which nothing has come.
-fn outcome(alloc: Global, source: Source<'_>, room: usize, turns: u64) -> Result<Ended, Fail> {
-    let mut desk = Desk::new(PlainStore::new(alloc, &office()?));
-    let mut reader = Counted::new(source);
-    let mut writer = Counted::new(Sink {
-        taken: Vec::new(alloc),
-        room,
-    });
-    let end = serve(alloc, &mut desk, &mut reader, &mut writer, turns);
-    let status = desk.sender(alloc, &sender()?).ok().ok_or("a sender")?;
-    let acknowledgement = desk.ack(alloc, &sender()?, numbered(1)?).ok();
-    let Sink { taken, room: _ } = writer.into_inner();
-    Ok(Ended {
-        end,
-        written: taken,
-        front: status.front,
-        acknowledgement,
-    })
-}
+use test_bodies::{REGISTERED, REGISTERED_ACK, number, sender};
 
 /// How a connection is given up that answered so many requests.
 fn given_up(kind: FaultKind, requests: u128) -> Result<Served, DeskFault> {
     Err(DeskFault { kind, requests })
 }
 
-/// Checks how a connection ended, what it wrote, and that the book is that of so many requests of the stream.
+/// Checks that the book is that of so many requests of the first stream.
+fn check_book<S: Store>(
+    rt: &impl Abort,
+    alloc: Global,
+    row: &str,
+    desk: &mut Desk<S>,
+    requests: u128,
+) -> Result<(), Fail> {
+    let status = desk.sender(alloc, &sender()?).ok().ok_or("a sender")?;
+    let front = if requests == 0 { 0 } else { 1 };
+    told(rt, row, status.front, front);
+    let text = desk.ack(alloc, &sender()?, number(1)?).ok();
+    let wanted = if requests == 0 {
+        None
+    } else {
+        Some(REGISTERED_ACK)
+    };
+    told(rt, row, text.as_ref().map(|text| text.as_slice()), wanted);
+    Ok(())
+}
+
+/// What is wanted of a connection: how it ends, how much of the first stream's output it writes, and how many of its requests are
+/// in the book then.
+#[derive(Clone, Copy)]
+struct Wanted {
+    end: Result<Served, DeskFault>,
+    written: usize,
+    requests: u128,
+}
+
+/// Serves a source to a writer of this room, at an office to which nothing has come, and checks what comes of it.
 fn check(
     rt: &impl Abort,
-    seen: &Ended,
-    end: &Result<Served, DeskFault>,
-    written: &[u8],
-    requests: u128,
-) {
-    told(rt, "how it ended", &seen.end, end);
-    is_text(rt, "what was written", &seen.written, written);
-    let front = if requests == 0 { 0 } else { 1 };
-    told(rt, "the front", &seen.front, &front);
-    match &seen.acknowledgement {
-        Some(text) => is_text(rt, "the acknowledgement", text, REGISTERED_ACK),
-        None => told(rt, "no acknowledgement after", &requests, &0),
-    }
+    alloc: Global,
+    row: &str,
+    stream: &Stream,
+    connection: (Source<'_>, usize, u64),
+    wanted: Wanted,
+) -> Result<(), Fail> {
+    let (source, room, turns) = connection;
+    let mut desk = new_desk(alloc)?;
+    let Ended { end, written } = outcome(alloc, &mut desk, source, room, turns);
+    told(rt, row, end, wanted.end);
+    let output = stream.output.get(..wanted.written).ok_or("a front")?;
+    told(rt, row, written.as_slice(), output);
+    check_book(rt, alloc, row, &mut desk, wanted.requests)
 }
 
 #[test]
 fn prefixes_of_a_file(rt: HostRuntime) -> Result<(), Fail> {
     let alloc = rt.alloc();
     for length in 0..REGISTERED.len() + 1 {
-        let body = REGISTERED.get(..length).ok_or("a prefix")?;
-        let mut desk = Desk::new(PlainStore::new(alloc, &office()?));
-        let arrival = desk.put_transmission(alloc, &sender()?, numbered(1)?, body);
+        let row = format!(in alloc; "{length} bytes")?;
+        let body = REGISTERED.get(..length).ok_or("a front")?;
+        let arrival = new_desk(alloc)?.put_transmission(alloc, &sender()?, number(1)?, body);
         let faulty = matches!(&arrival, Err(Refusal::File(_)));
-        let seen = (length, arrival.is_ok(), faulty);
-        told(
-            &rt,
-            "a prefix",
-            &seen,
-            &(length, length >= 1_046, length < 1_046),
-        );
+        let whole = length >= 1_046;
+        told(&rt, &row, (arrival.is_ok(), faulty), (whole, !whole));
     }
     Ok(())
 }
@@ -126,7 +82,7 @@ fn prefixes_of_a_file(rt: HostRuntime) -> Result<(), Fail> {
 /// The greatest body, in bytes.
 const MAX_BODY: usize = 1_048_576;
 
-/// REGISTERED and line feeds behind it, so many bytes in all.
+/// The first file and line feeds behind it, so many bytes in all.
 fn with_line_feeds(alloc: Global, length: usize) -> Result<Vec<u8>, AllocError> {
     let mut body = Vec::from_slice(alloc, REGISTERED)?;
     body.resize(length, b'\n')?;
@@ -136,24 +92,21 @@ fn with_line_feeds(alloc: Global, length: usize) -> Result<Vec<u8>, AllocError> 
 #[test]
 fn one_byte_over_the_greatest_body(rt: HostRuntime) -> Result<(), Fail> {
     let alloc = rt.alloc();
-    let sender = sender()?;
-    let number = numbered(1)?;
-    let mut desk = Desk::new(PlainStore::new(alloc, &office()?));
+    let mut desk = new_desk(alloc)?;
     let over = with_line_feeds(alloc, MAX_BODY + 1)?;
+    let greatest = with_line_feeds(alloc, MAX_BODY)?;
     let fault = FileFault {
         number: 12,
         line: 1_047_540,
     };
-    let refused = desk.put_transmission(alloc, &sender, number, &over);
-    let too_long = refused == Err(Refusal::File(fault));
-    holds(&rt, "one byte over the greatest body is fault 12", too_long);
-    let greatest = with_line_feeds(alloc, MAX_BODY)?;
-    let arrival = desk.put_transmission(alloc, &sender, number, &greatest);
-    let is_taken = matches!(arrival, Ok(new) if !new.known && new.front == 1);
-    holds(&rt, "the greatest body is taken", is_taken);
-    let refused = desk.put_transmission(alloc, &sender, number, &over);
-    let is_other = refused == Err(Refusal::Reused);
-    holds(&rt, "another content is refused before its fault", is_other);
+    for (row, body, wanted) in [
+        ("over", &over, Err(Refusal::File(fault))),
+        ("greatest", &greatest, applied(1)),
+        ("over again", &over, Err(Refusal::Reused)),
+    ] {
+        let seen = desk.put_transmission(alloc, &sender()?, number(1)?, body);
+        told(&rt, row, seen, wanted);
+    }
     Ok(())
 }
 
@@ -176,17 +129,20 @@ fn check_failing_read(
     length: usize,
     piece: usize,
 ) -> Result<(), Fail> {
+    let row = format!(in alloc; "{length} bytes in pieces of {piece}")?;
     let source = Source {
-        bytes: stream.input.get(..length).ok_or("a prefix")?,
+        bytes: stream.input.get(..length).ok_or("a front")?,
         piece,
         fails: true,
     };
-    let (requests, end) = held_by(stream, length);
-    let written = stream.output.get(..end).ok_or("a prefix")?;
-    let seen = outcome(alloc, source, usize::MAX, u64::MAX)?;
-    let fault = given_up(FaultKind::Read, requests);
-    check(rt, &seen, &fault, written, requests);
-    Ok(())
+    let (requests, written) = held_by(stream, length);
+    let wanted = Wanted {
+        end: given_up(FaultKind::Read, requests),
+        written,
+        requests,
+    };
+    let connection = (source, usize::MAX, u64::MAX);
+    check(rt, alloc, &row, stream, connection, wanted)
 }
 
 #[test]
@@ -194,10 +150,20 @@ fn reads_that_fail(rt: HostRuntime) -> Result<(), Fail> {
     let alloc = rt.alloc();
     let stream = first_stream(alloc)?;
     for length in 0..stream.input.len() + 1 {
-        check_failing_read(&rt, alloc, &stream, length, 64)?;
-        check_failing_read(&rt, alloc, &stream, length, usize::MAX)?;
+        for piece in [64, usize::MAX] {
+            check_failing_read(&rt, alloc, &stream, length, piece)?;
+        }
     }
     Ok(())
+}
+
+/// The stream in pieces of so many bytes.
+fn whole(stream: &Stream, piece: usize) -> Source<'_> {
+    Source {
+        bytes: stream.input.as_slice(),
+        piece,
+        fails: false,
+    }
 }
 
 /// A writer that takes so many bytes, while the stream comes in pieces; so many requests are answered then.
@@ -209,16 +175,14 @@ fn check_failing_write(
     piece: usize,
     requests: u128,
 ) -> Result<(), Fail> {
-    let source = Source {
-        bytes: stream.input.as_slice(),
-        piece,
-        fails: false,
+    let row = format!(in alloc; "room for {room} bytes, pieces of {piece}")?;
+    let wanted = Wanted {
+        end: given_up(FaultKind::Write, requests),
+        written: room,
+        requests,
     };
-    let written = stream.output.get(..room).ok_or("a prefix")?;
-    let seen = outcome(alloc, source, room, u64::MAX)?;
-    let fault = given_up(FaultKind::Write, requests);
-    check(rt, &seen, &fault, written, requests);
-    Ok(())
+    let connection = (whole(stream, piece), room, u64::MAX);
+    check(rt, alloc, &row, stream, connection, wanted)
 }
 
 #[test]
@@ -241,20 +205,18 @@ fn check_turns(
     stream: &Stream,
     piece: usize,
     turns: u64,
-    end: &Result<Served, DeskFault>,
+    end: Result<Served, DeskFault>,
     requests: usize,
 ) -> Result<(), Fail> {
-    let source = Source {
-        bytes: stream.input.as_slice(),
-        piece,
-        fails: false,
-    };
+    let row = format!(in alloc; "{turns} turns")?;
     let ends = [0, stream.arrival, stream.output.len()];
-    let written = ends.get(requests).ok_or("an end")?;
-    let written = stream.output.get(..*written).ok_or("a prefix")?;
-    let seen = outcome(alloc, source, usize::MAX, turns)?;
-    check(rt, &seen, end, written, requests as u128);
-    Ok(())
+    let wanted = Wanted {
+        end,
+        written: *ends.get(requests).ok_or("an end")?,
+        requests: requests as u128,
+    };
+    let connection = (whole(stream, piece), usize::MAX, turns);
+    check(rt, alloc, &row, stream, connection, wanted)
 }
 
 #[test]
@@ -262,19 +224,16 @@ fn turns_of_one_byte(rt: HostRuntime) -> Result<(), Fail> {
     let alloc = rt.alloc();
     let stream = first_stream(alloc)?;
     let turns = stream.input.len() as u64;
+    let put = stream.put as u64;
     let rows = [
         (turns.saturating_add(1), Ok(Served { requests: 2 }), 2),
         (turns, given_up(FaultKind::Turns, 2), 2),
         (turns.saturating_sub(1), given_up(FaultKind::Turns, 1), 1),
-        (stream.put as u64, given_up(FaultKind::Turns, 1), 1),
-        (
-            (stream.put as u64).saturating_sub(1),
-            given_up(FaultKind::Turns, 0),
-            0,
-        ),
+        (put, given_up(FaultKind::Turns, 1), 1),
+        (put.saturating_sub(1), given_up(FaultKind::Turns, 0), 0),
     ];
     for (turns, end, requests) in rows.iter() {
-        check_turns(&rt, alloc, &stream, 1, *turns, end, *requests)?;
+        check_turns(&rt, alloc, &stream, 1, *turns, *end, *requests)?;
     }
     Ok(())
 }
@@ -290,7 +249,7 @@ fn turns_of_whole_reads(rt: HostRuntime) -> Result<(), Fail> {
         (0, given_up(FaultKind::Turns, 0), 0),
     ];
     for (turns, end, requests) in rows.iter() {
-        check_turns(&rt, alloc, &stream, usize::MAX, *turns, end, *requests)?;
+        check_turns(&rt, alloc, &stream, usize::MAX, *turns, *end, *requests)?;
     }
     Ok(())
 }
@@ -352,7 +311,7 @@ fn a_million_requests(rt: HostRuntime) -> Result<(), Fail> {
     let mut output = Vec::new(alloc);
     for _ in 0..ROUND {
         input.extend_from_slice(b"GET /v1/senders/PB000000012 HTTP/1.1\r\n\r\n")?;
-        tell(
+        answer(
             alloc,
             &mut output,
             "200 OK",
@@ -360,7 +319,7 @@ fn a_million_requests(rt: HostRuntime) -> Result<(), Fail> {
             "{\"front\":0,\"held\":[]}",
         )?;
     }
-    let mut desk = Desk::new(PlainStore::new(alloc, &office()?));
+    let mut desk = new_desk(alloc)?;
     let mut reader = Counted::new(Rounds {
         round: input.as_slice(),
         rest: b"",
@@ -373,8 +332,8 @@ fn a_million_requests(rt: HostRuntime) -> Result<(), Fail> {
     });
     let end = serve(alloc, &mut desk, &mut reader, &mut writer, u64::MAX);
     let requests = 1_000_000;
-    told(&rt, "how many are served", &end, &Ok(Served { requests }));
+    told(&rt, "end", end, Ok(Served { requests }));
     let bytes = (output.len() as u64).saturating_mul(ROUNDS);
-    told(&rt, "bytes written", &writer.into_inner().bytes, &bytes);
+    told(&rt, "bytes", writer.into_inner().bytes, bytes);
     Ok(())
 }
