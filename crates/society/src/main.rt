@@ -4,7 +4,7 @@
 #![tactic(auto)]
 
 use http_desk::Counted;
-use society_commands::{NoWords, start, why_no_words, without_words};
+use society_commands::{NoWords, ended, start, why_no_words};
 use std::env;
 use std::process::ExitCode;
 
@@ -14,15 +14,15 @@ fn main(rt: HostRuntime) -> ExitCode {
         Ok(args) => args,
         Err(error) => {
             let why = why_no_words(&error);
-            return ExitCode::from(without_words(why, &mut rt.stderr()));
+            return ExitCode::from(ended(Err(why), &mut rt.stderr()));
         }
     };
     let Ok(words) = args.collect::<Vec<String>>(alloc) else {
-        return ExitCode::from(without_words(NoWords::Memory, &mut rt.stderr()));
+        return ExitCode::from(ended(Err(NoWords::Memory), &mut rt.stderr()));
     };
     let mut reader = Counted::new(rt.stdin());
     let mut out = Counted::new(rt.stdout());
-    let told = start(
+    let outcome = start(
         &rt,
         alloc,
         words.as_slice(),
@@ -30,8 +30,5 @@ fn main(rt: HostRuntime) -> ExitCode {
         &mut out,
         &mut rt.stderr(),
     );
-    match told {
-        Ok(status) => ExitCode::from(status),
-        Err(why) => ExitCode::from(without_words(why, &mut rt.stderr())),
-    }
+    ExitCode::from(ended(outcome, &mut rt.stderr()))
 }

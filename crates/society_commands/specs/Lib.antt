@@ -2,3 +2,4 @@ pub mod CommandLine
 pub mod Connections
 pub mod Replays
 pub mod Words
+pub mod Refusals

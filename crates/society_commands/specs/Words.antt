@@ -15,8 +15,6 @@ use Rattle.society_commands.specs.CommandLine.{command_line}
 use Rattle.society_commands.specs.declared.words.Place.{Place}
 use Rattle.society_commands.specs.declared.words.Words.{Words}
 use Rattle.society_commands.specs.declared.words.Words.TheVariants as words
-use Rattle.society_commands.specs.declared.starting.NoWords.{NoWords}
-use Rattle.society_commands.specs.declared.starting.NoWords.TheVariants as without
 
 -- the number of so many bits that a text spells in decimal digits, a plus before them or not
 abbrev pub number_of : ℕ → Text → Option ℕ
@@ -129,8 +127,3 @@ abbrev pub IsWrong : Asked → Type 0
 IsWrong HasBadName = Unit {0}
 IsWrong HasBadWords = Unit {0}
 IsWrong _ = ⊥
-
--- the status where the words could not be had: 2 where one is no text, 1 where memory was refused (profile)
-abbrev pub status_without : NoWords → ℕ
-status_without without.NoText = 2
-status_without without.Memory = 1

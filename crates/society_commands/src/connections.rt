@@ -1,6 +1,8 @@
 //! Connections are served one after another, and a line is printed for each.
-ghost use Rattle.std.specs.Prelude.{decimal, OnOk, OnErr};
+ghost use Rattle.std.specs.Prelude.{decimal, IfErr, IfOk, OnOk, OnErr};
+ghost use Rattle.http_desk.specs.Serves.{IsGivenUp, IsServed, KeepsTurns};
 ghost use Rattle.society_commands.specs.Connections.{Brings, Prints, ServesConnections, StopsEarly, connection_line, outcome_text};
+ghost use Rattle.society_commands.specs.Replays.{most_turns};
 
 use crate::replaying::{TURNS, fault_name};
 use http_desk::{Counted, DeskFault, FaultKind, Served, serve};
@@ -77,7 +79,13 @@ fn serve_between<S: Store, R: Read, W: Write>(
     reader: &mut Counted<R>,
     writer: &mut Counted<W>,
 ) -> Result<Served, DeskFault>
-    ensures { Brings (S.state desk.old) (S.state desk.new) result }
+    ensures brings { Brings (S.state desk.old) (S.state desk.new) result }
+    // All that `serve` says, with as many turns as `replay` has.
+    ensures served { IfOk result
+        (IsServed S.state R.remaining W.contents desk.old desk.new reader.old writer.old writer.new) }
+    ensures fault { IfErr result (IsGivenUp S.state R.remaining W.contents
+        desk.old desk.new reader.old reader.new writer.old writer.new most_turns) }
+    ensures turns { KeepsTurns R.remaining reader.old reader.new most_turns }
 {
     serve(alloc, desk, reader, writer, TURNS)
 }

@@ -14,5 +14,5 @@ pub use connections::{AcceptFault, serve_connections};
 pub use opening::{OpenDatabase, open_fault, serve_file};
 pub use replaying::{BROKEN_OFF, SERVED, TURNS, replay, report};
 pub use serving::serve_store;
-pub use starting::{NoWords, start, why_no_words, without_words};
+pub use starting::{NoWords, ended, start, why_no_words};
 pub use words::{Place, Words, words_in};

@@ -3,6 +3,7 @@ ghost use Rattle.std.specs.Prelude.{◌≡◌, ◌⊎◌, IfOk, List, ℕ, false
 ghost use Rattle.sqlite.specs.Held.{state};
 ghost use Rattle.sqlite.specs.State as connection;
 ghost use Rattle.society_commands.specs.Connections.{IsFound, ServesDatabase, ServesOpened, StopsServingDatabase, StopsServingOpened};
+ghost use Rattle.society_commands.specs.Refusals.{database_fault, opening_fault};
 
 use crate::replaying::BROKEN_OFF;
 use crate::serving::serve_store;
@@ -45,7 +46,9 @@ impl OpenDatabase for HostRuntime {
 }
 
 /// What an error of opening a file says.
-fn fault_of(error: &Error) -> OpenFault {
+fn fault_of(error: &Error) -> OpenFault
+    ensures { result ≡ opening_fault error.now }
+{
     match error {
         Error::SqliteFailure(ErrorCode::OutOfMemory) => OpenFault::Memory,
         Error::SqliteFailure(ErrorCode::NotADatabase) => OpenFault::Schema,
@@ -110,17 +113,24 @@ fn serve_database<
     }
 }
 
-/// Writes why a database is not opened; a line that is not taken is passed over. Answers the status.
-pub fn open_fault<E: Write>(fault: OpenFault, err: &mut E) -> u8
-    ensures { result ≡ 1 }
+/// What a fault of a database is called.
+fn fault_name(fault: OpenFault) -> &'static str
+    ensures { result.now ≡ database_fault fault }
 {
-    let why = match fault {
+    match fault {
         OpenFault::Memory => "memory",
         OpenFault::Store => "store",
         OpenFault::Schema => "schema",
         OpenFault::OtherOffice => "of another office",
         OpenFault::Damaged => "damaged",
-    };
+    }
+}
+
+/// Writes why a database is not opened; a line that is not taken is passed over. Answers the status.
+pub fn open_fault<E: Write>(fault: OpenFault, err: &mut E) -> u8
+    ensures { result ≡ 1 }
+{
+    let why = fault_name(fault);
     let _ = writeln!(err, "society: database {why}");
     BROKEN_OFF
 }

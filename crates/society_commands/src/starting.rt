@@ -1,11 +1,13 @@
 //! What the program does, by its words.
-ghost use Rattle.std.specs.Prelude.{◌≡◌, ◌≢◌, ◌⊎◌, IfOk, IsErr, OnErr, map, string_bytes};
+ghost use Rattle.std.specs.Prelude.{◌≡◌, ◌≢◌, ◌⊎◌, IfErr, IfOk, IsErr, OnErr, map, string_bytes};
+ghost use Rattle.std.specs.IoError.{error_kind};
 ghost use Rattle.clap.specs.Words.{kind_of};
 ghost use Rattle.clap.specs.declared.error.kind.ErrorKind.TheVariants.{DisplayHelp, OutOfMemory};
 ghost use Rattle.sqlite.specs.Held.{state};
 ghost use Rattle.society_commands.specs.Connections.{ServesOpened, StopsServingOpened};
 ghost use Rattle.society_commands.specs.Replays.{Replays, BreaksOff};
-ghost use Rattle.society_commands.specs.Words.{IsWrong, StartsReplay, StartsServing, AsksHelp, asked, status_without};
+ghost use Rattle.society_commands.specs.Refusals.{ended_with, no_words_by, status_without};
+ghost use Rattle.society_commands.specs.Words.{IsWrong, StartsReplay, StartsServing, AsksHelp, asked};
 
 use crate::connections::print;
 use crate::opening::{OpenDatabase, serve_file};
@@ -50,6 +52,7 @@ pub fn start<
     err: &mut E,
 ) -> Result<u8, NoWords>
     ensures err { OnErr result ((reader.new ≡ reader.old) × (out.new ≡ out.old)) }
+    ensures memory { IfErr result (λ why. why ≡ NoWords.Memory) }
     ensures wrong { IsWrong (asked (map string_bytes words.now))
         → IfOk result (λ status. (status ≡ 2) × (reader.new ≡ reader.old) × (out.new ≡ out.old)) }
     ensures help { asked (map string_bytes words.now) ≡ AsksHelp
@@ -86,6 +89,7 @@ fn explain<W: Write, E: Write>(
     err: &mut E,
 ) -> Result<u8, NoWords>
     ensures err { OnErr result (out.new ≡ out.old) }
+    ensures no_words { IfErr result (λ why. (why ≡ NoWords.Memory) × ((kind_of error.now ≡ OutOfMemory) ⊎ (kind_of error.now ≡ DisplayHelp))) }
     ensures memory { kind_of error.now ≡ OutOfMemory → IsErr result }
     ensures help { kind_of error.now ≡ DisplayHelp → IfOk result (λ status. status ≡ 0) }
     ensures wrong { kind_of error.now ≢ DisplayHelp
@@ -116,15 +120,28 @@ fn refuse<E: Write>(err: &mut E, why: &str) -> u8
 }
 
 /// What an error of the program's words says: that a word is no text, or else that memory was refused.
-pub fn why_no_words(error: &io::Error) -> NoWords {
+pub fn why_no_words(error: &io::Error) -> NoWords
+    ensures { result ≡ no_words_by (error_kind error.now) }
+{
     match error.kind() {
         ErrorKind::InvalidData => NoWords::NoText,
         _ => NoWords::Memory,
     }
 }
 
+/// Ends the program: the status is that of what it did; where its words could not be had one line is written on `err`, and the status
+/// is 2 where one is no text, 1 where memory was refused.
+pub fn ended<E: Write>(outcome: Result<u8, NoWords>, err: &mut E) -> u8
+    ensures { result ≡ ended_with outcome }
+{
+    match outcome {
+        Ok(status) => status,
+        Err(why) => without_words(why, err),
+    }
+}
+
 /// Ends before any request where the words could not be had: writes one line on `err`. Answers the status.
-pub fn without_words<E: Write>(why: NoWords, err: &mut E) -> u8
+fn without_words<E: Write>(why: NoWords, err: &mut E) -> u8
     ensures { result ≡ status_without why }
 {
     match why {

@@ -2,7 +2,7 @@
 use crate::checks::{holds, is_status, is_text};
 use crate::streams::get;
 use http_desk::{Counted, DeskFault, FaultKind};
-use society_commands::{NoWords, replay, report, why_no_words, without_words};
+use society_commands::{NoWords, ended, replay, report, why_no_words};
 use std::alloc::Global;
 use std::io::{ErrorKind, Read, Write};
 use std::str;
@@ -185,7 +185,7 @@ fn words_that_cannot_be_had(rt: HostRuntime) -> Result<(), Fail> {
     for (kind, why, status) in rows {
         let found = why_no_words(&kind.into());
         holds(&rt, "why there are no words", found == why);
-        is_status(&rt, "no words", without_words(why, &mut err), status);
+        is_status(&rt, "no words", ended(Err(why), &mut err), status);
     }
     let lines = b"society: bad words\nsociety: memory fault after 0 requests\n";
     is_text(&rt, "the line of each", &err, lines);
