@@ -1,36 +1,26 @@
 #!/usr/bin/env python3
 """Measures how long `society serve --db` takes to open a file that it filled before, and its peak memory until it listens.
 
-usage: bench/audit_times.py [--program PROGRAM] [--port N] [WORD]     (only the cases whose name has the WORD)
-
-Each case is a file of its own, filled over one connection and opened three times; the least seconds are told, the greatest peak, and
-what the bodies in it come to.
+Each case is a file of its own, filled over one connection and opened three times. Reported are the least processor seconds (user and
+system) and the seconds that passed then, the greatest peak memory, and the bytes of all bodies in the file.
 """
-import argparse
-import http.client
-import pathlib
 import tempfile
 
-import table_times
-from hostile_bodies import HERE
-from kill_trials import started
-
-SENDER = "PB000000012"
+import common
+from common import SENDER, Server, order_body, plays, works_file
 
 
 def files(count, works):
-    """So many files of so many works each."""
+    """Files of as many works each."""
     for n in range(count):
-        yield f"/v1/senders/{SENDER}/transmissions/{n + 1}", table_times.file(n * works, works)
+        yield f"/v1/senders/{SENDER}/transmissions/{n + 1}", works_file(n * works, works)
 
 
 def returns_and_pools(count, recordings):
-    """So many returns of the first recordings, each paid by a pool of its own at the first cut."""
+    """Returns of the first recordings, each paid by a pool of its own at the first cut."""
     for n in range(1, count + 1):
-        rows = b"".join(b"%s,%d,%d\n" % (table_times.isrc(k), plays, seconds) for k, plays, seconds in table_times.rows(n, recordings))
-        yield f"/v1/returns/RADIO1/{n}", table_times.RETURN + rows
-        order = b'{"amount":1000000,"cut":[["%s",1]],"returns":[["RADIO1",%d]]}' % (SENDER.encode(), n)
-        yield f"/v1/pools/{n}", order
+        yield f"/v1/returns/RADIO1/{n}", plays(n, recordings)
+        yield f"/v1/pools/{n}", order_body(1_000_000, [[SENDER, 1]], [["RADIO1", n]])
 
 
 def mixed():
@@ -46,45 +36,37 @@ CASES = {
 }
 
 
-def filled(program, port, path, requests):
+def filled(program, path, requests):
     """Sends requests; answers the bytes of their bodies."""
-    server, _ = started(program, port, path)
-    office, total = http.client.HTTPConnection("127.0.0.1", port, timeout=60), 0
-    for where, body in requests:
-        office.request("PUT", where, body=body)
-        answer = office.getresponse()
-        text = answer.read()
-        assert answer.status == 201, (where, answer.status, text)
-        total += len(body)
-    office.close()
-    server.kill()
-    server.wait()
+    total = 0
+    with Server(program, path) as server:
+        connection = server.connection()
+        for where, body in requests:
+            status, text = common.ask(connection, "PUT", where, body)
+            assert status == 201, (where, status, text)
+            total += len(body)
     return total
 
 
-def opened(program, port, path):
-    """The seconds that an opening takes, and the peak memory in MB."""
-    server, seconds = started(program, port, path)
-    status = pathlib.Path(f"/proc/{server.pid}/status").read_text()
-    server.kill()
-    server.wait()
-    peak = next(line for line in status.splitlines() if line.startswith("VmHWM"))
-    return seconds, int(peak.split()[1]) / 1_000
+def opened(program, path):
+    """Of an opening: its processor seconds, the seconds that passed, and the peak memory in MB."""
+    with Server(program, path) as server:
+        return server.processor, server.seconds, common.peak_memory(server.process.pid)
 
 
 def main():
-    words = argparse.ArgumentParser(description=__doc__.splitlines()[0])
-    words.add_argument("--program", default=str(HERE / "crates/society/out/society"))
-    words.add_argument("--port", type=int, default=8090)
-    words.add_argument("word", nargs="?", default="")
-    words = words.parse_args()
+    options = common.parser(__doc__)
+    common.add_cases(options, CASES)
+    options = options.parse_args()
     for name, requests in CASES.items():
-        if words.word in name:
+        if options.case in name:
             with tempfile.TemporaryDirectory() as folder:
                 path = f"{folder}/office.db"
-                total = filled(words.program, words.port, path, requests())
-                times = [opened(words.program, words.port, path) for _ in range(3)]
-                print(f"{name}: {min(it[0] for it in times):.2f} s, {max(it[1] for it in times):.0f} MB, bodies of {total / 1e6:.1f} MB", flush=True)
+                total = filled(options.program, path, requests())
+                times = [opened(options.program, path) for _ in range(3)]
+                processor, passed, _ = min(times)
+                peak = max(it[2] for it in times)
+                print(f"{name}: {processor:.2f} s of processor, {passed:.2f} s passed, {peak:.0f} MB, bodies of {total / 1e6:.1f} MB", flush=True)
 
 
 if __name__ == "__main__":

@@ -1,59 +1,26 @@
 #!/usr/bin/env python3
 """Sends the worst bodies of 1 MiB of each layer to the program, and measures it.
 
-usage: bench/hostile_bodies.py [--program PROGRAM] [--runs N] [WORD]     (only the cases whose name has the WORD)
-
-Each case is one stream of requests to `society replay`; a put is followed by the questions that read what was put. Of N runs
-(3) the least processor seconds, user and system, are told, the seconds that passed, the peak memory of the program in MB, the
-bytes in and out, and how many answers of each status came. The last line says whether a case took over 2 s.
+Each case is one stream of requests to `society replay`; a put is followed by the questions that read what was put. Reported are,
+of the run with the least processor time (user and system), its processor seconds, the seconds that passed, the peak memory of the
+program in MB, the bytes in and out, and how many answers of each status came. The last line says whether a case took over 2 s.
 """
-import argparse
-import collections
-import json
-import os
-import pathlib
-import re
-import subprocess
-import threading
-import time
+import common
+from common import CSV_HEADER, FIRST, FIRST_LINES, MAX_BODY, get, put_pool, request
 
-HERE = pathlib.Path(__file__).resolve().parent.parent
-WORDS = ["replay", "--society", "900", "--territory", "40", "--name", "EXAMPLE SOCIETY"]
-MAX_BODY = 1_048_576
 LIMIT = 2.0
-SENDER = "/v1/senders/PB000000012"
-F1 = (HERE / "examples/first.cwr").read_bytes()
-HDR = F1.split(b"\n")[0] + b"\n"
-STATUS = re.compile(rb"HTTP/1\.1 (\d\d\d) ")
-
-
-def request(method, path, body=b""):
-    length = f"Content-Length: {len(body)}\r\n" if body else ""
-    return f"{method} {path} HTTP/1.1\r\n{length}\r\n".encode() + body
-
-
-def get(*paths):
-    return b"".join(request("GET", path) for path in paths)
-
-
-# The last request of each stream; the program then waits for more.
-LAST = get("/v1/senders/PB999999999")
-LAST_ANSWER = b'{"front":0,"held":[]}'
+SENDER = f"/v1/senders/{common.SENDER}"
+HDR = FIRST_LINES[0] + b"\r\n"
 
 
 def put(body, number=1):
     assert len(body) <= MAX_BODY, len(body)
-    return request("PUT", f"{SENDER}/transmissions/{number}", body)
+    return common.put_file(body, number)
 
 
 def put_return(body, number=1):
     assert len(body) <= MAX_BODY, len(body)
-    return request("PUT", f"/v1/returns/RADIO1/{number}", body)
-
-
-def close(pool, amount, cut, returns):
-    order = {"amount": amount, "cut": cut, "returns": returns}
-    return request("PUT", f"/v1/pools/{pool}", json.dumps(order).encode())
+    return common.put_return(body, number)
 
 
 QUESTIONS = get(f"{SENDER}/acks/1", f"{SENDER}/verdicts/1", f"{SENDER}/works/W1", SENDER)
@@ -142,12 +109,12 @@ def case(make):
 # Lines and groups.
 @case
 def lines_of_one_byte():
-    return put(filled(F1, lambda k: b" \n")[0]) + QUESTIONS
+    return put(filled(FIRST, lambda k: b" \n")[0]) + QUESTIONS
 
 
 @case
 def lines_of_no_byte():
-    return put(filled(F1, lambda k: b"\n")[0]) + QUESTIONS
+    return put(filled(FIRST, lambda k: b"\n")[0]) + QUESTIONS
 
 
 @case
@@ -262,7 +229,7 @@ def recordings_of_one_work():
 
 # Pools.
 def returns_of(count):
-    return b"isrc,plays,seconds\n" + b"".join(b"%s,1,1\n" % isrc(k) for k in range(count))
+    return CSV_HEADER + b"".join(b"%s,1,1\n" % isrc(k) for k in range(count))
 
 
 def parties_and_recordings(recordings, parties):
@@ -277,43 +244,40 @@ CUT = [["PB000000012", 1]]
 
 @case
 def pool_of_ten_thousand_recordings():
-    return put_return(returns_of(10_000)) + close(1, 10**12, [], [["RADIO1", 1]]) + POOL
+    return put_return(returns_of(10_000)) + put_pool(1, 10**12, [], [["RADIO1", 1]]) + POOL
 
 
 @case
 def pool_over_many_works():
     lines, count = filled(b"", lambda k: work(k, b"W%d" % k) + rec(1, isrc(k), k), b"", ROOM)
-    return put(one_group(lines, count)) + put_return(returns_of(count)) + close(1, 10**12, CUT, [["RADIO1", 1]]) + POOL
+    return put(one_group(lines, count)) + put_return(returns_of(count)) + put_pool(1, 10**12, CUT, [["RADIO1", 1]]) + POOL
 
 
 @case
 def recordings_beside_parties_unplayed():
     body = parties_and_recordings(2_000, 16_000)
-    return put(body) + put_return(returns_of(0)) + close(1, 10**12, CUT, [["RADIO1", 1]]) + POOL
+    return put(body) + put_return(returns_of(0)) + put_pool(1, 10**12, CUT, [["RADIO1", 1]]) + POOL
 
 
 @case
 def recordings_beside_parties_one_played():
     body = parties_and_recordings(2_000, 16_000)
-    return put(body) + put_return(returns_of(1)) + close(1, 10**12, CUT, [["RADIO1", 1]]) + POOL
+    return put(body) + put_return(returns_of(1)) + put_pool(1, 10**12, CUT, [["RADIO1", 1]]) + POOL
 
 
 @case
 def recordings_beside_parties_all_played():
     body = parties_and_recordings(200, 31_000)
-    return put(body) + put_return(returns_of(200)) + close(1, 10**12, CUT, [["RADIO1", 1]]) + POOL
+    return put(body) + put_return(returns_of(200)) + put_pool(1, 10**12, CUT, [["RADIO1", 1]]) + POOL
 
 
 @case
 def pool_names_a_thousand_returns():
     puts = b"".join(put_return(returns_of(1), k + 1) for k in range(1_000))
-    return puts + close(1, 10**12, [], [["RADIO1", k + 1] for k in range(1_000)]) + POOL
+    return puts + put_pool(1, 10**12, [], [["RADIO1", k + 1] for k in range(1_000)]) + POOL
 
 
 # Returns.
-HEAD = b"isrc,plays,seconds\n"
-
-
 @case
 def one_quoted_field():
     return put_return(b'"' + b"x" * (MAX_BODY - 2) + b'"')
@@ -321,17 +285,17 @@ def one_quoted_field():
 
 @case
 def one_open_quote():
-    return put_return(HEAD + b'"' + b"\n" * (MAX_BODY - len(HEAD) - 1))
+    return put_return(CSV_HEADER + b'"' + b"\n" * (MAX_BODY - len(CSV_HEADER) - 1))
 
 
 @case
 def one_field_of_quotes():
-    return put_return(HEAD + b'"' + b'""' * ((MAX_BODY - len(HEAD) - 2) // 2) + b'"')
+    return put_return(CSV_HEADER + b'"' + b'""' * ((MAX_BODY - len(CSV_HEADER) - 2) // 2) + b'"')
 
 
 @case
 def one_row_of_empty_fields():
-    return put_return(HEAD + b"," * (MAX_BODY - len(HEAD)))
+    return put_return(CSV_HEADER + b"," * (MAX_BODY - len(CSV_HEADER)))
 
 
 @case
@@ -341,14 +305,14 @@ def line_ends_alone():
 
 @case
 def line_ends_behind_the_header():
-    return put_return(HEAD + b"\r\n" * ((MAX_BODY - len(HEAD)) // 2)) + close(1, 5, [], [["RADIO1", 1]]) + POOL
+    return put_return(CSV_HEADER + b"\r\n" * ((MAX_BODY - len(CSV_HEADER)) // 2)) + put_pool(1, 5, [], [["RADIO1", 1]]) + POOL
 
 
 @case
 def quoted_fields_of_ten_thousand_rows():
     line = b'"ATABC2600001","1","1"'
-    body = HEAD + (line + b"\n" * 80) * 10_000
-    return put_return(body[:MAX_BODY]) + close(1, 5, [], [["RADIO1", 1]]) + POOL
+    body = CSV_HEADER + (line + b"\n" * 80) * 10_000
+    return put_return(body[:MAX_BODY]) + put_pool(1, 5, [], [["RADIO1", 1]]) + POOL
 
 
 # Orders.
@@ -417,7 +381,7 @@ def many_hard_numbers():
 
 @case
 def orders_of_the_most_names():
-    one = close(1, 1, [["PB%09d" % k, 1] for k in range(200)], [["R", k + 1] for k in range(1_000)])
+    one = put_pool(1, 1, [["PB%09d" % k, 1] for k in range(200)], [["R", k + 1] for k in range(1_000)])
     return one * (MAX_BODY // len(one))
 
 
@@ -471,73 +435,28 @@ def line_ends_before_heads():
     return heads("\r\n" * 4_000 + "GET / HTTP/1.1\r\n\r\n")
 
 
-def taken_by(process):
-    """The peak memory in use, in MB, of a process that waits for more to read."""
-    lines = pathlib.Path(f"/proc/{process.pid}/status").read_text().split("\n")
-    return int(next(it for it in lines if it.startswith("VmHWM")).split()[1]) / 1000
-
-
-def read_to(source, end):
-    """What is read up to this end."""
-    text = bytearray()
-    while not text.endswith(end):
-        part = source.read1(1 << 20)
-        assert part, "the program ended"
-        text += part
-    return text
-
-
-def run(program, stream):
-    """One run: processor seconds, seconds that passed, peak memory in MB, bytes written, answers by status."""
-    process = subprocess.Popen([program, *WORDS], stdin=subprocess.PIPE, stdout=subprocess.PIPE)
-    begun = time.time()
-    sender = threading.Thread(target=lambda: process.stdin.write(stream + LAST) and process.stdin.flush())
-    sender.start()
-    text = read_to(process.stdout, LAST_ANSWER)
-    passed = time.time() - begun
-    sender.join()
-    peak = taken_by(process)
-    process.stdin.close()
-    _, status, used = os.wait4(process.pid, 0)
-    process.returncode = os.waitstatus_to_exitcode(status)
-    assert process.returncode == 0, process.returncode
-    counts = collections.Counter(it.decode() for it in STATUS.findall(text))
-    return used.ru_utime + used.ru_stime, passed, peak, len(text), dict(sorted(counts.items()))
-
-
-def least_of(program, stream, runs):
-    """The run of the least processor seconds; a case that is slow is run once."""
-    least = run(program, stream)
-    for _ in range(runs - 1):
-        if least[0] > LIMIT:
-            break
-        least = min(least, run(program, stream))
-    return least
-
-
-def taken_words():
-    words = argparse.ArgumentParser()
-    words.add_argument("--program", default=str(HERE / "crates/society/out/society"))
-    words.add_argument("--runs", type=int, default=3)
-    words.add_argument("word", nargs="?", default="")
-    return words.parse_args()
+def shown(make):
+    """A case's name as it is listed."""
+    return make.__name__.replace("_", " ")
 
 
 def main():
-    words = taken_words()
+    options = common.parser(__doc__)
+    options.add_argument("--runs", type=int, default=3, help="runs of each case that takes less than 2 s (default: 3)")
+    common.add_cases(options, (shown(it) for it in CASES))
+    options = options.parse_args()
     slow = []
     print("| Case | Seconds | Passed | Peak MB | Bytes in | Bytes out | Answers |")
     print("|---|---|---|---|---|---|---|")
     for make in CASES:
-        if words.word not in make.__name__:
+        if options.case not in shown(make):
             continue
         stream = make()
-        seconds, passed, peak, size, counts = least_of(words.program, stream, words.runs)
-        told = ", ".join(f"{count} x {status}" for status, count in counts.items())
-        shown = make.__name__.replace("_", " ")
-        print(f"| {shown} | {seconds:.3f} | {passed:.3f} | {peak:.1f} | {len(stream):,} | {size:,} | {told} |", flush=True)
-        if seconds > LIMIT:
-            slow.append(shown)
+        run = common.least_of(options.program, stream, options.runs, LIMIT)
+        times = f"{run.processor:.3f} | {run.passed:.3f} | {run.peak:.1f}"
+        print(f"| {shown(make)} | {times} | {len(stream):,} | {run.written:,} | {common.listed(run.statuses)} |", flush=True)
+        if run.processor > LIMIT:
+            slow.append(shown(make))
     print(f"over {LIMIT} s: " + (", ".join(slow) or "none"))
 
 

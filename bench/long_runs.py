@@ -1,42 +1,31 @@
 #!/usr/bin/env python3
 """Sends long streams to `society replay`, and looks whether every answer is the right one and the memory stays.
 
-usage: bench/long_runs.py [PROGRAM]     (crates/society/out/society; `bin/society --help` builds it)
-
 A stream of 1,000,000 questions and repeated puts over one connection: the program's memory at the end is no more than after
-the first thousand (pages of the room that was taken before the first read may be touched later). 100,000 puts of new files: no
-answer is a 503, and the memory is told beside the bytes that the book keeps.
+the first thousand (pages of the memory that was taken before the first read may be touched later). 100,000 puts of new files: no
+answer is a 503, and the memory is reported beside the bytes that the book keeps.
 """
 import os
 import pathlib
 import subprocess
-import sys
 import threading
 import time
 
-HERE = pathlib.Path(__file__).resolve().parent.parent
-PROGRAM = str(HERE / "crates/society/out/society")
-WORDS = ["replay", "--society", "900", "--territory", "40", "--name", "EXAMPLE SOCIETY"]
-SENDER = "/v1/senders/PB000000012"
-F1 = (HERE / "examples/first.cwr").read_bytes()
-F3 = F1[:88] + b"TRL000000000000000000002\r\n"
-PLAYS = b"isrc,plays,seconds\nATABC2600001,10,200\n"
-ORDER = b'{"amount":1001,"cut":[["PB000000012",1]],"returns":[["RADIO1",1]]}'
+import common
+from common import CSV_HEADER, FIRST, NO_WORKS, SENDER, get, put_file, put_pool, put_return
 
-
-def request(method, path, body=b""):
-    return f"{method} {path} HTTP/1.1\r\nContent-Length: {len(body)}\r\n\r\n".encode() + body
+PATH = f"/v1/senders/{SENDER}"
 
 
 class Replay:
-    """The program, to which requests are sent while what it writes is read beside."""
+    """The program, to which requests are sent while a thread reads what it writes."""
 
     def __init__(self, program):
         pipes = {"stdin": subprocess.PIPE, "stdout": subprocess.PIPE}
-        self.process = subprocess.Popen([program, *WORDS], **pipes)
+        self.process = subprocess.Popen([program, "replay", *common.OFFICE], **pipes)
 
     def ask(self, stream, rounds, size):
-        """Sends a stream so many times, and compares what is written, so many bytes a round, with the first round's."""
+        """Sends a stream again and again, and compares the bytes that are written, as many in each round, with the first round's."""
         first = []
         reader = threading.Thread(target=self.compare, args=(rounds, size, first))
         reader.start()
@@ -55,15 +44,10 @@ class Replay:
                 os._exit(1)
             del first[1:]
 
-    def answer(self, stream):
-        """What is written for a stream that is the last one."""
-        text = []
-        reader = threading.Thread(target=lambda: text.append(self.process.stdout.read()))
-        reader.start()
-        self.process.stdin.write(stream)
+    def end(self):
+        """What is written after the last answer."""
         self.process.stdin.close()
-        reader.join()
-        return text[0]
+        return self.process.stdout.read()
 
     def memory(self):
         """The memory that the program has of the system for its data, and how much of it was ever touched, in kB."""
@@ -72,69 +56,50 @@ class Replay:
         return int(taken["VmData"].split()[0]), int(taken["RssAnon"].split()[0])
 
 
-def once(program, stream):
-    """What is written for a stream."""
-    return subprocess.run([program, *WORDS], input=stream, stdout=subprocess.PIPE, check=True).stdout
-
-
-SETTING = (
-    request("PUT", f"{SENDER}/transmissions/1", F1)
-    + request("PUT", f"{SENDER}/transmissions/3", F3)
-    + request("PUT", "/v1/returns/RADIO1/1", PLAYS)
-    + request("PUT", "/v1/pools/7", ORDER)
-)
-ROUND = b"".join(
-    [
-        request("GET", SENDER),
-        request("GET", f"{SENDER}/works/W1"),
-        request("GET", f"{SENDER}/verdicts/1"),
-        request("GET", f"{SENDER}/acks/1"),
-        request("GET", "/v1/pools/7"),
-        request("GET", "/v1/accounts/I00000000199"),
-        request("PUT", f"{SENDER}/transmissions/1", F1),
-        request("PUT", f"{SENDER}/transmissions/1", F3),
-        request("PUT", "/v1/returns/RADIO1/1", PLAYS),
-        request("PUT", "/v1/pools/7", ORDER),
-    ]
-)
+PLAYS = CSV_HEADER + b"ATABC2600001,10,200\n"
+ORDER = put_pool(7, 1001, [[SENDER, 1]], [["RADIO1", 1]])
+SETTING = put_file(FIRST, 1) + put_file(NO_WORKS, 3) + put_return(PLAYS) + ORDER
+QUESTIONS = get(PATH, f"{PATH}/works/W1", f"{PATH}/verdicts/1", f"{PATH}/acks/1", "/v1/pools/7", "/v1/accounts/I00000000199")
+ROUND = QUESTIONS + put_file(FIRST) + put_file(NO_WORKS) + put_return(PLAYS) + ORDER
 
 
 def a_million_requests(program):
-    setting = once(program, SETTING)
-    size = len(once(program, SETTING + ROUND)) - len(setting)
+    setting = common.replay(program, SETTING)
+    size = len(common.replay(program, SETTING + ROUND)) - len(setting)
     replay = Replay(program)
     replay.ask(SETTING, 1, len(setting))
-    begun = time.time()
+    begun = time.monotonic()
     text = replay.ask(ROUND, 100, size)
     assert text.count(b"HTTP/1.1 200 OK\r\n") == 9 and text.count(b"HTTP/1.1 409 ") == 1, text
     early, early_touched = replay.memory()
     assert replay.ask(ROUND, 99_900, size) == text
     late, late_touched = replay.memory()
-    assert replay.answer(b"") == b""
-    print(f"1,000,000 requests of ten shapes: {time.time() - begun:.1f} s;", end=" ")
-    print(f"{early} kB of data after 1,000 ({early_touched} touched) and {late} kB at the end ({late_touched} touched)")
+    assert replay.end() == b""
+    print(f"1,000,000 requests of ten shapes: {time.monotonic() - begun:.1f} s;", end=" ")
+    print(f"{early} kB of data after 1,000 ({early_touched} touched) and {late} kB at the end ({late_touched} touched)", flush=True)
     assert late <= early, "the memory grew"
 
 
 def a_hundred_thousand_puts(program):
-    puts = [request("PUT", f"{SENDER}/transmissions/{n}", F1) for n in range(1, 100_001)]
-    told = [b'{"front":%d,"state":"applied"}' % n for n in range(1, 100_001)]
+    puts = [put_file(FIRST, n) for n in range(1, 100_001)]
+    texts = [b'{"front":%d,"state":"applied"}' % n for n in range(1, 100_001)]
     head = b"HTTP/1.1 201 Created\r\nContent-Type: application/json\r\nContent-Length: %d\r\n\r\n%s"
-    wanted = b"".join(head % (len(it), it) for it in told)
+    wanted = b"".join(head % (len(it), it) for it in texts)
     replay = Replay(program)
-    begun = time.time()
+    begun = time.monotonic()
     assert replay.ask(b"".join(puts), 1, len(wanted)) == wanted, "another answer"
-    passed = time.time() - begun
+    passed = time.monotonic() - begun
     _, touched = replay.memory()
-    assert replay.answer(b"") == b""
-    kept = 100_000 * len(F1) // 1000
-    print(f"100,000 puts of {len(F1)} bytes: {passed:.1f} s, {touched} kB touched; the book keeps {kept} kB of bodies")
+    assert replay.end() == b""
+    kept = 100_000 * len(FIRST) // 1000
+    print(f"100,000 puts of {len(FIRST)} bytes: {passed:.1f} s, {touched} kB touched; the book keeps {kept} kB of bodies")
 
 
 def main():
-    program = os.path.abspath(sys.argv[1] if len(sys.argv) > 1 else PROGRAM)
-    a_million_requests(program)
-    a_hundred_thousand_puts(program)
+    options = common.parser(__doc__).parse_args()
+    a_million_requests(options.program)
+    a_hundred_thousand_puts(options.program)
 
 
-main()
+if __name__ == "__main__":
+    main()

@@ -1,16 +1,13 @@
 #!/usr/bin/env python3
 """Refuses each allocation of the program in turn, and looks whether an answer changes.
 
-usage: bench/refused_memory.py [PROGRAM]     (crates/society/out/society; `bin/society --help` builds it)
-
-For each row below a server is started over and over; the k-th allocation of its process is refused, k = 1, 2, ..
+For each row of requests a server is started over and over; the k-th allocation of its process is refused, k = 1, 2, ..
 until a run in which none was. Each request comes over a connection of its own. It gets the row's answer, or, once at most, an
 answer 503 or a line 'memory fault after 0 requests'; it is then sent again, and it and all later ones get the row's answers.
 Each server is given a database of its own, a file that is not there yet. The allocations before it listens end the program with
 status 1 and one line instead, whose file then opens as a new office. `cc` compiles the refusal.
 """
 import contextlib
-import os
 import pathlib
 import re
 import socket
@@ -19,9 +16,10 @@ import sys
 import tempfile
 import time
 
-HERE = pathlib.Path(__file__).resolve().parent.parent
-PROGRAM = str(HERE / "crates/society/out/society")
-WORDS = ["--society", "900", "--territory", "40", "--name", "EXAMPLE SOCIETY"]
+import common
+from common import CSV_HEADER, FIRST, NO_WORKS, REVISION, SENDER, order_body
+
+PATH = f"/v1/senders/{SENDER}"
 BUSY = b'{"error":"busy"}'
 MEMORY = ("society: memory fault after 0 requests\n", "society: database memory\n", "society: database store\n")
 
@@ -44,7 +42,7 @@ static int is_refused(void) {
         refuse_at = text ? atol(text) : 0;
     }
     if (++count != refuse_at) return 0;
-    int file = open(getenv("REFUSE_TOLD"), O_CREAT | O_WRONLY, 0600);
+    int file = open(getenv("REFUSE_MARK"), O_CREAT | O_WRONLY, 0600);
     if (file >= 0) close(file);
     errno = ENOMEM;
     return 1;
@@ -60,63 +58,45 @@ int posix_memalign(void **out, size_t to, size_t size) {
 }
 """
 
-F1 = (HERE / "examples/first.cwr").read_bytes()
-
-
-def changed(body, *places):
-    """The body with bytes put in their places."""
-    body = bytearray(body)
-    for at, by in places:
-        body[at : at + len(by)] = by
-    return bytes(body)
-
-
-F2 = changed(F1, (91, b"REV"), (116, b"REV"), (340, b"0"), (397, b"0"), (551, b"10"), (602, b"10"))
-F3 = F1[:88] + b"TRL000000000000000000002\r\n"
-PLAYS = b"isrc,plays,seconds\nATABC2600001,10,200\n"
-TWO_ROWS = b"isrc,plays,seconds\nat-abc-26-00001,1,60\nATABC2600001,2,30\n"
-NO_PLAY = b"isrc,plays,seconds\nATABC2600001,0,60\n"
-SENDER = "/v1/senders/PB000000012"
+PLAYS = CSV_HEADER + b"ATABC2600001,10,200\n"
+TWO_ROWS = CSV_HEADER + b"at-abc-26-00001,1,60\nATABC2600001,2,30\n"
+NO_PLAY = CSV_HEADER + b"ATABC2600001,0,60\n"
+PAID = [["RADIO1", 1]]
+AT_3, MORE_AT_3 = order_body(1001, [[SENDER, 3]], PAID), order_body(1002, [[SENDER, 3]], PAID)
 
 
 def put(number, body):
-    return "PUT", f"{SENDER}/transmissions/{number}", body
-
-
-def order(amount, cut, returns):
-    text = '{"amount":%d,"cut":%s,"returns":%s}' % (amount, cut, returns)
-    return text.encode()
+    return "PUT", f"{PATH}/transmissions/{number}", body
 
 
 def get(path):
     return "GET", path, b""
 
 
-AT_3 = order(1001, '[["PB000000012",3]]', '[["RADIO1",1]]')
 # Each row with the status of each of its requests in an ample run.
 ROWS = {
-    "first_acknowledgement": [(put(1, F1), 201), (get(f"{SENDER}/acks/1"), 200)],
+    "first_acknowledgement": [(put(1, FIRST), 201), (get(f"{PATH}/acks/1"), 200)],
     "gap_filled": [
-        (put(1, F1), 201),
-        (put(3, F3), 202),
-        (get(f"{SENDER}/acks/3"), 404),
-        (get(SENDER), 200),
-        (put(2, F2), 201),
-        (get(SENDER), 200),
-        (get(f"{SENDER}/acks/1"), 200),
-        (get(f"{SENDER}/acks/3"), 200),
-        (get(f"{SENDER}/verdicts/2"), 200),
-        (get(f"{SENDER}/works/W1"), 200),
+        (put(1, FIRST), 201),
+        (put(3, NO_WORKS), 202),
+        (get(f"{PATH}/acks/3"), 404),
+        (get(PATH), 200),
+        (put(2, REVISION), 201),
+        (get(PATH), 200),
+        (get(f"{PATH}/acks/1"), 200),
+        (get(f"{PATH}/acks/3"), 200),
+        (get(f"{PATH}/verdicts/2"), 200),
+        (get(f"{PATH}/works/W1"), 200),
     ],
     "pool_closed_at_a_cut": [
-        (put(1, F1), 201),
-        (put(2, F3), 201),
+        (put(1, FIRST), 201),
+        (put(2, NO_WORKS), 201),
         (("PUT", "/v1/returns/RADIO1/1", PLAYS), 201),
         (("PUT", "/v1/pools/7", AT_3), 409),
-        (put(3, F3), 201),
+        (put(3, NO_WORKS), 201),
         (("PUT", "/v1/pools/7", AT_3), 201),
         (("PUT", "/v1/pools/7", AT_3), 200),
-        (("PUT", "/v1/pools/7", AT_3.replace(b"1001", b"1002")), 409),
+        (("PUT", "/v1/pools/7", MORE_AT_3), 409),
         (get("/v1/pools/7"), 200),
         (get("/v1/accounts/I00000000199"), 200),
         (get("/v1/accounts/PPB000000012A1"), 200),
@@ -125,7 +105,7 @@ ROWS = {
         (("PUT", "/v1/returns/RADIO1/1", TWO_ROWS), 201),
         (("PUT", "/v1/returns/RADIO1/1", TWO_ROWS), 200),
         (("PUT", "/v1/returns/RADIO1/1", PLAYS), 409),
-        (("PUT", "/v1/pools/1", order(5, "[]", '[["RADIO1",1]]')), 201),
+        (("PUT", "/v1/pools/1", order_body(5, [], PAID)), 201),
         (get("/v1/pools/1"), 200),
         (("PUT", "/v1/returns/RADIO1/2", NO_PLAY), 422),
         (get("/v1/accounts/UNCLAIMED"), 200),
@@ -141,30 +121,24 @@ def compiled(folder):
     return str(library)
 
 
-def free_port():
-    with socket.socket() as it:
-        it.bind(("127.0.0.1", 0))
-        return it.getsockname()[1]
-
-
 class Server:
     """A server whose k-th allocation is refused; none where k is 0."""
 
-    def __init__(self, program, library, told, k):
-        self.told, self.port = told, free_port()
-        told.unlink(missing_ok=True)
-        database = told.parent / "office.db"
-        for left in told.parent.glob("office.db*"):
+    def __init__(self, program, library, mark, k):
+        self.mark, self.port = mark, common.free_port()
+        mark.unlink(missing_ok=True)
+        database = mark.parent / "office.db"
+        for left in mark.parent.glob("office.db*"):
             left.unlink()
-        words = [program, "serve", "--db", str(database), "--port", str(self.port), "--connections", "1000000", *WORDS]
-        env = {"LD_PRELOAD": library, "REFUSE_AT": str(k), "REFUSE_TOLD": str(told)}
-        self.process = subprocess.Popen(words, env=env, stdout=subprocess.PIPE, stderr=subprocess.PIPE)
+        options = ["--db", str(database), "--port", str(self.port), "--connections", "1000000", *common.OFFICE]
+        env = {"LD_PRELOAD": library, "REFUSE_AT": str(k), "REFUSE_MARK": str(mark)}
+        self.process = subprocess.Popen([program, "serve", *options], env=env, stdout=subprocess.PIPE, stderr=subprocess.PIPE)
 
     def line(self):
         return self.process.stdout.readline().decode()
 
     def was_refused(self):
-        return self.told.exists()
+        return self.mark.exists()
 
     def ask(self, request):
         """What is written for one request on a connection of its own, and the server's line on it."""
@@ -186,9 +160,9 @@ class Server:
         self.process.stderr.close()
 
 
-def answers_of(program, library, told, row):
+def answers_of(program, library, mark, row):
     """The row's answers with ample memory."""
-    server = Server(program, library, told, 0)
+    server = Server(program, library, mark, 0)
     assert server.line() == "listening\n", server.process.stderr.read()
     answers = []
     for request, status in row:
@@ -201,7 +175,7 @@ def answers_of(program, library, told, row):
 
 
 def is_refusal(text, line):
-    """Whether a request was refused for want of memory: 503, or nothing at all."""
+    """Whether a request was refused because memory was: 503, or nothing at all."""
     if line == "memory fault after 0 requests\n":
         return text == b""
     return text.startswith(b"HTTP/1.1 503 ") and text.endswith(BUSY)
@@ -228,11 +202,11 @@ def check_run(server, row, answers):
     return seen
 
 
-def check_row(program, library, told, name, row):
-    answers = answers_of(program, library, told, row)
+def check_row(program, library, mark, name, row):
+    answers = answers_of(program, library, mark, row)
     counts, begun = {}, time.time()
     for k in range(1, 100_000):
-        server = Server(program, library, told, k)
+        server = Server(program, library, mark, k)
         try:
             seen = check_run(server, row, answers)
         except AssertionError as error:
@@ -249,12 +223,16 @@ def check_row(program, library, told, name, row):
 
 
 def main():
-    program = os.path.abspath(sys.argv[1] if len(sys.argv) > 1 else PROGRAM)
+    options = common.parser(__doc__)
+    common.add_cases(options, ROWS)
+    options = options.parse_args()
     with tempfile.TemporaryDirectory() as folder:
         folder = pathlib.Path(folder)
         library = compiled(folder)
         for name, row in ROWS.items():
-            check_row(program, library, folder / "told", name, row)
+            if options.case in name:
+                check_row(options.program, library, folder / "mark", name, row)
 
 
-main()
+if __name__ == "__main__":
+    main()

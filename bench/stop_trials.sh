@@ -6,6 +6,12 @@
 #
 # The tests lie in bench/stops and run in a copy of the crates under `rt try`, unproved: they would make the gate's longest proof half as long again.
 set -eu
+case ${1:-} in
+-h | --help)
+  sed -n '2,/^[^#]/s/^# \{0,1\}//p' "$0"
+  exit
+  ;;
+esac
 here=$(cd "$(dirname "$0")/.." && pwd)
 copy=$(mktemp -d)
 trap 'rm -rf "$copy"' EXIT

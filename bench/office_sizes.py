@@ -1,0 +1,128 @@
+#!/usr/bin/env python3
+"""Measures offices of many works in a file: the file's size, starts, puts, a pool over all works, and memory.
+
+An office is filled over one kept connection: by small files of one work each, or by files of 800 works, of as many senders as are
+needed. Reported are, at each step on the way, the works, the bytes of the database with its log, puts and works a second of processor
+(user and system) since the step before, the seconds that passed, and the peak memory of the server; at the end a start over the file,
+its return of 10,000 rows, a pool over all works and that return, the reading of its table, and the start after that.
+"""
+import pathlib
+import sys
+import tempfile
+import time
+
+import common
+from common import Server, order_body, plays, works_file
+
+PER_FILE = 800
+# Numbers of transmissions go to 999,999; a sender of these offices sends no more files than this.
+FILES_PER_SENDER = 100_000
+ROWS = 10_000
+
+CASES = {
+    "100,000 works by small files": (100_000, 1),
+    "100,000 works by files of 800": (100_000, PER_FILE),
+    "300,000 works by small files": (300_000, 1),
+    "1,000,000 works by files of 800": (1_000_000, PER_FILE),
+    "1,000,000 works by small files": (1_000_000, 1),
+}
+
+
+def sender_of(file):
+    """The sender of the k-th file, from 0, and its number there."""
+    return f"PB{file // FILES_PER_SENDER + 1:09d}", file % FILES_PER_SENDER + 1
+
+
+def size_of(path):
+    """The bytes of a database and of its log."""
+    return sum(it.stat().st_size for it in path.parent.glob(path.name + "*"))
+
+
+class Meter:
+    """What a server used since it was last asked."""
+
+    def __init__(self, server):
+        self.server, self.passed, self.processor = server, time.monotonic(), server.processor
+
+    def since(self):
+        """Processor seconds and the seconds that passed."""
+        passed, processor = time.monotonic(), common.processor_seconds(self.server.process.pid)
+        found = processor - self.processor, passed - self.passed
+        self.passed, self.processor = passed, processor
+        return found
+
+
+def fill(server, path, works, per_file, steps):
+    """Sends files until all works are there, and reports each step."""
+    connection, meter, pid = server.connection(), Meter(server), server.process.pid
+    files = -(-works // per_file)
+    for file in range(files):
+        sender, number = sender_of(file)
+        count = min(per_file, works - file * per_file)
+        where = f"/v1/senders/{sender}/transmissions/{number}"
+        status, text = common.ask(connection, "PUT", where, works_file(file * per_file, count, sender))
+        assert status == 201, (where, status, text)
+        if (file + 1) * steps // files > file * steps // files:
+            processor, passed = meter.since()
+            sent, there = files / steps, min(works, (file + 1) * per_file)
+            rates = f"{sent / processor:,.0f} puts and {sent * per_file / processor:,.0f} works a second of processor, {passed:.0f} s passed"
+            print(f"  {there:,} works: {size_of(path) / 1e6:,.0f} MB, {rates}, memory {common.peak_memory(pid):,.0f} MB", flush=True)
+    connection.close()
+    return files
+
+
+def report_start(server, path):
+    memory = common.peak_memory(server.process.pid)
+    print(f"  a start: {server.processor:.1f} s of processor, {server.seconds:.1f} s passed, memory {memory:,.0f} MB, {size_of(path) / 1e6:,.0f} MB", flush=True)
+
+
+def close_pool(server, files, works):
+    """Puts a return, closes a pool over all files, and reads its table."""
+    connection, meter = server.connection(), Meter(server)
+    rows = min(ROWS, works)
+    last_sender, last = sender_of(files - 1)
+    senders = [sender_of(it * FILES_PER_SENDER)[0] for it in range(-(-files // FILES_PER_SENDER))]
+    cut = [[it, last if it == last_sender else FILES_PER_SENDER] for it in senders]
+    steps = [
+        ("a return of 10,000 rows", "PUT", "/v1/returns/RADIO1/1", plays(1, rows, works - rows)),
+        ("a pool over all works", "PUT", "/v1/pools/1", order_body(10**9, cut, [["RADIO1", 1]])),
+        ("its table", "GET", "/v1/pools/1", None),
+        ("a work", "GET", f"/v1/senders/{senders[0]}/works/W0", None),
+        ("a balance", "GET", "/v1/accounts/I00000000199", None),
+    ]
+    for name, method, where, body in steps:
+        status, text = common.ask(connection, method, where, body)
+        assert status in (200, 201), (where, status, text[:200])
+        processor, passed = meter.since()
+        memory = common.peak_memory(server.process.pid)
+        print(f"  {name}: {processor:.2f} s of processor, {passed:.2f} s passed, answer of {len(text):,} bytes, memory {memory:,.0f} MB", flush=True)
+    connection.close()
+
+
+def measure(program, path, works, per_file, steps):
+    with Server(program, path) as server:
+        files = fill(server, path, works, per_file, steps)
+    with Server(program, path) as server:
+        report_start(server, path)
+        close_pool(server, files, works)
+    with Server(program, path) as server:
+        report_start(server, path)
+
+
+def main():
+    options = common.parser(__doc__)
+    options.add_argument("--steps", type=int, default=5, help="how often the filling is reported (default: 5)")
+    options.add_argument("--folder", type=pathlib.Path, help="where the databases are made (default: the system's folder for such files)")
+    common.add_cases(options, CASES)
+    options = options.parse_args()
+    names = [it for it in CASES if options.case in it]
+    if not names:
+        sys.exit(f"no case has {options.case!r} in its name")
+    for name in names:
+        print(name, flush=True)
+        with tempfile.TemporaryDirectory(dir=options.folder) as folder:
+            measure(options.program, pathlib.Path(folder) / "office.db", *CASES[name], options.steps)
+
+
+if __name__ == "__main__":
+    main()

@@ -1,0 +1,244 @@
+#!/usr/bin/env python3
+"""Pastes every block of commands of the documents into a shell, in order, and compares what is printed with what the document says.
+
+A block of commands is a fenced block with the word `sh`; what it prints is a fenced block with the word `text`, where that is the
+next fenced block under the same heading.
+Each document begins in a fresh copy of the checkout, in a folder of its own, with the program in its place there and on the PATH as
+`society`; its blocks go into one bash. Standard output and standard error are compared with the text block line by line, but for
+blanks at the ends of lines and the shell's own lines on jobs; a block without a text block has to end with status 0. What the blocks
+left running is reported and stopped. Ends with status 1 where anything differs.
+"""
+import ctypes
+import dataclasses
+import difflib
+import os
+import pathlib
+import re
+import selectors
+import shutil
+import signal
+import socket
+import subprocess
+import sys
+import tempfile
+import time
+
+import common
+from common import ROOT
+
+DOCUMENTS = ["README.md", "docs/OPERATIONS.md", "docs/FAULTS.md"]
+FENCE = re.compile(r"^( *)(```+|~~~+) *(\w*) *$")
+PORT = re.compile(r"--port[ =](\d+)|127\.0\.0\.1:(\d+)|localhost:(\d+)")
+# What bash says of its jobs: `[1] 4711`, `[1]+  Terminated  ..`, `bash: line 3:  4711 Terminated  ..`.
+JOBS = re.compile(r"^(\[\d+\][+-]? .*|bash: line \d+: +\d+ (Terminated|Killed|Hangup|Interrupt)\b.*)$")
+BECOME_SUBREAPER = 36
+
+
+@dataclasses.dataclass
+class Block:
+    """A block of commands, the number of its first line, and what it prints where the document says so."""
+
+    line: int
+    commands: str
+    wanted: str | None = None
+
+
+def fenced(text):
+    """Each fenced block: the number of its first line, its word, its text, and whether a heading stands between it and the one before."""
+    lines, opened, between = text.splitlines(), None, []
+    for number, line in enumerate(lines, 1):
+        fence = FENCE.match(line)
+        if opened is None and fence:
+            opened, inside = (fence[1], fence[2], fence[3], number + 1), []
+        elif opened is None:
+            between.append(line)
+        elif fence and fence[2].startswith(opened[1]) and not fence[3]:
+            yield opened[3], opened[2], "\n".join(inside) + "\n", any(it.startswith("#") for it in between)
+            opened, between = None, []
+        else:
+            inside.append(line.removeprefix(opened[0]))
+    if opened is not None:
+        raise ValueError(f"the block at line {opened[3]} has no end")
+
+
+def blocks(text):
+    """The blocks of commands of a document."""
+    found, last = [], None
+    for line, word, inside, has_heading in fenced(text):
+        if word == "sh":
+            last = Block(line, inside)
+            found.append(last)
+        else:
+            if word == "text" and last is not None and not has_heading:
+                last.wanted = inside
+            last = None
+    return found
+
+
+def fresh_copy(program, folder):
+    """Copies what git keeps or would keep into a folder, as it is now, and the program into its place there."""
+    names = subprocess.run(["git", "ls-files", "-co", "--exclude-standard", "-z"], cwd=ROOT, capture_output=True, check=True).stdout
+    for name in filter(None, names.decode().split("\0")):
+        if (ROOT / name).is_file():
+            (folder / name).parent.mkdir(parents=True, exist_ok=True)
+            shutil.copy(ROOT / name, folder / name)
+    place = folder / "crates/society/out/society"
+    place.parent.mkdir(parents=True, exist_ok=True)
+    # Last, so that bin/society finds it newer than its sources.
+    shutil.copy(program, place)
+
+
+def descendants():
+    """The processes that this one started, and those that these did, by their ids, with their commands."""
+    parents = {}
+    for entry in pathlib.Path("/proc").glob("[0-9]*"):
+        try:
+            fields = (entry / "stat").read_text().rpartition(")")[2].split()
+            if fields[0] != "Z":
+                command = (entry / "cmdline").read_bytes().replace(b"\0", b" ").decode(errors="replace").strip()
+                parents[int(entry.name)] = int(fields[1]), command
+        except OSError:
+            continue
+    found, new = {}, {os.getpid()}
+    while new:
+        new = {pid for pid, (parent, _) in parents.items() if parent in new}
+        found |= {pid: parents[pid][1] for pid in new}
+    return found
+
+
+def ended(seconds):
+    """Waits for the end of all that was started, no longer than this; answers what is still running."""
+    end = time.monotonic() + seconds
+    while (left := descendants()) and time.monotonic() < end:
+        time.sleep(0.02)
+    return left
+
+
+def stopped():
+    """Ends all that is still running of what was started; answers their commands. What was stopped by the blocks has a moment to end."""
+    left = ended(2)
+    for how in signal.SIGTERM, signal.SIGKILL:
+        for pid in descendants():
+            try:
+                os.kill(pid, how)
+            except ProcessLookupError:
+                pass
+        ended(2)
+    return list(left.values())
+
+
+class Shell:
+    """A bash that reads what is pasted from its standard input."""
+
+    MARK = "end of the block"
+
+    def __init__(self, checkout, path):
+        env = {"PATH": f"{path}:{os.environ['PATH']}", "HOME": str(checkout.parent), "LANG": "C.UTF-8", "TERM": "dumb"}
+        pipes = {"stdin": subprocess.PIPE, "stdout": subprocess.PIPE, "stderr": subprocess.STDOUT}
+        self.process = subprocess.Popen(["bash", "--noprofile", "--norc"], cwd=checkout, env=env, **pipes)
+        os.set_blocking(self.process.stdout.fileno(), False)
+        self.ready = selectors.DefaultSelector()
+        self.ready.register(self.process.stdout, selectors.EVENT_READ)
+        self.text = b""
+
+    def paste(self, commands, seconds):
+        """What is printed, and the last command's status; None for a status where there was no end within the time."""
+        end = time.monotonic() + seconds
+        self.process.stdin.write(f"{commands}printf '\\n{self.MARK}: %s\\n' $?\n".encode())
+        self.process.stdin.flush()
+        mark = re.compile(rb"\n" + self.MARK.encode() + rb": (\d+)\n")
+        while not (found := mark.search(self.text)):
+            if not self.ready.select(max(0, end - time.monotonic())):
+                return self.text.decode(errors="replace"), None
+            part = self.process.stdout.read()
+            if not part:
+                return self.text.decode(errors="replace"), None
+            self.text += part
+        printed, self.text = self.text[: found.start()], self.text[found.end() :]
+        return printed.decode(errors="replace"), int(found[1])
+
+    def close(self):
+        self.process.stdin.close()
+        self.process.stdout.close()
+        self.ready.close()
+
+
+def compared_lines(text):
+    """A text's lines without blanks at their ends, without the shell's lines on jobs and without empty lines at the end."""
+    lines = [it.rstrip() for it in text.split("\n") if not JOBS.match(it.rstrip())]
+    while lines and not lines[-1]:
+        lines.pop()
+    return lines
+
+
+def fault_of(block, printed, status):
+    """What is wrong with a block, or None."""
+    if status is None:
+        return "no end, or the shell ended; printed until then:\n" + printed
+    if block.wanted is None:
+        return None if status == 0 else f"status {status}; printed:\n{printed}"
+    wanted, found = compared_lines(block.wanted), compared_lines(printed)
+    if wanted == found:
+        return None
+    return "another text is printed:\n" + "\n".join(difflib.unified_diff(wanted, found, "in the document", "printed", lineterm=""))
+
+
+def pasted(name, checkout, path, seconds):
+    """Pastes a document; answers how many faults there were."""
+    found, faults = blocks((checkout / name).read_text()), 0
+    shell = Shell(checkout, path)
+    for block in found:
+        printed, status = shell.paste(block.commands, seconds)
+        fault = fault_of(block, printed, status)
+        if fault:
+            faults += 1
+            print(f"{name}:{block.line}: {fault}", flush=True)
+        if status is None:
+            break
+    shell.close()
+    try:
+        shell.process.wait(5)
+    except subprocess.TimeoutExpired:
+        pass
+    for command in stopped():
+        faults += 1
+        print(f"{name}: left running: {command}", flush=True)
+    compared = sum(it.wanted is not None for it in found)
+    print(f"{name}: {len(found)} blocks, {compared} with what they print, {faults} faults", flush=True)
+    return faults
+
+
+def ports_in_use(names):
+    """The ports which the documents name that another program has."""
+    named = {int(next(filter(None, it.groups()))) for name in names for it in PORT.finditer((ROOT / name).read_text())}
+    for port in sorted(named):
+        with socket.socket() as it:
+            it.setsockopt(socket.SOL_SOCKET, socket.SO_REUSEADDR, 1)
+            try:
+                it.bind(("127.0.0.1", port))
+            except OSError:
+                yield port
+
+
+def main():
+    options = common.parser(__doc__)
+    options.add_argument("--seconds", type=float, default=60, help="most seconds that a block may take (default: 60)")
+    options.add_argument("documents", nargs="*", default=DOCUMENTS, help=f"from the top of the checkout (default: {' '.join(DOCUMENTS)})")
+    options = options.parse_args()
+    if in_use := list(ports_in_use(options.documents)):
+        sys.exit(f"another program has port {in_use[0]}, which the documents use: stop it first")
+    # What goes on after its parent has ended, as nginx does, is then a child of this process and can be stopped.
+    ctypes.CDLL(None).prctl(BECOME_SUBREAPER, 1, 0, 0, 0)
+    faults = 0
+    for name in options.documents:
+        with tempfile.TemporaryDirectory() as folder:
+            folder = pathlib.Path(folder)
+            fresh_copy(options.program, folder / "office")
+            (folder / "installed").mkdir()
+            shutil.copy(options.program, folder / "installed/society")
+            faults += pasted(name, folder / "office", folder / "installed", options.seconds)
+    sys.exit(1 if faults else 0)
+
+
+if __name__ == "__main__":
+    main()

@@ -1,0 +1,107 @@
+// What numbers, accounts and answers mean, in words.
+
+/** A whole number with commas between thousands. */
+export function units(number) {
+  return String(number).replace(/\B(?=(\d{3})+$)/g, ",");
+}
+
+/** A part of an amount, both BigInt, with its percentage. */
+export function partText(part, amount) {
+  const tenths = amount ? (part * 1000n + amount / 2n) / amount : 0n;
+  return `${units(part)} (${tenths / 10n}.${tenths % 10n} %)`;
+}
+
+/** Ascending numbers as ranges; after ten of them, how many more there are. */
+export function ranges(numbers) {
+  const found = [];
+  for (const it of numbers) {
+    const last = found.at(-1);
+    if (last && last[1] === it - 1) {
+      last[1] = it;
+    } else {
+      found.push([it, it]);
+    }
+  }
+  const shown = found.slice(0, 10).map(([from, to]) => (from === to ? units(from) : `${units(from)} to ${units(to)}`));
+  const left = found.slice(10).reduce((total, [from, to]) => total + to - from + 1, 0);
+  return shown.join(", ") + (left ? ` and ${units(left)} more` : "");
+}
+
+/** Whose an account is: a party by its IPI name number, a party of a sender by the sender's own number, or nobody. */
+export function whoText(account, senders) {
+  if (account === "UNCLAIMED") {
+    return "nobody";
+  }
+  if (account.startsWith("I")) {
+    return `IPI name number ${account.slice(1)}`;
+  }
+  const key = account.slice(1, 12);
+  const name = senders.find((it) => it.key === key)?.name ?? key;
+  return `party ${account.slice(12)} of ${name}`;
+}
+
+/** What a status means that is no answer to a question or a sending. */
+export function refusalText(status) {
+  const words = {
+    401: "The proxy wants a user and a password.",
+    403: "The proxy does not let this user do that.",
+    502: "The office does not run, or it ended while this was asked: start it, and ask again.",
+    503: "The office had no memory or no disk for it, or the proxy took no more requests. Nothing changed.",
+    504: "The office did not answer in time. Look whether it runs, and ask again.",
+  };
+  return words[status] ?? `The office answered with status ${status}.`;
+}
+
+/** A fault's words and its cure. */
+function faultText(faults, kind, number) {
+  const { means, cure } = faults[kind]?.[number] ?? { means: "", cure: "" };
+  return `fault ${number}, ${means}. Cure: ${cure}.`;
+}
+
+/** What a taken file, return or order has come to. */
+function takenText(kind, number, { status, state, front }) {
+  const again = status === 200 ? "It was there already, byte for byte; nothing changed. " : "";
+  if (kind === "return") {
+    return `${again}Return ${units(number)} is stored.`;
+  }
+  if (kind === "order") {
+    return `${again}Pool ${units(number)} is closed.`;
+  }
+  if (state === "held") {
+    return `${again}File ${units(number)} waits: file ${units(front + 1)} has to come first.`;
+  }
+  return `${again}File ${units(number)} is applied; files 1 to ${units(front)} have come.`;
+}
+
+/** Why a request stands against what is there already. */
+function conflictText(kind, number, { error, front, sender, pool, reporter, number: other }) {
+  const words = {
+    reused: () => `Another ${kind} stands under number ${units(number)}, and stays. Send this one under the next number.`,
+    cut: () => `${sender} has files 1 to ${units(front)} only: wait for the missing ones, or cut it lower.`,
+    return: () => `Return ${units(other)} of ${reporter} has not come.`,
+    paid: () => `Return ${units(other)} of ${reporter} is paid by pool ${units(pool)}.`,
+  };
+  return words[error]?.() ?? "It stands against what is there.";
+}
+
+/** What came of sending a file, a return or an order. */
+export function answerText(kind, number, answer, faults) {
+  switch (answer.status) {
+    case 200:
+    case 201:
+    case 202:
+      return takenText(kind, number, answer);
+    case 404:
+      return "Not taken: the number, the sender or the reporter is not one that the office takes.";
+    case 409:
+      return `Not taken. ${conflictText(kind, number, answer)}`;
+    case 413:
+      return "Not taken: it is longer than 1,048,576 bytes. Spread it over more numbers.";
+    case 422: {
+      const at = answer.line ? ` at line ${units(answer.line)}` : answer.row ? ` at row ${units(answer.row)}` : "";
+      return `Not taken${at}: ${faultText(faults, kind, answer.fault)} The number is free still.`;
+    }
+    default:
+      return `Not taken. ${refusalText(answer.status)}`;
+  }
+}
