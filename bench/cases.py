@@ -96,7 +96,7 @@ def print_counts(cases):
 
 
 def main():
-    if len(sys.argv) not in (2, 3):
+    if len(sys.argv) not in (2, 3) or sys.argv[1] in ("-h", "--help"):
         sys.exit(__doc__)
     before = Cases(sys.argv[1])
     if len(sys.argv) == 2:

@@ -247,6 +247,8 @@ impl<S: Alter> Tables<S> {
     ) -> Result<Tables<S>, (OpenFault, Connection<S>)>
         requires { connection.in_transaction ≡ false }
         ensures office { IfOk result (λ t. (⟦<Tables<S> as Store>⟧.state t).office ≡ office.now) }
+        // A store that has counted all failures refuses every call.
+        ensures uncounted { IfOk result (λ t. (⟦<Tables<S> as Store>⟧.state t).failures ≡ 0) }
         ensures begun { IfOk result (λ t. HasCleanDisk (state S.Store t.conn) → IsTrue (state S.Store connection).is_open → IsBare (state S.Store connection).committed → (⟦<Tables<S> as Store>⟧.state t).book ≡ empty_book) }
         ensures audited { IfOk result (λ t. HasCleanDisk (state S.Store t.conn) → IsTrue (state S.Store connection).is_open → HasLayout (state S.Store connection).committed
             → HoldsOne office.now (state S.Store connection).committed.trees × ShowsAs (state S.Store connection).committed (state S.Store t.conn)) }

@@ -21,6 +21,9 @@ use std::alloc::Global;
 use work_ids::{Account, PoolNumber, SenderKey, TransmissionNumber, WorkNumber};
 use works_core::Verdict;
 
+/// Failures that a store has counted when it begins.
+const NO_FAILURES: u64 = 0;
+
 /// An office's book in the tables of a database, with all that is derived from it. Each question is answered from the derived
 /// rows; each addition is one transaction.
 #[derive(Drop)]
@@ -228,11 +231,12 @@ impl<S: Alter> Tables<S> {
         requires rests { ∥ Rests office.now (state S.Store conn) ∥₁ }
         ensures same { result.conn ≡ conn }
         ensures office { result.office ≡ office.now }
+        ensures uncounted { result.failures ≡ 0 }
     {
         Tables {
             office: *office,
             conn,
-            failures: 0,
+            failures: NO_FAILURES,
         }
     }
 }
@@ -243,6 +247,8 @@ impl Tables<MemStore> {
         ensures office { IfOk result (λ t. (⟦<Tables<MemStore> as Store>⟧.state t).office ≡ office.now) }
         ensures empty { IfOk result (λ t. (⟦<Tables<MemStore> as Store>⟧.state t).book ≡ empty_book) }
         ensures clean { IfOk result (λ t. (⟦<Tables<MemStore> as Store>⟧.state t).is_clean ≡ true) }
+        // A store that has counted all failures refuses every call.
+        ensures uncounted { IfOk result (λ t. (⟦<Tables<MemStore> as Store>⟧.state t).failures ≡ 0) }
     {
         let mut conn = Connection::open_in_memory(alloc)?;
         let row = OfficeRow {
@@ -254,7 +260,7 @@ impl Tables<MemStore> {
         Ok(Tables {
             office: *office,
             conn,
-            failures: 0,
+            failures: NO_FAILURES,
         })
     }
 }
