@@ -207,11 +207,11 @@ def a_day(server):
 def many_files(server):
     """An office of 5,000 files of three senders, of which two wait, with rejected works, 40 returns and 25 pools."""
     puts = []
-    for sender, count in (ALPHA, 3_000), (BETA, 1_500), (GAMMA, 500):
+    for sender, count, first in (ALPHA, 3_000, 0), (BETA, 1_500, 3_000), (GAMMA, 500, 4_500):
         for n in range(1, count + 1):
             # Beta's file 1,490 and Gamma's 250 are missing.
             if (sender, n) not in ((BETA, 1_490), (GAMMA, 250)):
-                body = rejected_file(n, sender) if n % 700 == 0 or n in (1_480, 2_990) else works_file(n + count, 1, sender)
+                body = rejected_file(n, sender) if n % 700 == 0 or n in (1_480, 2_990) else works_file(first + n, 1, sender)
                 puts.append((f"/v1/senders/{sender}/transmissions/{n}", body))
     puts += [(f"/v1/returns/RADIO1/{n}", plays(n, 200, 20 * n)) for n in range(1, 41)]
     cut = [[ALPHA, 2_000], [BETA, 1_000], [GAMMA, 200]]

@@ -200,6 +200,9 @@ def pasted(name, checkout, path, seconds):
         shell.process.wait(5)
     except subprocess.TimeoutExpired:
         pass
+    if not found:
+        faults += 1
+        print(f"{name}: has no block of commands", flush=True)
     for command in stopped():
         faults += 1
         print(f"{name}: left running: {command}", flush=True)
