@@ -30,12 +30,3 @@ pub use connection_end::End;
 pub use counted::{Counted, NotWritten};
 pub use fault::{DeskFault, FaultKind};
 pub use laws::one_cutting;
-
-#[cfg(test)]
-mod feeding_tests;
-#[cfg(test)]
-mod hostile_tests;
-#[cfg(test)]
-mod samples;
-#[cfg(test)]
-mod tests;

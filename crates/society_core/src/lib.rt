@@ -5,8 +5,6 @@ mod answers;
 mod candidates;
 mod claim_list;
 mod desk;
-#[cfg(test)]
-mod desk_tests;
 mod laws;
 mod order;
 mod plain_book;
@@ -18,8 +16,6 @@ mod refusal;
 mod request;
 mod return_key;
 mod runs;
-#[cfg(test)]
-mod samples;
 mod store;
 mod transmission_key;
 mod work;
