@@ -6,9 +6,9 @@
                                         tests of AFTER fewer times than in those of BEFORE, with both counts
 
 Run it anywhere in the repository. A value is a number or a text in a file of tests: a module that the root of its crate names
-under cfg(test), and the library of sample bodies. "a" and b"a" are one value, and a line of a body is not listed where a body
-of AFTER has it. A value that stands fewer times need not be a case that was dropped, since several tests may share one table
-or one sample: read the list.
+under cfg(test), and the library of sample bodies. "a" and b"a" are one value, and a text of five bytes or more is not listed
+where it stands within another of AFTER. A value that stands fewer times need not be a case that was dropped, since several tests
+may share one table or one sample: read the list.
 """
 import ast
 import collections
@@ -21,7 +21,7 @@ TOKEN = re.compile(
     r"""(?P<comment>//[^\n]*)
       |(?P<text>b?"(?:[^"\\]|\\.)*")
       |(?P<byte>b'(?:[^'\\]|\\.)')
-      |(?P<number>(?<![\w.])\d[\d_]*(?![\w.]*["']))""",
+      |(?P<number>(?<!\w)(?<!(?<!\.)\.)\d[\d_]*)""",
     re.X | re.S,
 )
 
@@ -117,11 +117,11 @@ def main():
     for crate, edit in before.edits:
         if edits[edit] > 0:
             print(f"edit {crate} {edit}")
-    bodies = [item for item in after.values if isinstance(item, bytes) and b"\n" in item]
+    texts = [item for item in after.values if isinstance(item, bytes)]
     fewer = []
     for item, count in before.values.items():
-        is_line = isinstance(item, bytes) and len(item) > 8 and any(item in body for body in bodies)
-        if after.values[item] < count and not is_line:
+        stands = isinstance(item, bytes) and len(item) > 4 and any(item in text for text in texts)
+        if after.values[item] < count and not stands:
             fewer.append((item, count, after.values[item]))
     for item, count, rest in sorted(fewer, key=lambda row: (row[2] > 0, str(row[0]))):
         print(f"value {count} to {rest}: {item!r}"[:200])

@@ -260,8 +260,8 @@ fn gap_filled(rt: HostRuntime) -> Result<(), Fail> {
 #[test]
 fn put_in_pieces(rt: HostRuntime) -> Result<(), Fail> {
     // One record fewer than the group says, which the tenth line tells.
-    let f7 = changed(rt.alloc(), REGISTERED, &[(1_019, b"8")])?;
-    let f7 = f7.as_slice();
+    let miscounted = changed(rt.alloc(), REGISTERED, &[(1_019, b"8")])?;
+    let miscounted = miscounted.as_slice();
     let fault = FileFault {
         number: 8,
         line: 10,
@@ -270,12 +270,12 @@ fn put_in_pieces(rt: HostRuntime) -> Result<(), Fail> {
         &rt,
         rt.alloc(),
         &[
-            Row::Fed(1, f7, 7, Err(Refusal::File(fault))),
-            Row::Fed(1, f7, 1_022, Err(Refusal::File(fault))),
+            Row::Fed(1, miscounted, 7, Err(Refusal::File(fault))),
+            Row::Fed(1, miscounted, 1_022, Err(Refusal::File(fault))),
             Row::Sender(0, &[]),
             Row::Fed(1, REGISTERED, 7, applied(1)),
             Row::Fed(1, REGISTERED, 1_048, arrived(true, 1, Standing::Applied)),
-            Row::Fed(1, f7, 1_022, Err(Refusal::Reused)),
+            Row::Fed(1, miscounted, 1_022, Err(Refusal::Reused)),
         ],
     )
 }

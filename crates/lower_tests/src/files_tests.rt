@@ -276,21 +276,27 @@ fn grouped(alloc: Global, groups: usize, songs: usize) -> Result<Vec<u8>, AllocE
     Ok(body)
 }
 
+/// Checks a file of so many groups, each of so many registrations: its groups, its last transaction, and that none is behind it.
+fn check_grouped(rt: &impl Abort, alloc: Global, groups: usize, songs: usize) -> Result<(), Fail> {
+    let key = sender()?;
+    let row = format!(in alloc; "{groups} groups of {songs}")?;
+    let body = grouped(alloc, groups, songs)?;
+    let transmission = read_transmission(alloc, &body, &key)?;
+    told(rt, &row, transmission.groups.as_slice().len(), groups);
+    let all = songs.saturating_mul(groups);
+    told(rt, &row, transmission.transaction(all).is_none(), true);
+    if all > 0 {
+        let last = transmission.transaction(all - 1);
+        let place = last.map(|last| (last.group as usize, last.sequence as usize));
+        told(rt, &row, place, Some((groups, songs.saturating_sub(1))));
+    }
+    Ok(())
+}
+
 #[test]
 fn many_groups_and_many_songs(rt: HostRuntime) -> Result<(), Fail> {
-    let alloc = rt.alloc();
     for (groups, songs) in [(200, 1), (1, 1_000), (0, 0), (3, 0)] {
-        let row = format!(in alloc; "{groups} groups of {songs}")?;
-        let body = grouped(alloc, groups, songs)?;
-        let transmission = read_transmission(alloc, &body, &sender()?)?;
-        told(&rt, &row, transmission.groups.as_slice().len(), groups);
-        let all = songs.saturating_mul(groups);
-        told(&rt, &row, transmission.transaction(all).is_none(), true);
-        if all > 0 {
-            let last = transmission.transaction(all - 1).ok_or("the last song")?;
-            let place = (last.group as usize, last.sequence as usize);
-            told(&rt, &row, place, (groups, songs.saturating_sub(1)));
-        }
+        check_grouped(&rt, rt.alloc(), groups, songs)?;
     }
     Ok(())
 }
@@ -380,10 +386,13 @@ fn fault_at_end(alloc: Global, body: &[u8]) -> Result<Option<(u8, usize)>, Fail>
 fn bodies_that_end_early(rt: HostRuntime) -> Result<(), Fail> {
     let alloc = rt.alloc();
     let body = joined(alloc, lines(alloc, REGISTERED)?.as_slice(), b"\n")?;
-    for (bytes, wanted) in [(0, Some((1, 1))), (1_036, None), (1_035, Some((9, 11)))] {
-        let row = format!(in alloc; "{bytes} bytes")?;
-        let front = body.as_slice().get(..bytes).ok_or("a front")?;
-        told(&rt, &row, fault_at_end(alloc, front)?, wanted);
+    for (row, bytes, wanted) in [
+        ("nothing", 0, Some((1, 1))),
+        ("all but the last line feed", 1_036, None),
+        ("one byte fewer", 1_035, Some((9, 11))),
+    ] {
+        let front = body.as_slice().get(..bytes).unwrap_or(b"");
+        told(&rt, row, fault_at_end(alloc, front)?, wanted);
     }
     Ok(())
 }

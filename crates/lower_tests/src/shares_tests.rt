@@ -96,11 +96,13 @@ const WEIGHTS: [(&str, &[u8], [u64; 3]); 3] = [
 #[test]
 fn weights_of_works(rt: HostRuntime) -> Result<(), Fail> {
     let alloc = rt.alloc();
+    let (office, sender) = (office()?, sender()?);
     for (row, body, wanted) in WEIGHTS {
+        let wanted = holders(wanted)?;
         let song = transaction(alloc, &song_of(alloc, body)?)?;
-        told(&rt, row, judge(&song, &office()?), None);
-        let paid = weights(alloc, &sender()?, &song, &office()?)?;
-        told(&rt, row, paid.as_slice(), holders(wanted)?.as_slice());
+        told(&rt, row, judge(&song, &office), None);
+        let paid = weights(alloc, &sender, &song, &office)?;
+        told(&rt, row, paid.as_slice(), wanted.as_slice());
     }
     Ok(())
 }
