@@ -1,5 +1,5 @@
 -- What the options of the program give, and what its words are read as.
-use Rattle.std.proofs.Common.{◌≡◌, ◌≢◌, ◌⊎◌, ◌∙◌, inl, inr, sym, ◌^◌, ◌<◌, ◌&&◌, ap, ℕ, Bool, Option, List, true, false, refl, subst, [], ◌∷◌, Some, None, Result, Ok, Err, nat_lt, option_and_then, option_map}
+use Rattle.std.proofs.Common.{◌≡◌, ◌≢◌, ◌⊎◌, ◌∙◌, inl, inr, ◌^◌, ◌<◌, ◌&&◌, ap, ℕ, Bool, Option, List, true, false, refl, subst, [], ◌∷◌, Some, None, Result, Ok, Err, nat_lt, option_and_then, option_map}
 use Rattle.std.proofs.lemmas.Bool.{ltb-true, lt-ltb}
 use Rattle.std.specs.Char.{digit_value}
 use Rattle.std.specs.List.{list_all}

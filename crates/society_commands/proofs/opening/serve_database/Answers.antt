@@ -1,4 +1,4 @@
-use Rattle.std.proofs.Common.{inl, inr, refl}
+use Rattle.std.proofs.Common.{inl, inr}
 use Rattle.sqlite.specs.Held.{state}
 use Rattle.society_commands.proofs.DatabaseLemmas.{is_over}
 use Rattle.society_commands.proofs.opening.serve_database.Goals as goal

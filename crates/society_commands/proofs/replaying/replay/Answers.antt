@@ -1,7 +1,6 @@
 use Rattle.std.proofs.Common.{ap, ◌∙◌, refl}
 use Rattle.sqlite.specs.Held.{state}
 use Rattle.sqlite.specs.Steps.{over_memory}
-use Rattle.society_core.specs.State.{State}
 use Rattle.society_book.specs.Kept.{tables_state}
 use Rattle.society_commands.proofs.ReplayLemmas.{replays_from, breaks_off_from}
 use Rattle.society_commands.proofs.TableLemmas.{no_tables}
