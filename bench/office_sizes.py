@@ -13,7 +13,7 @@ import tempfile
 import time
 
 import common
-from common import Server, order_body, plays, works_file
+from common import Server, order_body, plain_number, plays, works_file
 
 PER_FILE = 800
 # Numbers of transmissions go to 999,999; a sender of these offices sends no more files than this.
@@ -21,19 +21,28 @@ FILES_PER_SENDER = 100_000
 ROWS = 10_000
 NEW_LINE = b"\n"
 
-# Work numbers that ascend as texts, and such that do not: W10 comes before W9.
-ORDERED, UNORDERED = b"W%08d", b"W%d"
 
+def ordered(k):
+    """Work numbers that ascend as texts."""
+    return b"W%08d" % k
+
+
+def shuffled(k):
+    """Work numbers in no order, each once."""
+    return b"W%010d" % (k * 2_654_435_761 % 2**32)
+
+
+# The works, how many of them a file has, and their numbers; plain ones ascend as numbers only: W10 comes before W9 as text.
 CASES = {
-    "100,000 works by files of 800, numbers in order": (100_000, PER_FILE, ORDERED),
-    "100,000 works by files of 800, numbers out of order": (100_000, PER_FILE, UNORDERED),
-    "100,000 works by small files, numbers in order": (100_000, 1, ORDERED),
-    "100,000 works by small files, numbers out of order": (100_000, 1, UNORDERED),
-    "1,000,000 works by files of 800, numbers in order": (1_000_000, PER_FILE, ORDERED),
-    "1,000,000 works by files of 800, numbers out of order": (1_000_000, PER_FILE, UNORDERED),
-    "300,000 works by files of 800, numbers out of order": (300_000, PER_FILE, UNORDERED),
-    "300,000 works by small files, numbers in order": (300_000, 1, ORDERED),
-    "1,000,000 works by small files, numbers in order": (1_000_000, 1, ORDERED),
+    "100,000 works by files of 800, numbers in order": (100_000, PER_FILE, ordered),
+    "100,000 works by files of 800, plain numbers": (100_000, PER_FILE, plain_number),
+    "100,000 works by files of 800, numbers in no order": (100_000, PER_FILE, shuffled),
+    "100,000 works by files of one, plain numbers": (100_000, 1, plain_number),
+    "300,000 works by files of 800, plain numbers": (300_000, PER_FILE, plain_number),
+    "300,000 works by files of 800, numbers in no order": (300_000, PER_FILE, shuffled),
+    "300,000 works by files of one, numbers in order": (300_000, 1, ordered),
+    "1,000,000 works by files of 800, numbers in order": (1_000_000, PER_FILE, ordered),
+    "1,000,000 works by files of 800, plain numbers": (1_000_000, PER_FILE, plain_number),
 }
 
 
@@ -61,7 +70,7 @@ class Meter:
         return found
 
 
-def fill(server, path, works, per_file, spelling, steps):
+def fill(server, path, works, per_file, number_of, steps):
     """Sends files until all works are there, and reports each step."""
     connection, meter, pid = server.connection(), Meter(server), server.process.pid
     files = -(-works // per_file)
@@ -69,7 +78,7 @@ def fill(server, path, works, per_file, spelling, steps):
         sender, number = sender_of(file)
         count = min(per_file, works - file * per_file)
         where = f"/v1/senders/{sender}/transmissions/{number}"
-        status, text = common.ask(connection, "PUT", where, works_file(file * per_file, count, sender, spelling))
+        status, text = common.ask(connection, "PUT", where, works_file(file * per_file, count, sender, number_of))
         assert status == 201, (where, status, text)
         if (file + 1) * steps // files > file * steps // files:
             processor, passed = meter.since()
@@ -97,7 +106,7 @@ def taken(connection, where, body):
     assert status == 201, (where, status, text)
 
 
-def close_pools(server, files, works, spelling):
+def close_pools(server, files, works, number_of):
     """Closes a pool over all works and a return of 10,000 rows, and one over returns in which each work is played, and reads their tables."""
     connection, meter = server.connection(), Meter(server)
     last_sender, last = sender_of(files - 1)
@@ -117,19 +126,19 @@ def close_pools(server, files, works, spelling):
         status, text = common.ask(connection, "GET", f"/v1/pools/{pool}")
         assert status == 200, status
         report(server, meter, f"reading the table of pool {pool}, {text.count(NEW_LINE) - 1:,} credits")
-    for where in f"/v1/senders/{senders[0]}/works/{(spelling % 0).decode()}", "/v1/accounts/I00000000199":
+    for where in f"/v1/senders/{senders[0]}/works/{number_of(0).decode()}", "/v1/accounts/I00000000199":
         status, _ = common.ask(connection, "GET", where)
         assert status == 200, (where, status)
     report(server, meter, "a work and a balance")
     connection.close()
 
 
-def measure(program, path, works, per_file, spelling, steps):
+def measure(program, path, works, per_file, number_of, steps):
     with Server(program, path) as server:
-        files = fill(server, path, works, per_file, spelling, steps)
+        files = fill(server, path, works, per_file, number_of, steps)
     with Server(program, path) as server:
         report_start(server, path)
-        close_pools(server, files, works, spelling)
+        close_pools(server, files, works, number_of)
     with Server(program, path) as server:
         report_start(server, path)
 
