@@ -1,4 +1,4 @@
--- Worked values: the body_length of heads, what paths ask for, and answers byte for byte.
+-- Worked values: how long the bodies after heads are, what paths ask for, and answers byte for byte.
 use Rattle.std.specs.Prelude.{◌≡◌, ℕ, true, false, List, [], ◌∷◌, Option, Some, None, refl, codes}
 use Rattle.std.specs.Fmt.{digits}
 use Rattle.percent_encoding.specs.Percent.{percent_decode}

@@ -91,7 +91,7 @@ pub(crate) fn closes(bytes: &[u8], headers: &[HeaderSpan], minor: u8) -> bool
     false
 }
 
-// The body_length by the value of a Content-Length field.
+// How long the body is, by the value of a Content-Length field.
 fn body_length_by_value(value: &[u8]) -> BodyLength
     ensures { result ≡ body_length_by (value.now ∷ []) }
 {
@@ -113,7 +113,7 @@ pub(crate) fn is_put(method: &[u8]) -> bool
     method == b"PUT".as_slice()
 }
 
-/// The body_length by method and fields.
+/// How long the body is, by method and fields.
 pub(crate) fn body_length_by_fields(
     bytes: &[u8],
     headers: &[HeaderSpan],
