@@ -34,10 +34,10 @@ def program_file(name):
     return path
 
 
-def parser(text):
-    """A parser with `--program`, whose help is the script's own text."""
+def parser(text, program=program_file):
+    """A parser with `--program`, whose help is the script's own text; `program` reads the name."""
     it = argparse.ArgumentParser(description=text, formatter_class=argparse.RawDescriptionHelpFormatter)
-    it.add_argument("--program", type=program_file, default=str(PROGRAM), help="the built program (default: crates/society/out/society of this checkout)")
+    it.add_argument("--program", type=program, default=str(PROGRAM), help="the built program (default: crates/society/out/society of this checkout)")
     return it
 
 
