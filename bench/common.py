@@ -34,10 +34,10 @@ def program_file(name):
     return path
 
 
-def parser(text):
-    """A parser with `--program`, whose help is the script's own text."""
+def parser(text, program=program_file):
+    """A parser with `--program`, whose help is the script's own text; `program` reads the name."""
     it = argparse.ArgumentParser(description=text, formatter_class=argparse.RawDescriptionHelpFormatter)
-    it.add_argument("--program", type=program_file, default=str(PROGRAM), help="the built program (default: crates/society/out/society of this checkout)")
+    it.add_argument("--program", type=program, default=str(PROGRAM), help="the built program (default: crates/society/out/society of this checkout)")
     return it
 
 
@@ -101,19 +101,24 @@ def isrc(k):
     return b"ATABC%07d" % k
 
 
-def work_lines(place, k):
+def plain_number(k):
+    """The k-th work's number."""
+    return b"W%d" % k
+
+
+def work_lines(place, k, number=plain_number):
     """The lines of the k-th work, at a place of its group, counted from 0: examples/first.cwr's with a number and a recording of its own."""
     lines = [bytearray(it) for it in FIRST_LINES[2:-3]]
     for it in lines:
         it[3:11] = b"%08d" % place
-    lines[0][81:95] = (b"W%d" % k).ljust(14)
+    lines[0][81:95] = number(k).ljust(14)
     lines[-1][249:261] = isrc(k)
     return b"\r\n".join(lines) + b"\r\n"
 
 
-def works_file(first, count, sender=SENDER):
-    """A file of works, from the first one on."""
-    lines = b"".join(work_lines(place, first + place) for place in range(count))
+def works_file(first, count, sender=SENDER, number=plain_number):
+    """A file of works, from the first one on; `number` gives the number of the k-th work."""
+    lines = b"".join(work_lines(place, first + place, number) for place in range(count))
     records = lines.count(b"\n")
     ends = b"GRT00001%08d%08d\r\nTRL00001%08d%08d\r\n" % (count, records + 2, count, records + 4)
     return b"\r\n".join([b"HDR" + sender.encode() + FIRST_LINES[0][14:], FIRST_LINES[1], lines]) + ends

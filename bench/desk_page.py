@@ -117,10 +117,10 @@ class Browser:
     def size(self, width, height=900):
         self.call("Emulation.setDeviceMetricsOverride", width=width, height=height, deviceScaleFactor=1, mobile=width < 800)
 
-    def picture(self, path, height=None):
-        """Takes a picture of the page, or of so much of it from the top."""
+    def picture(self, path):
+        """Takes a picture of the page, of at most 6,000 pixels from its top."""
         box = self.value("[document.documentElement.clientWidth, document.documentElement.scrollHeight]")
-        clip = {"x": 0, "y": 0, "width": box[0], "height": min(box[1], height or 6_000), "scale": 1}
+        clip = {"x": 0, "y": 0, "width": box[0], "height": min(box[1], 6_000), "scale": 1}
         data = self.call("Page.captureScreenshot", format="png", captureBeyondViewport=True, clip=clip)["data"]
         path.write_bytes(base64.b64decode(data))
 

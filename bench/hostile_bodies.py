@@ -304,7 +304,7 @@ def line_ends_alone():
 
 
 @case
-def line_ends_behind_the_header():
+def line_ends_after_the_header():
     return put_return(CSV_HEADER + b"\r\n" * ((MAX_BODY - len(CSV_HEADER)) // 2)) + put_pool(1, 5, [], [["RADIO1", 1]]) + POOL
 
 

@@ -3,8 +3,9 @@
 
 An office is filled over one kept connection: by small files of one work each, or by files of 800 works, of as many senders as are
 needed. Reported are, at each step on the way, the works, the bytes of the database with its log, puts and works a second of processor
-(user and system) since the step before, the seconds that passed, and the peak memory of the server; at the end a start over the file,
-its return of 10,000 rows, a pool over all works and that return, the reading of its table, and the start after that.
+(user and system) since the step before, the seconds that passed, and the peak memory of the server; at the end a start over the file, a
+return of 10,000 rows, a pool over all works and that return, a pool over returns in which each work is played, the reading of both
+tables, and the start after that. On a disk each put waits for two flushes; in a folder in memory (`--folder`) it does not.
 """
 import pathlib
 import sys
@@ -12,19 +13,36 @@ import tempfile
 import time
 
 import common
-from common import Server, order_body, plays, works_file
+from common import Server, order_body, plain_number, plays, works_file
 
 PER_FILE = 800
 # Numbers of transmissions go to 999,999; a sender of these offices sends no more files than this.
 FILES_PER_SENDER = 100_000
 ROWS = 10_000
+NEW_LINE = b"\n"
 
+
+def ordered(k):
+    """Work numbers that ascend as texts."""
+    return b"W%08d" % k
+
+
+def shuffled(k):
+    """Work numbers in no order, each once."""
+    return b"W%010d" % (k * 2_654_435_761 % 2**32)
+
+
+# The works, how many of them a file has, and their numbers; plain ones ascend as numbers only: W10 comes before W9 as text.
 CASES = {
-    "100,000 works by small files": (100_000, 1),
-    "100,000 works by files of 800": (100_000, PER_FILE),
-    "300,000 works by small files": (300_000, 1),
-    "1,000,000 works by files of 800": (1_000_000, PER_FILE),
-    "1,000,000 works by small files": (1_000_000, 1),
+    "100,000 works by files of 800, numbers in order": (100_000, PER_FILE, ordered),
+    "100,000 works by files of 800, plain numbers": (100_000, PER_FILE, plain_number),
+    "100,000 works by files of 800, numbers in no order": (100_000, PER_FILE, shuffled),
+    "100,000 works by files of one, plain numbers": (100_000, 1, plain_number),
+    "300,000 works by files of 800, plain numbers": (300_000, PER_FILE, plain_number),
+    "300,000 works by files of 800, numbers in no order": (300_000, PER_FILE, shuffled),
+    "300,000 works by files of one, numbers in order": (300_000, 1, ordered),
+    "1,000,000 works by files of 800, numbers in order": (1_000_000, PER_FILE, ordered),
+    "1,000,000 works by files of 800, plain numbers": (1_000_000, PER_FILE, plain_number),
 }
 
 
@@ -52,7 +70,7 @@ class Meter:
         return found
 
 
-def fill(server, path, works, per_file, steps):
+def fill(server, path, works, per_file, number_of, steps):
     """Sends files until all works are there, and reports each step."""
     connection, meter, pid = server.connection(), Meter(server), server.process.pid
     files = -(-works // per_file)
@@ -60,7 +78,7 @@ def fill(server, path, works, per_file, steps):
         sender, number = sender_of(file)
         count = min(per_file, works - file * per_file)
         where = f"/v1/senders/{sender}/transmissions/{number}"
-        status, text = common.ask(connection, "PUT", where, works_file(file * per_file, count, sender))
+        status, text = common.ask(connection, "PUT", where, works_file(file * per_file, count, sender, number_of))
         assert status == 201, (where, status, text)
         if (file + 1) * steps // files > file * steps // files:
             processor, passed = meter.since()
@@ -76,35 +94,51 @@ def report_start(server, path):
     print(f"  a start: {server.processor:.1f} s of processor, {server.seconds:.1f} s passed, memory {memory:,.0f} MB, {size_of(path) / 1e6:,.0f} MB", flush=True)
 
 
-def close_pool(server, files, works):
-    """Puts a return, closes a pool over all files, and reads its table."""
+def report(server, meter, name):
+    """Reports what the last requests used."""
+    processor, passed = meter.since()
+    memory = common.peak_memory(server.process.pid)
+    print(f"  {name}: {processor:.2f} s of processor, {passed:.2f} s passed, memory {memory:,.0f} MB", flush=True)
+
+
+def taken(connection, where, body):
+    status, text = common.ask(connection, "PUT", where, body)
+    assert status == 201, (where, status, text)
+
+
+def close_pools(server, files, works, number_of):
+    """Closes a pool over all works and a return of 10,000 rows, and one over returns in which each work is played, and reads their tables."""
     connection, meter = server.connection(), Meter(server)
-    rows = min(ROWS, works)
     last_sender, last = sender_of(files - 1)
     senders = [sender_of(it * FILES_PER_SENDER)[0] for it in range(-(-files // FILES_PER_SENDER))]
     cut = [[it, last if it == last_sender else FILES_PER_SENDER] for it in senders]
-    steps = [
-        ("a return of 10,000 rows", "PUT", "/v1/returns/RADIO1/1", plays(1, rows, works - rows)),
-        ("a pool over all works", "PUT", "/v1/pools/1", order_body(10**9, cut, [["RADIO1", 1]])),
-        ("its table", "GET", "/v1/pools/1", None),
-        ("a work", "GET", f"/v1/senders/{senders[0]}/works/W0", None),
-        ("a balance", "GET", "/v1/accounts/I00000000199", None),
-    ]
-    for name, method, where, body in steps:
-        status, text = common.ask(connection, method, where, body)
-        assert status in (200, 201), (where, status, text[:200])
-        processor, passed = meter.since()
-        memory = common.peak_memory(server.process.pid)
-        print(f"  {name}: {processor:.2f} s of processor, {passed:.2f} s passed, answer of {len(text):,} bytes, memory {memory:,.0f} MB", flush=True)
+    taken(connection, "/v1/returns/RADIO1/1", plays(1, ROWS, works - ROWS))
+    report(server, meter, "a return of 10,000 rows")
+    taken(connection, "/v1/pools/1", order_body(10**9, cut, [["RADIO1", 1]]))
+    report(server, meter, "a pool over all works and that return")
+    returns = works // ROWS
+    for n in range(returns):
+        taken(connection, f"/v1/returns/RADIO2/{n + 1}", plays(n, ROWS, n * ROWS))
+    report(server, meter, f"{returns} returns of 10,000 rows, each work in one")
+    taken(connection, "/v1/pools/2", order_body(10**12, cut, [["RADIO2", n + 1] for n in range(returns)]))
+    report(server, meter, "a pool over all works and these returns")
+    for pool in 1, 2:
+        status, text = common.ask(connection, "GET", f"/v1/pools/{pool}")
+        assert status == 200, status
+        report(server, meter, f"reading the table of pool {pool}, {text.count(NEW_LINE) - 1:,} credits")
+    for where in f"/v1/senders/{senders[0]}/works/{number_of(0).decode()}", "/v1/accounts/I00000000199":
+        status, _ = common.ask(connection, "GET", where)
+        assert status == 200, (where, status)
+    report(server, meter, "a work and a balance")
     connection.close()
 
 
-def measure(program, path, works, per_file, steps):
+def measure(program, path, works, per_file, number_of, steps):
     with Server(program, path) as server:
-        files = fill(server, path, works, per_file, steps)
+        files = fill(server, path, works, per_file, number_of, steps)
     with Server(program, path) as server:
         report_start(server, path)
-        close_pool(server, files, works)
+        close_pools(server, files, works, number_of)
     with Server(program, path) as server:
         report_start(server, path)
 

@@ -79,7 +79,7 @@ async function rejectedIn(key, number) {
   return verdicts.flatMap(({ fault }, at) => (fault ? [{ fault, ...works[at] }] : []));
 }
 
-/** Looks through so many files of a sender, those before the ones that were looked through. */
+/** Looks through a number of a sender's files, from the newest one that was not looked through yet. */
 async function lookThrough(place, sender, count) {
   const { key, lowest = sender.front + 1 } = sender;
   const numbers = Array.from({ length: Math.min(count, lowest - 1) }, (_, at) => lowest - 1 - at);
@@ -145,7 +145,7 @@ async function lookUp(place, form) {
 // Pools.
 const sum = (credits) => credits.reduce((total, it) => total + it.units, 0n);
 
-/** Asks for pools by their numbers, up to where so many in a row are not closed. */
+/** Asks for pools by their numbers, until `ahead` in a row are not closed. */
 async function askForPools(ahead) {
   let last = Math.max(known.poolsAsked, ...known.pools.keys());
   while (known.poolsAsked < last + ahead) {
@@ -209,8 +209,8 @@ async function showBalances(place, count = FIRST_ACCOUNTS) {
   await Promise.all(accounts.slice(0, count).map(async ([account]) => known.asked.set(account, (await office.balance(account)) ?? 0n)));
   clearRows(place);
   for (const [account, credits] of accounts.slice(0, count)) {
-    const told = known.asked.get(account);
-    addRow(place, [account, whoText(account, known.senders), units(told), units(credits)], told === credits ? "" : "bad");
+    const balance = known.asked.get(account);
+    addRow(place, [account, whoText(account, known.senders), units(balance), units(credits)], balance === credits ? "" : "bad");
   }
   const left = accounts.length - known.asked.size;
   more.hidden = left === 0;
