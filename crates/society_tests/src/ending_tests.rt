@@ -97,7 +97,7 @@ const ENDINGS: &[Ending] = &[
 ];
 
 /// What is written for the bytes of a reader, the exit status, and the line on standard error.
-fn ended(alloc: Global, source: Source<'_>) -> Result<(Vec<u8>, u8, Vec<u8>), Fail> {
+fn written_for(alloc: Global, source: Source<'_>) -> Result<(Vec<u8>, u8, Vec<u8>), Fail> {
     let office = office()?;
     let mut reader = Counted::new(source);
     let mut out = Counted::new(Vec::new(alloc));
@@ -114,7 +114,7 @@ fn ends_of_streams(rt: HostRuntime) -> Result<(), Fail> {
             bytes,
             fails: *fails,
         };
-        let (out, seen, err) = ended(alloc, source)?;
+        let (out, seen, err) = written_for(alloc, source)?;
         let row = str::from_utf8(bytes).unwrap_or("a stream");
         is_text(&rt, row, &out, wanted);
         is_status(&rt, row, seen, *status);
