@@ -26,6 +26,7 @@ PAGE = ROOT / "examples/desk"
 ALPHA, BETA, GAMMA = "PB000000012", "PB000000034", "PB000000056"
 MARKUP = b'<img src="x" onerror="document.title=1">'
 WIDTHS = (1200, 400)
+NO_OFFICE = "The office does not run, or it ended while this was asked: start it, and ask again."
 FAULT_KINDS = {"File": "file", "Transaction": "transaction", "Return": "return", "Order": "order"}
 
 
@@ -359,6 +360,9 @@ def look(program, name, fill, act, pictures):
                 act(browser, folder)
                 check_shape(browser, f"{name} then", WIDTHS[0])
                 browser.picture(pictures / f"{name}-then.png")
+                server.kill()
+                opened(browser, proxy, WIDTHS[0])
+                compare(f"{name}: no office", state(browser, "senders"), NO_OFFICE)
             finally:
                 browser.close()
                 proxy.close()
