@@ -1,5 +1,5 @@
 //! The rows of every request over HTTP, byte for byte: each table is one stream, sent to an office to which nothing has come.
-use crate::checks::{is_status, is_text};
+use crate::checks::{is_number, is_status, is_text};
 use crate::samples::{Body, Sample};
 use crate::streams::replayed;
 use std::alloc::{AllocError, Global};
@@ -706,5 +706,7 @@ fn rows_of_requests(rt: HostRuntime) -> Result<(), Fail> {
     ] {
         check(&rt, alloc, rows)?;
     }
+    let body = Body::LineFeeds(Sample::Registered).to_bytes(alloc)?;
+    is_number(&rt, "line feeds alone", body.len(), 1_036);
     check_orders(&rt, alloc)
 }
