@@ -2,7 +2,7 @@
 use crate::checks::told;
 use cwr_files::{Records, Transaction};
 use cwr_records::{Line, TransactionKind, read_record};
-use share_rules::{Holder, judge, weights};
+use share_rules::{Holder, Kind, judge, weights};
 use std::alloc::{AllocError, Global};
 use std::test::Fail;
 use test_bodies::{EXCLUDED, REGISTERED, REVISED, changed, holders, lines, office, sender};
@@ -86,22 +86,23 @@ fn changed_works(rt: HostRuntime) -> Result<(), Fail> {
     Ok(())
 }
 
-/// A work, and what its publisher, its writer and nobody are paid with.
-const WEIGHTS: [(&str, &[u8], [u64; 3]); 3] = [
-    ("registered", REGISTERED, [5_000, 5_000, 0]),
-    ("revised", REVISED, [0, 10_000, 0]),
-    ("excluded", EXCLUDED, [0, 5_000, 5_000]),
+/// A work, the right that a pool pays, and what the publisher, the writer and nobody are paid with.
+const WEIGHTS: [(&str, &[u8], Kind, [u64; 3]); 4] = [
+    ("registered", REGISTERED, Kind::Performing, [5_000, 5_000, 0]),
+    ("registered, mechanical", REGISTERED, Kind::Mechanical, [10_000, 0, 0]),
+    ("revised", REVISED, Kind::Performing, [0, 10_000, 0]),
+    ("excluded", EXCLUDED, Kind::Performing, [0, 5_000, 5_000]),
 ];
 
 #[test]
 fn weights_of_works(rt: HostRuntime) -> Result<(), Fail> {
     let alloc = rt.alloc();
     let (office, sender) = (office()?, sender()?);
-    for (row, body, wanted) in WEIGHTS {
+    for (row, body, kind, wanted) in WEIGHTS {
         let wanted = holders(wanted)?;
         let song = transaction(alloc, &song_of(alloc, body)?)?;
         told(&rt, row, judge(&song, &office), None);
-        let paid = weights(alloc, &sender, &song, &office)?;
+        let paid = weights(alloc, kind, &sender, &song, &office)?;
         told(&rt, row, paid.as_slice(), wanted.as_slice());
     }
     Ok(())
@@ -112,7 +113,7 @@ fn holders_without_an_ipi_name_number(rt: HostRuntime) -> Result<(), Fail> {
     let named = Account::from_bytes(b"PPB000000012P1")?;
     let lines: [&[u8]; 2] = [b"SPU000000000000000101P1", b"SWR0000000000000002"];
     let song = transaction(rt.alloc(), &lines)?;
-    let paid = weights(rt.alloc(), &sender()?, &song, &office()?)?;
+    let paid = weights(rt.alloc(), Kind::Performing, &sender()?, &song, &office()?)?;
     let held = |account, weight| Holder { account, weight };
     let wanted = [
         held(named, 0),
@@ -159,7 +160,7 @@ fn works_of_many_parties(rt: HostRuntime) -> Result<(), Fail> {
     for (row, behind, fault) in BEHIND {
         let song = with_publishers(alloc, behind)?;
         told(&rt, row, judge(&song, &office()?), fault);
-        let paid = weights(alloc, &sender()?, &song, &office()?)?;
+        let paid = weights(alloc, Kind::Performing, &sender()?, &song, &office()?)?;
         told(&rt, row, paid.len(), PUBLISHERS + 1);
         let last = paid.get(PUBLISHERS - 1).ok_or("a holder")?;
         let wanted = if fault.is_none() { 5_000 } else { 0 };

@@ -7,11 +7,12 @@ use Rattle.std.proofs.lemmas.List.{map_push}
 use Rattle.std.proofs.lemmas.List.Sums.{sum_by_push}
 use Rattle.cwr_files.specs.declared.transmission.Transaction.{Transaction}
 use Rattle.share_rules.specs.Fault.{collects_too_much, fault_of, first_fault, sentence, sentences, Sentence}
-use Rattle.share_rules.specs.Parties.{Interest, collected, interests}
+use Rattle.share_rules.specs.Parties.{Interest, collected, interests, share_in}
 use Rattle.share_rules.specs.Weights.{IsWhole, holder_of, total, unclaimed_beside, weights_of}
 use Rattle.share_rules.specs.declared.holder.Holder.{Holder}
+use Rattle.share_rules.specs.declared.kind.Kind.{Kind}
+use Rattle.share_rules.specs.declared.kind.Kind.TheVariants.{Performing, Mechanical}
 use Rattle.share_rules.specs.declared.office.Office.{Office}
-use Rattle.share_rules.specs.declared.shares.Shares.{Shares}
 
 none_is_none : (k : ℕ) → ◌≡◌ {A = Option ℕ} None (Some k) → ⊥
 none_is_none k e = cc
@@ -35,21 +36,34 @@ not_one : (a b c : Bool) → (a || b || c) ≡ false → a ≡ false
 not_one true b c e = absurd (false≢true (sym e))
 not_one false b c e = refl
 
+not_two : (a b c : Bool) → (a || b || c) ≡ false → b ≡ false
+not_two true b c e = absurd (false≢true (sym e))
+not_two false b c e = not_one b c false (two_of b c e)
+  where
+    two_of : (b c : Bool) → (b || c) ≡ false → (b || c || false) ≡ false
+    two_of true c e = absurd (false≢true (sym e))
+    two_of false true e = absurd (false≢true (sym e))
+    two_of false false e = refl
+
 low : (n : ℕ) → nat_lt 10006 n ≡ false → n ≤ 10006
 low n e = grind (arith, nat_tests)
 
-weights_are : (sender : List ℕ) (office : Office) (is : List Interest) → map (λ (h : Holder). h.weight) (map (holder_of sender office) is) ≡ map (λ (s : Shares). s.performing) (map (collected office) is)
-weights_are sender office [] = refl
-weights_are sender office (i ∷ more) = ap (λ (ws : List ℕ). (collected office i).performing ∷ ws) (weights_are sender office more)
+weights_are : (right : Kind) (sender : List ℕ) (office : Office) (is : List Interest) → map (λ (h : Holder). h.weight) (map (holder_of right sender office) is) ≡ map (share_in right) (map (collected office) is)
+weights_are right sender office [] = refl
+weights_are right sender office (i ∷ more) = ap (λ (ws : List ℕ). share_in right (collected office i) ∷ ws) (weights_are right sender office more)
+
+-- a transaction without a fault collects in no right more than the limit
+clean_in : (right : Kind) (office : Office) (t : Transaction) → fault_of office t ≡ None → sum (map (share_in right) (map (collected office) (interests t.records))) ≤ 10006
+clean_in Performing office t e = low _ (not_one _ _ _ (clean_collects office t e))
+clean_in Mechanical office t e = low _ (not_two _ _ _ (clean_collects office t e))
 
 -- a transaction without a fault has weights of the whole, or up to what is let pass
-pub clean_is_whole : (sender : List ℕ) (office : Office) (t : Transaction) → fault_of office t ≡ None → IsWhole (weights_of sender office t)
+pub clean_is_whole : (right : Kind) (sender : List ℕ) (office : Office) (t : Transaction) → fault_of office t ≡ None → IsWhole (weights_of right sender office t)
 unfolding weights_of
-clean_is_whole sender office t e =
-    let holders = map (holder_of sender office) (interests t.records) in
-    let shares = map (collected office) (interests t.records) in
-    let claimed = ap sum (weights_are sender office (interests t.records)) in
-    let most = low (sum (map (λ (s : Shares). s.performing) shares)) (not_one _ _ _ (clean_collects office t e)) in
+clean_is_whole right sender office t e =
+    let holders = map (holder_of right sender office) (interests t.records) in
+    let claimed = ap sum (weights_are right sender office (interests t.records)) in
+    let most = clean_in right office t e in
     let rest = unclaimed_beside holders in
     let all : total (holders ++ rest ∷ []) ≡ total holders + (max 10000 (total holders) - total holders) =
     ap sum (map_push (λ (h : Holder). h.weight) holders rest) ∙ sum_by_push (λ (n : ℕ). n) (map (λ (h : Holder). h.weight) holders) rest.weight in

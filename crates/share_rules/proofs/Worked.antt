@@ -18,6 +18,7 @@ use Rattle.work_ids.specs.Isrc.{has_isrc_form, isrc_of}
 use Rattle.work_ids.specs.Iswc.{has_iswc_form, has_right_check_digit, iswc_of}
 use Rattle.work_ids.specs.Blanks.{trimmed}
 use Rattle.share_rules.specs.declared.holder.Holder.{Holder}
+use Rattle.share_rules.specs.declared.kind.Kind.TheVariants.{Performing, Mechanical}
 use Rattle.share_rules.specs.declared.office.Office.{Office}
 use Rattle.share_rules.specs.declared.party.Side.TheVariants.{Publisher}
 use Rattle.share_rules.specs.declared.territory_row.TerritoryRow.{TerritoryRow}
@@ -105,17 +106,22 @@ unfolding field fill is_blank line_of number_of record_of indicator_of share_of 
 wrong_number = refl
 
 -- a registration
-half_each : map (weights_of (codes "PB000000012") office) (transactions_of (transmission_in (codes "HDRPB000000012EXAMPLE MUSIC                                01.102026010510150020260106\r\nGRHNWR0000102.200000000000\r\nNWR0000000000000000FIRST SONG                                                    W1            T0345246801\r\nSPU000000000000000101P1       EXAMPLE MUSIC                                 E          00000000199                 05000   10000   10000\r\nSPT0000000000000002P1             050001000010000I2136 001\r\nSWR0000000000000003A1       WRITER                                       ANNA                           CA         00000000295   05000   00000   00000\r\nSWT0000000000000004A1       050000000000000I2136 001\r\nPWR0000000000000005P1       EXAMPLE MUSIC                                                            A1\r\nREC0000000000000006                                                                                                                                                                                                                                      ATABC2600001\r\nGRT000010000000100000009\r\nTRL000010000000100000011\r\n"))) ≡ weights 5000 5000 0
+half_each : map (weights_of Performing (codes "PB000000012") office) (transactions_of (transmission_in (codes "HDRPB000000012EXAMPLE MUSIC                                01.102026010510150020260106\r\nGRHNWR0000102.200000000000\r\nNWR0000000000000000FIRST SONG                                                    W1            T0345246801\r\nSPU000000000000000101P1       EXAMPLE MUSIC                                 E          00000000199                 05000   10000   10000\r\nSPT0000000000000002P1             050001000010000I2136 001\r\nSWR0000000000000003A1       WRITER                                       ANNA                           CA         00000000295   05000   00000   00000\r\nSWT0000000000000004A1       050000000000000I2136 001\r\nPWR0000000000000005P1       EXAMPLE MUSIC                                                            A1\r\nREC0000000000000006                                                                                                                                                                                                                                      ATABC2600001\r\nGRT000010000000100000009\r\nTRL000010000000100000011\r\n"))) ≡ weights 5000 5000 0
 unfolding field fill is_blank line_of number_of record_of indicator_of share_of territory_of transmission_in has_type is_read type_of_group fault_of weights_of is_check_digit weighted_sum has_isrc_form isrc_of has_iswc_form has_right_check_digit iswc_of trimmed
 half_each = refl
 
+-- of the mechanical right of F1 its publisher has all
+publisher_alone : map (weights_of Mechanical (codes "PB000000012") office) (transactions_of (transmission_in (codes "HDRPB000000012EXAMPLE MUSIC                                01.102026010510150020260106\r\nGRHNWR0000102.200000000000\r\nNWR0000000000000000FIRST SONG                                                    W1            T0345246801\r\nSPU000000000000000101P1       EXAMPLE MUSIC                                 E          00000000199                 05000   10000   10000\r\nSPT0000000000000002P1             050001000010000I2136 001\r\nSWR0000000000000003A1       WRITER                                       ANNA                           CA         00000000295   05000   00000   00000\r\nSWT0000000000000004A1       050000000000000I2136 001\r\nPWR0000000000000005P1       EXAMPLE MUSIC                                                            A1\r\nREC0000000000000006                                                                                                                                                                                                                                      ATABC2600001\r\nGRT000010000000100000009\r\nTRL000010000000100000011\r\n"))) ≡ weights 10000 0 0
+unfolding field fill is_blank line_of number_of record_of indicator_of share_of territory_of transmission_in has_type is_read type_of_group fault_of weights_of is_check_digit weighted_sum has_isrc_form isrc_of has_iswc_form has_right_check_digit iswc_of trimmed
+publisher_alone = refl
+
 -- its revision
-all_the_writers : map (weights_of (codes "PB000000012") office) (transactions_of (transmission_in (codes "HDRPB000000012EXAMPLE MUSIC                                01.102026010510150020260106\r\nGRHREV0000102.200000000000\r\nREV0000000000000000FIRST SONG                                                    W1            T0345246801\r\nSPU000000000000000101P1       EXAMPLE MUSIC                                 E          00000000199                 00000   10000   10000\r\nSPT0000000000000002P1             000001000010000I2136 001\r\nSWR0000000000000003A1       WRITER                                       ANNA                           CA         00000000295   10000   00000   00000\r\nSWT0000000000000004A1       100000000000000I2136 001\r\nPWR0000000000000005P1       EXAMPLE MUSIC                                                            A1\r\nREC0000000000000006                                                                                                                                                                                                                                      ATABC2600001\r\nGRT000010000000100000009\r\nTRL000010000000100000011\r\n"))) ≡ weights 0 10000 0
+all_the_writers : map (weights_of Performing (codes "PB000000012") office) (transactions_of (transmission_in (codes "HDRPB000000012EXAMPLE MUSIC                                01.102026010510150020260106\r\nGRHREV0000102.200000000000\r\nREV0000000000000000FIRST SONG                                                    W1            T0345246801\r\nSPU000000000000000101P1       EXAMPLE MUSIC                                 E          00000000199                 00000   10000   10000\r\nSPT0000000000000002P1             000001000010000I2136 001\r\nSWR0000000000000003A1       WRITER                                       ANNA                           CA         00000000295   10000   00000   00000\r\nSWT0000000000000004A1       100000000000000I2136 001\r\nPWR0000000000000005P1       EXAMPLE MUSIC                                                            A1\r\nREC0000000000000006                                                                                                                                                                                                                                      ATABC2600001\r\nGRT000010000000100000009\r\nTRL000010000000100000011\r\n"))) ≡ weights 0 10000 0
 unfolding field fill is_blank line_of number_of record_of indicator_of share_of territory_of transmission_in has_type is_read type_of_group fault_of weights_of is_check_digit weighted_sum has_isrc_form isrc_of has_iswc_form has_right_check_digit iswc_of trimmed
 all_the_writers = refl
 
 -- the office excluded by a later row
-territory_excluded : map (weights_of (codes "PB000000012") office) (transactions_of (transmission_in (codes "HDRPB000000012EXAMPLE MUSIC                                01.102026010510150020260106\r\nGRHNWR0000102.200000000000\r\nNWR0000000000000000FIRST SONG                                                    W1            T0345246801\r\nSPU000000000000000101P1       EXAMPLE MUSIC                                 E          00000000199                 05000   10000   10000\r\nSPT0000000000000002P1             050001000010000I2136 001\r\nSPT0000000000000003P1             000000000000000E0040 002\r\nSWR0000000000000004A1       WRITER                                       ANNA                           CA         00000000295   05000   00000   00000\r\nSWT0000000000000005A1       050000000000000I2136 001\r\nPWR0000000000000006P1       EXAMPLE MUSIC                                                            A1\r\nREC0000000000000007                                                                                                                                                                                                                                      ATABC2600001\r\nGRT000010000000100000010\r\nTRL000010000000100000012\r\n"))) ≡ weights 0 5000 5000
+territory_excluded : map (weights_of Performing (codes "PB000000012") office) (transactions_of (transmission_in (codes "HDRPB000000012EXAMPLE MUSIC                                01.102026010510150020260106\r\nGRHNWR0000102.200000000000\r\nNWR0000000000000000FIRST SONG                                                    W1            T0345246801\r\nSPU000000000000000101P1       EXAMPLE MUSIC                                 E          00000000199                 05000   10000   10000\r\nSPT0000000000000002P1             050001000010000I2136 001\r\nSPT0000000000000003P1             000000000000000E0040 002\r\nSWR0000000000000004A1       WRITER                                       ANNA                           CA         00000000295   05000   00000   00000\r\nSWT0000000000000005A1       050000000000000I2136 001\r\nPWR0000000000000006P1       EXAMPLE MUSIC                                                            A1\r\nREC0000000000000007                                                                                                                                                                                                                                      ATABC2600001\r\nGRT000010000000100000010\r\nTRL000010000000100000012\r\n"))) ≡ weights 0 5000 5000
 unfolding field fill is_blank line_of number_of record_of indicator_of share_of territory_of transmission_in has_type is_read type_of_group fault_of weights_of is_check_digit weighted_sum has_isrc_form isrc_of has_iswc_form has_right_check_digit iswc_of trimmed
 territory_excluded = refl
 

@@ -7,6 +7,8 @@ use Rattle.cwr_records.specs.declared.indicator.Indicator.{Indicator}
 use Rattle.cwr_records.specs.declared.indicator.Indicator.TheVariants.{Included, Excluded}
 use Rattle.cwr_records.specs.declared.record.Record.{Record}
 use Rattle.cwr_records.specs.declared.record.Record.TheVariants as kind
+use Rattle.share_rules.specs.declared.kind.Kind.{Kind}
+use Rattle.share_rules.specs.declared.kind.Kind.TheVariants.{Performing, Mechanical}
 use Rattle.share_rules.specs.declared.office.Office.{Office}
 use Rattle.share_rules.specs.declared.party.InterestedParty.{InterestedParty}
 use Rattle.share_rules.specs.declared.share_fields.ShareFields.{ShareFields}
@@ -113,6 +115,11 @@ shares_by None fields = no_shares
 abbrev pub shares_at : Option TerritoryRow → Shares
 shares_at None = no_shares
 shares_at (Some row) = shares_by (indicator_of row.indicator) row.shares
+
+-- of three shares that of a right
+abbrev pub share_in : Kind → Shares → ℕ
+share_in Performing shares = shares.performing
+share_in Mechanical shares = shares.mechanical
 
 -- an interested party, and the records of its transaction after it
 pub record Interest : Type 0 where

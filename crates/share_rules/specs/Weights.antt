@@ -2,8 +2,9 @@
 use Rattle.std.specs.Prelude.{ℕ, ◌-◌, ◌≤◌, List, [], ◌∷◌, ◌++◌, Option, Some, None, Result, Ok, Err, map, max, if◌then◌else◌}
 use Rattle.std.specs.List.{list_all, sum}
 use Rattle.cwr_files.specs.declared.transmission.Transaction.{Transaction}
-use Rattle.share_rules.specs.Parties.{Interest, collected, interests}
+use Rattle.share_rules.specs.Parties.{Interest, collected, interests, share_in}
 use Rattle.share_rules.specs.declared.holder.Holder.{Holder}
+use Rattle.share_rules.specs.declared.kind.Kind.{Kind}
 use Rattle.share_rules.specs.declared.office.Office.{Office}
 use Rattle.work_ids.specs.Blanks.{is_blank_byte}
 use Rattle.work_ids.specs.IpiName.{ipi_field_of}
@@ -23,11 +24,11 @@ account_by sender (Ok (Some name)) number = Ipi name
 account_by sender (Ok None) number = numbered_account sender number
 account_by sender (Err fault) number = numbered_account sender number
 
--- a holder: an interested party's account, and its collection share of the performing right at the office (profile)
-abbrev pub holder_of : List ℕ → Office → Interest → Holder
-holder_of sender office interest = record {
+-- a holder: an interested party's account, and its collection share of a right at the office (profile)
+abbrev pub holder_of : Kind → List ℕ → Office → Interest → Holder
+holder_of right sender office interest = record {
   account = account_by sender (ipi_field_of interest.party.ipi_name) (party_number_of interest.party.number);
-  weight = (collected office interest).performing;
+  weight = share_in right (collected office interest);
 }
 
 -- the weights of some holders, added up
@@ -46,7 +47,7 @@ unclaimed_beside holders = let claimed = total holders in record { account = Unc
 abbrev pub IsWhole : List Holder → Type 0
 IsWhole holders = (10000 ≤ total holders) × (total holders ≤ 10006)
 
--- the weights of a transaction: its holders in record order, and behind them what nobody claims (profile)
-unfoldable pub weights_of : List ℕ → Office → Transaction → List Holder
-weights_of sender office transaction =
-    let holders = map (holder_of sender office) (interests transaction.records) in holders ++ unclaimed_beside holders ∷ []
+-- the weights of a transaction in a right: its holders in record order, and behind them what nobody claims (profile)
+unfoldable pub weights_of : Kind → List ℕ → Office → Transaction → List Holder
+weights_of right sender office transaction =
+    let holders = map (holder_of right sender office) (interests transaction.records) in holders ++ unclaimed_beside holders ∷ []

@@ -8,6 +8,7 @@ ghost use Rattle.work_ids.specs.declared.account.Account.{Account};
 
 use crate::collecting::collected;
 use crate::holder::Holder;
+use crate::kind::Kind;
 use crate::latest_shares::{collected_by, note, note_all};
 use crate::office::Office;
 use crate::party::InterestedParty;
@@ -34,16 +35,17 @@ fn account(sender: &SenderKey, party: &InterestedParty<'_>) -> Account
 /// The holder that an interested party is with these collection shares, behind others.
 fn push_holder(
     holders: &mut Vec<Holder>,
+    kind: Kind,
     sender: &SenderKey,
     party: &InterestedParty<'_>,
     shares: Shares,
 ) -> Result<(), AllocError>
-    ensures { OnOk result (holders.new.items ≡ holders.old.items ++ holder_with sender.now party.now shares ∷ []) }
+    ensures { OnOk result (holders.new.items ≡ holders.old.items ++ holder_with kind sender.now party.now shares ∷ []) }
 {
     let account = account(sender, party);
     holders.push(Holder {
         account,
-        weight: u64::from(shares.performing.hundredths()),
+        weight: u64::from(shares.share(kind).hundredths()),
     })?;
     Ok(())
 }
@@ -51,17 +53,18 @@ fn push_holder(
 /// The holders among a few records, which are gone through for each of them.
 fn few_holders(
     alloc: Global,
+    kind: Kind,
     sender: &SenderKey,
     records: &[Record<'_>],
     office: &Office,
 ) -> Result<Vec<Holder>, AllocError>
-    ensures { IfOk result (λ holders. holders.items ≡ holders_from sender.now office.now records.now 0) }
+    ensures { IfOk result (λ holders. holders.items ≡ holders_from kind sender.now office.now records.now 0) }
 {
     let mut holders = Vec::new(alloc);
     for (index, record) in records.iter().enumerate() {
         if let Some(party) = InterestedParty::of(record) {
             let shares = collected(&party, &records[index + 1..], office);
-            push_holder(&mut holders, sender, &party, shares)?;
+            push_holder(&mut holders, kind, sender, &party, shares)?;
         }
     }
     Ok(holders)
@@ -70,6 +73,7 @@ fn few_holders(
 /// The holder that a record is, where it is an interested party, behind others.
 fn push_record(
     holders: &mut Vec<Holder>,
+    kind: Kind,
     sender: &SenderKey,
     keys: &PartyKeys,
     latest: &[Option<Shares>],
@@ -79,11 +83,11 @@ fn push_record(
 ) -> Result<(), AllocError>
     requires room { length latest.now ≡ BLOCK }
     requires latest { AreLatest office.now keys.now.keys latest.now after.now }
-    ensures { OnOk result (holders.new.items ≡ holders.old.items ++ holders_in sender.now office.now line.now after.now) }
+    ensures { OnOk result (holders.new.items ≡ holders.old.items ++ holders_in kind sender.now office.now line.now after.now) }
 {
     if let Some(party) = InterestedParty::of(line) {
         let shares = collected_by(keys, latest, &party, after, office);
-        push_holder(holders, sender, &party, shares)?;
+        push_holder(holders, kind, sender, &party, shares)?;
     }
     Ok(())
 }
@@ -91,6 +95,7 @@ fn push_record(
 /// The holders among the records from one on to another, the last one first, behind those after them.
 fn push_block(
     holders: &mut Vec<Holder>,
+    kind: Kind,
     sender: &SenderKey,
     records: &[Record<'_>],
     start: usize,
@@ -99,8 +104,8 @@ fn push_block(
 ) -> Result<(), AllocError>
     requires order { start ≤ end }
     requires within { end ≤ length records.now }
-    requires held { holders.old.items ≡ reverse (holders_from sender.now office.now records.now end) }
-    ensures { OnOk result (holders.new.items ≡ reverse (holders_from sender.now office.now records.now start)) }
+    requires held { holders.old.items ≡ reverse (holders_from kind sender.now office.now records.now end) }
+    ensures { OnOk result (holders.new.items ≡ reverse (holders_from kind sender.now office.now records.now start)) }
 {
     let keys = PartyKeys::of(&records[start..end]);
     let mut latest = [None; BLOCK];
@@ -111,6 +116,7 @@ fn push_block(
         let after = &records[index + 1..];
         push_record(
             holders,
+            kind,
             sender,
             &keys,
             &latest,
@@ -126,17 +132,18 @@ fn push_block(
 /// The holders among many records, found block by block.
 fn many_holders(
     alloc: Global,
+    kind: Kind,
     sender: &SenderKey,
     records: &[Record<'_>],
     office: &Office,
 ) -> Result<Vec<Holder>, AllocError>
-    ensures { IfOk result (λ holders. holders.items ≡ holders_from sender.now office.now records.now 0) }
+    ensures { IfOk result (λ holders. holders.items ≡ holders_from kind sender.now office.now records.now 0) }
 {
     let mut holders = Vec::new(alloc);
     let mut end = records.len();
     while end > 0 {
         let start = end.saturating_sub(BLOCK);
-        push_block(&mut holders, sender, records, start, end, office)?;
+        push_block(&mut holders, kind, sender, records, start, end, office)?;
         end = start;
     }
     holders.reverse();
@@ -146,15 +153,16 @@ fn many_holders(
 /// The holders among some records, in record order; an error where memory runs out.
 pub(crate) fn holders_among(
     alloc: Global,
+    kind: Kind,
     sender: &SenderKey,
     records: &[Record<'_>],
     office: &Office,
 ) -> Result<Vec<Holder>, AllocError>
-    ensures { IfOk result (λ holders. holders.items ≡ holders_from sender.now office.now records.now 0) }
+    ensures { IfOk result (λ holders. holders.items ≡ holders_from kind sender.now office.now records.now 0) }
 {
     if records.len() <= FEW {
-        few_holders(alloc, sender, records, office)
+        few_holders(alloc, kind, sender, records, office)
     } else {
-        many_holders(alloc, sender, records, office)
+        many_holders(alloc, kind, sender, records, office)
     }
 }

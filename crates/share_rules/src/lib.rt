@@ -8,6 +8,7 @@ mod found_parties;
 mod holder;
 mod holding;
 mod judging;
+mod kind;
 mod latest_shares;
 mod many_faults;
 mod office;
@@ -22,5 +23,6 @@ mod weighing;
 
 pub use holder::Holder;
 pub use judging::judge;
+pub use kind::Kind;
 pub use office::Office;
 pub use weighing::weights;

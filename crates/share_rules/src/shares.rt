@@ -1,7 +1,8 @@
 //! The shares of the three rights.
 ghost use Rattle.std.specs.Prelude.{◌≡◌, ℕ, ◌≤◌};
-ghost use Rattle.share_rules.specs.Parties.{no_shares, share_or_zero};
+ghost use Rattle.share_rules.specs.Parties.{no_shares, share_in, share_or_zero};
 
+use crate::kind::Kind;
 use cwr_records::{Fixed, Share};
 
 /// The shares of the performing, the mechanical and the synchronization right.
@@ -21,6 +22,16 @@ impl Shares {
             performing: Share::none(),
             mechanical: Share::none(),
             synchronization: Share::none(),
+        }
+    }
+
+    /// The share of the right that a pool of this kind pays.
+    pub fn share(&self, kind: Kind) -> Share
+        ensures { result ≡ share_in kind self.now }
+    {
+        match kind {
+            Kind::Performing => self.performing,
+            Kind::Mechanical => self.mechanical,
         }
     }
 }

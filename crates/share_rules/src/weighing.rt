@@ -5,6 +5,7 @@ ghost use Rattle.share_rules.specs.Weights.{IsWhole, unclaimed_beside, weights_o
 
 use crate::holder::Holder;
 use crate::holding::holders_among;
+use crate::kind::Kind;
 use crate::office::Office;
 use cwr_files::Transaction;
 use std::alloc::{AllocError, Global};
@@ -31,31 +32,33 @@ fn unclaimed_beside(holders: &[Holder]) -> Holder
 #[tactic(auto, unfolding(crate::specs::Weights::weights_of))]
 fn weighed(
     alloc: Global,
+    kind: Kind,
     sender: &SenderKey,
     transaction: &Transaction<'_>,
     office: &Office,
 ) -> Result<Vec<Holder>, AllocError>
-    ensures { IfOk result (λ holders. holders.items ≡ weights_of sender.now office.now transaction.now) }
+    ensures { IfOk result (λ holders. holders.items ≡ weights_of kind sender.now office.now transaction.now) }
 {
     let records = transaction.records.as_slice();
-    let mut holders = holders_among(alloc, sender, records, office)?;
+    let mut holders = holders_among(alloc, kind, sender, records, office)?;
     let unclaimed = unclaimed_beside(holders.as_slice());
     holders.push(unclaimed)?;
     Ok(holders)
 }
 
-/// The holders of a transaction in record order, each with the weight of its collection share of the performing right
-/// at the office, and behind them what nobody claims (profile); an error where memory runs out. Without a fault the
-/// weights are the whole or, for what is let pass, up to 10,006 hundredths of a percent.
+/// The holders of a transaction in record order, each with the weight of its collection share of a right at the office,
+/// and behind them what nobody claims (profile); an error where memory runs out. Without a fault the weights of either right
+/// are the whole or, for what is let pass, up to 10,006 hundredths of a percent.
 #[tactic(auto, using(crate::proofs::Whole::clean_is_whole))]
 pub fn weights(
     alloc: Global,
+    kind: Kind,
     sender: &SenderKey,
     transaction: &Transaction<'_>,
     office: &Office,
 ) -> Result<Vec<Holder>, AllocError>
-    ensures weights { IfOk result (λ holders. holders.items ≡ weights_of sender.now office.now transaction.now) }
+    ensures weights { IfOk result (λ holders. holders.items ≡ weights_of kind sender.now office.now transaction.now) }
     ensures total { fault_of office.now transaction.now ≡ None → IfOk result (λ holders. IsWhole holders.items) }
 {
-    weighed(alloc, sender, transaction, office)
+    weighed(alloc, kind, sender, transaction, office)
 }

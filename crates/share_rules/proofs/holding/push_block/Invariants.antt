@@ -6,7 +6,7 @@ abbrev pub invariant-loop-index : goal.invariant-loop-index
 invariant-loop-index l = record {
   order : l.start ≤ l.index;
   within : l.index ≤ l.fn.end;
-  held : l.holders.items ≡ reverse (holders_from l.sender l.office l.records l.index);
+  held : l.holders.items ≡ reverse (holders_from l.kind l.sender l.office l.records l.index);
   kept : AreLatest l.office l.keys.keys l.latest (drop l.index l.records);
 }
 
