@@ -210,7 +210,7 @@ module _ (o : Office) (b : Book) (db : Trees) (holds : HoldsWorks o b db) (s : L
   -- so what is chosen of the works that are noted is what is a version at the cut, where it names one of these recordings
   pub chosen_right : (of_these : List ℕ → Bool) (named : NamedWorks) (known : List ℕ → Bool) (chosen : Chosen) (cut : ℕ) → NotesRecordings db of_these named → notes_of_sender named s ≡ true → cut ≤ front b s → ((w : List ℕ) → known w ≡ is_noted named s w) →
       Chooses o b (record { sender = s; number = cut }) known chosen → ChoosesNaming o b (record { sender = s; number = cut }) of_these chosen
-  chosen_right of_these named known chosen cut notes asked within same chooses = record { right = λ number place t isrc up there is names. by_number number place t isrc there is names (number_of_work t) refl; transmissions = chooses.transmissions }
+  chosen_right of_these named known chosen cut notes asked within same chooses = record { right = λ number place t isrc up there is names. by_number number place t isrc there is names (number_of_work t) refl; transmissions = chooses.transmissions; within = chooses.within }
     where
       key : TransmissionKey
       key = record { sender = s; number = cut }
