@@ -11,29 +11,31 @@ fn read(alloc: Global, body: &'static [u8]) -> Result<Transmission<'static>, Fai
     Ok(read_transmission(alloc, body, &sender()?)?)
 }
 
-/// Applies a file to a line that is not at its end, as the line's next transmission.
-fn send(alloc: Global, line: &mut SenderLine, body: &'static [u8]) -> Result<(), Fail> {
+/// Applies a file to a line under a number that is above those that the line has.
+fn send(alloc: Global, line: &mut SenderLine, n: u32, body: &'static [u8]) -> Result<(), Fail> {
     let transmission = read(alloc, body)?;
-    let next = number(line.front() + 1)?;
-    if next.value() == line.front() + 1 {
-        line.apply(next, &transmission)?;
+    let next = number(n)?;
+    if next.value() <= line.front() {
+        return Err(Fail::from("a number above the last"));
     }
+    line.apply(next, &transmission)?;
     Ok(())
 }
 
-/// The line of a work that was registered and revised twice.
-fn revised_twice(alloc: Global) -> Result<SenderLine, Fail> {
+/// The line of a work that was registered and revised twice, under these numbers.
+fn revised_twice(alloc: Global, numbers: [u32; 3]) -> Result<SenderLine, Fail> {
+    let [first, second, third] = numbers;
     let mut line = SenderLine::new(alloc, &office()?);
-    send(alloc, &mut line, REGISTERED)?;
-    send(alloc, &mut line, REVISED)?;
-    send(alloc, &mut line, REVISED)?;
+    send(alloc, &mut line, first, REGISTERED)?;
+    send(alloc, &mut line, second, REVISED)?;
+    send(alloc, &mut line, third, REVISED)?;
     Ok(line)
 }
 
 #[test]
 fn verdicts_of_each_transmission(rt: HostRuntime) -> Result<(), Fail> {
     let alloc = rt.alloc();
-    let line = revised_twice(alloc)?;
+    let line = revised_twice(alloc, [1, 2, 3])?;
     told(&rt, "front", line.front(), 3);
     for (n, revision) in [(1, 0), (2, 1), (3, 2)] {
         let row = format!(in alloc; "transmission {n}")?;
@@ -51,7 +53,7 @@ fn verdicts_of_each_transmission(rt: HostRuntime) -> Result<(), Fail> {
 #[test]
 fn versions_at_each_cut(rt: HostRuntime) -> Result<(), Fail> {
     let alloc = rt.alloc();
-    let line = revised_twice(alloc)?;
+    let line = revised_twice(alloc, [1, 2, 3])?;
     for (cut, transmission) in [(1, 1), (2, 2), (3, 3), (4, 3)] {
         let row = format!(in alloc; "cut {cut}")?;
         let wanted = WorkVersion {
@@ -69,6 +71,35 @@ fn versions_at_each_cut(rt: HostRuntime) -> Result<(), Fail> {
     }
     let other = line.work_at(&work(b"W2")?, number(3)?);
     told(&rt, "W2", other, None);
+    Ok(())
+}
+
+#[test]
+fn numbers_that_do_not_follow_one_another(rt: HostRuntime) -> Result<(), Fail> {
+    let alloc = rt.alloc();
+    let line = revised_twice(alloc, [4, 9, 20])?;
+    told(&rt, "front", line.front(), 20);
+    let wanted = [Verdict::Accepted {
+        ordinal: 1,
+        revision: 1,
+    }];
+    let verdicts = line.verdicts(number(9)?).ok_or("verdicts")?;
+    told(&rt, "second", verdicts, wanted.as_slice());
+    told(&rt, "none", line.verdicts(number(2)?).is_none(), true);
+    let (early, between) = (number(3)?, number(19)?);
+    let version = WorkVersion {
+        transmission: number(9)?,
+        place: 0,
+        ordinal: 1,
+        revision: 1,
+    };
+    told(&rt, "early", line.work_at(&work(b"W1")?, early), None);
+    told(
+        &rt,
+        "between",
+        line.work_at(&work(b"W1")?, between),
+        Some(version),
+    );
     Ok(())
 }
 

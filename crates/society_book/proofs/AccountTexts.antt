@@ -7,7 +7,7 @@ use Rattle.std.proofs.lemmas.Slice.Eq.{bytes_eq-Decides}
 use Rattle.cwr_files.specs.Contents.{transactions_of}
 use Rattle.cwr_files.specs.Transaction.{number_of_work}
 use Rattle.cwr_files.specs.declared.transmission.Transaction.{Transaction}
-use Rattle.cwr_files.specs.declared.transmission.Transmission.{Transmission}
+use Rattle.works_core.specs.Line.{NumberedTransmission}
 use Rattle.pool_split.specs.Credits.{claim_credits, claim_credits_by, credits, holder_credit, paid_credits, points_claimed, units_of, weights_in}
 use Rattle.pool_split.specs.Split.{split_of}
 use Rattle.pool_split.specs.declared.claim.Claim.{Claim}
@@ -170,10 +170,10 @@ HasSender work = length work.sender ≡ 11
 
 sent_by : (o : Office) (b : Book) (key : TransmissionKey) → length key.sender ≡ 11 → AllByRecursion HasSender (versions_at_cut o b key)
 sent_by o b key long =
-    all_flat HasSender (λ (sent : ℕ × Transmission). versions_of_transmission o b key sent.0 (transactions_of sent.1)) (λ _. Unit {0})
+    all_flat HasSender (λ (sent : NumberedTransmission). versions_of_transmission o b key sent.0 (transactions_of sent.1)) (λ _. Unit {0})
     (λ sent _. all_mapped HasSender (λ (placed : ℕ × Transaction). cut_work key.sender placed.1) (λ _. Unit {0}) (λ _ _. long) (filter (λ (placed : ℕ × Transaction). is_version_at o b key sent.0 placed.0 (number_of_work placed.1)) (enumerate_from 0 (transactions_of sent.1)))
     (all_of (λ (_ : ℕ × Transaction). Unit {0}) (λ _. tt) _))
-    (enumerate_from 1 (transmissions_to b key.sender key.number)) (all_of (λ (_ : ℕ × Transmission). Unit {0}) (λ _. tt) _)
+    (transmissions_to b key.sender key.number) (all_of (λ (_ : NumberedTransmission). Unit {0}) (λ _. tt) _)
 
 front_has_key : (b : Book) → IsSound b → (s : List ℕ) → 1 ≤ front b s → length s ≡ 11
 front_has_key b sound s some =
@@ -183,7 +183,7 @@ front_has_key b sound s some =
     eqb-true (length s) 11 (first_holds (eqb (length s) 11) (list_all is_capital_or_digit s) key)
 
 reached : (o : Office) (b : Book) → IsSound b → (key : TransmissionKey) (n : ℕ) → key.number ≡ n → nat_le n (front b key.sender) ≡ true → AllByRecursion HasSender (versions_at_cut o b key)
-reached o b sound key zero is within = subst (λ (n : ℕ). AllByRecursion HasSender (flat_map (λ (sent : ℕ × Transmission). versions_of_transmission o b key sent.0 (transactions_of sent.1)) (enumerate_from 1 (transmissions_to b key.sender n)))) (sym is) tt
+reached o b sound key zero is within = subst (λ (n : ℕ). AllByRecursion HasSender (flat_map (λ (sent : NumberedTransmission). versions_of_transmission o b key sent.0 (transactions_of sent.1)) (transmissions_to b key.sender n))) (sym is) tt
 reached o b sound key (suc n) is within = sent_by o b key (front_has_key b sound key.sender (grind (arith, nat_tests)))
 
 cut_sent : (o : Office) (b : Book) → IsSound b → (keys : List TransmissionKey) → list_all (λ (key : TransmissionKey). nat_le key.number (front b key.sender)) keys ≡ true → AllByRecursion HasSender (flat_map (versions_at_cut o b) keys)

@@ -10,7 +10,7 @@ use Rattle.std.specs.Ordering.{nat_cmp}
 use Rattle.cwr_files.specs.Transaction.{number_of_work}
 use Rattle.cwr_files.specs.declared.transmission.Transaction.{Transaction}
 use Rattle.share_rules.specs.declared.office.Office.{Office}
-use Rattle.society_core.proofs.CandidateLemmas.{adds_none, both}
+use Rattle.society_core.proofs.CandidateLemmas.{both}
 use Rattle.society_core.specs.Book.{Book}
 use Rattle.society_core.specs.Candidates.{Adds, transactions_sent, work_where}
 use Rattle.society_core.specs.Owners.{CutWork, cut_work, is_at, is_version_at, names_recording, versions_of_transmission}
@@ -107,20 +107,25 @@ none_chosen chosen sender number ts covered absent = where_none sender (λ place
     by_number place (Err fault) = refl
 
 module _ (office : Office) (book : Book) (key : TransmissionKey) (of_these : List ℕ → Bool) (chosen : Chosen) (right : ChoosesNaming office book key of_these chosen) where
+  -- of a transmission's transactions that are chosen and of its versions at the cut the same ones name each of these recordings
+  chosen_names : (number : ℕ) → number ≤ key.number → (isrc : List ℕ) → of_these isrc ≡ true
+      → filter (names_recording isrc) (works_chosen chosen key.sender number 0 (transactions_sent book key.sender number)) ≡ filter (names_recording isrc) (versions_of_transmission office book key number (transactions_sent book key.sender number))
+  chosen_names number within isrc is =
+      where_alike key.sender (λ place t. is_chosen chosen number place (number_of_work t)) (λ place t. is_version_at office book key number place (number_of_work t)) isrc 0 (transactions_sent book key.sender number)
+      (λ i t there names. let here : i ≡ 0 + i = omega arith in subst (λ (n : ℕ). is_chosen chosen number n (number_of_work t) ≡ is_version_at office book key number n (number_of_work t)) here (right.right number i t isrc within there is names))
+
   -- what is chosen of a transmission is added as its versions at the cut
   pub chosen_adds : (number : ℕ) (old new : List Candidate) → number ≤ key.number → Adds office of_these (works_chosen chosen key.sender number 0 (transactions_sent book key.sender number)) old new → Adds office of_these (versions_of_transmission office book key number (transactions_sent book key.sender number)) old new
   chosen_adds number old new within adds =
       adds_alike office of_these (works_chosen chosen key.sender number 0 (transactions_sent book key.sender number)) (versions_of_transmission office book key number (transactions_sent book key.sender number)) old new
-      (λ isrc is.
-      where_alike key.sender (λ place t. is_chosen chosen number place (number_of_work t)) (λ place t. is_version_at office book key number place (number_of_work t)) isrc 0 (transactions_sent book key.sender number)
-      (λ i t there names. let here : i ≡ 0 + i = omega arith in subst (λ (n : ℕ). is_chosen chosen number n (number_of_work t) ≡ is_version_at office book key number n (number_of_work t)) here (right.right number i t isrc within there is names)))
+      (chosen_names number within)
       adds
 
-  -- and nothing where none of its transactions is chosen
-  pub absent_adds : (number : ℕ) (old : List Candidate) → number ≤ key.number → contains nat_cmp chosen.transmissions number ≡ false → Adds office of_these (versions_of_transmission office book key number (transactions_sent book key.sender number)) old old
-  absent_adds number old within absent =
-      chosen_adds number old old within
-      (subst (λ (ws : List CutWork). Adds office of_these ws old old) (sym (none_chosen chosen key.sender number (transactions_sent book key.sender number) right.transmissions absent)) (adds_none office of_these old))
+  -- none of its versions names one of them where none of its transactions is chosen
+  pub absent_names : (number : ℕ) → number ≤ key.number → contains nat_cmp chosen.transmissions number ≡ false → (isrc : List ℕ) → of_these isrc ≡ true → filter (names_recording isrc) (versions_of_transmission office book key number (transactions_sent book key.sender number)) ≡ []
+  absent_names number within absent isrc is =
+      sym (chosen_names number within isrc is)
+      ∙ ap (filter (names_recording isrc)) (none_chosen chosen key.sender number (transactions_sent book key.sender number) right.transmissions absent)
 
 -- what follows of whatever rows show follows of an answer as a whole
 pub shown_all : (r : Result (Unit {0}) RowFault) (rows : List Row) (P : Option (List ℕ) → Type 0) → ((kept : Option (List ℕ)) → ShowBody kept rows → OnOk r (P kept)) → IfOk r (λ _. (kept : Option (List ℕ)) → ShowBody kept rows → P kept)

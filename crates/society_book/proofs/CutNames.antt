@@ -13,7 +13,8 @@ use Rattle.share_rules.specs.declared.office.Office.{Office}
 use Rattle.society_core.proofs.Ascending.{ascending_has}
 use Rattle.society_core.proofs.CandidateLemmas.{both}
 use Rattle.society_core.proofs.Gaps.{version_within}
-use Rattle.society_core.specs.Book.{Book, front, transmissions_to, verdicts_in, version_in}
+use Rattle.society_core.proofs.Lines.{line_rises, line_to}
+use Rattle.society_core.specs.Book.{Book, front, verdicts_in, version_in}
 use Rattle.society_core.specs.Candidates.{transactions_sent}
 use Rattle.society_core.specs.Keys.{ascending, bytes_cmp}
 use Rattle.society_core.specs.Owners.{cut_work, is_at, is_version_at, names_recording}
@@ -29,7 +30,7 @@ use Rattle.society_book.specs.declared.named_works.NamedWorks.{NamedWorks}
 use Rattle.society_book.proofs.CutChoices.{some_is}
 use Rattle.society_book.proofs.CutNotes.{any_bytes}
 use Rattle.society_book.proofs.Equals.{texts_equal}
-use Rattle.society_book.proofs.LineRows.{filled_of, cut_line, left_once, line_goes, line_to, number_back, sent, verdicts_go}
+use Rattle.society_book.proofs.LineRows.{filled_of, cut_line, left_once, line_goes, number_back, sent, verdicts_go}
 use Rattle.sqlite_trees.proofs.ListLemmas.{all-filter, all-permutation}
 use Rattle.sqlite_trees.specs.Tree.{Trees}
 use Rattle.sqlite_value.specs.Order.{Row}
@@ -38,7 +39,7 @@ use Rattle.work_ids.specs.Blanks.{fill, without_trailing_blanks}
 use Rattle.work_ids.specs.declared.fault.IdFault.{IdFault}
 use Rattle.works_core.proofs.EndLemmas.{refused}
 use Rattle.works_core.proofs.TrackLemmas.{both_of}
-use Rattle.works_core.specs.Line.{filled_number, judged, judged_in, line_of}
+use Rattle.works_core.specs.Line.{filled_number, judged, judged_in}
 use Rattle.works_core.specs.Recordings.{isrcs_of}
 use Rattle.works_core.specs.Verdicts.{concerns, is_accepted, verdict_of, verdicts_from}
 use Rattle.works_core.specs.Versions.{Placed, is_version, judged_of, last_version, placed_at, placed_behind, placed_line, version_of}
@@ -194,7 +195,7 @@ module _ (o : Office) (b : Book) (db : Trees) (holds : HoldsWorks o b db) (s : L
           let parts = both (v.transmission == number) (v.place == place) h in
           let numbered : v.transmission ≡ number = (unsigned_Decides v.transmission number).0 parts.0 in
           let placed : v.place ≡ place = (unsigned_Decides v.place place).0 parts.1 in
-          let limits = version_within (line_of o (transmissions_to b s cut)) w cut v is in
+          let limits = version_within (line_to o b s cut) w cut v (line_rises o b s cut) is in
           let told = version_told_at o b s w cut v is in
           let P : Row → Type 0 = λ row. has_at 3 (Text isrc) row ≡ true → IsNoted named row in
           let all = all_in_range P (told_by tells_recordings o b s) 1 (front b s) v.transmission (all_told_front P notes) limits.0 (omega (arith, limits.1, within)) in
@@ -210,7 +211,7 @@ module _ (o : Office) (b : Book) (db : Trees) (holds : HoldsWorks o b db) (s : L
   -- so what is chosen of the works that are noted is what is a version at the cut, where it names one of these recordings
   pub chosen_right : (of_these : List ℕ → Bool) (named : NamedWorks) (known : List ℕ → Bool) (chosen : Chosen) (cut : ℕ) → NotesRecordings db of_these named → notes_of_sender named s ≡ true → cut ≤ front b s → ((w : List ℕ) → known w ≡ is_noted named s w) →
       Chooses o b (record { sender = s; number = cut }) known chosen → ChoosesNaming o b (record { sender = s; number = cut }) of_these chosen
-  chosen_right of_these named known chosen cut notes asked within same chooses = record { right = λ number place t isrc up there is names. by_number number place t isrc there is names (number_of_work t) refl; transmissions = chooses.transmissions }
+  chosen_right of_these named known chosen cut notes asked within same chooses = record { right = λ number place t isrc up there is names. by_number number place t isrc there is names (number_of_work t) refl; transmissions = chooses.transmissions; within = chooses.within }
     where
       key : TransmissionKey
       key = record { sender = s; number = cut }

@@ -1,13 +1,14 @@
 -- The version of a work at a cut out of the rows of its versions.
-use Rattle.std.proofs.Common.{◌≡◌, ◌∙◌, ◌<◌, ◌≤◌, ◌+◌, ◌&&◌, ◌++◌, ℕ, suc, zero, Bool, true, false, cond, not, List, [], ◌∷◌, Option, Some, None, refl, ap, ap₂, sym, subst, arith, find, filter, take, reverse, IsPermutation, Less, nat_le, nat_lt, option_map}
+use Rattle.std.proofs.Common.{◌≡◌, ◌∙◌, ◌<◌, ◌≤◌, ◌+◌, ◌&&◌, ◌++◌, ℕ, Bool, true, false, cond, not, List, [], ◌∷◌, Option, Some, None, refl, ap, ap₂, sym, subst, arith, find, filter, reverse, IsPermutation, Less, nat_le, nat_lt, option_map}
 use Rattle.std.proofs.lemmas.Bool.Decides.{nat_tests}
-use Rattle.std.proofs.lemmas.List.{append-nil, reverse-append, take-append-le, take_all}
+use Rattle.std.proofs.lemmas.List.{append-nil, reverse-append}
 use Rattle.std.proofs.lemmas.List.Elements.{filter-append}
 use Rattle.std.proofs.lemmas.List.Sorted.{IsPermutation-trans}
 use Rattle.std.proofs.lemmas.Slice.Eq.{bytes_eq-Decides}
 use Rattle.std.specs.List.{AllByRecursion}
 use Rattle.share_rules.specs.declared.office.Office.{Office}
 use Rattle.society_core.specs.Book.{Book, front, version_in}
+use Rattle.society_core.proofs.Lines.{line_rises, line_to, line_up_to}
 use Rattle.society_rows.specs.Layout as layout
 use Rattle.society_rows.specs.Reads.{Lists, has_key}
 use Rattle.society_rows.specs.Stored.{rows_in}
@@ -15,7 +16,7 @@ use Rattle.society_book.specs.Columns.{number_at, text_at}
 use Rattle.society_book.specs.DerivedRows.{is_named, tells_version, told_to_front}
 use Rattle.society_book.specs.Sources.{HoldsWorks}
 use Rattle.society_book.specs.Shown.{version_shown}
-use Rattle.society_book.proofs.LineRows.{HasBack, HasTexts, IsBack, all_tested, is_of_work, length_line, line_back, line_push, line_to, one_by, sent, texts_told, told_line, version_row, version_rows, version_told}
+use Rattle.society_book.proofs.LineRows.{HasBack, HasTexts, IsBack, all_tested, is_of_work, line_back, one_by, texts_told, told_line, version_row, version_rows, version_told}
 use Rattle.society_book.proofs.RowLemmas.{all_rows}
 use Rattle.society_book.proofs.SortedRows.{one_order, rises_third}
 use Rattle.society_book.proofs.VerdictRows.{filter_both}
@@ -29,10 +30,9 @@ use Rattle.sqlite_value.specs.declared.value.Value.TheVariants.{Text}
 use Rattle.work_ids.specs.Blanks.{without_trailing_blanks}
 use Rattle.works_core.proofs.CutLemmas.{work_at_upto}
 use Rattle.works_core.proofs.TrackLemmas.{last_upto}
-use Rattle.works_core.specs.Line.{judged_in}
+use Rattle.works_core.specs.Numbered.{JudgedTransmission}
 use Rattle.works_core.specs.Verdicts.{verdict_of, versions_of}
 use Rattle.works_core.specs.Versions.{Placed, is_version, judged_of, last_version, placed_line, version_of, work_at}
-use Rattle.works_core.specs.declared.judged.Judged.{Judged}
 use Rattle.works_core.specs.declared.version.WorkVersion.{WorkVersion}
 
 -- the last of some rows whose transmission is up to a cut
@@ -110,33 +110,13 @@ shown_back s w None = refl
 shown_back s w (Some v) = refl
 
 module _ (o : Office) (b : Book) (s : List ℕ) where
-  take_line : (cut k : ℕ) → take cut (line_to o b s (cut + k)) ≡ line_to o b s cut
-  take_line cut zero =
-      let same : cut + 0 ≡ cut = omega arith in
-      ap (λ (n : ℕ). take cut (line_to o b s n)) same ∙ take_all cut (line_to o b s cut) (omega (arith, length_line o b s cut))
-  take_line cut (suc k) =
-      let next : cut + suc k ≡ suc (cut + k) = omega arith in
-      ap (λ (n : ℕ). take cut (line_to o b s n)) next
-      ∙ ap (take cut) (line_push o b s (cut + k))
-      ∙ take-append-le cut (line_to o b s (cut + k)) (judged_in o (sent o b s (suc (cut + k))) ∷ []) (omega (arith, length_line o b s (cut + k)))
-      ∙ take_line cut k
-
   -- the version at a cut is the last one up to it of the line up to the front
   cut_version : (w : List ℕ) (cut : ℕ) → cut ≤ front b s → last_upto cut w (placed_line (line_to o b s (front b s))) ≡ version_in o b s w cut
   unfolding work_at
   cut_version w cut within =
-      sym (work_at_upto (line_to o b s (front b s)) w cut)
-      ∙ by_rest (front b s) (gap cut (front b s) within)
-    where
-      gap : (n m : ℕ) → n ≤ m → (k : ℕ) × (m ≡ n + k)
-      gap zero m h = (m, omega arith)
-      gap (suc n) zero h = absurd (omega (arith, h))
-      gap (suc n) (suc m) h = let less = gap n m (omega (arith, h)) in (less.0, omega (arith, less.1))
-
-      by_rest : (m : ℕ) → (k : ℕ) × (m ≡ cut + k) → last_version w (placed_line (take cut (line_to o b s m))) ≡ last_version w (placed_line (take cut (line_to o b s cut)))
-      by_rest m more =
-          ap (λ (n : ℕ). last_version w (placed_line (take cut (line_to o b s n)))) more.1
-          ∙ ap (λ (l : List (List Judged)). last_version w (placed_line l)) (take_line cut more.0 ∙ sym (take_all cut (line_to o b s cut) (omega (arith, length_line o b s cut))))
+      let line = line_to o b s (front b s) in
+      sym (work_at_upto line w cut (line_rises o b s (front b s)))
+      ∙ ap (λ (l : List JudgedTransmission). last_version w (placed_line l)) (line_up_to o b s (front b s) cut within ∙ sym (line_up_to o b s cut cut (omega arith)))
 
 -- what is found of a work's versions are the rows of all of them, the first one first
 rows_found : (o : Office) (b : Book) (db : Trees) → HoldsWorks o b db → (s w : List ℕ) → IsBack w → (found : List Row) → Lists layout.versions (has_key (Text s ∷ Text (without_trailing_blanks w) ∷ [])) 3 db found →

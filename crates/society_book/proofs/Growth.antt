@@ -3,13 +3,12 @@ use Rattle.std.proofs.Common.{◌≡◌, ◌≤◌, ◌<◌, ◌+◌, ℕ, zero,
 use Rattle.std.specs.List.{flat_map, range_with_len}
 use Rattle.std.proofs.lemmas.Grind.{flat_map-append}
 use Rattle.cwr_files.specs.Contents.{transactions_of, transmission_in}
-use Rattle.cwr_files.specs.declared.transmission.Transmission.{Transmission}
 use Rattle.share_rules.specs.declared.office.Office.{Office}
 use Rattle.society_core.specs.Book.{Book, body_at, front, verdicts_in}
 use Rattle.society_core.proofs.Gaps.{transmissions_alike}
 use Rattle.society_book.specs.DerivedRows.{Telling, told_by, told_from, told_to_front}
 use Rattle.sqlite_value.specs.Order.{Row}
-use Rattle.works_core.specs.Line.{line_of, verdicts_at}
+use Rattle.works_core.specs.Line.{NumberedTransmission, line_of, verdicts_at}
 use Rattle.works_core.specs.declared.verdict.Verdict.{Verdict}
 
 -- two books have the same transmissions of a sender from 1 to n
@@ -20,7 +19,7 @@ AlikeTo a b sender n = (k : ℕ) → 1 ≤ k → k ≤ n → body_at a sender k 
 pub told_alike : (tells : Telling) (o : Office) (a b : Book) (s : List ℕ) (n : ℕ) → 1 ≤ n → AlikeTo a b s n → told_by tells o a s n ≡ told_by tells o b s n
 told_alike tells o a b s n some same =
     let body : body_at a s n ≡ body_at b s n = same n some (omega arith) in
-    let verdicts : verdicts_in o a s n ≡ verdicts_in o b s n = ap (λ (ts : List Transmission). verdicts_at (line_of o ts) n) (transmissions_alike a b s n same) in
+    let verdicts : verdicts_in o a s n ≡ verdicts_in o b s n = ap (λ (ts : List NumberedTransmission). verdicts_at (line_of o ts) n) (transmissions_alike a b s n same) in
     ap₂ (λ (x : Option (List ℕ)) (y : List Verdict). told_from tells s n 0 (transactions_of (transmission_in (unwrap_or x []))) y) body verdicts
 
 each_alike : (f g : ℕ → List Row) (from len : ℕ) → ((k : ℕ) → from ≤ k → k < from + len → f k ≡ g k) → flat_map f (range_with_len from len) ≡ flat_map g (range_with_len from len)

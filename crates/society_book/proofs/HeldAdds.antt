@@ -5,7 +5,6 @@ use Rattle.std.specs.List.{list_any}
 use Rattle.std.specs.Ordering.{eq_by_cmp}
 use Rattle.std.proofs.lemmas.Bool.{false≢true}
 use Rattle.std.proofs.lemmas.Slice.Eq.{bytes_eq-Decides}
-use Rattle.cwr_files.specs.declared.transmission.Transmission.{Transmission}
 use Rattle.share_rules.specs.declared.office.Office.{Office}
 use Rattle.society_core.proofs.Books.{added_keeps, some_body, there_to_front}
 use Rattle.society_core.proofs.ClosedPools.{PaysAlike}
@@ -22,7 +21,7 @@ use Rattle.society_book.specs.DerivedRows.{has_sent, works_to}
 use Rattle.society_book.proofs.BookLemmas.{transmissions_tie}
 use Rattle.society_book.proofs.FrontRows.{none_so}
 use Rattle.society_book.proofs.KeyRows.{both_same, same_truth}
-use Rattle.works_core.specs.Line.{line_of}
+use Rattle.works_core.specs.Line.{NumberedTransmission, line_of}
 use Rattle.works_core.specs.Verdicts.{works_in}
 use Rattle.works_core.specs.Versions.{judged_of, placed_line}
 
@@ -134,7 +133,7 @@ module _ (b : Book) (s : List ℕ) (n : ℕ) (body : List ℕ) (free : body_at b
     pub works_after : (o : Office) (t : List ℕ) → works_to o after t ≡ works_to o b t
     works_after o t =
         ap (λ (k : ℕ). works_in (judged_of (placed_line (line_of o (transmissions_to after t k))))) (front_after t)
-        ∙ ap (λ (ts : List Transmission). works_in (judged_of (placed_line (line_of o ts)))) (transmissions_alike after b t (front b t) (λ k some within. alike_after t k some within))
+        ∙ ap (λ (ts : List NumberedTransmission). works_in (judged_of (placed_line (line_of o ts)))) (transmissions_alike after b t (front b t) (λ k some within. alike_after t k some within))
 
   pub pays_after : PaysAlike b after
   pays_after = record {

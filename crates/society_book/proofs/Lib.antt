@@ -37,6 +37,7 @@ pub mod SameTotals
 pub mod PoolHolds
 pub mod Payments
 pub mod CutRows
+pub mod CutSets
 pub mod CutNames
 pub mod CutCandidates
 pub mod CutNotes

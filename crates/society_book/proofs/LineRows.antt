@@ -34,7 +34,7 @@ use Rattle.society_book.proofs.KeyRows.{either_way, same_truth}
 use Rattle.society_book.proofs.RowLemmas.{all_rows}
 use Rattle.society_book.proofs.VerdictRows.{filter_both}
 use Rattle.society_book.proofs.SortedRows.{numbers_rise}
-use Rattle.std.proofs.lemmas.List.{append-nil, take_all, get_or-append_right, get_or-replicate, get_or_append_left, get_or_push, length-append, length-replicate, length_push, map_push, take_at}
+use Rattle.std.proofs.lemmas.List.{append-nil, get_or-append_right, get_or-replicate, get_or_append_left, length-append, length-replicate, take_at}
 use Rattle.std.proofs.lemmas.List.Sums.{suffix_len_is}
 use Rattle.std.specs.List.{suffix_len}
 use Rattle.cwr_files.specs.Transaction.{first_work, submitter_number}
@@ -50,18 +50,21 @@ use Rattle.cwr_files.specs.declared.transmission.Transaction.{Transaction}
 use Rattle.cwr_files.specs.declared.transmission.Transmission.{Transmission}
 use Rattle.share_rules.specs.Fault.{fault_of}
 use Rattle.share_rules.specs.declared.office.Office.{Office}
-use Rattle.society_core.specs.Book.{Book, body_at, front, transmissions_to, verdicts_in, version_in}
+use Rattle.society_core.specs.Book.{Book, body_at, front, verdicts_in, version_in}
+use Rattle.society_core.proofs.Lines.{judged_under, line_ends, line_push, line_rises, line_to, line_up_to}
 use Rattle.sqlite_value.specs.declared.value.Value.TheVariants.{Int, Text}
 use Rattle.sqlite_value.specs.Order.{Row, column}
 use Rattle.society_book.specs.DerivedRows.{is_named, tells_version, told_by, told_from, told_to_front}
 use Rattle.society_book.proofs.Growth.{range_split, told_of}
 use Rattle.work_ids.specs.Blanks.{fill, is_blank_byte, without_trailing_blanks}
 use Rattle.works_core.proofs.EndLemmas.{IsTaken, refused, taken}
-use Rattle.works_core.proofs.KeptLemmas.{judged_of-behind_all, placed_line-push}
+use Rattle.works_core.proofs.KeptLemmas.{placed_push}
+use Rattle.works_core.proofs.NumberLemmas.{verdicts_last}
 use Rattle.works_core.proofs.TrackLemmas.{same_bytes}
-use Rattle.works_core.specs.Line.{filled_number, judged, judged_by, judged_in, line_of, verdicts_at}
+use Rattle.works_core.specs.Line.{filled_number, judged, judged_by, judged_in, verdicts_at}
 use Rattle.works_core.specs.Tracks.{number_in}
-use Rattle.works_core.specs.Verdicts.{behind_all, concerns, is_accepted, ordinal_of, verdict_of, verdicts_from, versions_of}
+use Rattle.works_core.specs.Numbered.{JudgedTransmission}
+use Rattle.works_core.specs.Verdicts.{concerns, is_accepted, ordinal_of, verdict_of, verdicts_from, versions_of}
 use Rattle.works_core.specs.Versions.{Placed, is_version, judged_of, last_version, placed_at, placed_behind, placed_line, version_of, work_at}
 use Rattle.works_core.specs.declared.judged.Judged.{Judged}
 use Rattle.works_core.specs.declared.judged.Judged.TheVariants.{Clean, Faulty}
@@ -81,42 +84,24 @@ version_rows s [] = []
 version_rows s (t ∷ past) = version_rows s past ++ version_told s t (verdict_of (judged_of past) t.judged)
 
 module _ (o : Office) (b : Book) (s : List ℕ) where
-  -- a sender's line up to a transmission
-  abbrev pub line_to : ℕ → List (List Judged)
-  line_to n = line_of o (transmissions_to b s n)
-
   -- a transmission of the sender
   abbrev pub sent : ℕ → Transmission
   sent n = transmission_in (unwrap_or (body_at b s n) [])
 
-  pub line_push : (n : ℕ) → line_to (suc n) ≡ line_to n ++ judged_in o (sent (suc n)) ∷ []
-  line_push n = map_push (judged_in o) (transmissions_to b s n) (sent (suc n))
-
-  -- it has so many transmissions
-  pub length_line : (n : ℕ) → length (line_to n) ≡ n
-  length_line zero = refl
-  length_line (suc n) =
-      let before = length_line n in
-      let pushed = ap length (line_push n) ∙ length_push (line_to n) (judged_in o (sent (suc n))) in
-      omega (arith, before, pushed)
+  -- the line up to a number
+  abbrev its_line : ℕ → List JudgedTransmission
+  its_line n = line_to o b s n
 
   -- the line goes on with the next transmission
-  pub line_goes : (n : ℕ) → placed_line (line_to (suc n)) ≡ placed_behind (placed_line (line_to n)) (suc n) 0 (judged_in o (sent (suc n)))
-  line_goes n =
-      let next : length (line_to n) + 1 ≡ suc n = omega (arith, length_line n) in
-      ap placed_line (line_push n) ∙ placed_line-push (line_to n) (judged_in o (sent (suc n)))
-      ∙ ap (λ (k : ℕ). placed_behind (placed_line (line_to n)) k 0 (judged_in o (sent (suc n)))) next
+  pub line_goes : (n : ℕ) → placed_line (its_line (suc n)) ≡ placed_behind (placed_line (its_line n)) (suc n) 0 (judged_in o (sent (suc n)))
+  line_goes n = ap placed_line (line_push o b s n) ∙ placed_push [] (its_line n) (judged_under o b s (suc n))
 
   -- and its verdicts are those behind the line
-  pub verdicts_go : (n : ℕ) → verdicts_in o b s (suc n) ≡ verdicts_from (judged_of (placed_line (line_to n))) (judged_in o (sent (suc n)))
-  unfolding verdicts_at
+  pub verdicts_go : (n : ℕ) → verdicts_in o b s (suc n) ≡ verdicts_from (judged_of (placed_line (its_line n))) (judged_in o (sent (suc n)))
   verdicts_go n =
-      let x = judged_in o (sent (suc n)) in
-      let one_less : suc n - 1 ≡ n = omega arith in
-      ap (λ (l : List (List Judged)). verdicts_from (behind_all [] (take (suc n - 1) l)) (get_or l (suc n - 1) [])) (line_push n)
-      ∙ ap (λ (k : ℕ). verdicts_from (behind_all [] (take k (line_to n ++ x ∷ []))) (get_or (line_to n ++ x ∷ []) k [])) one_less
-      ∙ ap₂ (λ (p : List (List Judged)) (y : List Judged). verdicts_from (behind_all [] p) y) (take_at (line_to n) (x ∷ []) n (length_line n)) (get_or_push (line_to n) x [] n (length_line n))
-      ∙ ap (λ (js : List Judged). verdicts_from js x) (sym (judged_of-behind_all [] 1 (line_to n)))
+      let ends = line_ends o b s n in
+      ap (λ (line : List JudgedTransmission). verdicts_at line (suc n)) (line_push o b s n)
+      ∙ verdicts_last (its_line n) (judged_under o b s (suc n)) (line_rises o b s n) (omega (arith, ends))
 
   by_verdict : (x : Transaction) (n p : ℕ) (v : Verdict) → tells_version s n p x v ≡ version_told s (placed_at n p (Clean x.kind (filled_number x))) v
   by_verdict x n p (Accepted ordinal revision) = refl
@@ -138,16 +123,16 @@ module _ (o : Office) (b : Book) (s : List ℕ) where
       ∙ append_assoc (version_rows s past) (version_told s t v) more
       ∙ ap (λ (rows : List Row). version_rows s past ++ (rows ++ more)) (sym (by_fault x n p (judged_of past) (fault_of o x)))
 
-  told_next : (n : ℕ) → version_rows s (placed_line (line_to (suc n))) ≡ version_rows s (placed_line (line_to n)) ++ told_by tells_version o b s (suc n)
+  told_next : (n : ℕ) → version_rows s (placed_line (its_line (suc n))) ≡ version_rows s (placed_line (its_line n)) ++ told_by tells_version o b s (suc n)
   unfolding judged_in
   told_next n =
       let xs = transactions_of (sent (suc n)) in
       ap (version_rows s) (line_goes n)
-      ∙ behind_rows (suc n) 0 (placed_line (line_to n)) xs
-      ∙ ap (λ (vs : List Verdict). version_rows s (placed_line (line_to n)) ++ told_from tells_version s (suc n) 0 xs vs) (sym (verdicts_go n))
+      ∙ behind_rows (suc n) 0 (placed_line (its_line n)) xs
+      ∙ ap (λ (vs : List Verdict). version_rows s (placed_line (its_line n)) ++ told_from tells_version s (suc n) 0 xs vs) (sym (verdicts_go n))
 
   -- what the transmissions up to one tell of versions are the versions of the line
-  pub told_line : (n : ℕ) → told_of tells_version o b s 1 n ≡ version_rows s (placed_line (line_to n))
+  pub told_line : (n : ℕ) → told_of tells_version o b s 1 n ≡ version_rows s (placed_line (its_line n))
   told_line zero = refl
   told_line (suc n) =
       let next : suc n ≡ n + 1 = omega arith in
@@ -391,9 +376,7 @@ module _ (o : Office) (b : Book) (db : Trees) (holds : HoldsBook o b db) (s w : 
 -- the last version of the line up to a cut is the version at the cut
 pub cut_line : (o : Office) (b : Book) (s w : List ℕ) (cut : ℕ) → last_version w (placed_line (line_to o b s cut)) ≡ version_in o b s w cut
 unfolding work_at
-cut_line o b s w cut =
-    let within : length (line_to o b s cut) ≤ cut = omega (arith, length_line o b s cut) in
-    ap (λ (l : List (List Judged)). last_version w (placed_line l)) (sym (take_all cut (line_to o b s cut) within))
+cut_line o b s w cut = ap (λ (line : List JudgedTransmission). last_version w (placed_line line)) (sym (line_up_to o b s cut cut (omega arith)))
 
 -- so is that up to the front
 pub front_version : (o : Office) (b : Book) (s w : List ℕ) → last_version w (placed_line (line_to o b s (front b s))) ≡ version_in o b s w (front b s)

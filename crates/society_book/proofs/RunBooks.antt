@@ -24,7 +24,7 @@ use Rattle.society_book.specs.Shown.{Runs, ShowBody}
 use Rattle.society_book.specs.Steps.{HasReached}
 use Rattle.society_book.proofs.HeldAdds.{alike_after, front_after, told_after}
 use Rattle.society_book.proofs.KeyRows.{both_same, transmission_shows}
-use Rattle.society_book.proofs.LineRows.{line_to}
+use Rattle.society_core.proofs.Lines.{line_to}
 use Rattle.society_book.proofs.RunLines.{run_behind, run_settled, sees_recordings, sees_verdict, sees_version}
 use Rattle.society_book.proofs.RunTables.{run_added}
 use Rattle.works_core.specs.Line.{line_of}

@@ -18,7 +18,8 @@ use Rattle.society_book.specs.DerivedRows.{Telling, tells_recordings, tells_verd
 use Rattle.society_book.specs.Runs.{AreNoted, KnowsRun, Notes, Settled, behind_run, clean_works, is_among, notes_in, settled_from, settled_recordings, settled_run, settled_verdict, settled_version, work_in}
 use Rattle.society_book.proofs.Growth.{told_of}
 use Rattle.society_book.proofs.KeyRows.{either_way}
-use Rattle.society_book.proofs.LineRows.{line_goes, line_to, sent, verdicts_go}
+use Rattle.society_book.proofs.LineRows.{line_goes, sent, verdicts_go}
+use Rattle.society_core.proofs.Lines.{line_to}
 use Rattle.works_core.specs.Ends.{EndsAt, KnowsWorks}
 use Rattle.works_core.specs.Line.{filled_number, judged, judged_by, judged_in}
 use Rattle.works_core.specs.Recordings.{isrcs_of}

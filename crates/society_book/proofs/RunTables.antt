@@ -6,7 +6,6 @@ use Rattle.std.proofs.lemmas.List.Sorted.{IsPermutation-append_comm, IsPermutati
 use Rattle.std.proofs.lemmas.Slice.Eq.{bytes_eq-Decides}
 use Rattle.cwr_files.specs.Contents.{transactions_of, transmission_in}
 use Rattle.cwr_files.specs.declared.transmission.Transaction.{Transaction}
-use Rattle.cwr_files.specs.declared.transmission.Transmission.{Transmission}
 use Rattle.share_rules.specs.declared.office.Office.{Office}
 use Rattle.sqlite_keyed.proofs.ListLemmas.{IsPermutation-filter}
 use Rattle.sqlite_schema.specs.declared.schema.Table.{Table}
@@ -36,7 +35,7 @@ use Rattle.society_book.proofs.NamedRows.{HasName}
 use Rattle.society_book.proofs.PoolsAlike.{balances_still, credits_still}
 use Rattle.society_book.proofs.PutRows.{others_left}
 use Rattle.society_book.proofs.RowLemmas.{all_rows, more_rows, same_rows}
-use Rattle.works_core.specs.Line.{line_of}
+use Rattle.works_core.specs.Line.{NumberedTransmission, line_of}
 use Rattle.works_core.specs.Recordings.{isrcs_of}
 use Rattle.works_core.specs.Verdicts.{works_in}
 use Rattle.works_core.specs.Versions.{judged_of, placed_line}
@@ -167,7 +166,7 @@ module _ (o : Office) (b : Book) (s : List ℕ) (n : ℕ) (body : List ℕ) (fre
   works_stay : (t : List ℕ) → bytes_eq s t ≡ false → works_to o next t ≡ works_to o b t
   works_stay t other =
       ap (λ (k : ℕ). works_in (judged_of (placed_line (line_of o (transmissions_to next t k))))) (front_stays t other)
-      ∙ ap (λ (ts : List Transmission). works_in (judged_of (placed_line (line_of o ts)))) (transmissions_alike next b t (front b t) (λ k some within. alike_after b s n body free t k some within))
+      ∙ ap (λ (ts : List NumberedTransmission). works_in (judged_of (placed_line (line_of o ts)))) (transmissions_alike next b t (front b t) (λ k some within. alike_after b s n body free t k some within))
 
   fronts_run : (t : List ℕ) → front_rows o next t ≡ cond (bytes_eq s t) (front_row o next s ∷ []) (front_rows o b t)
   fronts_run t = ap (λ x. cond x (front_row o next t ∷ []) []) (sent_after b s n body free t) ∙ by_case (bytes_eq s t) refl

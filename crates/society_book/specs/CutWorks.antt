@@ -67,10 +67,11 @@ NotesRecordings db of_these named = (isrc : List ℕ) → of_these isrc ≡ true
 abbrev pub chosen_at : Chosen → List ℕ → Option WorkVersion
 chosen_at chosen work = tree.get bytes_cmp chosen.versions work
 
--- of each of these works of a sender its version at a cut is chosen, and of no other work any; the transmissions of all are known
+-- of each of these works of a sender its version at a cut is chosen, and of no other work any; the transmissions of all are known, and none is above the cut
 pub record Chooses (office : Office) (book : Book) (key : TransmissionKey) (of_these : List ℕ → Bool) (chosen : Chosen) : Type 0 where
   pub versions : (work : List ℕ) → chosen_at chosen work ≡ (if of_these work then version_in office book key.sender work key.number else None)
   pub transmissions : (work : List ℕ) (version : WorkVersion) → chosen_at chosen work ≡ Some version → contains nat_cmp chosen.transmissions version.transmission ≡ true
+  pub within : (number : ℕ) → contains nat_cmp chosen.transmissions number ≡ true → (1 ≤ number) × (number ≤ key.number)
 
 -- whether a transaction is the version that is chosen of its work, by its transmission and place
 abbrev pub is_chosen : Chosen → ℕ → ℕ → Result (List ℕ) IdFault → Bool
@@ -82,7 +83,8 @@ abbrev pub works_chosen : Chosen → List ℕ → ℕ → ℕ → List Transacti
 works_chosen chosen sender number place transactions =
     map (λ placed. cut_work sender placed.1) (filter (λ placed. is_chosen chosen number placed.0 (number_of_work placed.1)) (enumerate_from place transactions))
 
--- of the transactions up to a sender's cut that name one of these recordings those are chosen that are the versions of their works there; the transmissions of all that are chosen are known
+-- of the transactions up to a sender's cut that name one of these recordings those are chosen that are the versions of their works there; the transmissions of all that are chosen are known, and none is above the cut
 pub record ChoosesNaming (office : Office) (book : Book) (key : TransmissionKey) (of_these : List ℕ → Bool) (chosen : Chosen) : Type 0 where
   pub right : (number place : ℕ) (transaction : Transaction) (isrc : List ℕ) → number ≤ key.number → slice_get (transactions_sent book key.sender number) place ≡ Some transaction → of_these isrc ≡ true → names_recording isrc (cut_work key.sender transaction) ≡ true → is_chosen chosen number place (number_of_work transaction) ≡ is_version_at office book key number place (number_of_work transaction)
   pub transmissions : (work : List ℕ) (version : WorkVersion) → chosen_at chosen work ≡ Some version → contains nat_cmp chosen.transmissions version.transmission ≡ true
+  pub within : (number : ℕ) → contains nat_cmp chosen.transmissions number ≡ true → (1 ≤ number) × (number ≤ key.number)

@@ -2,6 +2,7 @@
 ghost use Rattle.std.specs.Prelude.{◌==◌, ◌≡◌, ◌≤◌, ◌||◌, Bool, List, Some, ℕ, false, IfOk, OnOk, bytes_eq, find, if◌then◌else◌, nat_le, option_map, reverse};
 ghost use Rattle.std.specs.BTreeSet.{contains};
 ghost use Rattle.std.specs.List.{list_any};
+ghost use Rattle.std.specs.List.Sorted.{IsStrictlySortedBy};
 ghost use Rattle.std.specs.Ordering.{nat_cmp};
 ghost use Rattle.share_rules.specs.declared.office.Office.{Office as OfficeValue};
 ghost use Rattle.sqlite.specs.Held.{state};
@@ -60,7 +61,7 @@ fn version_at<S: Alter>(
 #[derive(Drop)]
 pub(crate) struct Chosen {
     versions: BTreeMap<WorkNumber, WorkVersion>,
-    transmissions: BTreeSet<u32>,
+    transmissions: BTreeSet<TransmissionNumber>,
 }
 
 impl Chosen {
@@ -79,7 +80,7 @@ impl Chosen {
         ensures versions { OnOk result ((other : List ℕ) → chosen_at self.new other ≡ (if bytes_eq work other then Some version else chosen_at self.old other)) }
         ensures transmissions { OnOk result ((number : ℕ) → contains nat_cmp self.new.transmissions number ≡ (version.transmission == number || contains nat_cmp self.old.transmissions number)) }
     {
-        let number = version.transmission.value();
+        let number = version.transmission;
         self.versions.insert(work, version)?;
         self.transmissions.insert(number)?;
         Ok(())
@@ -106,11 +107,15 @@ impl Chosen {
         }
     }
 
-    /// Whether a version is chosen that stands in this transmission.
-    pub(crate) fn has_transmission(&self, number: TransmissionNumber) -> bool
-        ensures { result ≡ contains nat_cmp self.now.transmissions number }
+    /// The transmissions that have a version that is chosen, ascending.
+    pub(crate) fn transmissions(
+        &self,
+        alloc: Global,
+    ) -> Result<Vec<TransmissionNumber>, AllocError>
+        ensures numbers { IfOk result (λ list. list.items ≡ self.now.transmissions.keys) }
+        ensures ordered { IsStrictlySortedBy nat_cmp self.now.transmissions.keys }
     {
-        self.transmissions.contains(&number.value())
+        self.transmissions.iter().copied().collect(alloc)
     }
 }
 

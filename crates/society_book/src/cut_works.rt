@@ -152,8 +152,7 @@ fn add_shown(
     )
 }
 
-/// Adds the candidates of a sender's transmission: of those of its transactions that are versions at the sender's cut. Its
-/// body is read only where one of them is chosen.
+/// Adds the candidates of a sender's transmission: of those of its transactions that are versions at the sender's cut.
 fn add_transmission<S: Alter>(
     alloc: Global,
     tx: &mut sqlite::Transaction<'_, S>,
@@ -169,9 +168,6 @@ fn add_transmission<S: Alter>(
         (λ db _. (book : Book) → HoldsWorks office.now book db → number ≤ key.now.number → ChoosesNaming office.now book key.now (is_tallied tally.now) chosen.now
         → Adds office.now (is_tallied tally.now) (versions_of_transmission office.now book key.now number (transactions_sent book key.now.sender number)) candidates.old.items candidates.new.items) }
 {
-    if !chosen.has_transmission(number) {
-        return Ok(());
-    }
     let rows = answer(
         tx,
         Question::Transmission(key.sender.as_bytes(), number.value()),
@@ -188,7 +184,8 @@ fn add_transmission<S: Alter>(
     )
 }
 
-/// Adds the candidates of a sender by the versions that are chosen of its works.
+/// Adds the candidates of a sender by the versions that are chosen of its works. Only transmissions that have one of these are
+/// read: no other has a candidate.
 fn add_transmissions<S: Alter>(
     alloc: Global,
     tx: &mut sqlite::Transaction<'_, S>,
@@ -203,12 +200,9 @@ fn add_transmissions<S: Alter>(
         (λ db _. (book : Book) → HoldsWorks office.now book db → ChoosesNaming office.now book key.now (is_tallied tally.now) chosen.now
         → Adds office.now (is_tallied tally.now) (versions_at_cut office.now book key.now) candidates.old.items candidates.new.items) }
 {
-    // Numbers alone are gone over; a body is read only where one of its transactions is chosen.
-    for sent in 0..key.number.value() {
-        let Some(number) = TransmissionNumber::from_u32(sent + 1) else {
-            unreachable!();
-        };
-        add_transmission(alloc, tx, office, tally, key, chosen, number, candidates)?;
+    let numbers = chosen.transmissions(alloc)?;
+    for number in numbers.as_slice() {
+        add_transmission(alloc, tx, office, tally, key, chosen, *number, candidates)?;
     }
     Ok(())
 }

@@ -1,15 +1,16 @@
 -- What candidates stand for: one recording more, one transaction more, one transmission more.
-use Rattle.std.proofs.Common.{◌≡◌, ◌⊎◌, inl, inr, ℕ, zero, suc, ◌+◌, ◌<◌, ◌≤◌, Bool, true, false, ◌||◌, ◌&&◌, nat_le, cond, not, List, [], ◌∷◌, ◌++◌, length, map, take, flat_map, None, Result, Ok, Err, OnOk, slice_get, refl, ap, sym, subst, ◌∙◌, arith, length-append, append_assoc, append-nil, get_or, unwrap_or, ◌-◌}
+use Rattle.std.proofs.Common.{◌≡◌, ◌≢◌, ◌==◌, ⊎_elim, ℕ, zero, suc, ◌+◌, ◌<◌, ◌≤◌, Bool, true, false, ◌||◌, ◌&&◌, nat_le, cond, not, List, [], ◌∷◌, ◌++◌, length, map, flat_map, None, Result, Ok, Err, OnOk, slice_get, refl, ap, sym, subst, ◌∙◌, arith, append_assoc, append-nil, get_or, unwrap_or}
 use Rattle.std.proofs.lemmas.List.{map-append, length-map}
 use Rattle.std.specs.Ordering.{eq_by_cmp}
-use Rattle.std.proofs.lemmas.Bool.{cases_lt, false≢true}
+use Rattle.std.proofs.lemmas.Bool.{false≢true}
 use Rattle.std.proofs.lemmas.Map.Text.{is_eq-slice_cmp}
-use Rattle.works_core.specs.Line.{judged, judged_in, verdicts_at}
-use Rattle.works_core.specs.Verdicts.{behind_all, verdicts_from}
+use Rattle.works_core.specs.Line.{NumberedTransmission, judged, judged_in, verdicts_at, verdicts_behind}
+use Rattle.works_core.specs.Numbered.{JudgedTransmission, has_number}
+use Rattle.works_core.specs.Verdicts.{behind, verdicts_from}
 use Rattle.works_core.specs.declared.judged.Judged.{Judged}
 use Rattle.society_core.specs.Keys.{bytes_cmp}
-use Rattle.std.specs.List.{enumerate_from, filter, list_all, list_any}
-use Rattle.std.proofs.lemmas.Bool.Decides.{nat_tests}
+use Rattle.std.specs.List.{AllByRecursion, enumerate_from, filter, list_all, list_any}
+use Rattle.std.proofs.lemmas.Bool.Decides.{eqb_tells, nat_tests}
 use Rattle.std.specs.Str.{bytes_eq}
 use Rattle.std.proofs.lemmas.List.Elements.{filter-append}
 use Rattle.std.proofs.lemmas.List.Folds.{list_any-append}
@@ -25,6 +26,7 @@ use Rattle.share_rules.specs.declared.office.Office.{Office}
 use Rattle.society_core.specs.Book.{Book, body_at, front, transmissions_to}
 use Rattle.society_core.specs.Candidates.{Adds, ListsOnce, ReachesCut, StandFor, candidate_with, holders_among, holders_naming, is_version_by, transactions_sent, work_where}
 use Rattle.society_core.specs.Claims.{is_candidate_for}
+use Rattle.society_core.proofs.Lines.{judged_under, line_has, line_push, line_to}
 use Rattle.society_core.specs.Orders.{Order}
 use Rattle.society_core.specs.Owners.{CutWork, cut_work, is_version_at, names_recording, versions_at_cut, versions_of_transmission}
 use Rattle.society_core.specs.Pools.{holders_of}
@@ -182,25 +184,16 @@ versions_push office book key number ts t =
 -- the versions of a sender's works at its cut, of its transmissions up to a number
 abbrev pub versions_to : Office → Book → TransmissionKey → ℕ → List CutWork
 versions_to office book key n =
-    flat_map (λ (sent : ℕ × Transmission). versions_of_transmission office book key sent.0 (transactions_of sent.1)) (enumerate_from 1 (transmissions_to book key.sender n))
-
-pub transmissions_counted : (b : Book) (s : List ℕ) (n : ℕ) → length (transmissions_to b s n) ≡ n
-transmissions_counted b s zero = refl
-transmissions_counted b s (suc n) =
-    let so_far = transmissions_counted b s n in
-    let last : Transmission = transmission_in (unwrap_or (body_at b s (suc n)) []) in
-    omega (arith, so_far, length-append (transmissions_to b s n) (last ∷ []))
+    flat_map (λ (sent : NumberedTransmission). versions_of_transmission office book key sent.0 (transactions_of sent.1)) (transmissions_to book key.sender n)
 
 -- one transmission more
 pub versions_to_next : (office : Office) (book : Book) (key : TransmissionKey) (n : ℕ) →
     versions_to office book key (suc n) ≡ versions_to office book key n ++ versions_of_transmission office book key (suc n) (transactions_sent book key.sender (suc n))
 versions_to_next office book key n =
-    let last : Transmission = transmission_in (unwrap_or (body_at book key.sender (suc n)) []) in
-    let f = λ (sent : ℕ × Transmission). versions_of_transmission office book key sent.0 (transactions_of sent.1) in
-    let count : 1 + length (transmissions_to book key.sender n) ≡ suc n = omega (arith, transmissions_counted book key.sender n) in
-    ap (flat_map f) (enumerate_push 1 (transmissions_to book key.sender n) last ∙ ap (λ (k : ℕ). enumerate_from 1 (transmissions_to book key.sender n) ++ (k, last) ∷ []) count)
-    ∙ flat_map-append f (enumerate_from 1 (transmissions_to book key.sender n)) ((suc n, last) ∷ [])
-    ∙ ap (λ (ws : List CutWork). versions_to office book key n ++ ws) (append-nil (f (suc n, last)))
+    let last : NumberedTransmission = (suc n, transmission_in (unwrap_or (body_at book key.sender (suc n)) [])) in
+    let f = λ (sent : NumberedTransmission). versions_of_transmission office book key sent.0 (transactions_of sent.1) in
+    flat_map-append f (transmissions_to book key.sender n) (last ∷ [])
+    ∙ ap (λ (ws : List CutWork). versions_to office book key n ++ ws) (append-nil (f last))
 
 -- one sender more
 pub works_push : (office : Office) (book : Book) (keys : List TransmissionKey) (key : TransmissionKey) →
@@ -208,37 +201,6 @@ pub works_push : (office : Office) (book : Book) (keys : List TransmissionKey) (
 works_push office book keys key =
     flat_map-append (versions_at_cut office book) keys (key ∷ [])
     ∙ ap (λ (ws : List CutWork). flat_map (versions_at_cut office book) keys ++ ws) (append-nil (versions_at_cut office book key))
-
-get_at_end : {X : Type 0} (xs : List X) (x d : X) (k : ℕ) → k ≡ length xs → get_or (xs ++ x ∷ []) k d ≡ x
-get_at_end [] x d zero e = refl
-get_at_end [] x d (suc k) e = absurd (omega arith)
-get_at_end (y ∷ ys) x d zero e = absurd (omega arith)
-get_at_end (y ∷ ys) x d (suc k) e = get_at_end ys x d k (omega arith)
-
-get_before_end : {X : Type 0} (xs : List X) (x d : X) (k : ℕ) → k < length xs → get_or (xs ++ x ∷ []) k d ≡ get_or xs k d
-get_before_end [] x d k h = absurd (omega arith)
-get_before_end (y ∷ ys) x d zero h = refl
-get_before_end (y ∷ ys) x d (suc k) h = get_before_end ys x d k (omega arith)
-
--- what is judged of a transmission of a line
-pub judged_at : (office : Office) (book : Book) (sender : List ℕ) (n k : ℕ) → suc k ≤ n → get_or (line_of office (transmissions_to book sender n)) k [] ≡ judged_in office (transmission_in (unwrap_or (body_at book sender (suc k)) []))
-judged_at office book sender zero k h = absurd (omega arith)
-judged_at office book sender (suc n) k h = by_case (cases_lt k n) (judged_at office book sender n k)
-  where
-    last : Transmission
-    last = transmission_in (unwrap_or (body_at book sender (suc n)) [])
-
-    whole : line_of office (transmissions_to book sender (suc n)) ≡ line_of office (transmissions_to book sender n) ++ judged_in office last ∷ []
-    whole = map-append (judged_in office) (transmissions_to book sender n) (last ∷ [])
-
-    count : length (line_of office (transmissions_to book sender n)) ≡ n
-    count = length-map (transmissions_to book sender n) (judged_in office) ∙ transmissions_counted book sender n
-
-    by_case : (k < n) ⊎ (n ≤ k) → (suc k ≤ n → get_or (line_of office (transmissions_to book sender n)) k [] ≡ judged_in office (transmission_in (unwrap_or (body_at book sender (suc k)) []))) → get_or (line_of office (transmissions_to book sender (suc n))) k [] ≡ judged_in office (transmission_in (unwrap_or (body_at book sender (suc k)) []))
-    by_case (inl below) before = ap (λ (l : List (List Judged)). get_or l k []) whole ∙ get_before_end (line_of office (transmissions_to book sender n)) (judged_in office last) [] k (omega (arith, count)) ∙ before (omega arith)
-    by_case (inr above) before =
-        let same : k ≡ n = omega arith in
-        ap (λ (l : List (List Judged)). get_or l k []) whole ∙ get_at_end (line_of office (transmissions_to book sender n)) (judged_in office last) [] k (omega (arith, count)) ∙ ap (λ (j : ℕ). judged_in office (transmission_in (unwrap_or (body_at book sender (suc j)) []))) (sym same)
 
 verdicts_counted : (past js : List Judged) → length (verdicts_from past js) ≡ length js
 verdicts_counted past [] = refl
@@ -248,17 +210,35 @@ judged_counted : (office : Office) (t : Transmission) → length (judged_in offi
 unfolding judged_in
 judged_counted office t = length-map (transactions_of t) (judged office)
 
+-- the verdicts under a number are as many as what is judged there
+counted_behind : (past : List Judged) (number count : ℕ) (line : List JudgedTransmission) → AllByRecursion (λ (x : JudgedTransmission). x.number ≡ number → length x.judged ≡ count) line → has_number number line ≡ true → length (verdicts_behind past number line) ≡ count
+counted_behind past number count [] all has = absurd (false≢true has)
+counted_behind past number count (x ∷ line) all has =
+    let choose = λ (b : Bool). length (cond b (verdicts_from past x.judged) (verdicts_behind (behind past x.judged) number line)) in
+    ⊎_elim
+    (λ (same : ((x.number == number) ≡ true) × (x.number ≡ number)). ap choose same.0 ∙ verdicts_counted past x.judged ∙ all.0 same.1)
+    (λ (apart : ((x.number == number) ≡ false) × (x.number ≢ number)). ap choose apart.0 ∙ counted_behind (behind past x.judged) number count line all.1 (sym (ap (λ (b : Bool). b || has_number number line) apart.0) ∙ has))
+    (eqb_tells x.number number)
+
+-- what holds of two lists holds of one and the other
+pub all_append : {X : Type 0} (P : X → Type 0) (xs ys : List X) → AllByRecursion P xs → AllByRecursion P ys → AllByRecursion P (xs ++ ys)
+all_append P [] ys a b = b
+all_append P (x ∷ xs) ys a b = (a.0, all_append P xs ys a.1 b)
+
+-- what is judged under a number of a line is as much as the transactions there
+counted_line : (office : Office) (book : Book) (sender : List ℕ) (number n : ℕ) → AllByRecursion (λ (x : JudgedTransmission). x.number ≡ number → length x.judged ≡ length (transactions_sent book sender number)) (line_to office book sender n)
+counted_line office book sender number zero = tt
+counted_line office book sender number (suc n) =
+    let P = λ (x : JudgedTransmission). x.number ≡ number → length x.judged ≡ length (transactions_sent book sender number) in
+    subst (AllByRecursion P) (sym (line_push office book sender n))
+    (all_append P (line_to office book sender n) (judged_under office book sender (suc n) ∷ []) (counted_line office book sender number n)
+    (λ same. judged_counted office (transmission_in (unwrap_or (body_at book sender (suc n)) [])) ∙ ap (λ (k : ℕ). length (transactions_sent book sender k)) same, tt))
+
 -- as many verdicts as transactions
 pub verdicts_are_counted : (office : Office) (book : Book) (sender : List ℕ) (n k : ℕ) → 1 ≤ k → k ≤ n → length (verdicts_at (line_of office (transmissions_to book sender n)) k) ≡ length (transactions_sent book sender k)
 unfolding verdicts_at
-verdicts_are_counted office book sender n zero low high = absurd (omega arith)
-verdicts_are_counted office book sender n (suc k) low high =
-    let line = line_of office (transmissions_to book sender n) in
-    let same : suc k - 1 ≡ k = omega arith in
-    verdicts_counted (behind_all [] (take (suc k - 1) line)) (get_or line (suc k - 1) [])
-    ∙ ap (λ (j : ℕ). length (get_or line j [])) same
-    ∙ ap (λ (js : List Judged). length js) (judged_at office book sender n k high)
-    ∙ judged_counted office (transmission_in (unwrap_or (body_at book sender (suc k)) []))
+verdicts_are_counted office book sender n k some within =
+    counted_behind [] k (length (transactions_sent book sender k)) (line_to office book sender n) (counted_line office book sender k n) (line_has office book sender n k some within)
 
 -- one key more in a set of those that were named
 pub seen_more : (x i : List ℕ) (named : List (List ℕ)) (had : Bool) → had ≡ is_among x named → cond (eq_by_cmp bytes_cmp i x) true had ≡ is_among x (named ++ i ∷ [])

@@ -5,7 +5,6 @@ use Rattle.std.proofs.lemmas.Bool.Decides.{nat_tests}
 use Rattle.cwr_files.specs.Contents.{transactions_of}
 use Rattle.cwr_files.specs.Transaction.{number_of_work}
 use Rattle.cwr_files.specs.declared.transmission.Transaction.{Transaction}
-use Rattle.cwr_files.specs.declared.transmission.Transmission.{Transmission}
 use Rattle.perf_returns.specs.Returns.{performances_in}
 use Rattle.perf_returns.specs.declared.performance.Performance.{Performance}
 use Rattle.pool_split.specs.Credits.{credits}
@@ -14,7 +13,7 @@ use Rattle.pool_split.specs.declared.claim.Credit.{Credit}
 use Rattle.share_rules.specs.declared.office.Office.{Office}
 use Rattle.work_ids.specs.Numbers.{is_pool_number}
 use Rattle.work_ids.specs.declared.fault.IdFault.{IdFault}
-use Rattle.works_core.specs.Line.{line_of}
+use Rattle.works_core.specs.Line.{NumberedTransmission, line_of}
 use Rattle.works_core.specs.Versions.{work_at}
 use Rattle.society_core.specs.Answers.{answer, credits_answer}
 use Rattle.society_core.specs.Book.{Book, IsSound, body_at, front, is_pool_entry, order_at, return_at, transmissions_to}
@@ -50,14 +49,14 @@ flat_map_where test f g (x ∷ xs) all h =
     ∙ ap (λ ys. g x ++ ys) (flat_map_where test f g xs (second_holds (test x) (list_all test xs) all) h)
 
 version_same : (o : Office) (a b : Book) (key : TransmissionKey) (n place : ℕ) (r : Result (List ℕ) IdFault) → transmissions_to a key.sender key.number ≡ transmissions_to b key.sender key.number → is_version_at o a key n place r ≡ is_version_at o b key n place r
-version_same o a b key n place (Ok work) same = ap (λ (ts : List Transmission). is_at n place (work_at (line_of o ts) work key.number)) same
+version_same o a b key n place (Ok work) same = ap (λ (ts : List NumberedTransmission). is_at n place (work_at (line_of o ts) work key.number)) same
 version_same o a b key n place (Err fault) same = refl
 
 -- a cut shows the same works where the transmissions up to it are the same
 versions_same : (o : Office) (a b : Book) (key : TransmissionKey) → transmissions_to a key.sender key.number ≡ transmissions_to b key.sender key.number → versions_at_cut o a key ≡ versions_at_cut o b key
 versions_same o a b key same =
-    ap (λ (ts : List Transmission). flat_map (λ (sent : ℕ × Transmission). versions_of_transmission o a key sent.0 (transactions_of sent.1)) (enumerate_from 1 ts)) same
-    ∙ flat_map_alike (λ (sent : ℕ × Transmission). versions_of_transmission o a key sent.0 (transactions_of sent.1)) (λ (sent : ℕ × Transmission). versions_of_transmission o b key sent.0 (transactions_of sent.1)) (enumerate_from 1 (transmissions_to b key.sender key.number))
+    ap (flat_map (λ (sent : NumberedTransmission). versions_of_transmission o a key sent.0 (transactions_of sent.1))) same
+    ∙ flat_map_alike (λ (sent : NumberedTransmission). versions_of_transmission o a key sent.0 (transactions_of sent.1)) (λ (sent : NumberedTransmission). versions_of_transmission o b key sent.0 (transactions_of sent.1)) (transmissions_to b key.sender key.number)
     (λ sent. ap (map (λ (placed : ℕ × Transaction). cut_work key.sender placed.1))
     (filter_alike (λ (placed : ℕ × Transaction). is_version_at o a key sent.0 placed.0 (number_of_work placed.1)) (λ (placed : ℕ × Transaction). is_version_at o b key sent.0 placed.0 (number_of_work placed.1)) (enumerate_from 0 (transactions_of sent.1))
     (λ placed. version_same o a b key sent.0 placed.0 (number_of_work placed.1) same)))

@@ -1,9 +1,8 @@
 -- A version of a work is a clean transaction, so that its weights can be paid.
-use Rattle.std.proofs.Common.{◌≡◌, ℕ, zero, suc, ◌+◌, ◌-◌, ◌<◌, ◌≤◌, Bool, true, false, ◌&&◌, cond, List, [], ◌∷◌, ◌++◌, length, map, get_or, Option, Some, None, refl, ap, sym, subst, ◌∙◌, arith}
+use Rattle.std.proofs.Common.{◌≡◌, ℕ, zero, suc, ◌+◌, ◌<◌, ◌≤◌, Bool, true, false, ◌&&◌, cond, List, [], ◌∷◌, length, map, get_or, Option, Some, None, refl, ap, sym, subst, ◌∙◌, arith}
 use Rattle.std.proofs.Common.{◌==◌, All, is_some, nat_le, Result, Ok, Err, is_none, option_map, slice_get, unwrap_or, flat_map}
 use Rattle.std.specs.Cmp.{unsigned_Decides}
 use Rattle.std.specs.List.{AllByRecursion, enumerate_from, filter, list_all}
-use Rattle.std.proofs.lemmas.List.{take_all}
 use Rattle.std.proofs.lemmas.List.Elements.{All-map}
 use Rattle.cwr_files.specs.Contents.{transactions_of, transmission_in}
 use Rattle.cwr_files.specs.Transaction.{number_of_work}
@@ -19,8 +18,10 @@ use Rattle.share_rules.specs.declared.office.Office.{Office}
 use Rattle.share_rules.proofs.Whole.{clean_is_whole}
 use Rattle.work_ids.specs.Numbers.{is_pool_number, is_return_number}
 use Rattle.work_ids.specs.declared.fault.IdFault.{IdFault}
-use Rattle.works_core.specs.Line.{filled_number, judged, judged_by, judged_in, line_of}
-use Rattle.society_core.specs.Book.{Book, IsSound, body_at, front, is_reporter, order_at, return_at, transmissions_to}
+use Rattle.works_core.specs.Line.{filled_number, judged, judged_by, judged_in}
+use Rattle.works_core.specs.Numbered.{JudgedTransmission}
+use Rattle.works_core.proofs.KeptLemmas.{placed_push}
+use Rattle.society_core.specs.Book.{Book, IsSound, body_at, front, is_reporter, order_at, return_at}
 use Rattle.society_core.specs.Candidates.{HasReturns, ReachesCut, StandFor, transactions_sent}
 use Rattle.society_core.specs.Claims.{claims_among, is_candidate_for}
 use Rattle.society_core.specs.Orders.{Order}
@@ -29,14 +30,14 @@ use Rattle.society_core.specs.Pools.{claim_of, holders_of}
 use Rattle.society_core.specs.declared.claim_list.Candidate.{Candidate}
 use Rattle.society_core.specs.declared.return_key.ReturnKey.{ReturnKey}
 use Rattle.society_core.specs.declared.transmission_key.TransmissionKey.{TransmissionKey}
-use Rattle.society_core.proofs.Lines.{line_counted}
+use Rattle.society_core.proofs.Lines.{judged_under, line_push, line_to, line_up_to}
 use Rattle.std.proofs.lemmas.Bool.{false≢true}
 use Rattle.works_core.specs.Verdicts.{concerns, is_accepted}
-use Rattle.works_core.specs.Versions.{Placed, work_at, is_version, judged_of, last_version, placed_at, placed_behind, placed_behind_all, placed_line, version_of}
+use Rattle.works_core.specs.Versions.{Placed, work_at, is_version, judged_of, last_version, placed_at, placed_behind, placed_line, version_of}
 use Rattle.works_core.specs.declared.judged.Judged.{Judged}
 use Rattle.works_core.specs.declared.judged.Judged.TheVariants.{Clean, Faulty}
 use Rattle.works_core.specs.declared.version.WorkVersion.{WorkVersion}
-use Rattle.society_core.proofs.CandidateLemmas.{both, judged_at, versions_to, versions_to_next}
+use Rattle.society_core.proofs.CandidateLemmas.{all_append, both, versions_to, versions_to_next}
 
 -- whether a transaction is clean
 abbrev pub is_clean : Judged → Bool
@@ -50,22 +51,6 @@ accepted_clean work past t e = by_case t.judged (both (is_accepted (judged_of pa
     by_case (Clean kind number) h = refl
     by_case (Faulty fault) h = absurd (false≢true h)
 
--- where a transaction stands in a line
-pub record Stands (line : List (List Judged)) (t : Placed) : Type 0 where
-  pub numbered : 1 ≤ t.transmission
-  pub there : get_or (get_or line (t.transmission - 1) []) t.place (Faulty 0) ≡ t.judged
-
--- the last version of a work is a clean transaction where it stands
-pub version_clean : (line : List (List Judged)) (work : List ℕ) (past : List Placed) (v : WorkVersion) → AllByRecursion (Stands line) past → last_version work past ≡ Some v → is_clean (get_or (get_or line (v.transmission - 1) []) v.place (Faulty 0)) ≡ true
-version_clean line work [] v all e = absurd (cc)
-version_clean line work (t ∷ past) v all e = by_case (is_version work past t) refl e (version_clean line work past v all.1)
-  where
-    by_case : (b : Bool) → is_version work past t ≡ b → cond b (Some (version_of work past t)) (last_version work past) ≡ Some v → (last_version work past ≡ Some v → is_clean (get_or (get_or line (v.transmission - 1) []) v.place (Faulty 0)) ≡ true) → is_clean (get_or (get_or line (v.transmission - 1) []) v.place (Faulty 0)) ≡ true
-    by_case false is told later = later told
-    by_case true is told later =
-        let same : version_of work past t ≡ v = cc in
-        ap (λ (w : WorkVersion). is_clean (get_or (get_or line (w.transmission - 1) []) w.place (Faulty 0))) (sym same) ∙ ap is_clean all.0.there ∙ accepted_clean work past t is
-
 module _ (P : Placed → Type 0) where
   stand_behind : (past : List Placed) (n p : ℕ) (js : List Judged) → AllByRecursion P past → ((k : ℕ) → k < length js → P (placed_at n (p + k) (get_or js k (Faulty 0)))) → AllByRecursion P (placed_behind past n p js)
   stand_behind past n p [] all more = all
@@ -75,19 +60,42 @@ module _ (P : Placed → Type 0) where
       (subst (λ (k : ℕ). P (placed_at n k j)) here (more 0 (omega arith)), all)
       (λ k h. let next : p + suc k ≡ p + 1 + k = omega arith in subst (λ (i : ℕ). P (placed_at n i (get_or js k (Faulty 0)))) next (more (suc k) (omega arith)))
 
-  stand_behind_all : (past : List Placed) (n : ℕ) (line : List (List Judged)) → AllByRecursion P past → ((i : ℕ) → i < length line → (k : ℕ) → k < length (get_or line i []) → P (placed_at (n + i) k (get_or (get_or line i []) k (Faulty 0)))) → AllByRecursion P (placed_behind_all past n line)
-  stand_behind_all past n [] all more = all
-  stand_behind_all past n (js ∷ line) all more =
-      let here : n + 0 ≡ n = omega arith in
-      stand_behind_all (placed_behind past n 0 js) (n + 1) line
-      (stand_behind past n 0 js all (λ k h. let place : 0 + k ≡ k = omega arith in subst (λ (m : ℕ). P (placed_at m (0 + k) (get_or js k (Faulty 0)))) here (subst (λ (m : ℕ). P (placed_at (n + 0) m (get_or js k (Faulty 0)))) (sym place) (more 0 (omega arith) k h))))
-      (λ i h k below. let next : n + suc i ≡ n + 1 + i = omega arith in subst (λ (m : ℕ). P (placed_at m k (get_or (get_or line i []) k (Faulty 0)))) next (more (suc i) (omega arith) k below))
+module _ (office : Office) (book : Book) (sender : List ℕ) where
+  -- what is judged of a transaction of a sender by its place in its transmission
+  abbrev judged_there : ℕ → ℕ → Judged
+  judged_there number place = get_or (judged_in office (transmission_in (unwrap_or (body_at book sender number) []))) place (Faulty 0)
 
--- each transaction of a line stands in it
-pub line_stands : (line : List (List Judged)) → AllByRecursion (Stands line) (placed_line line)
-line_stands line = stand_behind_all (Stands line) [] 1 line tt (λ i h k below.
-    let back : 1 + i - 1 ≡ i = omega arith in
-    record { numbered = omega arith; there = ap (λ (m : ℕ). get_or (get_or line m []) k (Faulty 0)) back })
+  -- a transaction stands where its number and place say
+  abbrev Stands : Placed → Type 0
+  Stands t = judged_there t.transmission t.place ≡ t.judged
+
+  -- the last version of a work is a clean transaction where it stands
+  version_clean : (work : List ℕ) (past : List Placed) (v : WorkVersion) → AllByRecursion Stands past → last_version work past ≡ Some v → is_clean (judged_there v.transmission v.place) ≡ true
+  version_clean work [] v all e = absurd (cc)
+  version_clean work (t ∷ past) v all e = by_case (is_version work past t) refl e (version_clean work past v all.1)
+    where
+      by_case : (b : Bool) → is_version work past t ≡ b → cond b (Some (version_of work past t)) (last_version work past) ≡ Some v → (last_version work past ≡ Some v → is_clean (judged_there v.transmission v.place) ≡ true) → is_clean (judged_there v.transmission v.place) ≡ true
+      by_case false is told later = later told
+      by_case true is told later =
+          let same : version_of work past t ≡ v = cc in
+          ap (λ (w : WorkVersion). is_clean (judged_there w.transmission w.place)) (sym same) ∙ ap is_clean all.0 ∙ accepted_clean work past t is
+
+  -- each transaction of the line up to a number stands there
+  line_stands : (n : ℕ) → AllByRecursion Stands (placed_line (line_to office book sender n))
+  line_stands zero = tt
+  line_stands (suc n) =
+      let line = line_to office book sender n in
+      let next = judged_under office book sender (suc n) in
+      subst (AllByRecursion Stands) (sym (ap placed_line (line_push office book sender n) ∙ placed_push [] line next))
+      (stand_behind Stands (placed_line line) (suc n) 0 next.judged (line_stands n)
+      (λ k below. let place : 0 + k ≡ k = omega arith in ap (λ (i : ℕ). get_or next.judged i (Faulty 0)) place))
+
+  -- the version of a work at a cut is a clean transaction where it stands
+  version_at_clean : (work : List ℕ) (cut : ℕ) (v : WorkVersion) → work_at (line_to office book sender cut) work cut ≡ Some v → is_clean (judged_there v.transmission v.place) ≡ true
+  unfolding work_at
+  version_at_clean work cut v e =
+      version_clean work (placed_line (line_to office book sender cut)) v (line_stands cut)
+      (ap (λ (l : List JudgedTransmission). last_version work (placed_line l)) (sym (line_up_to office book sender cut cut (omega arith))) ∙ e)
 
 clean_fault : (office : Office) (t : Transaction) → is_clean (judged office t) ≡ true → fault_of office t ≡ None
 clean_fault office t e = by_case (fault_of office t) e
@@ -105,45 +113,28 @@ sent_clean : (office : Office) (sent : Transmission) (place : ℕ) (t : Transact
 unfolding judged_in
 sent_clean office sent place t e = get_mapped office (transactions_of sent) place t e
 
-version_at_clean : (office : Office) (line : List (List Judged)) (work : List ℕ) (cut : ℕ) (v : WorkVersion) → length line ≤ cut → work_at line work cut ≡ Some v → is_clean (get_or (get_or line (v.transmission - 1) []) v.place (Faulty 0)) ≡ true
-unfolding work_at
-version_at_clean office line work cut v short e = version_clean line work (placed_line line) v (line_stands line) (ap (λ (l : List (List Judged)). last_version work (placed_line l)) (sym (take_all cut line short)) ∙ e)
-
 same_number : (a b : ℕ) → (a == b) ≡ true → a ≡ b
 same_number a b e = (unsigned_Decides a b).0 e
 
 -- a transaction that is a version at a cut has no fault
-pub version_has_no_fault : (office : Office) (book : Book) (key : TransmissionKey) (k place : ℕ) (t : Transaction) → suc k ≤ key.number → slice_get (transactions_sent book key.sender (suc k)) place ≡ Some t → is_version_at office book key (suc k) place (number_of_work t) ≡ true → fault_of office t ≡ None
-version_has_no_fault office book key k place t within there e = by_work (number_of_work t) e
+pub version_has_no_fault : (office : Office) (book : Book) (key : TransmissionKey) (n place : ℕ) (t : Transaction) → slice_get (transactions_sent book key.sender n) place ≡ Some t → is_version_at office book key n place (number_of_work t) ≡ true → fault_of office t ≡ None
+version_has_no_fault office book key n place t there e = by_work (number_of_work t) e
   where
-    line : List (List Judged)
-    line = line_of office (transmissions_to book key.sender key.number)
-
-    count : length line ≡ key.number
-    count = line_counted office book key.sender key.number
-
-    by_version : (work : List ℕ) (v : Option WorkVersion) → work_at line work key.number ≡ v → is_at (suc k) place v ≡ true → fault_of office t ≡ None
+    by_version : (work : List ℕ) (v : Option WorkVersion) → work_at (line_to office book key.sender key.number) work key.number ≡ v → is_at n place v ≡ true → fault_of office t ≡ None
     by_version work None is h = absurd (false≢true h)
     by_version work (Some v) is h =
-        let parts = both (v.transmission == suc k) (v.place == place) h in
-        let number : v.transmission ≡ suc k = same_number v.transmission (suc k) parts.0 in
+        let parts = both (v.transmission == n) (v.place == place) h in
+        let number : v.transmission ≡ n = same_number v.transmission n parts.0 in
         let at : v.place ≡ place = same_number v.place place parts.1 in
-        let back : v.transmission - 1 ≡ k = omega arith in
-        let clean = version_at_clean office line work key.number v (omega (arith, count)) is in
-        let judged_there : get_or (get_or line (v.transmission - 1) []) v.place (Faulty 0) ≡ judged office t =
-        ap (λ (i : ℕ). get_or (get_or line i []) v.place (Faulty 0)) back
-        ∙ ap (λ (i : ℕ). get_or (get_or line k []) i (Faulty 0)) at
-        ∙ ap (λ (js : List Judged). get_or js place (Faulty 0)) (judged_at office book key.sender key.number k within)
-        ∙ sent_clean office (transmission_in (unwrap_or (body_at book key.sender (suc k)) [])) place t there in
-        clean_fault office t (ap is_clean (sym judged_there) ∙ clean)
+        let its : judged_there office book key.sender v.transmission v.place ≡ judged office t =
+        ap (λ (k : ℕ). judged_there office book key.sender k v.place) number
+        ∙ ap (judged_there office book key.sender n) at
+        ∙ sent_clean office (transmission_in (unwrap_or (body_at book key.sender n) [])) place t there in
+        clean_fault office t (ap is_clean (sym its) ∙ version_at_clean office book key.sender work key.number v is)
 
-    by_work : (r : Result (List ℕ) IdFault) → is_version_at office book key (suc k) place r ≡ true → fault_of office t ≡ None
-    by_work (Ok work) h = by_version work (work_at line work key.number) refl h
+    by_work : (r : Result (List ℕ) IdFault) → is_version_at office book key n place r ≡ true → fault_of office t ≡ None
+    by_work (Ok work) h = by_version work (work_at (line_to office book key.sender key.number) work key.number) refl h
     by_work (Err fault) h = absurd (false≢true h)
-
-all_append : {X : Type 0} (P : X → Type 0) (xs ys : List X) → AllByRecursion P xs → AllByRecursion P ys → AllByRecursion P (xs ++ ys)
-all_append P [] ys a b = b
-all_append P (x ∷ xs) ys a b = (a.0, all_append P xs ys a.1 b)
 
 -- whether a work of a cut has no fault
 abbrev pub HasNoFault : Office → CutWork → Type 0
@@ -164,18 +155,18 @@ placed_clean office book key number n (t ∷ ts) h =
     by_case false is more = more
     by_case true is more = let here : n + 0 ≡ n = omega arith in (h 0 t refl (ap (λ (i : ℕ). is_version_at office book key number i (number_of_work t)) here ∙ is), more)
 
-sender_clean : (office : Office) (book : Book) (key : TransmissionKey) (n : ℕ) → n ≤ key.number → AllByRecursion (HasNoFault office) (versions_to office book key n)
-sender_clean office book key zero h = tt
-sender_clean office book key (suc n) h =
+sender_clean : (office : Office) (book : Book) (key : TransmissionKey) (n : ℕ) → AllByRecursion (HasNoFault office) (versions_to office book key n)
+sender_clean office book key zero = tt
+sender_clean office book key (suc n) =
     let sent = transactions_sent book key.sender (suc n) in
     subst (AllByRecursion (HasNoFault office)) (sym (versions_to_next office book key n))
-    (all_append (HasNoFault office) (versions_to office book key n) (versions_of_transmission office book key (suc n) sent) (sender_clean office book key n (omega arith))
-    (placed_clean office book key (suc n) 0 sent (λ k t there e. let same : 0 + k ≡ k = omega arith in version_has_no_fault office book key n k t h there (ap (λ (i : ℕ). is_version_at office book key (suc n) i (number_of_work t)) (sym same) ∙ e))))
+    (all_append (HasNoFault office) (versions_to office book key n) (versions_of_transmission office book key (suc n) sent) (sender_clean office book key n)
+    (placed_clean office book key (suc n) 0 sent (λ k t there e. let same : 0 + k ≡ k = omega arith in version_has_no_fault office book key (suc n) k t there (ap (λ (i : ℕ). is_version_at office book key (suc n) i (number_of_work t)) (sym same) ∙ e))))
 
 -- the works of a cut have no fault
 pub works_clean : (office : Office) (book : Book) (keys : List TransmissionKey) → AllByRecursion (HasNoFault office) (flat_map (versions_at_cut office book) keys)
 works_clean office book [] = tt
-works_clean office book (key ∷ keys) = all_append (HasNoFault office) (versions_at_cut office book key) (flat_map (versions_at_cut office book) keys) (sender_clean office book key key.number (omega arith)) (works_clean office book keys)
+works_clean office book (key ∷ keys) = all_append (HasNoFault office) (versions_at_cut office book key) (flat_map (versions_at_cut office book) keys) (sender_clean office book key key.number) (works_clean office book keys)
 
 filter_all : {X : Type 0} (P : X → Type 0) (p : X → Bool) (xs : List X) → AllByRecursion P xs → AllByRecursion P (filter p xs)
 filter_all P p [] all = tt

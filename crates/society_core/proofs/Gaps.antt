@@ -1,15 +1,14 @@
 -- What stands behind a sender's first gap counts nowhere.
-use Rattle.std.proofs.Common.{◌≡◌, ℕ, zero, suc, ◌+◌, ◌≤◌, ◌&&◌, Bool, true, false, cond, List, [], ◌∷◌, ◌++◌, Option, Some, None, length, take, min, nat_le, option_map, unwrap_or, refl, ap, sym, subst, ◌∙◌, arith, ⊎_elim}
+use Rattle.std.proofs.Common.{◌≡◌, ℕ, zero, suc, ◌+◌, ◌≤◌, ◌&&◌, Bool, true, false, cond, List, [], ◌∷◌, ◌++◌, Option, Some, None, nat_le, option_map, unwrap_or, refl, ap, sym, subst, ◌∙◌, arith, ⊎_elim}
 use Rattle.std.specs.List.{AllByRecursion, slice_get}
 use Rattle.std.specs.Option.{option_and_then}
 use Rattle.std.proofs.lemmas.Bool.{cases_Bool}
-use Rattle.std.proofs.lemmas.List.{length-take}
 use Rattle.std.proofs.lemmas.Bool.Decides.{nat_tests}
 use Rattle.cwr_files.specs.Contents.{transmission_in, transactions_of}
-use Rattle.cwr_files.specs.declared.transmission.Transmission.{Transmission}
 use Rattle.share_rules.specs.declared.office.Office.{Office}
 use Rattle.ack_files.specs.Acknowledgement.{acknowledgement}
-use Rattle.works_core.specs.Line.{line_of, verdicts_at}
+use Rattle.works_core.specs.Line.{NumberedTransmission, line_of, verdicts_at}
+use Rattle.works_core.specs.Numbered.{IsRising, JudgedTransmission, up_to}
 use Rattle.works_core.specs.Versions.{Placed, is_version, last_version, placed_at, placed_behind, placed_behind_all, placed_line, version_of, work_at}
 use Rattle.works_core.specs.declared.judged.Judged as judgement
 use Rattle.works_core.specs.declared.version.WorkVersion.{WorkVersion}
@@ -18,6 +17,7 @@ use Rattle.society_core.specs.Book.{Book, ack, body_at, front, shown_verdicts, t
 use Rattle.society_core.specs.Headline.{AlikeToTheGap}
 use Rattle.society_core.specs.Requests.{AsksAck, AsksVerdicts, AsksWork}
 use Rattle.society_core.proofs.Fronts.{first_holds, second_holds}
+use Rattle.society_core.proofs.Lines.{line_rises}
 
 -- transactions of transmissions up to a limit
 pub record Within (limit : ℕ) (t : Placed) : Type 0 where
@@ -28,9 +28,21 @@ more_within : (limit : ℕ) (past : List Placed) (n place : ℕ) (judged : List 
 more_within limit past n place [] some le all = all
 more_within limit past n place (j ∷ judged) some le all = more_within limit (placed_at n place j ∷ past) n (place + 1) judged some le (record { first = some; within = le }, all)
 
-all_within : (limit : ℕ) (past : List Placed) (n : ℕ) (line : List (List judgement.Judged)) → 1 ≤ n → n + length line ≤ limit + 1 → AllByRecursion (Within limit) past → AllByRecursion (Within limit) (placed_behind_all past n line)
-all_within limit past n [] some le all = all
-all_within limit past n (judged ∷ line) some le all = all_within limit (placed_behind past n 0 judged) (n + 1) line (omega arith) (omega arith) (more_within limit past n 0 judged some (omega arith) all)
+at_most : (a b : ℕ) → nat_le a b ≡ true → a ≤ b
+at_most a b h = grind (arith, nat_tests)
+
+all_within : (limit low : ℕ) (past : List Placed) (line : List JudgedTransmission) → IsRising low line → AllByRecursion (Within limit) past → AllByRecursion (Within limit) (placed_behind_all past (up_to limit line))
+all_within limit low past [] rises all = all
+all_within limit low past (x ∷ line) rises all =
+    let first = rises.0 in
+    by_case (nat_le x.number limit) refl
+    (λ le. all_within limit x.number (placed_behind past x.number 0 x.judged) line rises.1 (more_within limit past x.number 0 x.judged (omega (arith, first)) le all))
+    (all_within limit x.number past line rises.1 all)
+  where
+    by_case : (b : Bool) → nat_le x.number limit ≡ b → (x.number ≤ limit → AllByRecursion (Within limit) (placed_behind_all (placed_behind past x.number 0 x.judged) (up_to limit line))) → AllByRecursion (Within limit) (placed_behind_all past (up_to limit line)) →
+        AllByRecursion (Within limit) (placed_behind_all past (cond b (x ∷ up_to limit line) (up_to limit line)))
+    by_case true is with_it without = with_it (at_most x.number limit is)
+    by_case false is with_it without = without
 
 last_within : (limit : ℕ) (work : List ℕ) (past : List Placed) (v : WorkVersion) → AllByRecursion (Within limit) past → last_version work past ≡ Some v → (1 ≤ v.transmission) × (v.transmission ≤ limit)
 last_within limit work [] v all e = absurd (none_found e)
@@ -48,17 +60,16 @@ last_within limit work (t ∷ past) v all e =
     (cases_Bool (is_version work past t))
 
 -- the version of a work at a cut is of a transmission up to the cut
-pub version_within : (line : List (List judgement.Judged)) (work : List ℕ) (cut : ℕ) (v : WorkVersion) → work_at line work cut ≡ Some v → (1 ≤ v.transmission) × (v.transmission ≤ cut)
+pub version_within : (line : List JudgedTransmission) (work : List ℕ) (cut : ℕ) (v : WorkVersion) → IsRising 0 line → work_at line work cut ≡ Some v → (1 ≤ v.transmission) × (v.transmission ≤ cut)
 unfolding work_at
-version_within line work cut v e =
-    last_within cut work (placed_line (take cut line)) v (all_within cut [] 1 (take cut line) (omega arith) (let short : length (take cut line) ≡ min cut (length line) = length-take cut line in omega arith) tt) e
+version_within line work cut v rises e = last_within cut work (placed_line (up_to cut line)) v (all_within cut 0 [] line rises tt) e
 
 -- a sender's transmissions up to a number are alike where the bodies are
 pub transmissions_alike : (a b : Book) (s : List ℕ) (n : ℕ) → ((k : ℕ) → 1 ≤ k → k ≤ n → body_at a s k ≡ body_at b s k) → transmissions_to a s n ≡ transmissions_to b s n
 transmissions_alike a b s zero same = refl
 transmissions_alike a b s (suc n) same =
-    ap (λ (ts : List Transmission). ts ++ transmission_in (unwrap_or (body_at a s (suc n)) []) ∷ []) (transmissions_alike a b s n (λ k some le. same k some (omega arith)))
-    ∙ ap (λ (o : Option (List ℕ)). transmissions_to b s n ++ transmission_in (unwrap_or o []) ∷ []) (same (suc n) (omega arith) (omega arith))
+    ap (λ (ts : List NumberedTransmission). ts ++ (suc n, transmission_in (unwrap_or (body_at a s (suc n)) [])) ∷ []) (transmissions_alike a b s n (λ k some le. same k some (omega arith)))
+    ∙ ap (λ (o : Option (List ℕ)). transmissions_to b s n ++ (suc n, transmission_in (unwrap_or o [])) ∷ []) (same (suc n) (omega arith) (omega arith))
 
 -- the same up to a number that is at most the front
 pub alike_to : (a b : Book) (s : List ℕ) (n : ℕ) → AlikeToTheGap a b s → n ≤ front a s → transmissions_to a s n ≡ transmissions_to b s n
@@ -66,14 +77,14 @@ alike_to a b s n alike le = transmissions_alike a b s n (λ k some within. alike
 
 version_alike : (o : Office) (a b : Book) (s work : List ℕ) → AlikeToTheGap a b s → version_in o a s work (front a s) ≡ version_in o b s work (front b s)
 version_alike o a b s work alike =
-    ap (λ (ts : List Transmission). work_at (line_of o ts) work (front a s)) (alike_to a b s (front a s) alike (omega arith))
+    ap (λ (ts : List NumberedTransmission). work_at (line_of o ts) work (front a s)) (alike_to a b s (front a s) alike (omega arith))
     ∙ ap (λ (n : ℕ). version_in o b s work n) alike.same_front
 
 shown_alike : (o : Office) (a b : Book) (s work : List ℕ) (v : Option WorkVersion) → AlikeToTheGap a b s → version_in o a s work (front a s) ≡ v → option_and_then (shown_version o a s work) v ≡ option_and_then (shown_version o b s work) v
 shown_alike o a b s work None alike e = refl
 shown_alike o a b s work (Some v) alike e =
     ap (λ (x : Option (List ℕ)). option_map (shown_by o s work v) (slice_get (transactions_of (transmission_in (unwrap_or x []))) v.place))
-    (let place = version_within (line_of o (transmissions_to a s (front a s))) work (front a s) v e in alike.same_bodies v.transmission place.0 place.1)
+    (let place = version_within (line_of o (transmissions_to a s (front a s))) work (front a s) v (line_rises o a s (front a s)) e in alike.same_bodies v.transmission place.0 place.1)
 
 -- what is asked of a work is answered alike
 pub works_alike : (o : Office) (a b : Book) (s work : List ℕ) → AlikeToTheGap a b s → answer o a (AsksWork s work) ≡ answer o b (AsksWork s work)
@@ -99,7 +110,7 @@ chosen_alike f n x y z same =
 shown_verdicts_alike : (o : Office) (a b : Book) (s : List ℕ) (n : ℕ) → AlikeToTheGap a b s → shown_verdicts o a s n ≡ shown_verdicts o b s n
 shown_verdicts_alike o a b s n alike =
     chosen_alike (front a s) n (Some (verdicts_in o a s n)) (Some (verdicts_in o b s n)) None
-    (λ some le. ap (λ (ts : List Transmission). Some (verdicts_at (line_of o ts) n)) (alike_to a b s n alike le))
+    (λ some le. ap (λ (ts : List NumberedTransmission). Some (verdicts_at (line_of o ts) n)) (alike_to a b s n alike le))
     ∙ ap (λ (f : ℕ). cond (nat_le 1 n && nat_le n f) (Some (verdicts_in o b s n)) None) alike.same_front
 
 -- and so are the verdicts of a transmission
@@ -108,7 +119,7 @@ verdicts_alike o a b s n alike = ap judged_answer (shown_verdicts_alike o a b s 
 
 ack_alike : (o : Office) (a b : Book) (s : List ℕ) (n : ℕ) → AlikeToTheGap a b s → ack o a s n ≡ ack o b s n
 ack_alike o a b s n alike =
-    let text = λ (body : Option (List ℕ)) (ts : List Transmission). Some (acknowledgement o s (transmission_in (unwrap_or body [])) (verdicts_at (line_of o ts) n)) in
+    let text = λ (body : Option (List ℕ)) (ts : List NumberedTransmission). Some (acknowledgement o s (transmission_in (unwrap_or body [])) (verdicts_at (line_of o ts) n)) in
     chosen_alike (front a s) n (text (body_at a s n) (transmissions_to a s n)) (text (body_at b s n) (transmissions_to b s n)) None
     (λ some le. ap (λ (body : Option (List ℕ)). text body (transmissions_to a s n)) (alike.same_bodies n some le) ∙ ap (text (body_at b s n)) (alike_to a b s n alike le))
     ∙ ap (λ (f : ℕ). cond (nat_le 1 n && nat_le n f) (text (body_at b s n) (transmissions_to b s n)) None) alike.same_front

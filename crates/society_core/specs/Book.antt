@@ -6,7 +6,6 @@ use Rattle.std.specs.Ordering.{nat_cmp}
 use Rattle.cwr_files.specs.Contents.{transmission_in, transactions_of}
 use Rattle.cwr_files.specs.FileFault.{file_fault}
 use Rattle.cwr_files.specs.declared.transmission.Transaction.{Transaction}
-use Rattle.cwr_files.specs.declared.transmission.Transmission.{Transmission}
 use Rattle.perf_returns.specs.Returns.{return_fault}
 use Rattle.share_rules.specs.declared.office.Office.{Office}
 use Rattle.work_ids.specs.Blanks.{without_trailing_blanks}
@@ -15,7 +14,7 @@ use Rattle.work_ids.specs.Reporter.{reporter_of}
 use Rattle.work_ids.specs.SenderKey.{is_sender_key}
 use Rattle.work_ids.specs.declared.fault.IdFault.{IdFault}
 use Rattle.works_core.specs.declared.verdict.Verdict.{Verdict}
-use Rattle.works_core.specs.Line.{line_of, verdicts_at}
+use Rattle.works_core.specs.Line.{NumberedTransmission, line_of, verdicts_at}
 use Rattle.works_core.specs.Versions.{work_at}
 use Rattle.works_core.specs.declared.version.WorkVersion.{WorkVersion}
 use Rattle.ack_files.specs.Acknowledgement.{acknowledgement}
@@ -111,14 +110,14 @@ front_in bodies sender = greatest_to (greatest_of (finite.keys bodies)) (has_all
 abbrev pub front : Book → List ℕ → ℕ
 front book sender = front_in book.transmissions sender
 
--- a sender's transmissions 1 to n, in number order, read out of some bodies
-abbrev pub transmissions_in : Transmissions → List ℕ → ℕ → List Transmission
+-- a sender's transmissions 1 to n under their numbers, in number order, read out of some bodies
+abbrev pub transmissions_in : Transmissions → List ℕ → ℕ → List NumberedTransmission
 transmissions_in bodies sender zero = []
 transmissions_in bodies sender (suc n) =
-    transmissions_in bodies sender n ++ transmission_in (unwrap_or (finite.get bodies (transmission_key sender (suc n))) []) ∷ []
+    transmissions_in bodies sender n ++ (suc n, transmission_in (unwrap_or (finite.get bodies (transmission_key sender (suc n))) [])) ∷ []
 
--- a sender's transmissions 1 to n, in number order
-abbrev pub transmissions_to : Book → List ℕ → ℕ → List Transmission
+-- a sender's transmissions 1 to n under their numbers, in number order
+abbrev pub transmissions_to : Book → List ℕ → ℕ → List NumberedTransmission
 transmissions_to book sender n = transmissions_in book.transmissions sender n
 
 -- the verdicts of a sender's transmission n, by its transmissions up to n alone

@@ -16,7 +16,7 @@ use Rattle.society_core.specs.Pools.{holders_of}
 use Rattle.society_core.specs.declared.claim_list.Candidate.{Candidate}
 use Rattle.work_ids.specs.declared.fault.IdFault.{IdFault}
 use Rattle.works_core.specs.Versions.{work_at}
-use Rattle.works_core.specs.declared.judged.Judged.{Judged}
+use Rattle.works_core.specs.Numbered.{JudgedTransmission}
 
 -- the holders of each candidate for a recording, in order
 abbrev pub holders_among : List Candidate → List ℕ → List (List Holder)
@@ -51,7 +51,7 @@ abbrev pub ReachesCut : Book → Order → Type 0
 ReachesCut book order = list_all (λ key. nat_le key.number (front book key.sender)) order.cut ≡ true
 
 -- whether a transaction is the version that its work has at a cut of a line
-abbrev pub is_version_by : List (List Judged) → ℕ → ℕ → ℕ → Result (List ℕ) IdFault → Bool
+abbrev pub is_version_by : List JudgedTransmission → ℕ → ℕ → ℕ → Result (List ℕ) IdFault → Bool
 is_version_by line cut number place (Ok work) = is_at number place (work_at line work cut)
 is_version_by line cut number place (Err fault) = false
 

@@ -45,7 +45,7 @@ versions_of_transmission office book key number transactions =
 -- the versions of a sender's works at its cut, each work once (profile)
 abbrev pub versions_at_cut : Office → Book → TransmissionKey → List CutWork
 versions_at_cut office book key =
-    flat_map (λ sent. versions_of_transmission office book key sent.0 (transactions_of sent.1)) (enumerate_from 1 (transmissions_to book key.sender key.number))
+    flat_map (λ sent. versions_of_transmission office book key sent.0 (transactions_of sent.1)) (transmissions_to book key.sender key.number)
 
 -- the versions of all works of an order's cut
 abbrev pub works_of_cut : Office → Book → Order → List CutWork

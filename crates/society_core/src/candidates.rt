@@ -104,7 +104,7 @@ fn is_version_at(
     number: TransmissionNumber,
     place: usize,
 ) -> bool
-    ensures { result ≡ is_at number place (work_at line.now.judged work.now cut) }
+    ensures { result ≡ is_at number place (work_at line.now.transmissions work.now cut) }
 {
     match line.work_at(work, cut) {
         None => false,
@@ -124,7 +124,7 @@ fn add_transaction(
     transaction: &Transaction<'_>,
     candidates: &mut Vec<Candidate>,
 ) -> Result<(), AllocError>
-    ensures { OnOk result (Adds office.now (is_tallied tally.now) (work_where (is_version_by line.now.judged key.now.number number place (number_of_work transaction.now)) key.now.sender transaction.now) candidates.old.items candidates.new.items) }
+    ensures { OnOk result (Adds office.now (is_tallied tally.now) (work_where (is_version_by line.now.transmissions key.now.number number place (number_of_work transaction.now)) key.now.sender transaction.now) candidates.old.items candidates.new.items) }
 {
     let Some(work) = transaction.work_number() else {
         return Ok(());
@@ -155,7 +155,7 @@ fn add_versions(
     candidates: &mut Vec<Candidate>,
 ) -> Result<(), AllocError>
     requires sound { IsSound book.now }
-    requires line { line.now.judged ≡ line_of office.now (transmissions_to book.now key.now.sender key.now.number) }
+    requires line { line.now.transmissions ≡ line_of office.now (transmissions_to book.now key.now.sender key.now.number) }
     requires within { number ≤ key.now.number }
     requires there { is_there book.now key.now.sender number ≡ true }
     ensures { OnOk result (Adds office.now (is_tallied tally.now) (versions_of_transmission office.now book.now key.now number (transactions_sent book.now key.now.sender number)) candidates.old.items candidates.new.items) }

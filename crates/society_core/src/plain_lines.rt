@@ -45,7 +45,7 @@ pub(crate) fn line_to(
     requires sound { IsSound book.now }
     requires reached { number ≤ front book.now sender.now }
     ensures office { IfOk result (λ line. line.office ≡ office.now) }
-    ensures judged { IfOk result (λ line. line.judged ≡ line_of office.now (transmissions_to book.now sender.now number)) }
+    ensures line { IfOk result (λ line. line.transmissions ≡ line_of office.now (transmissions_to book.now sender.now number)) }
 {
     let mut line = SenderLine::new(alloc, office);
     for applied in 0..number {
@@ -112,7 +112,7 @@ fn line_with(
     requires sound { IsSound book.now }
     requires reached { number ≤ front book.now sender.now }
     requires read { transmission.now ≡ transmission_in (unwrap_or (body_at book.now sender.now number) []) }
-    ensures { IfOk result (λ line. line.judged ≡ line_of office.now (transmissions_to book.now sender.now number)) }
+    ensures { IfOk result (λ line. line.transmissions ≡ line_of office.now (transmissions_to book.now sender.now number)) }
 {
     let mut line = line_to(alloc, office, book, sender, number.value() - 1)?;
     line.apply(number, transmission)?;

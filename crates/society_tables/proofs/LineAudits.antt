@@ -30,7 +30,7 @@ use Rattle.society_book.specs.Runs.{AreNoted, Notes, Settled, behind_run, notes_
 use Rattle.society_book.proofs.FrontRows.{front_of_nobody, fronts_named}
 use Rattle.society_book.proofs.Growth.{told_of}
 use Rattle.society_book.proofs.KeyRows.{transmission_listed}
-use Rattle.society_book.proofs.LineRows.{line_to}
+use Rattle.society_core.proofs.Lines.{line_to}
 use Rattle.society_book.proofs.NamedRows.{HasName}
 use Rattle.society_book.proofs.PutRows.{others_left}
 use Rattle.society_book.proofs.RowLemmas.{all_rows, more_rows}

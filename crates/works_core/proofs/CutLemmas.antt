@@ -1,6 +1,8 @@
 -- A work's version at a cut: what the links from its last version lead to.
-use Rattle.std.proofs.Common.{◌≡◌, ℕ, zero, suc, ◌+◌, ◌<◌, ◌≤◌, Bool, true, false, not, ◌&&◌, List, [], ◌∷◌, Option, Some, None, length, get_or, take, nat_lt, refl, sym, ap, ◌∙◌, arith, if◌then◌else◌}
-use Rattle.std.proofs.lemmas.Bool.{le-ltb, lt-ltb}
+use Rattle.std.proofs.Common.{◌≡◌, ℕ, ◌+◌, ◌<◌, ◌≤◌, Bool, true, false, not, ◌&&◌, List, [], ◌∷◌, Option, Some, None, length, get_or, nat_le, nat_lt, ⊎_elim, refl, sym, ap, ◌∙◌, arith, if◌then◌else◌}
+use Rattle.std.proofs.lemmas.Bool.{cases_lt, le-ltb, lt-ltb}
+use Rattle.std.proofs.lemmas.Bool.Decides.{nat_tests}
+use Rattle.works_core.specs.Numbered.{IsRising, JudgedTransmission, up_to}
 use Rattle.works_core.specs.Tracks.{accepted_in, last_index, linked_versions}
 use Rattle.works_core.specs.Versions.{Placed, placed_at, placed_behind, placed_behind_all, placed_line, is_version, version_of, last_version, work_at}
 use Rattle.works_core.specs.declared.judged.Judged.{Judged}
@@ -12,10 +14,6 @@ use Rattle.works_core.proofs.TrackLemmas.{last_at, last_upto, none_is_none, leng
 abbrev AllUpto : ℕ → List Placed → Type 0
 AllUpto cut [] = Unit {0}
 AllUpto cut (t ∷ past) = (t.transmission ≤ cut) × AllUpto cut past
-
-all_upto-more : (m cut : ℕ) (past : List Placed) → m ≤ cut → AllUpto m past → AllUpto cut past
-all_upto-more m cut [] h all = tt
-all_upto-more m cut (t ∷ past) h all = (let first = all.0 in omega arith, all_upto-more m cut past h all.1)
 
 all_upto-behind : (cut : ℕ) (past : List Placed) (n p : ℕ) (judged : List Judged) → n ≤ cut → AllUpto cut past → AllUpto cut (placed_behind past n p judged)
 all_upto-behind cut past n p [] h all = all
@@ -50,25 +48,42 @@ upto_behind : (cut : ℕ) (w : List ℕ) (past : List Placed) (n p : ℕ) (judge
 upto_behind cut w past n p [] h = refl
 upto_behind cut w past n p (j ∷ more) h = upto_behind cut w (placed_at n p j ∷ past) n (p + 1) more h ∙ upto_above cut w (placed_at n p j) past h
 
-upto_behind_all : (cut : ℕ) (w : List ℕ) (past : List Placed) (n : ℕ) (line : List (List Judged)) → cut < n → last_upto cut w (placed_behind_all past n line) ≡ last_upto cut w past
-upto_behind_all cut w past n [] h = refl
-upto_behind_all cut w past n (judged ∷ line) h = upto_behind_all cut w (placed_behind past n 0 judged) (n + 1) line (omega arith) ∙ upto_behind cut w past n 0 judged h
+upto_behind_all : (low cut : ℕ) (w : List ℕ) (past : List Placed) (line : List JudgedTransmission) → IsRising low line → cut ≤ low → last_upto cut w (placed_behind_all past line) ≡ last_upto cut w past
+upto_behind_all low cut w past [] rising le = refl
+upto_behind_all low cut w past (x ∷ line) rising le =
+    let first = rising.0 in
+    upto_behind_all x.number cut w (placed_behind past x.number 0 x.judged) line rising.1 (omega (arith, first, le)) ∙ upto_behind cut w past x.number 0 x.judged (omega (arith, first, le))
 
-upto_take : (w : List ℕ) (line : List (List Judged)) (k : ℕ) (past : List Placed) (m : ℕ) → AllUpto m past → last_upto (m + k) w (placed_behind_all past (m + 1) line) ≡ last_version w (placed_behind_all past (m + 1) (take k line))
-upto_take w line zero past m all =
-    upto_behind_all (m + 0) w past (m + 1) line (omega arith) ∙ upto_all (m + 0) w past (all_upto-more m (m + 0) past (omega arith) all)
-upto_take w [] (suc k) past m all = upto_all (m + suc k) w past (all_upto-more m (m + suc k) past (omega arith) all)
-upto_take w (judged ∷ line) (suc k) past m all =
-    let same : m + suc k ≡ (m + 1) + k = omega arith in
-    ap (λ (n : ℕ). last_upto n w (placed_behind_all (placed_behind past (m + 1) 0 judged) (m + 1 + 1) line)) same
-    ∙ upto_take w line k (placed_behind past (m + 1) 0 judged) (m + 1) (all_upto-behind (m + 1) past (m + 1) 0 judged (omega arith) (all_upto-more m (m + 1) past (omega arith) all))
+-- none above a cut is up to it
+none_up_to : (low cut : ℕ) (line : List JudgedTransmission) → IsRising low line → cut ≤ low → up_to cut line ≡ []
+none_up_to low cut [] rising le = refl
+none_up_to low cut (x ∷ line) rising le =
+    let first = rising.0 in
+    ap (λ (b : Bool). if b then x ∷ up_to cut line else up_to cut line) (le-ltb_not cut x.number (omega (arith, first, le)))
+    ∙ none_up_to x.number cut line rising.1 (omega (arith, first, le))
+  where
+    le-ltb_not : (cut n : ℕ) → cut < n → nat_le n cut ≡ false
+    le-ltb_not cut n h = grind (arith, nat_tests, h)
+
+upto_rising : (w : List ℕ) (line : List JudgedTransmission) (low cut : ℕ) (past : List Placed) → IsRising low line → AllUpto cut past → last_upto cut w (placed_behind_all past line) ≡ last_version w (placed_behind_all past (up_to cut line))
+upto_rising w [] low cut past rising all = upto_all cut w past all
+upto_rising w (x ∷ line) low cut past rising all =
+    ⊎_elim
+    (λ (above : cut < x.number).
+    let stops : nat_le x.number cut ≡ false = grind (arith, nat_tests, above) in
+    upto_behind_all x.number cut w (placed_behind past x.number 0 x.judged) line rising.1 (omega (arith, above))
+    ∙ upto_behind cut w past x.number 0 x.judged above ∙ upto_all cut w past all
+    ∙ ap (λ (l : List JudgedTransmission). last_version w (placed_behind_all past l)) (sym (ap (λ (b : Bool). if b then x ∷ up_to cut line else up_to cut line) stops ∙ none_up_to x.number cut line rising.1 (omega (arith, above)))))
+    (λ (up : x.number ≤ cut).
+    let passes : nat_le x.number cut ≡ true = grind (arith, nat_tests, up) in
+    upto_rising w line x.number cut (placed_behind past x.number 0 x.judged) rising.1 (all_upto-behind cut past x.number 0 x.judged up all)
+    ∙ ap (λ (l : List JudgedTransmission). last_version w (placed_behind_all past l)) (sym (ap (λ (b : Bool). if b then x ∷ up_to cut line else up_to cut line) passes)))
+    (cases_lt cut x.number)
 
 -- the version at a cut is the last one with a transmission up to the cut among those of the whole line
-pub work_at_upto : (line : List (List Judged)) (w : List ℕ) (cut : ℕ) → work_at line w cut ≡ last_upto cut w (placed_line line)
+pub work_at_upto : (line : List JudgedTransmission) (w : List ℕ) (cut : ℕ) → IsRising 0 line → work_at line w cut ≡ last_upto cut w (placed_line line)
 unfolding work_at
-work_at_upto line w cut =
-    let start : 0 + cut ≡ cut = omega arith in
-    sym (upto_take w line cut [] 0 tt) ∙ ap (λ (n : ℕ). last_upto n w (placed_line line)) start
+work_at_upto line w cut rising = sym (upto_rising w line 0 cut [] rising tt)
 
 -- a walk along the links of a work: what is still looked at ends in the answer
 pub record Walks (cut : ℕ) (w : List ℕ) (answer : Option WorkVersion) (versions : List LinkedVersion) (index : Option ℕ) : Type 0 where
@@ -83,11 +98,11 @@ abbrev pub ahead : Option ℕ → ℕ
 ahead None = 0
 ahead (Some i) = i + 1
 
-pub walks_start : (line : List (List Judged)) (w : List ℕ) (cut : ℕ) (versions : List LinkedVersion) (index : Option ℕ) → versions ≡ linked_versions (placed_line line) → index ≡ last_index w (placed_line line) → Walks cut w (work_at line w cut) versions index
-walks_start line w cut versions index all stands = record {
+pub walks_start : (line : List JudgedTransmission) (w : List ℕ) (cut : ℕ) (versions : List LinkedVersion) (index : Option ℕ) → IsRising 0 line → versions ≡ linked_versions (placed_line line) → index ≡ last_index w (placed_line line) → Walks cut w (work_at line w cut) versions index
+walks_start line w cut versions index rising all stands = record {
   past = placed_line line;
   stands = stands;
-  ends = work_at_upto line w cut;
+  ends = work_at_upto line w cut rising;
   within = (let count = length-linked_versions (placed_line line) in let same = ap (λ (xs : List LinkedVersion). length xs) all in omega arith);
   front = λ j d h. ap (λ (xs : List LinkedVersion). get_or xs j d) all;
 }

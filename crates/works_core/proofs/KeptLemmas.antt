@@ -1,68 +1,44 @@
 -- The verdicts of a line, one transmission after another.
-use Rattle.std.proofs.Common.{◌≡◌, ℕ, zero, suc, ◌+◌, ◌-◌, ◌<◌, List, [], ◌∷◌, ◌++◌, Vec, Global, length, take, get_or, refl, sym, ap, ◌∙◌, arith, add-zero}
-use Rattle.std.proofs.lemmas.List.{get_or-map, length-map, map_push}
-use Rattle.works_core.specs.Kept.{lists_of, all_verdicts, AreVerdicts}
-use Rattle.works_core.specs.Line.{verdicts_at}
-use Rattle.works_core.specs.Verdicts.{behind, behind_all, verdicts_from}
-use Rattle.works_core.specs.Versions.{Placed, placed_at, placed_behind, placed_behind_all, placed_line, judged_of}
+use Rattle.std.specs.List.{slice_get}
+use Rattle.std.proofs.Common.{◌≡◌, ℕ, suc, ◌-◌, length, Option, Some, None, ◌+◌, ◌<◌, List, [], ◌∷◌, ◌++◌, refl, sym, ap, subst, ◌∙◌, arith}
+use Rattle.works_core.specs.Kept.{AreVerdicts, kept_line}
+use Rattle.works_core.specs.Numbered.{IsRising, JudgedTransmission, last_number}
+use Rattle.works_core.specs.Verdicts.{behind, verdicts_from}
+use Rattle.works_core.specs.Versions.{Placed, judged_of, placed_at, placed_behind, placed_behind_all}
 use Rattle.works_core.specs.declared.judged.Judged.{Judged}
-use Rattle.works_core.specs.declared.verdict.Verdict.{Verdict}
+use Rattle.works_core.specs.declared.sender_line.KeptTransmission.{KeptTransmission}
 
-length-all_verdicts : (past : List Judged) (line : List (List Judged)) → length (all_verdicts past line) ≡ length line
-length-all_verdicts past [] = refl
-length-all_verdicts past (x ∷ line) = ap suc (length-all_verdicts (behind past x) line)
-
-all_verdicts-push : (past : List Judged) (line : List (List Judged)) (x : List Judged) → all_verdicts past (line ++ x ∷ []) ≡ all_verdicts past line ++ verdicts_from (behind_all past line) x ∷ []
-all_verdicts-push past [] x = refl
-all_verdicts-push past (y ∷ line) x = ap (λ (vs : List (List Verdict)). verdicts_from past y ∷ vs) (all_verdicts-push (behind past y) line x)
-
-all_verdicts-at : (past : List Judged) (line : List (List Judged)) (k : ℕ) → k < length line → get_or (all_verdicts past line) k [] ≡ verdicts_from (behind_all past (take k line)) (get_or line k [])
-all_verdicts-at past [] k h = absurd (omega arith)
-all_verdicts-at past (x ∷ line) zero h = refl
-all_verdicts-at past (x ∷ line) (suc k) h = all_verdicts-at (behind past x) line k (omega arith)
-
--- so many transmissions have verdicts as were judged
-pub kept_length : (judged : List (Vec Judged Global)) (verdicts : List (Vec Verdict Global)) → AreVerdicts judged verdicts → length verdicts ≡ length judged
-kept_length judged verdicts kept =
-    sym (length-map verdicts (λ v. v.items)) ∙ ap length kept ∙ length-all_verdicts [] (lists_of judged) ∙ length-map judged (λ v. v.items)
-
--- the verdicts are kept after one more transmission
-pub kept_push : (judged : List (Vec Judged Global)) (verdicts : List (Vec Verdict Global)) (x : Vec Judged Global) (v : Vec Verdict Global) → AreVerdicts judged verdicts → v.items ≡ verdicts_from (behind_all [] (lists_of judged)) x.items → AreVerdicts (judged ++ x ∷ []) (verdicts ++ v ∷ [])
-kept_push judged verdicts x v kept is =
-    map_push (λ (w : Vec Verdict Global). w.items) verdicts v
-    ∙ ap (λ (vs : List (List Verdict)). vs ++ v.items ∷ []) kept
-    ∙ ap (λ (w : List Verdict). all_verdicts [] (lists_of judged) ++ w ∷ []) is
-    ∙ sym (all_verdicts-push [] (lists_of judged) x.items)
-    ∙ ap (all_verdicts []) (sym (map_push (λ (w : Vec Judged Global). w.items) judged x))
-
--- the verdicts that are kept of a transmission are those of the line
-pub kept_at : (judged : List (Vec Judged Global)) (verdicts : List (Vec Verdict Global)) (n : ℕ) (v : Vec Verdict Global) → AreVerdicts judged verdicts → n - 1 < length verdicts → v ≡ get_or verdicts (n - 1) v → v.items ≡ verdicts_at (lists_of judged) n
-unfolding verdicts_at
-kept_at judged verdicts n v kept h is =
-    let within : n - 1 < length (lists_of judged) = omega (arith, kept_length judged verdicts kept, length-map judged (λ w. w.items)) in
-    ap (λ (w : Vec Verdict Global). w.items) is
-    ∙ sym (get_or-map (λ (w : Vec Verdict Global). w.items) verdicts (n - 1) v [] h)
-    ∙ ap (λ (vs : List (List Verdict)). get_or vs (n - 1) []) kept
-    ∙ all_verdicts-at [] (lists_of judged) (n - 1) within
-
--- the transactions of a line after one more transmission
-placed_behind_all-push : (past : List Placed) (n : ℕ) (line : List (List Judged)) (x : List Judged) → placed_behind_all past n (line ++ x ∷ []) ≡ placed_behind (placed_behind_all past n line) (n + length line) 0 x
-placed_behind_all-push past n [] x = ap (λ (k : ℕ). placed_behind past k 0 x) (sym (add-zero n))
-placed_behind_all-push past n (y ∷ line) x =
-    let same : n + 1 + length line ≡ n + suc (length line) = omega arith in
-    placed_behind_all-push (placed_behind past n 0 y) (n + 1) line x ∙ ap (λ (k : ℕ). placed_behind (placed_behind_all (placed_behind past n 0 y) (n + 1) line) k 0 x) same
-
-pub placed_line-push : (line : List (List Judged)) (x : List Judged) → placed_line (line ++ x ∷ []) ≡ placed_behind (placed_line line) (length line + 1) 0 x
-placed_line-push line x =
-    let same : 1 + length line ≡ length line + 1 = omega arith in
-    placed_behind_all-push [] 1 line x ∙ ap (λ (k : ℕ). placed_behind (placed_line line) k 0 x) same
-
-judged_of-behind : (past : List Placed) (n p : ℕ) (judged : List Judged) → judged_of (placed_behind past n p judged) ≡ behind (judged_of past) judged
+-- what stands before, as it is judged, once the transactions of a transmission have come
+pub judged_of-behind : (past : List Placed) (n p : ℕ) (judged : List Judged) → judged_of (placed_behind past n p judged) ≡ behind (judged_of past) judged
 judged_of-behind past n p [] = refl
 judged_of-behind past n p (j ∷ more) = judged_of-behind (placed_at n p j ∷ past) n (p + 1) more
 
--- where they stand aside, they are those of the line
-pub judged_of-behind_all : (past : List Placed) (n : ℕ) (line : List (List Judged)) → judged_of (placed_behind_all past n line) ≡ behind_all (judged_of past) line
-judged_of-behind_all past n [] = refl
-judged_of-behind_all past n (x ∷ line) =
-    judged_of-behind_all (placed_behind past n 0 x) (n + 1) line ∙ ap (λ (js : List Judged). behind_all js line) (judged_of-behind past n 0 x)
+-- the verdicts are kept after one more transmission
+pub kept_push : (past : List Placed) (kept : List KeptTransmission) (x : KeptTransmission) → AreVerdicts (judged_of past) kept → x.verdicts.items ≡ verdicts_from (judged_of (placed_behind_all past (kept_line kept))) x.judged.items → AreVerdicts (judged_of past) (kept ++ x ∷ [])
+kept_push past [] x are is = (is, tt)
+kept_push past (y ∷ kept) x are is =
+    let same = judged_of-behind past y.number 0 y.judged.items in
+    let later = kept_push (placed_behind past y.number 0 y.judged.items) kept x (subst (λ (js : List Judged). AreVerdicts js kept) (sym same) are.1) is in
+    (are.0, subst (λ (js : List Judged). AreVerdicts js (kept ++ x ∷ [])) same later)
+
+-- the transactions of a line after one more transmission
+pub placed_push : (past : List Placed) (line : List JudgedTransmission) (x : JudgedTransmission) → placed_behind_all past (line ++ x ∷ []) ≡ placed_behind (placed_behind_all past line) x.number 0 x.judged
+placed_push past [] x = refl
+placed_push past (y ∷ line) x = placed_push (placed_behind past y.number 0 y.judged) line x
+
+-- numbers rise with one more above them
+pub rising_push : (low : ℕ) (line : List JudgedTransmission) (x : JudgedTransmission) → IsRising low line → last_number low line < x.number → IsRising low (line ++ x ∷ [])
+rising_push low [] x rising above = (above, tt)
+rising_push low (y ∷ line) x rising above = (rising.0, rising_push y.number line x rising.1 above)
+
+-- the last of what is kept has the last number
+pub last_of : (low : ℕ) (kept : List KeptTransmission) (x : KeptTransmission) → slice_get kept (length kept - 1) ≡ Some x → x.number ≡ last_number low (kept_line kept)
+last_of low [] x is = absurd (none is)
+  where
+    none : ◌≡◌ {A = Option KeptTransmission} None (Some x) → ⊥
+    none e = cc
+last_of low (y ∷ []) x is = ap (λ (z : KeptTransmission). z.number) (some_is y x is)
+  where
+    some_is : (a b : KeptTransmission) → ◌≡◌ {A = Option KeptTransmission} (Some a) (Some b) → b ≡ a
+    some_is a b e = let s : a ≡ b = cc in sym s
+last_of low (y ∷ z ∷ kept) x is = last_of y.number (z ∷ kept) x (let e : length (y ∷ z ∷ kept) - 1 ≡ suc (length (z ∷ kept) - 1) = omega arith in sym (ap (slice_get (y ∷ z ∷ kept)) e) ∙ is)

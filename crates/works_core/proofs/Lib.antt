@@ -1,5 +1,6 @@
 pub mod TrackLemmas
 pub mod KeptLemmas
+pub mod NumberLemmas
 pub mod CutLemmas
 pub mod CleanLemmas
 mod Worked

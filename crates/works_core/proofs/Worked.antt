@@ -1,5 +1,5 @@
 -- Small worked values of the definitions.
-use Rattle.std.specs.Prelude.{◌≡◌, List, [], ◌∷◌, Some, None, refl, codes}
+use Rattle.std.specs.Prelude.{◌≡◌, List, [], ◌∷◌, Some, None, false, true, refl, codes}
 use Rattle.std.proofs.Common.{lit≤}
 use Rattle.cwr_files.specs.Contents.{transmission_in}
 use Rattle.cwr_files.specs.RecordTypes.{has_type, is_read, type_of_group}
@@ -15,6 +15,7 @@ use Rattle.work_ids.specs.CheckDigit.{is_check_digit, weighted_sum}
 use Rattle.work_ids.specs.Isrc.{has_isrc_form, isrc_of}
 use Rattle.work_ids.specs.Iswc.{has_iswc_form, has_right_check_digit, iswc_of}
 use Rattle.works_core.specs.Line.{judged_in, line_of, verdicts_at}
+use Rattle.works_core.specs.Numbered.{JudgedTransmission, has_number, last_number}
 use Rattle.works_core.specs.Recordings.{isrcs_in}
 use Rattle.works_core.specs.Verdicts.{ordinal_of, verdicts_from, versions_of, works_in}
 use Rattle.works_core.specs.Versions.{work_at}
@@ -32,8 +33,8 @@ unfolding line
 its_verdicts = refl
 
 -- the same over two transmissions: the work's first version is at place 2 of the first, its second at place 1 of the second
-cut_in_two : List (List Judged)
-cut_in_two = (Clean Rev (codes "SONG") ∷ Faulty 5 ∷ Clean Nwr (codes "SONG") ∷ []) ∷ (Clean Nwr (codes "SONG") ∷ Clean Rev (codes "SONG") ∷ []) ∷ []
+cut_in_two : List JudgedTransmission
+cut_in_two = record { number = 1; judged = Clean Rev (codes "SONG") ∷ Faulty 5 ∷ Clean Nwr (codes "SONG") ∷ [] } ∷ record { number = 2; judged = Clean Nwr (codes "SONG") ∷ Clean Rev (codes "SONG") ∷ [] } ∷ []
 
 before_it_came : work_at cut_in_two (codes "SONG") 0 ≡ None
 unfolding work_at cut_in_two
@@ -64,6 +65,26 @@ of_the_second : verdicts_at cut_in_two 2 ≡ Rejected 20 ∷ Accepted 1 1 ∷ []
 unfolding verdicts_at cut_in_two
 of_the_second = refl
 
+-- numbers that do not follow one another: a cut between them, a number that the line lacks, and the last one
+apart : List JudgedTransmission
+apart = record { number = 4; judged = Clean Nwr (codes "SONG") ∷ [] } ∷ record { number = 9; judged = Faulty 5 ∷ Clean Rev (codes "SONG") ∷ [] } ∷ []
+
+between_the_two : work_at apart (codes "SONG") 8 ≡ Some (record { transmission = 4; place = 0; ordinal = 1; revision = 0 })
+unfolding work_at apart
+between_the_two = refl
+
+of_the_ninth : verdicts_at apart 9 ≡ Rejected 5 ∷ Accepted 1 1 ∷ []
+unfolding verdicts_at apart
+of_the_ninth = refl
+
+numbers_that_it_has : has_number 2 apart ∷ has_number 4 apart ∷ has_number 9 apart ∷ [] ≡ false ∷ true ∷ true ∷ []
+unfolding apart
+numbers_that_it_has = refl
+
+its_last_number : last_number 0 apart ≡ 9
+unfolding apart
+its_last_number = refl
+
 -- two works registered, the second revised twice: it keeps its ordinal, and its revisions are its own
 second_work : verdicts_from [] (Clean Nwr (codes "SONG") ∷ Clean Nwr (codes "TUNE") ∷ Clean Rev (codes "TUNE") ∷ Clean Rev (codes "SONG") ∷ Clean Rev (codes "TUNE") ∷ []) ≡ Accepted 1 0 ∷ Accepted 2 0 ∷ Accepted 2 1 ∷ Accepted 1 1 ∷ Accepted 2 2 ∷ []
 second_work = refl
@@ -85,6 +106,6 @@ abbrev office : Office
 office = record { society = 900; territory = 40; name = filled 45 (codes "EXAMPLE SOCIETY"); name_length = 15; within_limits = refl; name_filled = refl; name_in_range = lit≤ tt }
 
 -- a registration whose ownership shares add up to 10007, the registration, and its revision
-its_line : line_of office (transmission_in (codes "HDRPB000000012EXAMPLE MUSIC                                01.102026010510150020260106\r\nGRHNWR0000102.200000000000\r\nNWR0000000000000000FIRST SONG                                                    W1            T0345246801\r\nSPU000000000000000101P1       EXAMPLE MUSIC                                 E          00000000199                 05000   10000   10000\r\nSPT0000000000000002P1             050001000010000I2136 001\r\nSWR0000000000000003A1       WRITER                                       ANNA                           CA         00000000295   05007   00000   00000\r\nSWT0000000000000004A1       050000000000000I2136 001\r\nPWR0000000000000005P1       EXAMPLE MUSIC                                                            A1\r\nREC0000000000000006                                                                                                                                                                                                                                      ATABC2600001\r\nGRT000010000000100000009\r\nTRL000010000000100000011\r\n") ∷ transmission_in (codes "HDRPB000000012EXAMPLE MUSIC                                01.102026010510150020260106\r\nGRHNWR0000102.200000000000\r\nNWR0000000000000000FIRST SONG                                                    W1            T0345246801\r\nSPU000000000000000101P1       EXAMPLE MUSIC                                 E          00000000199                 05000   10000   10000\r\nSPT0000000000000002P1             050001000010000I2136 001\r\nSWR0000000000000003A1       WRITER                                       ANNA                           CA         00000000295   05000   00000   00000\r\nSWT0000000000000004A1       050000000000000I2136 001\r\nPWR0000000000000005P1       EXAMPLE MUSIC                                                            A1\r\nREC0000000000000006                                                                                                                                                                                                                                      ATABC2600001\r\nGRT000010000000100000009\r\nTRL000010000000100000011\r\n") ∷ transmission_in (codes "HDRPB000000012EXAMPLE MUSIC                                01.102026010510150020260106\r\nGRHREV0000102.200000000000\r\nREV0000000000000000FIRST SONG                                                    W1            T0345246801\r\nSPU000000000000000101P1       EXAMPLE MUSIC                                 E          00000000199                 00000   10000   10000\r\nSPT0000000000000002P1             000001000010000I2136 001\r\nSWR0000000000000003A1       WRITER                                       ANNA                           CA         00000000295   10000   00000   00000\r\nSWT0000000000000004A1       100000000000000I2136 001\r\nPWR0000000000000005P1       EXAMPLE MUSIC                                                            A1\r\nREC0000000000000006                                                                                                                                                                                                                                      ATABC2600001\r\nGRT000010000000100000009\r\nTRL000010000000100000011\r\n") ∷ []) ≡ (Faulty 5 ∷ []) ∷ (Clean Nwr (codes "W1            ") ∷ []) ∷ (Clean Rev (codes "W1            ") ∷ []) ∷ []
+its_line : line_of office ((1, transmission_in (codes "HDRPB000000012EXAMPLE MUSIC                                01.102026010510150020260106\r\nGRHNWR0000102.200000000000\r\nNWR0000000000000000FIRST SONG                                                    W1            T0345246801\r\nSPU000000000000000101P1       EXAMPLE MUSIC                                 E          00000000199                 05000   10000   10000\r\nSPT0000000000000002P1             050001000010000I2136 001\r\nSWR0000000000000003A1       WRITER                                       ANNA                           CA         00000000295   05007   00000   00000\r\nSWT0000000000000004A1       050000000000000I2136 001\r\nPWR0000000000000005P1       EXAMPLE MUSIC                                                            A1\r\nREC0000000000000006                                                                                                                                                                                                                                      ATABC2600001\r\nGRT000010000000100000009\r\nTRL000010000000100000011\r\n")) ∷ (2, transmission_in (codes "HDRPB000000012EXAMPLE MUSIC                                01.102026010510150020260106\r\nGRHNWR0000102.200000000000\r\nNWR0000000000000000FIRST SONG                                                    W1            T0345246801\r\nSPU000000000000000101P1       EXAMPLE MUSIC                                 E          00000000199                 05000   10000   10000\r\nSPT0000000000000002P1             050001000010000I2136 001\r\nSWR0000000000000003A1       WRITER                                       ANNA                           CA         00000000295   05000   00000   00000\r\nSWT0000000000000004A1       050000000000000I2136 001\r\nPWR0000000000000005P1       EXAMPLE MUSIC                                                            A1\r\nREC0000000000000006                                                                                                                                                                                                                                      ATABC2600001\r\nGRT000010000000100000009\r\nTRL000010000000100000011\r\n")) ∷ (3, transmission_in (codes "HDRPB000000012EXAMPLE MUSIC                                01.102026010510150020260106\r\nGRHREV0000102.200000000000\r\nREV0000000000000000FIRST SONG                                                    W1            T0345246801\r\nSPU000000000000000101P1       EXAMPLE MUSIC                                 E          00000000199                 00000   10000   10000\r\nSPT0000000000000002P1             000001000010000I2136 001\r\nSWR0000000000000003A1       WRITER                                       ANNA                           CA         00000000295   10000   00000   00000\r\nSWT0000000000000004A1       100000000000000I2136 001\r\nPWR0000000000000005P1       EXAMPLE MUSIC                                                            A1\r\nREC0000000000000006                                                                                                                                                                                                                                      ATABC2600001\r\nGRT000010000000100000009\r\nTRL000010000000100000011\r\n")) ∷ []) ≡ record { number = 1; judged = Faulty 5 ∷ [] } ∷ record { number = 2; judged = Clean Nwr (codes "W1            ") ∷ [] } ∷ record { number = 3; judged = Clean Rev (codes "W1            ") ∷ [] } ∷ []
 unfolding field fill is_blank line_of_piece number_of record_of indicator_of share_of territory_of transmission_in has_type is_read type_of_group fault_of is_check_digit weighted_sum has_isrc_form isrc_of has_iswc_form has_right_check_digit iswc_of trimmed judged_in
 its_line = refl

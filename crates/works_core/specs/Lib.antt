@@ -1,3 +1,4 @@
+pub mod Numbered
 pub mod Verdicts
 pub mod Line
 pub mod LineValue

@@ -66,8 +66,3 @@ verdicts_from past (transaction ∷ more) = verdict_of past transaction ∷ verd
 abbrev pub behind : List Judged → List Judged → List Judged
 behind past [] = past
 behind past (transaction ∷ more) = behind (transaction ∷ past) more
-
--- the same once all transactions of some transmissions have come
-abbrev pub behind_all : List Judged → List (List Judged) → List Judged
-behind_all past [] = past
-behind_all past (transmission ∷ more) = behind_all (behind past transmission) more

@@ -1,5 +1,6 @@
 -- The versions of works: the accepted transactions of a line, each where it stands.
-use Rattle.std.specs.Prelude.{ℕ, ◌+◌, Bool, ◌&&◌, List, [], ◌∷◌, Option, Some, None, map, take, if◌then◌else◌}
+use Rattle.std.specs.Prelude.{ℕ, ◌+◌, Bool, ◌&&◌, List, [], ◌∷◌, Option, Some, None, map, if◌then◌else◌}
+use Rattle.works_core.specs.Numbered.{JudgedTransmission, up_to}
 use Rattle.works_core.specs.Verdicts.{concerns, is_accepted, ordinal_of, versions_of}
 use Rattle.cwr_records.specs.declared.work.TransactionKind.TheVariants.{Nwr, Rev}
 use Rattle.works_core.specs.declared.judged.Judged.{Judged}
@@ -23,14 +24,14 @@ abbrev pub placed_behind : List Placed → ℕ → ℕ → List Judged → List 
 placed_behind past transmission place [] = past
 placed_behind past transmission place (judged ∷ more) = placed_behind (placed_at transmission place judged ∷ past) transmission (place + 1) more
 
--- the same once all transactions of the transmissions from a number on have come
-abbrev pub placed_behind_all : List Placed → ℕ → List (List Judged) → List Placed
-placed_behind_all past transmission [] = past
-placed_behind_all past transmission (judged ∷ more) = placed_behind_all (placed_behind past transmission 0 judged) (transmission + 1) more
+-- the same once all transactions of further transmissions have come, each under its number
+abbrev pub placed_behind_all : List Placed → List JudgedTransmission → List Placed
+placed_behind_all past [] = past
+placed_behind_all past (x ∷ more) = placed_behind_all (placed_behind past x.number 0 x.judged) more
 
 -- the transactions of a line, the nearest first, each where it stands
-abbrev pub placed_line : List (List Judged) → List Placed
-placed_line line = placed_behind_all [] 1 line
+abbrev pub placed_line : List JudgedTransmission → List Placed
+placed_line line = placed_behind_all [] line
 
 -- what is judged of some transactions
 abbrev pub judged_of : List Placed → List Judged
@@ -62,6 +63,6 @@ next_verdict (Clean Nwr number) (Some version) works = Rejected 20
 next_verdict (Clean Rev number) None works = Rejected 21
 next_verdict (Clean Rev number) (Some version) works = Accepted version.ordinal (version.revision + 1)
 
--- the version of a work at a cut: its last accepted transaction in the transmissions up to the cut; a cut above the front is read as the front (profile)
-unfoldable pub work_at : List (List Judged) → List ℕ → ℕ → Option WorkVersion
-work_at line work cut = last_version work (placed_line (take cut line))
+-- the version of a work at a cut: its last accepted transaction in the transmissions up to the cut; a cut above the last number is read as the last number (profile)
+unfoldable pub work_at : List JudgedTransmission → List ℕ → ℕ → Option WorkVersion
+work_at line work cut = last_version work (placed_line (up_to cut line))

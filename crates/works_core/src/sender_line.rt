@@ -1,6 +1,7 @@
 //! One sender's line.
-ghost use Rattle.std.specs.Prelude.{◌≡◌, ◌+◌, ◌≤◌, ◌++◌, ◌∷◌, [], map, IfOk, OnOk, OnErr, length, flat_map, List, vec_len, vec_capacity};
+ghost use Rattle.std.specs.Prelude.{◌≡◌, ◌<◌, ◌+◌, ◌≤◌, ◌++◌, ◌∷◌, [], map, IfOk, OnOk, OnErr, length, flat_map, List, vec_len, vec_capacity};
 ghost use Rattle.works_core.specs.Line.{judged, judged_in};
+ghost use Rattle.works_core.specs.Numbered.{last_number};
 ghost use Rattle.works_core.specs.Tracks.{HasRoom, IsTracked, Tracks};
 ghost use Rattle.works_core.specs.Verdicts.{verdicts_from};
 ghost use Rattle.works_core.specs.Versions.{judged_of, placed_behind, Placed, work_at};
@@ -16,25 +17,32 @@ use std::alloc::{AllocError, Global};
 use std::marker::Model;
 use work_ids::{TransmissionNumber, WorkNumber};
 
-/// One sender's transactions in order of transmission number, as an office judges them, with their verdicts and the versions
-/// of its works.
+/// What a line keeps of a transmission: its number, what is judged of its transactions, and their verdicts.
+#[derive(Drop)]
+pub struct KeptTransmission {
+    pub number: TransmissionNumber,
+    pub judged: Vec<Judged>,
+    pub verdicts: Vec<Verdict>,
+}
+
+/// One sender's transmissions in the order of their numbers: its transactions as an office judges them, with their verdicts and
+/// the versions of its works.
 #[derive(Drop)]
 pub struct SenderLine {
     office: Office,
-    judged: Vec<Vec<Judged>>,
-    verdicts: Vec<Vec<Verdict>>,
+    kept: Vec<KeptTransmission>,
     works: Works,
 }
 
 impl Model for SenderLine {
     ghost use Rattle.works_core.specs.LineValue.{SenderLineValue};
-    ghost use Rattle.works_core.specs.Kept.{lists_of, IsKept};
+    ghost use Rattle.works_core.specs.Kept.{kept_line, IsKept};
 
     ghost Value = { SenderLineValue };
 
-    ghost view = { λ l. record { office = l.office; judged = lists_of l.judged.items } };
+    ghost view = { λ l. record { office = l.office; transmissions = kept_line l.kept.items } };
 
-    ghost invariant = { λ l. IsKept l.judged.items l.verdicts.items l.works };
+    ghost invariant = { λ l. IsKept l.kept.items l.works };
 }
 
 /// What an office judges of a transaction.
@@ -118,64 +126,70 @@ impl SenderLine {
     /// The line of a sender of whom nothing has come.
     pub fn new(alloc: Global, office: &Office) -> SenderLine
         ensures office { result.office ≡ office.now }
-        ensures empty { result.judged ≡ [] }
+        ensures empty { result.transmissions ≡ [] }
     {
         SenderLine {
             office: *office,
-            judged: Vec::new(alloc),
-            verdicts: Vec::new(alloc),
+            kept: Vec::new(alloc),
             works: Works::new(alloc),
         }
     }
 
-    /// Applies the sender's next transmission, which has this number, at a cost that its own transactions make; for want of
-    /// memory (`AllocError`) the line is as it was.
+    /// Applies a transmission under its number, which is above those that the line has, at a cost that its own transactions
+    /// make; for want of memory (`AllocError`) the line is as it was.
     pub fn apply(
         &mut self,
         number: TransmissionNumber,
         transmission: &Transmission<'_>,
     ) -> Result<(), AllocError>
-        requires next { number ≡ length self.old.judged + 1 }
+        requires above { last_number 0 self.old.transmissions < number }
         ensures office { self.new.office ≡ self.old.office }
-        ensures applied { OnOk result (self.new.judged ≡ self.old.judged ++ judged_in self.old.office transmission.now ∷ []) }
+        ensures applied { OnOk result (self.new.transmissions ≡ self.old.transmissions ++ record { number = number; judged = judged_in self.old.office transmission.now } ∷ []) }
         ensures err { OnErr result (self.new ≡ self.old) }
     {
-        prove!(number.value() as usize == self.judged.len() + 1);
-        let alloc = *self.judged.allocator();
+        let alloc = *self.kept.allocator();
         let judged = judge_all(alloc, transmission, &self.office)?;
         let mut verdicts = Vec::with_capacity(alloc, judged.len())?;
         self.works.reserve(judged.len())?;
-        self.judged.reserve(1)?;
-        self.verdicts.reserve(1)?;
+        self.kept.reserve(1)?;
         settle_all(&mut self.works, number, judged.as_slice(), &mut verdicts);
-        self.judged.push(judged).unwrap();
-        self.verdicts.push(verdicts).unwrap();
+        let kept = KeptTransmission {
+            number,
+            judged,
+            verdicts,
+        };
+        self.kept.push(kept).unwrap();
         Ok(())
     }
 
-    /// How many transmissions are applied, at most 999,999.
+    /// The last number of the line, at most 999,999; 0 where no transmission is applied.
     pub fn front(&self) -> u32
-        ensures front { result ≡ length self.now.judged }
+        ensures front { result ≡ last_number 0 self.now.transmissions }
         ensures limit { result ≤ 999999 }
     {
-        self.judged.len() as u32
+        match self.kept.last() {
+            Some(last) => last.number.value(),
+            None => 0,
+        }
     }
 
-    /// The verdicts of the transactions of transmission n, in the order of the file; none where n is above the front.
-    pub fn verdicts(&self, n: TransmissionNumber) -> Option<&[Verdict]>
-        ensures { Shows self.now.judged n result }
+    /// The verdicts of the transactions of the transmission with a number, in the order of the file; none where the line has none
+    /// under it.
+    pub fn verdicts(&self, number: TransmissionNumber) -> Option<&[Verdict]>
+        ensures { Shows self.now.transmissions number result }
     {
-        let index = n.value() as usize - 1;
-        if index >= self.verdicts.len() {
-            return None;
+        for transmission in self.kept.as_slice() {
+            if transmission.number == number {
+                return Some(transmission.verdicts.as_slice());
+            }
         }
-        Some(self.verdicts[index].as_slice())
+        None
     }
 
     /// The version of a work at a cut: its last accepted transaction in the transmissions up to that number; a cut above the
-    /// front is read as the front (profile).
+    /// last number is read as the last number (profile).
     pub fn work_at(&self, work: &WorkNumber, cut: TransmissionNumber) -> Option<WorkVersion>
-        ensures { result ≡ work_at self.now.judged work.now cut }
+        ensures { result ≡ work_at self.now.transmissions work.now cut }
     {
         let works = &self.works;
         let mut index = works.last.get(&WorkKey { number: *work }).copied();

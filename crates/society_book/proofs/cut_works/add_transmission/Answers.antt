@@ -1,4 +1,4 @@
-use Rattle.std.proofs.Common.{[], ◌∙◌, List, ℕ, Ok, Option, subst, sym, unwrap_or}
+use Rattle.std.proofs.Common.{[], List, ℕ, Ok, Option, subst, sym, unwrap_or}
 use Rattle.cwr_files.specs.Contents.{transactions_of, transmission_in}
 use Rattle.sqlite.specs.Held.{state}
 use Rattle.society_core.specs.Book.{body_at}
@@ -7,15 +7,10 @@ use Rattle.society_core.specs.Keys.{transmission_key}
 use Rattle.society_core.specs.Points.{is_tallied}
 use Rattle.society_book.specs.CutWorks.{works_chosen}
 use Rattle.society_book.specs.Shown.{ShowBody}
-use Rattle.society_book.proofs.CutCandidates.{absent_adds, chosen_adds, shown_all}
+use Rattle.society_book.proofs.CutCandidates.{chosen_adds, shown_all}
 use Rattle.society_book.proofs.KeyRows.{transmission_shows_by}
-use Rattle.society_book.proofs.StepLemmas.{looks_as, looks_of, more, nothing}
+use Rattle.society_book.proofs.StepLemmas.{looks_as, looks_of, more}
 use Rattle.society_book.proofs.cut_works.add_transmission.Goals as goal
-
-pub returns-then-not-has_transmission-clause-looks : goal.returns-then-not-has_transmission-clause-looks
-returns-then-not-has_transmission-clause-looks g c =
-    nothing (state g.S.Store c.args.tx.now.conn.now) (Ok tt) _
-    (λ b holds within right. absent_adds c.args.office.now b c.args.key.now (is_tallied c.args.tally.now) c.args.chosen.now right c.args.number c.args.candidates.now.items within (sym c.has_transmission.ensures ∙ c.if-not-has_transmission.true))
 
 pub returns-clause-looks : goal.returns-clause-looks
 returns-clause-looks g c =

@@ -1,6 +1,8 @@
-use Rattle.std.proofs.Common.{◌≡◌, length, arith, ap, ◌∙◌}
+use Rattle.std.proofs.Common.{arith, ap, sym, ◌∙◌}
+use Rattle.std.proofs.lemmas.Bool.{false≢true}
 use Rattle.society_core.proofs.Books.{there_to_front}
-use Rattle.society_core.proofs.Lines.{line_counted}
+use Rattle.works_core.specs.Numbered.{has_number}
+use Rattle.society_core.proofs.Lines.{line_has}
 use Rattle.society_core.proofs.plain_lines.ack_of.Goals as goal
 
 pub transmission_of-requires-clause-there : goal.transmission_of-requires-clause-there
@@ -9,5 +11,5 @@ transmission_of-requires-clause-there c =
 
 pub unreachable-requires : goal.unreachable-requires
 unreachable-requires c =
-    let counted : length c.in_ok-line.line.judged ≡ c.args.number = ap length c.in_ok-line.ensures ∙ line_counted c.args.office.now c.args.book.now c.args.sender.now c.args.number in
-    omega (arith, counted, c.in-None.ensures)
+    let there = line_has c.args.office.now c.args.book.now c.args.sender.now c.args.number c.args.number (omega (arith, c.value.ensures.limits)) (omega arith) in
+    false≢true (sym c.in-None.ensures ∙ ap (has_number c.args.number) c.in_ok-line.ensures ∙ there)

@@ -6,5 +6,5 @@ use Rattle.society_core.proofs.plain_lines.line_to.Given as goal
 abbrev pub invariant-loop-applied : goal.invariant-loop-applied
 invariant-loop-applied l = record {
   office : l.line.office ≡ l.office;
-  judged : l.line.judged ≡ line_of l.office (transmissions_to l.book l.sender l.applied);
+  line : l.line.transmissions ≡ line_of l.office (transmissions_to l.book l.sender l.applied);
 }

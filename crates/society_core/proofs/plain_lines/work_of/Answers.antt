@@ -3,6 +3,7 @@ use Rattle.society_core.specs.Book.{front, transmissions_to}
 use Rattle.works_core.specs.Line.{line_of}
 use Rattle.society_core.proofs.Books.{there_to_front}
 use Rattle.society_core.proofs.Gaps.{version_within}
+use Rattle.society_core.proofs.Lines.{line_rises}
 use Rattle.society_core.proofs.plain_lines.work_of.Goals as goal
 
 pub transmission_of-requires-clause-there : goal.transmission_of-requires-clause-there
@@ -12,5 +13,5 @@ transmission_of-requires-clause-there c =
     let sender = c.args.sender.now in
     let reached = front book sender in
     let found = sym c.in_ok-version.ensures ∙ c.in-Some.is in
-    let place = version_within (line_of office (transmissions_to book sender reached)) c.args.work.now reached c.in-Some.version found in
+    let place = version_within (line_of office (transmissions_to book sender reached)) c.args.work.now reached c.in-Some.version (line_rises office book sender reached) found in
     there_to_front book sender c.in-Some.version.transmission place.0 place.1
