@@ -3,13 +3,14 @@ use Rattle.std.proofs.Common.{◌≡◌, Bool, true, false, List, [], ◌∷◌,
 use Rattle.std.specs.List.{list_any}
 use Rattle.cwr_files.specs.declared.transmission.Transaction.{Transaction}
 use Rattle.cwr_records.specs.declared.record.Record.{Record}
-use Rattle.share_rules.specs.Fault.{Sentence, collects_too_much, fault_of, first_fault, has_blank_title, has_no_work_number, has_row_without_party, has_wrong_ipi, has_wrong_isrc, has_wrong_iswc, has_wrong_number, has_wrong_share, names_no_publisher, owns_too_much, sentence}
+use Rattle.cwr_files.specs.Sentences.{Sentence, first_that_holds, sentence}
+use Rattle.share_rules.specs.Fault.{collects_too_much, fault_of, has_blank_title, has_no_work_number, has_row_without_party, has_wrong_ipi, has_wrong_isrc, has_wrong_iswc, has_wrong_number, has_wrong_share, names_no_publisher, owns_too_much}
 use Rattle.share_rules.specs.declared.office.Office.{Office}
 
-pub ninth : (a b c d e f g h i : Bool) (more : List Sentence) → a ≡ false → b ≡ false → c ≡ false → d ≡ false → e ≡ false → f ≡ false → g ≡ false → h ≡ false → i ≡ true → first_fault (sentence 1 a ∷ sentence 2 b ∷ sentence 3 c ∷ sentence 4 d ∷ sentence 5 e ∷ sentence 6 f ∷ sentence 7 g ∷ sentence 8 h ∷ sentence 9 i ∷ more) ≡ Some 9
+pub ninth : (a b c d e f g h i : Bool) (more : List Sentence) → a ≡ false → b ≡ false → c ≡ false → d ≡ false → e ≡ false → f ≡ false → g ≡ false → h ≡ false → i ≡ true → first_that_holds (sentence 1 a ∷ sentence 2 b ∷ sentence 3 c ∷ sentence 4 d ∷ sentence 5 e ∷ sentence 6 f ∷ sentence 7 g ∷ sentence 8 h ∷ sentence 9 i ∷ more) ≡ Some 9
 ninth a b c d e f g h i more e1 e2 e3 e4 e5 e6 e7 e8 e9 = rw (e1, e2, e3, e4, e5, e6, e7, e8, e9) refl
 
-pub eleventh : (a b c d e f g h i j k : Bool) (more : List Sentence) → a ≡ false → b ≡ false → c ≡ false → d ≡ false → e ≡ false → f ≡ false → g ≡ false → h ≡ false → i ≡ false → j ≡ false → k ≡ true → first_fault (sentence 1 a ∷ sentence 2 b ∷ sentence 3 c ∷ sentence 4 d ∷ sentence 5 e ∷ sentence 6 f ∷ sentence 7 g ∷ sentence 8 h ∷ sentence 9 i ∷ sentence 10 j ∷ sentence 11 k ∷ more) ≡ Some 11
+pub eleventh : (a b c d e f g h i j k : Bool) (more : List Sentence) → a ≡ false → b ≡ false → c ≡ false → d ≡ false → e ≡ false → f ≡ false → g ≡ false → h ≡ false → i ≡ false → j ≡ false → k ≡ true → first_that_holds (sentence 1 a ∷ sentence 2 b ∷ sentence 3 c ∷ sentence 4 d ∷ sentence 5 e ∷ sentence 6 f ∷ sentence 7 g ∷ sentence 8 h ∷ sentence 9 i ∷ sentence 10 j ∷ sentence 11 k ∷ more) ≡ Some 11
 eleventh a b c d e f g h i j k more e1 e2 e3 e4 e5 e6 e7 e8 e9 e10 e11 = rw (e1, e2, e3, e4, e5, e6, e7, e8, e9, e10, e11) refl
 
 -- a transaction's fault is 9 where the sentences before do not hold

@@ -6,7 +6,8 @@ use Rattle.std.proofs.lemmas.Bool.Decides.{nat_tests}
 use Rattle.std.proofs.lemmas.List.{map_push}
 use Rattle.std.proofs.lemmas.List.Sums.{sum_by_push}
 use Rattle.cwr_files.specs.declared.transmission.Transaction.{Transaction}
-use Rattle.share_rules.specs.Fault.{collects_too_much, fault_of, first_fault, sentence, sentences, Sentence}
+use Rattle.cwr_files.specs.Sentences.{Sentence, first_that_holds, sentence}
+use Rattle.share_rules.specs.Fault.{collects_too_much, fault_of, sentences}
 use Rattle.share_rules.specs.Parties.{Interest, collected, interests, share_in}
 use Rattle.share_rules.specs.Weights.{IsWhole, holder_of, total, unclaimed_beside, weights_of}
 use Rattle.share_rules.specs.declared.holder.Holder.{Holder}
@@ -18,11 +19,11 @@ none_is_none : (k : ℕ) → ◌≡◌ {A = Option ℕ} None (Some k) → ⊥
 none_is_none k e = cc
 
 -- where there is no first fault, no sentence holds
-pub none_holds : (all : List Sentence) (k : ℕ) (d : Sentence) → first_fault all ≡ None → k < length all → (get_or all k d).holds ≡ false
+pub none_holds : (all : List Sentence) (k : ℕ) (d : Sentence) → first_that_holds all ≡ None → k < length all → (get_or all k d).holds ≡ false
 none_holds [] k d e h = absurd (omega arith)
 none_holds (s ∷ more) k d e h = by_case s.holds refl k h e (λ j none low. none_holds more j d none low)
   where
-    by_case : (b : Bool) → s.holds ≡ b → (k : ℕ) → k < length (s ∷ more) → (if b then Some s.fault else first_fault more) ≡ None → ((j : ℕ) → first_fault more ≡ None → j < length more → (get_or more j d).holds ≡ false) → (get_or (s ∷ more) k d).holds ≡ false
+    by_case : (b : Bool) → s.holds ≡ b → (k : ℕ) → k < length (s ∷ more) → (if b then Some s.fault else first_that_holds more) ≡ None → ((j : ℕ) → first_that_holds more ≡ None → j < length more → (get_or more j d).holds ≡ false) → (get_or (s ∷ more) k d).holds ≡ false
     by_case true is k h none recur = absurd (none_is_none s.fault (sym none))
     by_case false is zero h none recur = is
     by_case false is (suc k) h none recur = recur k none (omega arith)

@@ -6,6 +6,7 @@ use Rattle.cwr_records.specs.Typed.{share_of}
 use Rattle.cwr_records.specs.declared.record.Record.{Record}
 use Rattle.cwr_records.specs.declared.record.Record.TheVariants as kind
 use Rattle.cwr_files.specs.Transaction.{iswc_of_work, number_of_work, title_of}
+use Rattle.cwr_files.specs.Sentences.{Sentence, first_that_holds, sentence}
 use Rattle.cwr_files.specs.declared.transmission.Transaction.{Transaction}
 use Rattle.share_rules.specs.Parties.{collected, interests, is_party, owned, party_in, row_in}
 use Rattle.share_rules.specs.declared.office.Office.{Office}
@@ -107,15 +108,6 @@ party_numbers _ = []
 abbrev pub has_wrong_number : Record → Bool
 has_wrong_number r = list_any (λ number. not (is_ok (party_number_of number))) (party_numbers r)
 
--- a fault's number, and whether its sentence holds
-pub record Sentence : Type 0 where
-  pub fault : ℕ
-  pub holds : Bool
-
--- a sentence on a transaction
-abbrev pub sentence : ℕ → Bool → Sentence
-sentence fault holds = record { fault = fault; holds = holds }
-
 -- the sentences on a transaction, in the order of their faults (profile)
 abbrev pub sentences : Office → Transaction → List Sentence
 sentences office transaction =
@@ -132,11 +124,6 @@ sentences office transaction =
     ∷ sentence 11 (list_any has_wrong_number transaction.records)
     ∷ []
 
--- the first fault whose sentence holds
-abbrev pub first_fault : List Sentence → Option ℕ
-first_fault [] = None
-first_fault (s ∷ more) = if s.holds then Some s.fault else first_fault more
-
 -- the least fault of a transaction, if it has one (profile)
 unfoldable pub fault_of : Office → Transaction → Option ℕ
-fault_of office transaction = first_fault (sentences office transaction)
+fault_of office transaction = first_that_holds (sentences office transaction)

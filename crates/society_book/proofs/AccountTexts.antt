@@ -47,6 +47,8 @@ use Rattle.work_ids.specs.declared.fault.IdFault.{IdFault}
 use Rattle.work_ids.specs.declared.fault.IdFault.TheVariants.{Length, Character}
 use Rattle.cwr_files.specs.FileFault.{file_fault}
 use Rattle.std.specs.Prelude.{is_none}
+use Rattle.share_rules.specs.declared.kind.Kind.{Kind}
+use Rattle.share_rules.specs.declared.kind.Kind.TheVariants.{Performing}
 
 -- ---- one text, one account
 
@@ -156,12 +158,12 @@ account_filled s (Err fault) r long wide = numbered_filled s r long wide
 abbrev HoldersFilled : List Holder → Type 0
 HoldersFilled = AllByRecursion (λ (h : Holder). IsFilled h.account)
 
-weights_filled : (s : List ℕ) (o : Office) (t : Transaction) → length s ≡ 11 → HoldersFilled (weights_of s o t)
+weights_filled : (right : Kind) (s : List ℕ) (o : Office) (t : Transaction) → length s ≡ 11 → HoldersFilled (weights_of right s o t)
 unfolding weights_of
-weights_filled s o t long =
-    let holders = map (holder_of s o) (interests t.records) in
+weights_filled right s o t long =
+    let holders = map (holder_of right s o) (interests t.records) in
     all_append (λ (h : Holder). IsFilled h.account) holders (unclaimed_beside holders ∷ [])
-    (all_mapped (λ (h : Holder). IsFilled h.account) (holder_of s o) (λ _. Unit {0}) (λ i _. account_filled s (ipi_field_of i.party.ipi_name) (party_number_of i.party.number) long (λ n e. party_filled i.party.number n e)) (interests t.records) (all_of (λ (_ : Interest). Unit {0}) (λ _. tt) (interests t.records)))
+    (all_mapped (λ (h : Holder). IsFilled h.account) (holder_of right s o) (λ _. Unit {0}) (λ i _. account_filled s (ipi_field_of i.party.ipi_name) (party_number_of i.party.number) long (λ n e. party_filled i.party.number n e)) (interests t.records) (all_of (λ (_ : Interest). Unit {0}) (λ _. tt) (interests t.records)))
     (tt, tt)
 
 -- a work of the cut has a sender of eleven bytes
@@ -198,10 +200,10 @@ abbrev OwnersFilled : Option (List Holder) → Type 0
 OwnersFilled None = Unit {0}
 OwnersFilled (Some holders) = HoldersFilled holders
 
-sole_filled : (o : Office) (works : List CutWork) → AllByRecursion HasSender works → OwnersFilled (option_map (holders_of o) (sole works))
-sole_filled o [] all = tt
-sole_filled o (w ∷ []) all = weights_filled w.sender o w.transaction all.0
-sole_filled o (w ∷ v ∷ more) all = tt
+sole_filled : (right : Kind) (o : Office) (works : List CutWork) → AllByRecursion HasSender works → OwnersFilled (option_map (holders_of right o) (sole works))
+sole_filled right o [] all = tt
+sole_filled right o (w ∷ []) all = weights_filled right w.sender o w.transaction all.0
+sole_filled right o (w ∷ v ∷ more) all = tt
 
 claim_filled : (isrc : List ℕ) (holders : Option (List Holder)) (units : ℕ) → OwnersFilled holders → CreditsFilled (claim_credits_by isrc holders units)
 claim_filled isrc None units all = (tt, tt)
@@ -223,7 +225,7 @@ unfolding credits_of
 order_filled o b sound pool order there =
     split_filled order.amount (claims_of o b order)
     (all_mapped (λ (claim : Claim). OwnersFilled claim.holders) (claim_of o b order) (λ _. Unit {0})
-    (λ played _. sole_filled o (filter (names_recording played.0) (works_of_cut o b order)) (filter_all HasSender (names_recording played.0) (works_of_cut o b order) (cut_sent o b sound order.cut (order_reaches_cut b pool order sound there))))
+    (λ played _. sole_filled Performing o (filter (names_recording played.0) (works_of_cut o b order)) (filter_all HasSender (names_recording played.0) (works_of_cut o b order) (cut_sent o b sound order.cut (order_reaches_cut b pool order sound there))))
     (points_by_recording (rows_named b order)) (all_of (λ (_ : List ℕ × ℕ). Unit {0}) (λ _. tt) (points_by_recording (rows_named b order))))
 
 pools_filled : (o : Office) (b : Book) → IsSound b → (es : List (ℕ × Order)) → AllByRecursion (IsPool b) es → CreditsFilled (flat_map (credits_of o b) (map (λ e. e.1) es))

@@ -24,13 +24,14 @@ use Rattle.society_book.specs.CutWorks.{ChoosesNaming, chosen_at, is_chosen, wor
 use Rattle.society_book.specs.declared.chosen.Chosen.{Chosen}
 use Rattle.work_ids.specs.declared.fault.IdFault.{IdFault}
 use Rattle.works_core.specs.declared.version.WorkVersion.{WorkVersion}
+use Rattle.share_rules.specs.declared.holder.Holder.{Holder}
 
 -- works of which the same ones name each of these recordings are added alike
-pub adds_alike : (office : Office) (of_these : List ℕ → Bool) (more others : List CutWork) (old new : List Candidate) → ((isrc : List ℕ) → of_these isrc ≡ true → filter (names_recording isrc) more ≡ filter (names_recording isrc) others) → Adds office of_these more old new → Adds office of_these others old new
-adds_alike office of_these more others old new same adds = λ works stand. record {
+pub adds_alike : (weigh : CutWork → List Holder) (of_these : List ℕ → Bool) (more others : List CutWork) (old new : List Candidate) → ((isrc : List ℕ) → of_these isrc ≡ true → filter (names_recording isrc) more ≡ filter (names_recording isrc) others) → Adds weigh of_these more old new → Adds weigh of_these others old new
+adds_alike weigh of_these more others old new same adds = λ works stand. record {
   same = λ isrc is.
       (adds works stand).same isrc is
-      ∙ ap (map (holders_of office)) (filter-append (names_recording isrc) works more ∙ ap (λ (ws : List CutWork). filter (names_recording isrc) works ++ ws) (same isrc is) ∙ sym (filter-append (names_recording isrc) works others));
+      ∙ ap (map weigh) (filter-append (names_recording isrc) works more ∙ ap (λ (ws : List CutWork). filter (names_recording isrc) works ++ ws) (same isrc is) ∙ sym (filter-append (names_recording isrc) works others));
 }
 
 -- transactions of a sender that pass by their places, as works
@@ -115,9 +116,9 @@ module _ (office : Office) (book : Book) (key : TransmissionKey) (of_these : Lis
       (λ i t there names. let here : i ≡ 0 + i = omega arith in subst (λ (n : ℕ). is_chosen chosen number n (number_of_work t) ≡ is_version_at office book key number n (number_of_work t)) here (right.right number i t isrc within there is names))
 
   -- what is chosen of a transmission is added as its versions at the cut
-  pub chosen_adds : (number : ℕ) (old new : List Candidate) → number ≤ key.number → Adds office of_these (works_chosen chosen key.sender number 0 (transactions_sent book key.sender number)) old new → Adds office of_these (versions_of_transmission office book key number (transactions_sent book key.sender number)) old new
-  chosen_adds number old new within adds =
-      adds_alike office of_these (works_chosen chosen key.sender number 0 (transactions_sent book key.sender number)) (versions_of_transmission office book key number (transactions_sent book key.sender number)) old new
+  pub chosen_adds : (weigh : CutWork → List Holder) (number : ℕ) (old new : List Candidate) → number ≤ key.number → Adds weigh of_these (works_chosen chosen key.sender number 0 (transactions_sent book key.sender number)) old new → Adds weigh of_these (versions_of_transmission office book key number (transactions_sent book key.sender number)) old new
+  chosen_adds weigh number old new within adds =
+      adds_alike weigh of_these (works_chosen chosen key.sender number 0 (transactions_sent book key.sender number)) (versions_of_transmission office book key number (transactions_sent book key.sender number)) old new
       (chosen_names number within)
       adds
 

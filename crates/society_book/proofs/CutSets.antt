@@ -22,6 +22,7 @@ use Rattle.society_book.specs.declared.chosen.Chosen.{Chosen}
 use Rattle.society_book.proofs.CutCandidates.{absent_names, adds_alike}
 use Rattle.society_book.proofs.CutChoices.{or_true}
 use Rattle.sqlite_rules.proofs.ActionLemmas.{range_more}
+use Rattle.share_rules.specs.declared.holder.Holder.{Holder}
 
 -- ---- the numbers of a range that stand in a list
 
@@ -128,10 +129,10 @@ versions_up_to office book key (suc n) =
     ∙ sym (ap (flat_map f) (range_more 1 n ∙ ap (λ (k : ℕ). range_with_len 1 n ++ k ∷ []) last) ∙ flat_map-append f (range_with_len 1 n) (suc n ∷ []))
 
 -- what is added for the transmissions that are chosen is added for the versions at the cut
-pub set_adds : (office : Office) (book : Book) (key : TransmissionKey) (of_these : List ℕ → Bool) (chosen : Chosen) → ChoosesNaming office book key of_these chosen → IsStrictlySortedBy nat_cmp chosen.transmissions.keys
-    → (old new : List Candidate) → Adds office of_these (versions_in office book key chosen.transmissions.keys) old new → Adds office of_these (versions_at_cut office book key) old new
-set_adds office book key of_these chosen right sorted old new =
-    adds_alike office of_these (versions_in office book key ks) (versions_at_cut office book key) old new
+pub set_adds : (weigh : CutWork → List Holder) (office : Office) (book : Book) (key : TransmissionKey) (of_these : List ℕ → Bool) (chosen : Chosen) → ChoosesNaming office book key of_these chosen → IsStrictlySortedBy nat_cmp chosen.transmissions.keys
+    → (old new : List Candidate) → Adds weigh of_these (versions_in office book key chosen.transmissions.keys) old new → Adds weigh of_these (versions_at_cut office book key) old new
+set_adds weigh office book key of_these chosen right sorted old new =
+    adds_alike weigh of_these (versions_in office book key ks) (versions_at_cut office book key) old new
     (λ isrc is.
     passing_each (names_recording isrc) f ks
     ∙ given_by (λ n. filter (names_recording isrc) (f n)) 1 key.number ks sorted (all_in (λ n. (1 ≤ n) × (n < 1 + key.number)) ks (λ n there. ((right.within n there).0, let up = (right.within n there).1 in omega (arith, up))))

@@ -8,6 +8,7 @@ ghost use Rattle.society_core.specs.Book.{Book, front};
 ghost use Rattle.society_core.specs.Candidates.{Adds, ReachesCut, StandFor, transactions_sent, work_where};
 ghost use Rattle.society_core.specs.Owners.{versions_at_cut, versions_of_transmission, works_of_cut};
 ghost use Rattle.society_core.specs.Points.{is_tallied};
+ghost use Rattle.society_core.specs.Pools.{holders_of};
 ghost use Rattle.society_book.specs.CutWorks.{ChoosesNaming, NotesRecordings, is_chosen, notes_of_sender, works_chosen};
 ghost use Rattle.society_book.specs.Sources.{HoldsWorks};
 ghost use Rattle.society_book.specs.Shown.{ShowBody};
@@ -17,7 +18,7 @@ use crate::acknowledgements::read;
 use crate::chosen::{Chosen, chosen_of};
 use crate::named_works::{NamedWorks, named_works};
 use cwr_files::{Transaction, Transmission};
-use share_rules::Office;
+use share_rules::{Kind, Office};
 use society_core::{Candidate, PoolOrder, Tally, TransmissionKey, add_candidates};
 use society_rows::{Question, RowFault, TransmissionRow, answer};
 use sqlite::{Alter, Row};
@@ -27,6 +28,7 @@ use work_ids::{SenderKey, TransmissionNumber};
 /// Adds the candidates of a transaction, where it is the version that is chosen of its work.
 fn add_transaction(
     alloc: Global,
+    kind: Kind,
     office: &Office,
     tally: &Tally,
     sender: &SenderKey,
@@ -36,7 +38,7 @@ fn add_transaction(
     transaction: &Transaction<'_>,
     candidates: &mut Vec<Candidate>,
 ) -> Result<(), AllocError>
-    ensures { OnOk result (Adds office.now (is_tallied tally.now) (work_where (is_chosen chosen.now number place (number_of_work transaction.now)) sender.now transaction.now) candidates.old.items candidates.new.items) }
+    ensures { OnOk result (Adds (holders_of kind office.now) (is_tallied tally.now) (work_where (is_chosen chosen.now number place (number_of_work transaction.now)) sender.now transaction.now) candidates.old.items candidates.new.items) }
 {
     let Some(work) = transaction.work_number() else {
         return Ok(());
@@ -44,7 +46,16 @@ fn add_transaction(
     if !chosen.is_at(&work, number, place) {
         return Ok(());
     }
-    add_candidates(alloc, office, tally, sender, &work, transaction, candidates)
+    add_candidates(
+        alloc,
+        kind,
+        office,
+        tally,
+        sender,
+        &work,
+        transaction,
+        candidates,
+    )
 }
 
 /// The place behind so many transactions; `Overflow` where it has no room.
@@ -60,6 +71,7 @@ fn place_after(place: usize, count: usize) -> Result<usize, RowFault>
 /// Adds the candidates of the transactions of a group, which begin at a place.
 fn add_group(
     alloc: Global,
+    kind: Kind,
     office: &Office,
     tally: &Tally,
     sender: &SenderKey,
@@ -69,12 +81,13 @@ fn add_group(
     transactions: &[Transaction<'_>],
     candidates: &mut Vec<Candidate>,
 ) -> Result<(), RowFault>
-    ensures { OnOk result (Adds office.now (is_tallied tally.now) (works_chosen chosen.now sender.now number first transactions.now) candidates.old.items candidates.new.items) }
+    ensures { OnOk result (Adds (holders_of kind office.now) (is_tallied tally.now) (works_chosen chosen.now sender.now number first transactions.now) candidates.old.items candidates.new.items) }
 {
     for (index, transaction) in transactions.iter().enumerate() {
         let place = place_after(first, index)?;
         add_transaction(
             alloc,
+            kind,
             office,
             tally,
             sender,
@@ -91,6 +104,7 @@ fn add_group(
 /// Adds the candidates of a transmission: of those of its transactions that are chosen.
 fn add_groups(
     alloc: Global,
+    kind: Kind,
     office: &Office,
     tally: &Tally,
     sender: &SenderKey,
@@ -99,13 +113,14 @@ fn add_groups(
     transmission: &Transmission<'_>,
     candidates: &mut Vec<Candidate>,
 ) -> Result<(), RowFault>
-    ensures { OnOk result (Adds office.now (is_tallied tally.now) (works_chosen chosen.now sender.now number 0 (transactions_of transmission.now)) candidates.old.items candidates.new.items) }
+    ensures { OnOk result (Adds (holders_of kind office.now) (is_tallied tally.now) (works_chosen chosen.now sender.now number 0 (transactions_of transmission.now)) candidates.old.items candidates.new.items) }
 {
     let mut place: usize = 0;
     for group in transmission.groups.as_slice() {
         let transactions = group.transactions.as_slice();
         add_group(
             alloc,
+            kind,
             office,
             tally,
             sender,
@@ -124,6 +139,7 @@ fn add_groups(
 /// of the sender.
 fn add_shown(
     alloc: Global,
+    kind: Kind,
     office: &Office,
     tally: &Tally,
     sender: &SenderKey,
@@ -133,7 +149,7 @@ fn add_shown(
     candidates: &mut Vec<Candidate>,
 ) -> Result<(), RowFault>
     ensures { (kept : Option (List ℕ)) → ShowBody kept rows.now
-        → OnOk result (Adds office.now (is_tallied tally.now) (works_chosen chosen.now sender.now number 0 (transactions_of (transmission_in (unwrap_or kept [])))) candidates.old.items candidates.new.items) }
+        → OnOk result (Adds (holders_of kind office.now) (is_tallied tally.now) (works_chosen chosen.now sender.now number 0 (transactions_of (transmission_in (unwrap_or kept [])))) candidates.old.items candidates.new.items) }
 {
     let [row] = rows else {
         return Err(RowFault::Unread);
@@ -142,6 +158,7 @@ fn add_shown(
     let transmission = read(alloc, row.body, sender)?;
     add_groups(
         alloc,
+        kind,
         office,
         tally,
         sender,
@@ -155,6 +172,7 @@ fn add_shown(
 /// Adds the candidates of a sender's transmission: of those of its transactions that are versions at the sender's cut.
 fn add_transmission<S: Alter>(
     alloc: Global,
+    kind: Kind,
     tx: &mut sqlite::Transaction<'_, S>,
     office: &Office,
     tally: &Tally,
@@ -166,7 +184,7 @@ fn add_transmission<S: Alter>(
     ensures same_reference { tx.new.conn.ghost_name ≡ tx.old.conn.ghost_name }
     ensures looks { Looks (state S.Store tx.old.conn.now) (state S.Store tx.new.conn.now) result
         (λ db _. (book : Book) → HoldsWorks office.now book db → number ≤ key.now.number → ChoosesNaming office.now book key.now (is_tallied tally.now) chosen.now
-        → Adds office.now (is_tallied tally.now) (versions_of_transmission office.now book key.now number (transactions_sent book key.now.sender number)) candidates.old.items candidates.new.items) }
+        → Adds (holders_of kind office.now) (is_tallied tally.now) (versions_of_transmission office.now book key.now number (transactions_sent book key.now.sender number)) candidates.old.items candidates.new.items) }
 {
     let rows = answer(
         tx,
@@ -174,6 +192,7 @@ fn add_transmission<S: Alter>(
     )?;
     add_shown(
         alloc,
+        kind,
         office,
         tally,
         &key.sender,
@@ -188,6 +207,7 @@ fn add_transmission<S: Alter>(
 /// read: no other has a candidate.
 fn add_transmissions<S: Alter>(
     alloc: Global,
+    kind: Kind,
     tx: &mut sqlite::Transaction<'_, S>,
     office: &Office,
     tally: &Tally,
@@ -198,11 +218,11 @@ fn add_transmissions<S: Alter>(
     ensures same_reference { tx.new.conn.ghost_name ≡ tx.old.conn.ghost_name }
     ensures looks { Looks (state S.Store tx.old.conn.now) (state S.Store tx.new.conn.now) result
         (λ db _. (book : Book) → HoldsWorks office.now book db → ChoosesNaming office.now book key.now (is_tallied tally.now) chosen.now
-        → Adds office.now (is_tallied tally.now) (versions_at_cut office.now book key.now) candidates.old.items candidates.new.items) }
+        → Adds (holders_of kind office.now) (is_tallied tally.now) (versions_at_cut office.now book key.now) candidates.old.items candidates.new.items) }
 {
     let numbers = chosen.transmissions(alloc)?;
     for number in numbers.as_slice() {
-        add_transmission(alloc, tx, office, tally, key, chosen, *number, candidates)?;
+        add_transmission(alloc, kind, tx, office, tally, key, chosen, *number, candidates)?;
     }
     Ok(())
 }
@@ -210,6 +230,7 @@ fn add_transmissions<S: Alter>(
 /// Adds the candidates of a sender: its works that are noted, as they are at its cut.
 fn add_sender<S: Alter>(
     alloc: Global,
+    kind: Kind,
     tx: &mut sqlite::Transaction<'_, S>,
     office: &Office,
     tally: &Tally,
@@ -220,16 +241,17 @@ fn add_sender<S: Alter>(
     ensures same_reference { tx.new.conn.ghost_name ≡ tx.old.conn.ghost_name }
     ensures looks { Looks (state S.Store tx.old.conn.now) (state S.Store tx.new.conn.now) result
         (λ db _. (book : Book) → HoldsWorks office.now book db → NotesRecordings db (is_tallied tally.now) named.now → notes_of_sender named.now key.now.sender ≡ true → key.now.number ≤ front book key.now.sender
-        → Adds office.now (is_tallied tally.now) (versions_at_cut office.now book key.now) candidates.old.items candidates.new.items) }
+        → Adds (holders_of kind office.now) (is_tallied tally.now) (versions_at_cut office.now book key.now) candidates.old.items candidates.new.items) }
 {
     let works = named.works_of(alloc, &key.sender)?;
     let chosen = chosen_of(alloc, tx, key, works.as_slice())?;
-    add_transmissions(alloc, tx, office, tally, key, &chosen, candidates)
+    add_transmissions(alloc, kind, tx, office, tally, key, &chosen, candidates)
 }
 
 /// The candidates of the senders of a cut.
 fn candidates_of<S: Alter>(
     alloc: Global,
+    kind: Kind,
     tx: &mut sqlite::Transaction<'_, S>,
     office: &Office,
     tally: &Tally,
@@ -240,11 +262,11 @@ fn candidates_of<S: Alter>(
     ensures looks { Looks (state S.Store tx.old.conn.now) (state S.Store tx.new.conn.now) result
         (λ db candidates. (book : Book) → HoldsWorks office.now book db → NotesRecordings db (is_tallied tally.now) named.now
         → list_all (λ key. notes_of_sender named.now key.sender) cut.now ≡ true → list_all (λ key. nat_le key.number (front book key.sender)) cut.now ≡ true
-        → StandFor office.now (is_tallied tally.now) (flat_map (versions_at_cut office.now book) cut.now) candidates.items) }
+        → StandFor (holders_of kind office.now) (is_tallied tally.now) (flat_map (versions_at_cut office.now book) cut.now) candidates.items) }
 {
     let mut candidates = Vec::new(alloc);
     for key in cut {
-        add_sender(alloc, tx, office, tally, key, named, &mut candidates)?;
+        add_sender(alloc, kind, tx, office, tally, key, named, &mut candidates)?;
     }
     Ok(candidates)
 }
@@ -252,6 +274,7 @@ fn candidates_of<S: Alter>(
 /// The candidates for the recordings of a tally: of all works of an order's cut those whose version there names one.
 pub fn candidates_in<S: Alter>(
     alloc: Global,
+    kind: Kind,
     tx: &mut sqlite::Transaction<'_, S>,
     office: &Office,
     tally: &Tally,
@@ -260,9 +283,9 @@ pub fn candidates_in<S: Alter>(
     ensures same_reference { tx.new.conn.ghost_name ≡ tx.old.conn.ghost_name }
     ensures looks { Looks (state S.Store tx.old.conn.now) (state S.Store tx.new.conn.now) result
         (λ db candidates. (book : Book) → HoldsWorks office.now book db → ReachesCut book order.now
-        → StandFor office.now (is_tallied tally.now) (works_of_cut office.now book order.now) candidates.items) }
+        → StandFor (holders_of kind office.now) (is_tallied tally.now) (works_of_cut office.now book order.now) candidates.items) }
 {
     let recordings = tally.recordings(alloc)?;
     let named = named_works(alloc, tx, recordings.as_slice(), order.cut())?;
-    candidates_of(alloc, tx, office, tally, order.cut(), &named)
+    candidates_of(alloc, kind, tx, office, tally, order.cut(), &named)
 }

@@ -9,7 +9,7 @@ ghost use Rattle.society_core.specs.Candidates.{StandFor, rows_of_return};
 ghost use Rattle.society_core.specs.Orders.{IsOrder};
 ghost use Rattle.society_core.specs.Owners.{works_of_cut};
 ghost use Rattle.society_core.specs.Points.{Tallies, is_tallied, rows_named};
-ghost use Rattle.society_core.specs.Pools.{credits_of};
+ghost use Rattle.society_core.specs.Pools.{credits_of, holders_of};
 ghost use Rattle.society_book.specs.Closings.{ClosesPool, PaysBy};
 ghost use Rattle.society_book.specs.Sources.{HoldsWorks};
 ghost use Rattle.society_book.specs.Shown.{AddsAlone, ShowBody};
@@ -19,7 +19,7 @@ use crate::closings::write_pool;
 use crate::cut_works::candidates_in;
 use perf_returns::{ReturnError, read_return};
 use pool_split::{Credit, are_payable, credits};
-use share_rules::Office;
+use share_rules::{Kind, Office};
 use society_core::{Candidate, PoolOrder, ReturnKey, Tally, claims};
 use society_rows::{Question, ReturnRow, RowFault, answer};
 use sqlite::{Alter, Connection, Row, Transaction};
@@ -89,7 +89,7 @@ fn credits_by(
     order: &PoolOrder,
 ) -> Result<Vec<Credit>, RowFault>
     ensures { (office : OfficeValue) (book : Book) → Tallies tally.now (rows_named book order.now)
-        → StandFor office (is_tallied tally.now) (works_of_cut office book order.now) candidates.now
+        → StandFor (holders_of Kind.Performing office) (is_tallied tally.now) (works_of_cut office book order.now) candidates.now
         → IfOk result (λ credits. credits.items ≡ credits_of office book order.now) }
 {
     let points = tally.points_by_recording(alloc)?;
@@ -113,7 +113,7 @@ pub fn credits_in<S: Alter>(
     ensures kept { IsOrder order.now }
 {
     let tally = tally_of(alloc, tx, order.returns())?;
-    let candidates = candidates_in(alloc, tx, office, &tally, order)?;
+    let candidates = candidates_in(alloc, Kind::Performing, tx, office, &tally, order)?;
     credits_by(alloc, &tally, &candidates, order)
 }
 

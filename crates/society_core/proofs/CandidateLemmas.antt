@@ -41,23 +41,23 @@ both true true e = (refl, refl)
 both true false e = absurd (false≢true e)
 both false b e = absurd (false≢true e)
 
-module _ (office : Office) (of_these : List ℕ → Bool) where
+module _ (weigh : CutWork → List Holder) (of_these : List ℕ → Bool) where
   -- candidates that have the holders of more works stand for these too
-  pub adds_by : (more : List CutWork) (old new : List Candidate) → ((isrc : List ℕ) → of_these isrc ≡ true → holders_among new isrc ≡ holders_among old isrc ++ holders_naming office more isrc) → Adds office of_these more old new
+  pub adds_by : (more : List CutWork) (old new : List Candidate) → ((isrc : List ℕ) → of_these isrc ≡ true → holders_among new isrc ≡ holders_among old isrc ++ holders_naming weigh more isrc) → Adds weigh of_these more old new
   adds_by more old new e = λ works stand. record {
     same = λ isrc is.
         e isrc is
-        ∙ ap (λ (hs : List (List Holder)). hs ++ holders_naming office more isrc) (stand.same isrc is)
-        ∙ sym (ap (map (holders_of office)) (filter-append (names_recording isrc) works more) ∙ map-append (holders_of office) (filter (names_recording isrc) works) (filter (names_recording isrc) more));
+        ∙ ap (λ (hs : List (List Holder)). hs ++ holders_naming weigh more isrc) (stand.same isrc is)
+        ∙ sym (ap (map weigh) (filter-append (names_recording isrc) works more) ∙ map-append (weigh) (filter (names_recording isrc) works) (filter (names_recording isrc) more));
   }
 
   -- nothing more
-  pub adds_none : (old : List Candidate) → Adds office of_these [] old old
-  adds_none old = λ works stand. subst (λ (ws : List CutWork). StandFor office of_these ws old) (sym (append-nil works)) stand
+  pub adds_none : (old : List Candidate) → Adds weigh of_these [] old old
+  adds_none old = λ works stand. subst (λ (ws : List CutWork). StandFor weigh of_these ws old) (sym (append-nil works)) stand
 
   -- some works, and then others
-  pub adds_then : (a b : List CutWork) (old mid new : List Candidate) → Adds office of_these a old mid → Adds office of_these b mid new → Adds office of_these (a ++ b) old new
-  adds_then a b old mid new first second = λ works stand. subst (λ (ws : List CutWork). StandFor office of_these ws new) (append_assoc works a b) (second (works ++ a) (first works stand))
+  pub adds_then : (a b : List CutWork) (old mid new : List Candidate) → Adds weigh of_these a old mid → Adds weigh of_these b mid new → Adds weigh of_these (a ++ b) old new
+  adds_then a b old mid new first second = λ works stand. subst (λ (ws : List CutWork). StandFor weigh of_these ws new) (append_assoc works a b) (second (works ++ a) (first works stand))
 
 same_bytes : (a b : List ℕ) → bytes_eq a b ≡ true → a ≡ b
 same_bytes a b = (bytes_eq-Decides a b).0
@@ -92,30 +92,30 @@ holders_more cs sender work holders isrcs x =
         by_case false e = e
 
 -- a work adds one candidate for each of these recordings that it names
-pub work_adds : (office : Office) (of_these : List ℕ → Bool) (sender work : List ℕ) (t : Transaction) (listed : List (List ℕ)) (old : List Candidate) → ListsOnce of_these (isrcs_of t) listed →
-    Adds office of_these (cut_work sender t ∷ []) old (old ++ map (candidate_with sender work (holders_of office (cut_work sender t))) listed)
-work_adds office of_these sender work t listed old once_each =
-    adds_by office of_these (cut_work sender t ∷ []) old (old ++ map (candidate_with sender work (holders_of office (cut_work sender t))) listed)
-    (λ x is. holders_more old sender work (holders_of office (cut_work sender t)) listed x
-    ∙ ap (λ (hs : List (List Holder)). holders_among old x ++ hs) (ap (map (λ one. holders_of office (cut_work sender t))) (once_each x is) ∙ by_case x (list_any (bytes_eq x) (isrcs_of t))))
+pub work_adds : (weigh : CutWork → List Holder) (of_these : List ℕ → Bool) (sender work : List ℕ) (t : Transaction) (listed : List (List ℕ)) (old : List Candidate) → ListsOnce of_these (isrcs_of t) listed →
+    Adds weigh of_these (cut_work sender t ∷ []) old (old ++ map (candidate_with sender work (weigh (cut_work sender t))) listed)
+work_adds weigh of_these sender work t listed old once_each =
+    adds_by weigh of_these (cut_work sender t ∷ []) old (old ++ map (candidate_with sender work (weigh (cut_work sender t))) listed)
+    (λ x is. holders_more old sender work (weigh (cut_work sender t)) listed x
+    ∙ ap (λ (hs : List (List Holder)). holders_among old x ++ hs) (ap (map (λ one. weigh (cut_work sender t))) (once_each x is) ∙ by_case x (list_any (bytes_eq x) (isrcs_of t))))
   where
-    by_case : (x : List ℕ) (b : Bool) → map (λ one. holders_of office (cut_work sender t)) (cond b (x ∷ []) []) ≡ map (holders_of office) (cond b (cut_work sender t ∷ []) [])
+    by_case : (x : List ℕ) (b : Bool) → map (λ one. weigh (cut_work sender t)) (cond b (x ∷ []) []) ≡ map weigh (cond b (cut_work sender t ∷ []) [])
     by_case x true = refl
     by_case x false = refl
 
 -- once these candidates are appended
-pub added_by : {X E : Type 0} (office : Office) (of_these : List ℕ → Bool) (sender work : List ℕ) (t : Transaction) (listed : List (List ℕ)) (holders : List Holder) (isrcs : List (List ℕ)) (old new : List Candidate) (result : Result X E) → ListsOnce of_these (isrcs_of t) listed → holders ≡ weights_of sender office t → isrcs ≡ listed →
-    OnOk result (new ≡ old ++ map (candidate_with sender work holders) isrcs) → OnOk result (Adds office of_these (cut_work sender t ∷ []) old new)
-added_by office of_these sender work t listed holders isrcs old new (Err e) once_each same these appended = tt
-added_by office of_these sender work t listed holders isrcs old new (Ok x) once_each same these appended =
-    subst (Adds office of_these (cut_work sender t ∷ []) old)
-    (sym (appended ∙ ap (λ (hs : List Holder). old ++ map (candidate_with sender work hs) isrcs) same ∙ ap (λ (is : List (List ℕ)). old ++ map (candidate_with sender work (holders_of office (cut_work sender t))) is) these))
-    (work_adds office of_these sender work t listed old once_each)
+pub added_by : {X E : Type 0} (weigh : CutWork → List Holder) (of_these : List ℕ → Bool) (sender work : List ℕ) (t : Transaction) (listed : List (List ℕ)) (holders : List Holder) (isrcs : List (List ℕ)) (old new : List Candidate) (result : Result X E) → ListsOnce of_these (isrcs_of t) listed → holders ≡ weigh (cut_work sender t) → isrcs ≡ listed →
+    OnOk result (new ≡ old ++ map (candidate_with sender work holders) isrcs) → OnOk result (Adds weigh of_these (cut_work sender t ∷ []) old new)
+added_by weigh of_these sender work t listed holders isrcs old new (Err e) once_each same these appended = tt
+added_by weigh of_these sender work t listed holders isrcs old new (Ok x) once_each same these appended =
+    subst (Adds weigh of_these (cut_work sender t ∷ []) old)
+    (sym (appended ∙ ap (λ (hs : List Holder). old ++ map (candidate_with sender work hs) isrcs) same ∙ ap (λ (is : List (List ℕ)). old ++ map (candidate_with sender work (weigh (cut_work sender t))) is) these))
+    (work_adds weigh of_these sender work t listed old once_each)
 
 -- so it does where it names none of them
-pub work_adds_none : (office : Office) (of_these : List ℕ → Bool) (sender : List ℕ) (t : Transaction) (old : List Candidate) → ListsOnce of_these (isrcs_of t) [] → Adds office of_these (cut_work sender t ∷ []) old old
-work_adds_none office of_these sender t old once_each =
-    subst (λ (cs : List Candidate). Adds office of_these (cut_work sender t ∷ []) old cs) (append-nil old) (work_adds office of_these sender [] t [] old once_each)
+pub work_adds_none : (weigh : CutWork → List Holder) (of_these : List ℕ → Bool) (sender : List ℕ) (t : Transaction) (old : List Candidate) → ListsOnce of_these (isrcs_of t) [] → Adds weigh of_these (cut_work sender t ∷ []) old old
+work_adds_none weigh of_these sender t old once_each =
+    subst (λ (cs : List Candidate). Adds weigh of_these (cut_work sender t ∷ []) old cs) (append-nil old) (work_adds weigh of_these sender [] t [] old once_each)
 
 -- whether a recording is among some
 abbrev pub is_among : List ℕ → List (List ℕ) → Bool

@@ -31,6 +31,7 @@ use Rattle.society_core.proofs.Books.{some_body, there_to_front}
 use Rattle.society_core.proofs.Fronts.{first_holds, second_holds}
 use Rattle.society_core.proofs.Gaps.{transmissions_alike}
 use Rattle.society_core.proofs.HeadlineLemmas.{run_keeps}
+use Rattle.share_rules.specs.declared.kind.Kind.TheVariants.{Performing}
 
 filter_alike : {X : Type 0} (p q : X → Bool) (xs : List X) → ((x : X) → p x ≡ q x) → filter p xs ≡ filter q xs
 filter_alike p q [] h = refl
@@ -108,7 +109,7 @@ credits_same o a b pool order alike entry =
     ∙ ap (λ (rs : List Performance). map (claim_by (works_of_cut o b order)) (points_by_recording rs)) rows)
   where
     claim_by : List CutWork → List ℕ × ℕ → Claim
-    claim_by ws played = record { isrc = played.0; points = played.1; holders = option_map (holders_of o) (sole (filter (names_recording played.0) ws)) }
+    claim_by ws played = record { isrc = played.0; points = played.1; holders = option_map (holders_of Performing o) (sole (filter (names_recording played.0) ws)) }
 
 -- in every book that a run leads to
 pub closed_pool_stays : (o : Office) (before : Book) (qs : List Query) (rs : List Reply) (after : Book) → Run o before qs rs after → IsSound before → (pool : ℕ) (order : Order) → order_at before pool ≡ Some order → answer o after (AsksCredits pool) ≡ answer o before (AsksCredits pool)

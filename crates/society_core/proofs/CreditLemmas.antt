@@ -38,6 +38,8 @@ use Rattle.works_core.specs.declared.judged.Judged.{Judged}
 use Rattle.works_core.specs.declared.judged.Judged.TheVariants.{Clean, Faulty}
 use Rattle.works_core.specs.declared.version.WorkVersion.{WorkVersion}
 use Rattle.society_core.proofs.CandidateLemmas.{all_append, both, versions_to, versions_to_next}
+use Rattle.share_rules.specs.declared.kind.Kind.{Kind}
+use Rattle.share_rules.specs.declared.kind.Kind.TheVariants.{Performing}
 
 -- whether a transaction is clean
 abbrev pub is_clean : Judged → Bool
@@ -176,14 +178,14 @@ filter_all P p (x ∷ xs) all = by_case (p x) (filter_all P p xs all.1)
     by_case true more = (all.0, more)
     by_case false more = more
 
-sole_weights : (office : Office) (works : List CutWork) → AllByRecursion (HasNoFault office) works → HasWeights (option_map (holders_of office) (sole works))
-sole_weights office [] all = tt
-sole_weights office (w ∷ []) all = let whole = clean_is_whole w.sender office w.transaction all.0 in (omega (arith, whole.0), omega (arith, whole.1))
-sole_weights office (w ∷ v ∷ more) all = tt
+sole_weights : (right : Kind) (office : Office) (works : List CutWork) → AllByRecursion (HasNoFault office) works → HasWeights (option_map (holders_of right office) (sole works))
+sole_weights right office [] all = tt
+sole_weights right office (w ∷ []) all = let whole = clean_is_whole right w.sender office w.transaction all.0 in (omega (arith, whole.0), omega (arith, whole.1))
+sole_weights right office (w ∷ v ∷ more) all = tt
 
 -- the holders of an owner have weights
-pub owner_has_weights : (office : Office) (book : Book) (order : Order) (isrc : List ℕ) → HasWeights (option_map (holders_of office) (owner office book order isrc))
-owner_has_weights office book order isrc = sole_weights office (filter (names_recording isrc) (works_of_cut office book order)) (filter_all (HasNoFault office) (names_recording isrc) (works_of_cut office book order) (works_clean office book order.cut))
+pub owner_has_weights : (right : Kind) (office : Office) (book : Book) (order : Order) (isrc : List ℕ) → HasWeights (option_map (holders_of right office) (owner office book order isrc))
+owner_has_weights right office book order isrc = sole_weights right office (filter (names_recording isrc) (works_of_cut office book order)) (filter_all (HasNoFault office) (names_recording isrc) (works_of_cut office book order) (works_clean office book order.cut))
 
 sole_map : {X Y : Type 0} (f : X → Y) (xs : List X) → option_map f (sole xs) ≡ sole (map f xs)
 sole_map f [] = refl
@@ -195,11 +197,11 @@ abbrev pub claim_with : List ℕ × ℕ → Option (List Holder) → Claim
 claim_with played holders = record { isrc = played.0; points = played.1; holders = holders }
 
 -- the claims among candidates that stand for the works of a cut are those of the pool
-pub claims_are : (office : Office) (book : Book) (order : Order) (candidates : List Candidate) (of_these : List ℕ → Bool) (ps : List (List ℕ × ℕ)) → AllByRecursion (λ p. of_these p.0 ≡ true) ps → StandFor office of_these (works_of_cut office book order) candidates → claims_among ps candidates ≡ map (claim_of office book order) ps
+pub claims_are : (office : Office) (book : Book) (order : Order) (candidates : List Candidate) (of_these : List ℕ → Bool) (ps : List (List ℕ × ℕ)) → AllByRecursion (λ p. of_these p.0 ≡ true) ps → StandFor (holders_of Performing office) of_these (works_of_cut office book order) candidates → claims_among ps candidates ≡ map (claim_of office book order) ps
 claims_are office book order candidates of_these [] these stand = refl
 claims_are office book order candidates of_these (p ∷ ps) these stand =
-    let same : option_map (λ (c : Candidate). c.holders) (sole (filter (is_candidate_for p.0) candidates)) ≡ option_map (holders_of office) (owner office book order p.0) =
-    sole_map (λ (c : Candidate). c.holders) (filter (is_candidate_for p.0) candidates) ∙ ap sole (stand.same p.0 these.0) ∙ sym (sole_map (holders_of office) (filter (names_recording p.0) (works_of_cut office book order))) in
+    let same : option_map (λ (c : Candidate). c.holders) (sole (filter (is_candidate_for p.0) candidates)) ≡ option_map (holders_of Performing office) (owner office book order p.0) =
+    sole_map (λ (c : Candidate). c.holders) (filter (is_candidate_for p.0) candidates) ∙ ap sole (stand.same p.0 these.0) ∙ sym (sole_map (holders_of Performing office) (filter (names_recording p.0) (works_of_cut office book order))) in
     ap (λ (hs : Option (List Holder)). claim_with p hs ∷ claims_among ps candidates) same
     ∙ ap (λ (cs : List Claim). claim_of office book order p ∷ cs) (claims_are office book order candidates of_these ps these.1 stand)
 
@@ -214,7 +216,7 @@ points_of_claims office book order (p ∷ ps) = ap (λ r. p.1 ∷ r) (points_of_
 
 -- the claims of a pool can be paid
 pub claims_payable : (office : Office) (book : Book) (order : Order) (ps : List (List ℕ × ℕ)) → All (λ (e : List ℕ × ℕ). 1 ≤ e.1) ps → All IsPayable (map (claim_of office book order) ps)
-claims_payable office book order ps h = All-map IsPayable (claim_of office book order) ps (λ k d low. record { points = h k d low; holders = owner_has_weights office book order _ })
+claims_payable office book order ps h = All-map IsPayable (claim_of office book order) ps (λ k d low. record { points = h k d low; holders = owner_has_weights Performing office book order _ })
 
 -- what stands in a sound book of an order
 pub order_has_returns : (book : Book) (pool : ℕ) (order : Order) → IsSound book → order_at book pool ≡ Some order → HasReturns book order

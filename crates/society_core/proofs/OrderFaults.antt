@@ -9,9 +9,10 @@ use Rattle.std.proofs.lemmas.List.Sorted.{IsPermutation-map, length_permutation,
 use Rattle.std.proofs.lemmas.List.Sums.{sum_by-cons}
 use Rattle.std.proofs.lemmas.Map.Views.{tells_apart}
 use Rattle.std.proofs.lemmas.Slice.Eq.{bytes_eq-Decides}
+use Rattle.cwr_files.specs.Sentences.{first_that_holds, sentence}
 use Rattle.work_ids.specs.Numbers.{is_return_number, is_transmission_number}
 use Rattle.society_core.specs.Keys.{ascending, return_cmp, return_key, transmission_cmp, transmission_key}
-use Rattle.society_core.specs.Orders.{has_repeat, is_out_of_range, is_too_long, least_fault, names_twice, order_fault, return_pair, same_numbered, same_sender, sent_pair}
+use Rattle.society_core.specs.Orders.{has_repeat, is_out_of_range, is_too_long, names_twice, order_fault, return_pair, same_numbered, same_sender, sent_pair}
 use Rattle.society_core.specs.declared.return_key.ReturnKey.{ReturnKey}
 use Rattle.society_core.specs.declared.transmission_key.TransmissionKey.{TransmissionKey}
 use Rattle.society_core.proofs.Ascending.{ascending_permutes}
@@ -126,7 +127,7 @@ pub told_none : (holds : Bool) (fault : ℕ) (later : Option ℕ) → cond holds
 told_none true fault later h = absurd (false≢true (ap is_none h))
 told_none false fault later h = (refl, h)
 
-none_told : (a b c : Bool) → a ≡ false → b ≡ false → c ≡ false → least_fault ((2, a) ∷ (3, b) ∷ (4, c) ∷ []) ≡ None
+none_told : (a b c : Bool) → a ≡ false → b ≡ false → c ≡ false → first_that_holds (sentence 2 a ∷ sentence 3 b ∷ sentence 4 c ∷ []) ≡ None
 none_told true b c h k l = absurd (false≢true (sym h))
 none_told false true c h k l = absurd (false≢true (sym k))
 none_told false false true h k l = absurd (false≢true (sym l))

@@ -12,6 +12,7 @@ use Rattle.cwr_files.specs.declared.transmission.Transaction.{Transaction}
 use Rattle.perf_returns.specs.Returns.{return_fault}
 use Rattle.perf_returns.specs.declared.fault.ReturnFault.{ReturnFault}
 use Rattle.share_rules.specs.Weights.{weights_of}
+use Rattle.share_rules.specs.declared.kind.Kind.TheVariants.{Performing}
 use Rattle.share_rules.specs.declared.office.Office.{Office}
 use Rattle.society_core.specs.Book.{Book, ack, body_at, front, held, order_at, return_at, shown_verdicts, transaction_at, version_in, with_pool, with_return, with_transmission}
 use Rattle.society_core.specs.Orders.{Order, names_return, same_order}
@@ -95,7 +96,7 @@ abbrev pub judged_answer : Option (List Verdict) → Reply
 judged_answer (Some verdicts) = Judged verdicts
 judged_answer None = Refused Unknown
 
--- what is shown of a version: the title without the blanks at its end, the ISWC where there is one, the ISRCs in order, and the holders with their weights (profile)
+-- what is shown of a version: the title without the blanks at its end, the ISWC where there is one, the ISRCs in order, and the holders with their weights in the performing right (profile)
 abbrev pub shown_by : Office → List ℕ → List ℕ → WorkVersion → Transaction → Shown
 shown_by office sender work version transaction = record {
   number = work;
@@ -103,7 +104,7 @@ shown_by office sender work version transaction = record {
   title = without_trailing_blanks (title_of transaction);
   iswc = right_one (iswc_of_work transaction);
   isrcs = isrcs_of transaction;
-  holders = weights_of sender office transaction;
+  holders = weights_of Performing sender office transaction;
 }
 
 -- what a version shows, if its transaction is there

@@ -7,12 +7,10 @@ use Rattle.perf_returns.specs.Returns.{performances_in}
 use Rattle.perf_returns.specs.declared.performance.Performance.{Performance}
 use Rattle.society_core.specs.declared.return_key.ReturnKey.{ReturnKey}
 use Rattle.share_rules.specs.declared.holder.Holder.{Holder}
-use Rattle.share_rules.specs.declared.office.Office.{Office}
 use Rattle.society_core.specs.Book.{Book, body_at, front, return_at}
 use Rattle.society_core.specs.Claims.{is_candidate_for}
 use Rattle.society_core.specs.Orders.{IsOrder, Order}
 use Rattle.society_core.specs.Owners.{CutWork, cut_work, is_at, names_recording}
-use Rattle.society_core.specs.Pools.{holders_of}
 use Rattle.society_core.specs.declared.claim_list.Candidate.{Candidate}
 use Rattle.work_ids.specs.declared.fault.IdFault.{IdFault}
 use Rattle.works_core.specs.Versions.{work_at}
@@ -22,17 +20,17 @@ use Rattle.works_core.specs.Numbered.{JudgedTransmission}
 abbrev pub holders_among : List Candidate → List ℕ → List (List Holder)
 holders_among candidates isrc = map (λ candidate. candidate.holders) (filter (is_candidate_for isrc) candidates)
 
--- the holders of each work that names a recording, in order
-abbrev pub holders_naming : Office → List CutWork → List ℕ → List (List Holder)
-holders_naming office works isrc = map (holders_of office) (filter (names_recording isrc) works)
+-- the holders of each work that names a recording, by what weighs a work, in order
+abbrev pub holders_naming : (CutWork → List Holder) → List CutWork → List ℕ → List (List Holder)
+holders_naming weigh works isrc = map weigh (filter (names_recording isrc) works)
 
--- candidates stand for works: of each of these recordings they have the holders of the works that name it, in the same order
-pub record StandFor (office : Office) (of_these : List ℕ → Bool) (works : List CutWork) (candidates : List Candidate) : Type 0 where
-  pub same : (isrc : List ℕ) → of_these isrc ≡ true → holders_among candidates isrc ≡ holders_naming office works isrc
+-- candidates stand for works, by what weighs a work: of each of these recordings they have the holders of the works that name it, in the same order
+pub record StandFor (weigh : CutWork → List Holder) (of_these : List ℕ → Bool) (works : List CutWork) (candidates : List Candidate) : Type 0 where
+  pub same : (isrc : List ℕ) → of_these isrc ≡ true → holders_among candidates isrc ≡ holders_naming weigh works isrc
 
 -- candidates for these recordings are added that stand for some works more
-abbrev pub Adds : Office → (List ℕ → Bool) → List CutWork → List Candidate → List Candidate → Type 0
-Adds office of_these more old new = (works : List CutWork) → StandFor office of_these works old → StandFor office of_these (works ++ more) new
+abbrev pub Adds : (CutWork → List Holder) → (List ℕ → Bool) → List CutWork → List Candidate → List Candidate → Type 0
+Adds weigh of_these more old new = (works : List CutWork) → StandFor weigh of_these works old → StandFor weigh of_these (works ++ more) new
 
 -- each of these recordings that is named stands once in a list, and none that is not named
 abbrev pub ListsOnce : (List ℕ → Bool) → List (List ℕ) → List (List ℕ) → Type 0

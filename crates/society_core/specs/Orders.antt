@@ -3,6 +3,7 @@ use Rattle.std.specs.Prelude.{ℕ, Bool, true, false, not, List, [], ◌∷◌, 
 use Rattle.std.specs.Cmp.Lexicographic.{pointwise}
 use Rattle.std.specs.Coded.{Coded, code_by, coded×, coded_ℕ, coded_list}
 use Rattle.std.specs.List.{list_any, list_all}
+use Rattle.cwr_files.specs.Sentences.{first_that_holds, sentence}
 use Rattle.work_ids.specs.Numbers.{is_return_number, is_transmission_number}
 use Rattle.work_ids.specs.SenderKey.{is_sender_key}
 use Rattle.society_core.specs.Keys.{ascending, coded_return_key, coded_transmission_key, return_cmp, return_key, transmission_cmp, transmission_key}
@@ -64,15 +65,10 @@ is_too_long cut returns = nat_lt 200 (length cut) || nat_lt 1000 (length returns
 abbrev pub names_twice : List (List ℕ × ℕ) → List (List ℕ × ℕ) → Bool
 names_twice cut returns = has_repeat same_sender cut || has_repeat same_numbered returns
 
--- the first fault of some whose sentence holds
-abbrev pub least_fault : List (ℕ × Bool) → Option ℕ
-least_fault [] = None
-least_fault ((fault, holds) ∷ more) = if holds then Some fault else least_fault more
-
 -- the least fault of the numbers of an order, none where they make one (profile)
 abbrev pub order_fault : ℕ → List (List ℕ × ℕ) → List (List ℕ × ℕ) → Option ℕ
 order_fault amount cut returns =
-    least_fault ((2, is_out_of_range amount cut returns) ∷ (3, is_too_long cut returns) ∷ (4, names_twice cut returns) ∷ [])
+    first_that_holds (sentence 2 (is_out_of_range amount cut returns) ∷ sentence 3 (is_too_long cut returns) ∷ sentence 4 (names_twice cut returns) ∷ [])
 
 -- the order that these numbers make (profile)
 abbrev pub order_of : ℕ → List (List ℕ × ℕ) → List (List ℕ × ℕ) → Order

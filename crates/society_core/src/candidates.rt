@@ -7,6 +7,7 @@ ghost use Rattle.society_core.specs.Candidates.{Adds, ListsOnce, ReachesCut, Sta
 ghost use Rattle.society_core.specs.Keys.{bytes_cmp};
 ghost use Rattle.society_core.specs.Owners.{cut_work, is_at, versions_at_cut, versions_of_transmission, works_of_cut};
 ghost use Rattle.society_core.specs.Points.{is_tallied};
+ghost use Rattle.society_core.specs.Pools.{holders_of};
 ghost use Rattle.works_core.specs.Line.{line_of};
 ghost use Rattle.works_core.specs.Recordings.{isrcs_of};
 ghost use Rattle.works_core.specs.Versions.{work_at};
@@ -19,7 +20,7 @@ use crate::points::Tally;
 use crate::transmission_key::TransmissionKey;
 use cwr_files::Transaction;
 use pool_split::Holders;
-use share_rules::{Holder, Office, weights};
+use share_rules::{Holder, Kind, Office, weights};
 use std::alloc::{AllocError, Global};
 use std::collections::BTreeSet;
 use work_ids::{Isrc, SenderKey, TransmissionNumber, WorkNumber};
@@ -79,6 +80,7 @@ fn append_candidates(
 /// out once, and only where it names one.
 pub fn add_candidates(
     alloc: Global,
+    kind: Kind,
     office: &Office,
     tally: &Tally,
     sender: &SenderKey,
@@ -86,13 +88,13 @@ pub fn add_candidates(
     transaction: &Transaction<'_>,
     candidates: &mut Vec<Candidate>,
 ) -> Result<(), AllocError>
-    ensures { OnOk result (Adds office.now (is_tallied tally.now) (cut_work sender.now transaction.now ∷ []) candidates.old.items candidates.new.items) }
+    ensures { OnOk result (Adds (holders_of kind office.now) (is_tallied tally.now) (cut_work sender.now transaction.now ∷ []) candidates.old.items candidates.new.items) }
 {
     let named = tallied_isrcs(alloc, tally, transaction)?;
     if named.is_empty() {
         return Ok(());
     }
-    let holders = weights(alloc, sender, transaction, office)?;
+    let holders = weights(alloc, kind, sender, transaction, office)?;
     append_candidates(alloc, sender, work, &holders, &named, candidates)
 }
 
@@ -115,6 +117,7 @@ fn is_version_at(
 /// Adds the candidates of a transaction, where it is the version that its work has at the sender's cut.
 fn add_transaction(
     alloc: Global,
+    kind: Kind,
     office: &Office,
     tally: &Tally,
     key: &TransmissionKey,
@@ -124,7 +127,7 @@ fn add_transaction(
     transaction: &Transaction<'_>,
     candidates: &mut Vec<Candidate>,
 ) -> Result<(), AllocError>
-    ensures { OnOk result (Adds office.now (is_tallied tally.now) (work_where (is_version_by line.now.transmissions key.now.number number place (number_of_work transaction.now)) key.now.sender transaction.now) candidates.old.items candidates.new.items) }
+    ensures { OnOk result (Adds (holders_of kind office.now) (is_tallied tally.now) (work_where (is_version_by line.now.transmissions key.now.number number place (number_of_work transaction.now)) key.now.sender transaction.now) candidates.old.items candidates.new.items) }
 {
     let Some(work) = transaction.work_number() else {
         return Ok(());
@@ -134,6 +137,7 @@ fn add_transaction(
     }
     add_candidates(
         alloc,
+        kind,
         office,
         tally,
         &key.sender,
@@ -146,6 +150,7 @@ fn add_transaction(
 /// Adds the candidates of a sender's transmission: of those of its transactions that are versions at the sender's cut.
 fn add_versions(
     alloc: Global,
+    kind: Kind,
     office: &Office,
     tally: &Tally,
     book: &PlainBook,
@@ -158,7 +163,7 @@ fn add_versions(
     requires line { line.now.transmissions ≡ line_of office.now (transmissions_to book.now key.now.sender key.now.number) }
     requires within { number ≤ key.now.number }
     requires there { is_there book.now key.now.sender number ≡ true }
-    ensures { OnOk result (Adds office.now (is_tallied tally.now) (versions_of_transmission office.now book.now key.now number (transactions_sent book.now key.now.sender number)) candidates.old.items candidates.new.items) }
+    ensures { OnOk result (Adds (holders_of kind office.now) (is_tallied tally.now) (versions_of_transmission office.now book.now key.now number (transactions_sent book.now key.now.sender number)) candidates.old.items candidates.new.items) }
 {
     let transmission = transmission_of(alloc, book, &key.sender, number)?;
     prove!(number.value() >= 1);
@@ -171,6 +176,7 @@ fn add_versions(
         };
         add_transaction(
             alloc,
+            kind,
             office,
             tally,
             key,
@@ -187,6 +193,7 @@ fn add_versions(
 /// Adds the candidates of a sender: its works as they are at its cut.
 fn add_sender(
     alloc: Global,
+    kind: Kind,
     office: &Office,
     tally: &Tally,
     book: &PlainBook,
@@ -195,14 +202,14 @@ fn add_sender(
 ) -> Result<(), AllocError>
     requires sound { IsSound book.now }
     requires reached { key.now.number ≤ front book.now key.now.sender }
-    ensures { OnOk result (Adds office.now (is_tallied tally.now) (versions_at_cut office.now book.now key.now) candidates.old.items candidates.new.items) }
+    ensures { OnOk result (Adds (holders_of kind office.now) (is_tallied tally.now) (versions_at_cut office.now book.now key.now) candidates.old.items candidates.new.items) }
 {
     let line = line_to(alloc, office, book, &key.sender, key.number.value())?;
     for sent in 0..key.number.value() {
         let Some(number) = TransmissionNumber::from_u32(sent + 1) else {
             unreachable!();
         };
-        add_versions(alloc, office, tally, book, key, &line, number, candidates)?;
+        add_versions(alloc, kind, office, tally, book, key, &line, number, candidates)?;
     }
     Ok(())
 }
@@ -210,6 +217,7 @@ fn add_sender(
 /// The candidates for the recordings of a tally: of all works of the cut of an order those that name one.
 pub(crate) fn candidates_of(
     alloc: Global,
+    kind: Kind,
     office: &Office,
     tally: &Tally,
     book: &PlainBook,
@@ -217,11 +225,11 @@ pub(crate) fn candidates_of(
 ) -> Result<Vec<Candidate>, AllocError>
     requires sound { IsSound book.now }
     requires reached { ReachesCut book.now order.now }
-    ensures { IfOk result (λ candidates. StandFor office.now (is_tallied tally.now) (works_of_cut office.now book.now order.now) candidates.items) }
+    ensures { IfOk result (λ candidates. StandFor (holders_of kind office.now) (is_tallied tally.now) (works_of_cut office.now book.now order.now) candidates.items) }
 {
     let mut candidates = Vec::new(alloc);
     for key in order.cut() {
-        add_sender(alloc, office, tally, book, key, &mut candidates)?;
+        add_sender(alloc, kind, office, tally, book, key, &mut candidates)?;
     }
     Ok(candidates)
 }

@@ -8,7 +8,7 @@ ghost use Rattle.works_core.specs.Recordings.{right_one};
 
 use crate::answers::Work;
 use cwr_files::Transaction;
-use share_rules::{Office, weights};
+use share_rules::{Kind, Office, weights};
 use std::alloc::{AllocError, Global};
 use work_ids::{Iswc, SenderKey, WorkNumber};
 use works_core::{WorkVersion, isrcs};
@@ -31,7 +31,7 @@ fn right_iswc(transaction: &Transaction<'_>) -> Option<Iswc>
 }
 
 /// What a version of a sender's work shows, by its transaction: number, title without the blanks at its end, ISWC, ISRCs in order, and the
-/// holders with their weights (profile). Any store shows its works by it.
+/// holders with their weights in the performing right (profile). Any store shows its works by it.
 pub fn show(
     alloc: Global,
     office: &Office,
@@ -48,6 +48,6 @@ pub fn show(
         title: title(alloc, transaction)?,
         iswc: right_iswc(transaction),
         isrcs: isrcs(alloc, transaction)?,
-        holders: weights(alloc, sender, transaction, office)?,
+        holders: weights(alloc, Kind::Performing, sender, transaction, office)?,
     })
 }

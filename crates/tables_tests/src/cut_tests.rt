@@ -4,7 +4,7 @@ ghost use Rattle.std.specs.Prelude.{◌≡◌, false};
 use crate::checks::holds;
 use cwr_files::FileReader;
 use perf_returns::read_return;
-use share_rules::Office;
+use share_rules::{Kind, Office};
 use society_book::{arrive, candidates_in};
 use society_core::{Candidate, PoolOrder, Tally};
 use society_rows::{OfficeRow, create};
@@ -85,7 +85,7 @@ fn found(alloc: Global, cut: u64) -> Result<Vec<Candidate>, Fail> {
         .ok_or("an order")?;
     let tally = tallied(alloc)?;
     let mut tx = conn.transaction();
-    let candidates = candidates_in(alloc, &mut tx, &office, &tally, &order);
+    let candidates = candidates_in(alloc, Kind::Performing, &mut tx, &office, &tally, &order);
     tx.rollback();
     let candidates = candidates.ok().ok_or("candidates")?;
     Ok(candidates)

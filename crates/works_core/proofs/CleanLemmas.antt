@@ -5,7 +5,8 @@ use Rattle.std.specs.Result.{result_ok}
 use Rattle.std.proofs.lemmas.Bool.{false≢true}
 use Rattle.cwr_files.specs.Transaction.{number_of_work}
 use Rattle.cwr_files.specs.declared.transmission.Transaction.{Transaction}
-use Rattle.share_rules.specs.Fault.{fault_of, first_fault, has_no_work_number, sentences, Sentence}
+use Rattle.cwr_files.specs.Sentences.{Sentence, first_that_holds}
+use Rattle.share_rules.specs.Fault.{fault_of, has_no_work_number, sentences}
 use Rattle.share_rules.specs.declared.office.Office.{Office}
 use Rattle.work_ids.specs.Blanks.{fill, without_trailing_blanks}
 use Rattle.work_ids.specs.Characters.{is_printable}
@@ -14,10 +15,10 @@ use Rattle.work_ids.specs.declared.fault.IdFault.{IdFault}
 use Rattle.work_ids.specs.declared.fault.IdFault.TheVariants.{Length, Character}
 use Rattle.works_core.proofs.TrackLemmas.{none_is_none}
 
-not_first : (s : Sentence) (more : List Sentence) → first_fault (s ∷ more) ≡ None → (s.holds ≡ false) × (first_fault more ≡ None)
+not_first : (s : Sentence) (more : List Sentence) → first_that_holds (s ∷ more) ≡ None → (s.holds ≡ false) × (first_that_holds more ≡ None)
 not_first s more e = by_case s.holds e
   where
-    by_case : (b : Bool) → (if b then Some s.fault else first_fault more) ≡ None → (b ≡ false) × (first_fault more ≡ None)
+    by_case : (b : Bool) → (if b then Some s.fault else first_that_holds more) ≡ None → (b ≡ false) × (first_that_holds more ≡ None)
     by_case true is = absurd (none_is_none s.fault (sym is))
     by_case false is = (refl, is)
 
@@ -26,7 +27,7 @@ abbrev second_holds : List Sentence → Bool
 second_holds (first ∷ second ∷ more) = second.holds
 second_holds _ = false
 
-second_not : (all : List Sentence) → first_fault all ≡ None → second_holds all ≡ false
+second_not : (all : List Sentence) → first_that_holds all ≡ None → second_holds all ≡ false
 second_not [] e = refl
 second_not (first ∷ []) e = refl
 second_not (first ∷ second ∷ more) e = (not_first second more (not_first first (second ∷ more) e).1).0

@@ -11,6 +11,7 @@ use Rattle.society_core.specs.Points.{is_tallied}
 use Rattle.society_book.specs.CutWorks.{is_chosen, works_chosen}
 use Rattle.society_book.proofs.CutCandidates.{where_append}
 use Rattle.society_book.proofs.cut_works.add_groups.Goals as goal
+use Rattle.society_core.specs.Pools.{holders_of}
 
 pub loop-group-preserved : goal.loop-group-preserved
 loop-group-preserved c =
@@ -36,6 +37,6 @@ loop-group-preserved c =
     ∙ ap (λ (k : ℕ). works_chosen chosen s n 0 so_far ++ works_chosen chosen s n k ts) place in
     record {
       place = c.in_ok-place.ensures ∙ ap (λ (k : ℕ). k + length ts) c.loop-group.invariant.place ∙ sym (ap (λ (l : List Transaction). length l) next ∙ length-append so_far ts);
-      adds = subst (λ (ws : List CutWork). Adds o of_these ws c.args.candidates.now.items c.add_group.new.candidates.items) (sym step)
-          (adds_then o of_these (works_chosen chosen s n 0 so_far) (works_chosen chosen s n c.loop-group.place ts) c.args.candidates.now.items c.loop-group.candidates.items c.add_group.new.candidates.items c.loop-group.invariant.adds c.in_ok-add_group.ensures);
+      adds = subst (λ (ws : List CutWork). Adds (holders_of c.args.kind o) of_these ws c.args.candidates.now.items c.add_group.new.candidates.items) (sym step)
+          (adds_then (holders_of c.args.kind o) of_these (works_chosen chosen s n 0 so_far) (works_chosen chosen s n c.loop-group.place ts) c.args.candidates.now.items c.loop-group.candidates.items c.add_group.new.candidates.items c.loop-group.invariant.adds c.in_ok-add_group.ensures);
     }

@@ -10,6 +10,7 @@ use Rattle.society_core.specs.declared.transmission_key.TransmissionKey.{Transmi
 use Rattle.society_book.specs.CutWorks.{notes_of_sender}
 use Rattle.society_book.proofs.StepLemmas.{looks_as, looks_then}
 use Rattle.society_book.proofs.cut_works.candidates_of.Goals as goal
+use Rattle.society_core.specs.Pools.{holders_of}
 
 pub loop-key-preserved : goal.loop-key-preserved
 loop-key-preserved g c =
@@ -27,7 +28,7 @@ loop-key-preserved g c =
           (λ y first second b holds notes asked reached.
           let is_asked : notes_of_sender named key.sender ≡ true = ap (λ (k : TransmissionKey). notes_of_sender named k.sender) c.key-item.is ∙ all_at (λ (k : TransmissionKey). notes_of_sender named k.sender) cut i key asked c.loop-key-test.true in
           let is_reached : nat_le key.number (front b key.sender) ≡ true = ap (λ (k : TransmissionKey). nat_le k.number (front b k.sender)) c.key-item.is ∙ all_at (λ (k : TransmissionKey). nat_le k.number (front b k.sender)) cut i key reached c.loop-key-test.true in
-          subst (λ (ws : List CutWork). StandFor o of_these ws c.add_sender.new.candidates.items)
+          subst (λ (ws : List CutWork). StandFor (holders_of c.args.kind o) of_these ws c.add_sender.new.candidates.items)
           (sym (ap (flat_map (versions_at_cut o b)) next ∙ works_push o b so_far key))
           (second b holds notes is_asked (at_most key.number (front b key.sender) is_reached) (flat_map (versions_at_cut o b) so_far) (first b holds notes asked reached)));
     }
@@ -37,4 +38,4 @@ returns-clause-looks g c =
     let o = c.args.office.now in
     let cut = c.args.cut.now in
     looks_as (state g.S.Store c.args.tx.now.conn.now) (state g.S.Store c.loop-key.tx.conn.now) tt (Ok c.loop-key.candidates) _ _ c.loop-key.invariant.looks
-    (λ first b holds notes asked reached. subst (λ (keys : List TransmissionKey). StandFor o (is_tallied c.args.tally.now) (flat_map (versions_at_cut o b) keys) c.loop-key.candidates.items) (take_all c.loop-key.key-index cut c.loop-key-test.false) (first b holds notes asked reached))
+    (λ first b holds notes asked reached. subst (λ (keys : List TransmissionKey). StandFor (holders_of c.args.kind o) (is_tallied c.args.tally.now) (flat_map (versions_at_cut o b) keys) c.loop-key.candidates.items) (take_all c.loop-key.key-index cut c.loop-key-test.false) (first b holds notes asked reached))

@@ -9,6 +9,7 @@ use Rattle.society_book.specs.CutWorks.{NotesRecordings, notes_of_sender}
 use Rattle.society_book.specs.Sources.{HoldsWorks}
 use Rattle.society_book.specs.Steps.{Looks}
 use Rattle.society_book.proofs.cut_works.candidates_of.Given as goal
+use Rattle.society_core.specs.Pools.{holders_of}
 
 -- the candidates stand for the works of the senders so far
 abbrev pub invariant-loop-key : goal.invariant-loop-key
@@ -17,5 +18,5 @@ invariant-loop-key g l = record {
   looks : Looks {X = Unit {0}} (state g.S.Store l.initial.tx.conn.now) (state g.S.Store l.tx.conn.now) (Ok tt)
       (λ db _. (book : Book) → HoldsWorks l.office book db → NotesRecordings db (is_tallied l.tally) l.named
       → list_all (λ key. notes_of_sender l.named key.sender) l.cut ≡ true → list_all (λ key. nat_le key.number (front book key.sender)) l.cut ≡ true
-      → StandFor l.office (is_tallied l.tally) (flat_map (versions_at_cut l.office book) (take l.key-index l.cut)) l.candidates.items);
+      → StandFor (holders_of l.kind l.office) (is_tallied l.tally) (flat_map (versions_at_cut l.office book) (take l.key-index l.cut)) l.candidates.items);
 }
