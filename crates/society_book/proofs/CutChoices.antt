@@ -5,6 +5,7 @@ use Rattle.std.specs.BTreeSet.{contains}
 use Rattle.std.specs.Ordering.{nat_cmp}
 use Rattle.share_rules.specs.declared.office.Office.{Office}
 use Rattle.society_core.proofs.Gaps.{version_within}
+use Rattle.society_core.proofs.Lines.{line_rises}
 use Rattle.society_core.specs.Book.{Book, transmissions_to, version_in}
 use Rattle.society_core.specs.declared.transmission_key.TransmissionKey.{TransmissionKey}
 use Rattle.society_book.specs.CutWorks.{Chooses, chosen_at}
@@ -71,7 +72,7 @@ module _ (office : Office) (book : Book) (key : TransmissionKey) (known : List �
       by_member : (n : ℕ) (c : Bool) → (version.transmission == n) ≡ c → (c || contains nat_cmp old.transmissions n) ≡ true → (1 ≤ n) × (n ≤ key.number)
       by_member n true is there =
           let same : version.transmission ≡ n = (unsigned_Decides version.transmission n).0 is in
-          let limits = version_within (line_of office (transmissions_to book key.sender key.number)) work key.number version (sym some) in
+          let limits = version_within (line_of office (transmissions_to book key.sender key.number)) work key.number version (line_rises office book key.sender key.number) (sym some) in
           (omega (arith, limits.0, same), omega (arith, limits.1, same))
       by_member n false is there = chooses.within n there
 
