@@ -13,9 +13,9 @@ returns-in-Some c =
     let is = c.deref.ensures.value in
     record {
       front =
-        c.value.ensures.value
-        ∙ last_of 0 c.deref.result.now x (sym c.last.ensures.value ∙ ap option_copied c.in-Some.is)
-        ∙ ap (λ (xs : List KeptTransmission). last_number 0 (kept_line xs)) is
-        ∙ ap (λ (v : SenderLineValue). last_number 0 v.transmissions) c.self.view_is;
+          c.value.ensures.value
+          ∙ last_of 0 c.deref.result.now x (sym c.last.ensures.value ∙ ap option_copied c.in-Some.is)
+          ∙ ap (λ (xs : List KeptTransmission). last_number 0 (kept_line xs)) is
+          ∙ ap (λ (v : SenderLineValue). last_number 0 v.transmissions) c.self.view_is;
       limit = omega (arith, c.value.ensures.value, c.value.ensures.limits);
     }
