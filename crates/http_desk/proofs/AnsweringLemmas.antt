@@ -6,14 +6,14 @@ use Rattle.std.proofs.lemmas.List.{append-nil, drop_at}
 use Rattle.cwr_files.specs.Fed.{Fed, WasFed}
 use Rattle.httparse.specs.Grammar.{RequestHead, print_request}
 use Rattle.society_core.specs.Requests.{Puts, Query, Reply}
-use Rattle.society_core.specs.Runs.{Proceeds, Step}
+use Rattle.society_core.specs.Runs.{Proceeds}
 use Rattle.society_core.specs.State.{State}
 use Rattle.society_core.specs.declared.transmission_key.TransmissionKey.{TransmissionKey}
 use Rattle.http_desk.specs.Answering.{ComesNext, IsLeft, Takes}
 use Rattle.http_desk.specs.Counted.{failures_of, inner_of}
 use Rattle.http_desk.specs.Feeding.{HasFed, pending}
 use Rattle.http_desk.specs.Head.{HasHead}
-use Rattle.http_desk.specs.Input.{unread, FailsBy, ReadsFrom}
+use Rattle.http_desk.specs.Input.{unread, FailsBy, ReadsAwaited}
 use Rattle.http_desk.specs.Outbox.{Sends}
 use Rattle.http_desk.specs.Part.{Begins, print_part}
 use Rattle.http_desk.specs.BodyLength.{is_put}
@@ -79,25 +79,25 @@ takes_fed state desk new_desk before rest turns spare known now reads now_reads 
   is_part = fed_is_part before turns known reads kept rest spare now now_reads sink left so h none;
   whole = fed_whole_part before turns known reads kept rest spare now now_reads sink left so h;
   is_last = h.3.last;
-  step = λ clean.
-      let P : Query → Type 0 = λ q. Step (state desk).office (state desk).book q (told_reply told) (state new_desk).book in
-      let Q : Reply → Type 0 = λ r. Step (state desk).office (state desk).book (Puts key.sender key.number so.fed) r (state new_desk).book in
-      subst P (asks h so.fed) (subst Q (sym same) ((proceeds so.fed so.was_fed).step clean));
+  step =
+      let P : Query → Type 0 = λ q. Proceeds (state desk) (state new_desk) q (told_reply told) in
+      let Q : Reply → Type 0 = λ r. Proceeds (state desk) (state new_desk) (Puts key.sender key.number so.fed) r in
+      subst P (asks h so.fed) (subst Q (sym same) (proceeds so.fed so.was_fed));
 }
 
 -- ---- what was read
 
 pub ComesNext-after : {S R : Type 0} (state : S → State) (remaining : R → Option (List ℕ)) (desk new_desk : S) (reader mid_reader new_reader : Counted R) (input mid_input new_input : Input) (result : Result Next FaultKind)
-    → ReadsFrom remaining reader mid_reader input mid_input → ComesNext state remaining desk new_desk mid_reader new_reader mid_input new_input result
+    → ReadsAwaited remaining reader mid_reader input mid_input → ComesNext state remaining desk new_desk mid_reader new_reader mid_input new_input result
     → ComesNext state remaining desk new_desk reader new_reader input new_input result
 ComesNext-after state remaining desk new_desk reader mid_reader new_reader input mid_input new_input result reads next = record {
   bytes = next.bytes;
-  reads = ReadsOn-join _ _ _ _ _ _ _ _ _ _ _ _ reads next.reads;
+  reads = ReadsOn-join Awaits _ _ _ _ _ _ _ _ _ _ _ _ reads next.reads;
   comes = next.comes;
 }
 
 pub came : {S R : Type 0} (state : S → State) (remaining : R → Option (List ℕ)) (desk new_desk : S) (reader mid_reader new_reader : Counted R) (input mid_input new_input : Input) (result : Result Next FaultKind)
-    → ReadsFrom remaining reader mid_reader input mid_input → ComesNext state remaining desk new_desk mid_reader new_reader mid_input new_input result
+    → ReadsAwaited remaining reader mid_reader input mid_input → ComesNext state remaining desk new_desk mid_reader new_reader mid_input new_input result
     → IfOk result (λ next. ComesNext state remaining desk new_desk reader new_reader input new_input (Ok next))
 came state remaining desk new_desk reader mid_reader new_reader input mid_input new_input (Ok next) reads comes =
     ComesNext-after state remaining desk new_desk reader mid_reader new_reader input mid_input new_input (Ok next) reads comes
@@ -131,7 +131,7 @@ all_written holds new_holds waiting later bytes more kept known sends written aw
     ]
 
 pub left_by : {S R W : Type 0} (state : S → State) (remaining : R → Option (List ℕ)) (contents : W → Option (List ℕ)) (desk new_desk : S) (reader mid_reader new_reader : Counted R) (writer new_writer : Counted W) (input mid_input new_input : Input) (waiting later : List ℕ) (kept : Head) (result : Result Next FaultKind)
-    → ReadsFrom remaining reader mid_reader input mid_input → failures_of mid_reader ≡ failures_of reader
+    → ReadsAwaited remaining reader mid_reader input mid_input → failures_of mid_reader ≡ failures_of reader
     → Sends (contents (inner_of writer)) (contents (inner_of new_writer)) waiting later
     → (later ≡ []) ⊎ IsUpcoming (Request kept) (unread mid_input) (remaining (inner_of mid_reader))
     → ComesNext state remaining desk new_desk mid_reader new_reader mid_input new_input result
@@ -143,7 +143,7 @@ left_by state remaining contents desk new_desk reader mid_reader new_reader writ
     let Q : ℕ → Type 0 = λ n. FailsBy kind new_input.turns n (failures_of new_reader) in
     record {
       bytes = comes.bytes;
-      reads = ReadsOn-join _ _ _ _ _ _ _ _ _ _ _ _ reads comes.reads;
+      reads = ReadsOn-join Awaits _ _ _ _ _ _ _ _ _ _ _ _ reads comes.reads;
       same = comes.comes.1;
       stops =
           stops_by kind comes.bytes new_input.turns (failures_of reader) (failures_of new_reader) (failures_of writer, failures_of new_writer) _ _ waiting comes.comes.0 (subst Q same fails)

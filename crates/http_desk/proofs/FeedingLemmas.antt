@@ -88,7 +88,7 @@ module _ (before : List ℕ) (turns : ℕ) (known : Option (List ℕ)) (reads : 
     was_fed = empty;
     size = omega arith;
     read_on =
-        ReadsOn-same before _ turns spare known reads
+        ReadsOn-same Awaits before _ turns spare known reads
         (ap (λ (v : List ℕ). v ++ rest) (append-nil (take kept.length before))
         ∙ ap (λ (v : List ℕ). take kept.length before ++ v) e
         ∙ take-append-drop kept.length before) same small;
@@ -96,16 +96,22 @@ module _ (before : List ℕ) (turns : ℕ) (known : Option (List ℕ)) (reads : 
 
   -- bytes were read
   pub fed_read : (rest next : List ℕ) (spare later_spare : ℕ) (now later : Option (List ℕ)) (now_reads later_reads : ℕ) (sink : Fed) (left : ℕ)
-      → HasFed before rest turns spare known now reads now_reads kept sink left → ReadsOn rest next spare later_spare now later now_reads later_reads
+      → HasHead before kept → 1 ≤ left
+      → HasFed before rest turns spare known now reads now_reads kept sink left → ReadsOn (λ bytes. bytes ≡ []) rest next spare later_spare now later now_reads later_reads
       → HasFed before next turns later_spare known later reads later_reads kept sink left
-  fed_read rest next spare later_spare now later now_reads later_reads sink left so more = record {
+  fed_read rest next spare later_spare now later now_reads later_reads sink left h some so more = record {
     fed = so.fed;
     was_fed = so.was_fed;
     size = so.size;
     read_on =
-        ReadsOn-join before _ _ turns spare later_spare known now later reads now_reads later_reads so.read_on
-        (ReadsOn-behind (take kept.length before ++ so.fed) rest next spare later_spare now later now_reads later_reads more);
+        ReadsOn-join Awaits before _ _ turns spare later_spare known now later reads now_reads later_reads so.read_on
+        (ReadsOn-behind (λ bytes. bytes ≡ []) Awaits (take kept.length before ++ so.fed) rest next spare later_spare now later now_reads later_reads awaited more);
   }
+    where
+      awaited : (v : List ℕ) → v ≡ [] → Awaits ((take kept.length before ++ so.fed) ++ v)
+      awaited v nil =
+          awaits_body _ kept (pending_head before so.fed v kept h)
+          (omega (arith, so.size, some, ap length nil, length-append (take kept.length before ++ so.fed) v, length-append (take kept.length before) so.fed, length-take kept.length before))
 
   -- bytes that were read were fed
   pub fed_on : (rest next : List ℕ) (spare new_spare : ℕ) (now : Option (List ℕ)) (now_reads : ℕ) (sink new_sink : Fed) (left new_left count : ℕ)
@@ -118,8 +124,8 @@ module _ (before : List ℕ) (turns : ℕ) (known : Option (List ℕ)) (reads : 
     was_fed = feeds so.fed so.was_fed;
     size = omega (arith, so.size, is, less, length-append so.fed (take count rest), length-take count rest);
     read_on =
-        let P : ℕ → Type 0 = λ n. ReadsOn before (pending before kept (so.fed ++ take count rest) next) turns n known now reads now_reads in
-        subst P (sym same) (ReadsOn-is before _ _ turns spare known now reads now_reads so.read_on regrouped);
+        let P : ℕ → Type 0 = λ n. ReadsOn Awaits before (pending before kept (so.fed ++ take count rest) next) turns n known now reads now_reads in
+        subst P (sym same) (ReadsOn-is Awaits before _ _ turns spare known now reads now_reads so.read_on regrouped);
   }
     where
       regrouped : pending before kept (so.fed ++ take count rest) next ≡ pending before kept so.fed rest

@@ -1,3 +1,4 @@
+pub mod AnsweredLemmas
 pub mod AnsweringLemmas
 pub mod CuttingLemmas
 pub mod FeedingLemmas

@@ -1,17 +1,13 @@
 -- Lemmas on a connection: what was served so far, one more request, and its end.
-use Rattle.std.proofs.Common.{◌≡◌, ◌≢◌, inl, inr, ℕ, ◌+◌, ◌*◌, ◌<◌, ◌≤◌, Bool, true, false, List, [], ◌∷◌, ◌++◌, length, map, Option, Result, Ok, Err, refl, sym, ◌∙◌, ap, subst, arith, append_assoc, length-append}
-use Rattle.std.specs.Prelude.{IsTrue, IfSome, IfOk, IfErr, unwrap_or, ◌^◌}
+use Rattle.std.proofs.Common.{◌≡◌, ◌≢◌, inl, inr, ℕ, ◌+◌, ◌*◌, ◌<◌, ◌≤◌, Bool, true, false, List, [], ◌∷◌, ◌++◌, length, Option, Result, Ok, Err, refl, sym, ◌∙◌, ap, subst, arith, append_assoc, length-append}
+use Rattle.std.specs.Prelude.{IfSome, IfOk, IfErr, unwrap_or, ◌^◌}
 use Rattle.std.specs.List.{flat_map, AllByRecursion}
-use Rattle.std.proofs.lemmas.List.{append-nil, map-append}
+use Rattle.std.proofs.lemmas.List.{append-nil}
 use Rattle.std.proofs.lemmas.Grind.{flat_map-append}
 use Rattle.std.specs.Io.KnownBytes.{Appends, Consumes}
 use Rattle.httparse.specs.Grammar.{print_request}
-use Rattle.share_rules.specs.declared.office.Office.{Office}
-use Rattle.society_core.specs.Requests.{Query, Reply}
-use Rattle.society_core.specs.Runs.{Step, Run}
+use Rattle.society_core.specs.Requests.{Reply}
 use Rattle.society_core.specs.State.{Rises, State}
-use Rattle.society_core.proofs.HeadlineLemmas.{holds_what_came}
-use Rattle.society_core.proofs.RunLemmas.{run_on}
 use Rattle.http_desk.specs.declared.connection.Served.{Served}
 use Rattle.http_desk.specs.declared.connection_end.End.{End}
 use Rattle.http_desk.specs.declared.connection_end.End.TheVariants.{Closed}
@@ -21,27 +17,28 @@ use Rattle.http_desk.specs.declared.fault.FaultKind.{FaultKind}
 use Rattle.http_desk.specs.declared.fault.FaultKind.TheVariants.{Read, Write, Turns, Memory}
 use Rattle.http_desk.specs.declared.input.Input.{Input}
 use Rattle.http_desk.specs.BodyLength.{closes}
-use Rattle.http_desk.specs.Counted.{AppendsFront, TakesAtLeast, TakesAtMost, counted_on, failures_of, inner_of, reads_of}
-use Rattle.http_desk.specs.Input.{unread, ReadsOn}
+use Rattle.http_desk.specs.Counted.{AppendsFront, TakesAtLeast, TakesAtMost, counted_on, ends_of, failures_of, inner_of, reads_of}
+use Rattle.http_desk.specs.Input.{BeforeEach, IsPiece, all_of, unread, ReadsOn}
 use Rattle.http_desk.specs.Outbox.{Sends}
 use Rattle.http_desk.specs.Part.{Part, print_part, IsOpenPart, IsPart}
-use Rattle.http_desk.specs.Path.{request_of}
 use Rattle.http_desk.specs.Reads.{Awaits, Cuts, Reads}
-use Rattle.http_desk.specs.Serves.{AreAnswered, Breaks, CausedBy, IsGivenUp, KeepsTurns, NeedsMore, Serves, Stopped, Unwritten, Written}
+use Rattle.http_desk.specs.Serves.{AreAnswered, Breaks, CausedBy, IsAwaiting, IsGivenUp, KeepsTurns, NeedsMore, Serves, Steps, Stopped, Unwritten, Written}
 use Rattle.http_desk.specs.Text.{text, texts, ending}
 use Rattle.http_desk.specs.Upcoming.{EndsSo, StopsBy}
+use Rattle.http_desk.proofs.AnsweredLemmas.{none_answered, one_answered_on}
 use Rattle.http_desk.proofs.CuttingLemmas.{none_while_awaited}
 use Rattle.http_desk.proofs.HeadLemmas.{print_request-some}
+use Rattle.http_desk.proofs.UpcomingLemmas.{all_append, before_behind, before_join, pieces_append}
 use Rattle.http_desk.proofs.Known.{Appends-none, AppendsFront-is, Consumes-none, Consumes-join, Consumes-is, Sends-cut, Sends-flushed, Sends-front, Sends-is, Sends-more, Sends-none, Sends-then, counted_join, counted_most, counted_none, given_of}
 
 -- what was served so far: requests that left the connection open, bytes that were read and not answered yet, and texts that wait
-pub record SoFar (known now_known : Option (List ℕ)) (pending : List ℕ) (spare turns reads now_reads : ℕ) (old now : State) (holds now_holds : Option (List ℕ)) (waiting : List ℕ) (requests : ℕ) : Type 0 where
+pub record SoFar {S : Type 0} (state : S → State) (known now_known : Option (List ℕ)) (pending : List ℕ) (spare turns reads now_reads : ℕ) (old now : S) (holds now_holds : Option (List ℕ)) (waiting : List ℕ) (requests : ℕ) : Type 0 where
   pub parts : List Part
   pub replies : List Reply
   pub spent : ℕ
   pub each : AllByRecursion IsOpenPart parts
   pub consumed : Consumes known now_known (flat_map print_part parts ++ pending)
-  pub answers : AreAnswered parts replies old now
+  pub answers : AreAnswered state parts replies old now
   pub written : Sends holds now_holds (texts parts replies) waiting
   pub count : requests ≡ length parts
   pub turned : turns ≡ spare + spent
@@ -49,6 +46,11 @@ pub record SoFar (known now_known : Option (List ℕ)) (pending : List ℕ) (spa
   pub fits : requests + length pending ≤ spent * 16384
   pub least : spent ≤ length (flat_map print_part parts ++ pending)
   pub most : length (flat_map print_part parts ++ pending) ≤ spent * 16384
+  pub pieces : List (List ℕ)
+  pub joined : flat_map print_part parts ++ pending ≡ all_of pieces
+  pub number : length pieces ≡ spent
+  pub pieces_are : AllByRecursion IsPiece pieces
+  pub needed : BeforeEach IsAwaiting [] pieces
 
 -- ---- one more
 
@@ -69,45 +71,21 @@ printed-more : (parts : List Part) (part : Part) → flat_map print_part (parts 
 printed-more parts part =
     flat_map-append print_part parts (part ∷ []) ∙ ap (λ (v : List ℕ). flat_map print_part parts ++ v) (append-nil (print_part part))
 
-pub AreAnswered-none : (state : State) → AreAnswered [] [] state state
-AreAnswered-none state = record {
-  each = refl;
-  office = refl;
-  run = λ clean. refl;
-  came = λ clean. holds_what_came state.office state.book [] [] state.book refl;
-}
-
-pub AreAnswered-more : (parts : List Part) (replies : List Reply) (old mid new : State) (part : Part) (reply : Reply) → AreAnswered parts replies old mid
-    → new.office ≡ mid.office → (IsTrue new.is_clean → IsTrue mid.is_clean)
-    → (IsTrue new.is_clean → Step mid.office mid.book (request_of part) reply new.book) → AreAnswered (parts ++ part ∷ []) (replies ++ reply ∷ []) old new
-AreAnswered-more parts replies old mid new part reply a office clean step = record {
-  each = omega (arith, length-append replies (reply ∷ []), length-append parts (part ∷ []), a.each);
-  office = office ∙ a.office;
-  run = ran;
-  came = λ c. holds_what_came old.office old.book _ _ new.book (ran c);
-}
-  where
-    ran : IsTrue new.is_clean → Run old.office old.book (map request_of (parts ++ part ∷ [])) (replies ++ reply ∷ []) new.book
-    ran c =
-        let P : List Query → Type 0 = λ qs. Run old.office old.book qs (replies ++ reply ∷ []) new.book in
-        subst P (sym (map-append request_of parts (part ∷ [])))
-        (run_on old.office old.book (map request_of parts) replies mid.book (request_of part) reply new.book (a.run (clean c)) (let Q : Office → Type 0 = λ o. Step o mid.book (request_of part) reply new.book in subst Q a.office (step c)))
-
 pub print_part-some : (part : Part) → 1 ≤ length (print_part part)
 print_part-some part = omega (arith, length-append (print_request part.head) part.body, print_request-some part.head)
 
 -- ---- so far
 
-pub SoFar-start : (known : Option (List ℕ)) (pending : List ℕ) (spare : ℕ) (turns reads : ℕ) (state : State) (holds : Option (List ℕ)) (waiting : List ℕ)
+pub SoFar-start : {S : Type 0} (state : S → State) (known : Option (List ℕ)) (pending : List ℕ) (spare : ℕ) (turns reads : ℕ) (desk : S) (holds : Option (List ℕ)) (waiting : List ℕ)
     → pending ≡ [] → spare ≡ turns → waiting ≡ [] → reads < 2 ^ 64
-    → SoFar known known pending spare turns reads reads state state holds holds waiting 0
-SoFar-start known pending spare turns reads state holds waiting e t w small = record {
+    → SoFar state known known pending spare turns reads reads desk desk holds holds waiting 0
+SoFar-start state known pending spare turns reads desk holds waiting e t w small = record {
   parts = [];
   replies = [];
   spent = 0;
   each = tt;
   consumed = Consumes-is known known [] pending (Consumes-none known) (sym e);
-  answers = AreAnswered-none state;
+  answers = none_answered state desk;
   written = Sends-is holds holds waiting [] waiting (Sends-none holds waiting) w;
   count = refl;
   turned = omega (arith, t);
@@ -115,12 +93,17 @@ SoFar-start known pending spare turns reads state holds waiting e t w small = re
   fits = omega (arith, ap length e);
   least = omega arith;
   most = omega (arith, ap length e);
+  pieces = [];
+  joined = e;
+  number = refl;
+  pieces_are = tt;
+  needed = tt;
 }
 
-pub SoFar-reads : (known now later : Option (List ℕ)) (pending next : List ℕ) (spare rest_spare : ℕ) (turns reads now_reads later_reads : ℕ) (old mid : State) (holds mid_holds : Option (List ℕ)) (waiting : List ℕ) (requests : ℕ)
-    → SoFar known now pending spare turns reads now_reads old mid holds mid_holds waiting requests → ReadsOn pending next spare rest_spare now later now_reads later_reads
-    → SoFar known later next rest_spare turns reads later_reads old mid holds mid_holds waiting requests
-SoFar-reads known now later pending next spare rest_spare turns reads now_reads later_reads old mid holds mid_holds waiting requests so r =
+pub SoFar-reads : {S : Type 0} (state : S → State) (known now later : Option (List ℕ)) (pending next : List ℕ) (spare rest_spare : ℕ) (turns reads now_reads later_reads : ℕ) (old mid : S) (holds mid_holds : Option (List ℕ)) (waiting : List ℕ) (requests : ℕ)
+    → SoFar state known now pending spare turns reads now_reads old mid holds mid_holds waiting requests → ReadsOn Awaits pending next spare rest_spare now later now_reads later_reads
+    → SoFar state known later next rest_spare turns reads later_reads old mid holds mid_holds waiting requests
+SoFar-reads state known now later pending next spare rest_spare turns reads now_reads later_reads old mid holds mid_holds waiting requests so r =
     let front = flat_map print_part so.parts in
     let joined : (front ++ pending) ++ r.more ≡ front ++ next = append_assoc front pending r.more ∙ ap (λ (v : List ℕ). front ++ v) (sym r.grown) in
     let longer = ap length r.grown ∙ length-append pending r.more in
@@ -138,13 +121,22 @@ SoFar-reads known now later pending next spare rest_spare turns reads now_reads 
       fits = omega (arith, so.fits, r.most, longer);
       least = omega (arith, so.least, r.least, longer, length-append front pending, length-append front (next));
       most = omega (arith, so.most, r.most, longer, length-append front pending, length-append front (next));
+      pieces = so.pieces ++ r.pieces;
+      joined =
+          sym joined ∙ ap (λ (v : List ℕ). v ++ r.more) so.joined ∙ ap (λ (v : List ℕ). all_of so.pieces ++ v) r.joined
+          ∙ sym (all_append so.pieces r.pieces);
+      number = omega (arith, so.number, r.number, length-append so.pieces r.pieces);
+      pieces_are = pieces_append so.pieces r.pieces so.pieces_are r.each;
+      needed =
+          before_join IsAwaiting [] (front ++ pending) so.pieces r.pieces so.joined so.needed
+          (before_behind Awaits IsAwaiting front (λ v awaits. (so.parts, v, record { whole = refl; each = so.each }, awaits)) pending r.pieces r.needed);
     }
 
 -- texts were sent
-pub SoFar-sends : (known now : Option (List ℕ)) (pending : List ℕ) (spare : ℕ) (turns reads now_reads : ℕ) (old mid : State) (holds mid_holds last : Option (List ℕ)) (waiting later : List ℕ) (requests : ℕ)
-    → SoFar known now pending spare turns reads now_reads old mid holds mid_holds waiting requests → Sends mid_holds last waiting later
-    → SoFar known now pending spare turns reads now_reads old mid holds last later requests
-SoFar-sends known now pending spare turns reads now_reads old mid holds mid_holds last waiting later requests so sends = record {
+pub SoFar-sends : {S : Type 0} (state : S → State) (known now : Option (List ℕ)) (pending : List ℕ) (spare : ℕ) (turns reads now_reads : ℕ) (old mid : S) (holds mid_holds last : Option (List ℕ)) (waiting later : List ℕ) (requests : ℕ)
+    → SoFar state known now pending spare turns reads now_reads old mid holds mid_holds waiting requests → Sends mid_holds last waiting later
+    → SoFar state known now pending spare turns reads now_reads old mid holds last later requests
+SoFar-sends state known now pending spare turns reads now_reads old mid holds mid_holds last waiting later requests so sends = record {
   parts = so.parts;
   replies = so.replies;
   spent = so.spent;
@@ -162,46 +154,51 @@ SoFar-sends known now pending spare turns reads now_reads old mid holds mid_hold
   fits = so.fits;
   least = so.least;
   most = so.most;
+  pieces = so.pieces;
+  joined = so.joined;
+  number = so.number;
+  pieces_are = so.pieces_are;
+  needed = so.needed;
 }
 
 -- bytes were read, and texts sent before
-pub SoFar-next : (known now later : Option (List ℕ)) (pending next : List ℕ) (spare rest_spare : ℕ) (turns reads now_reads later_reads : ℕ) (old mid : State) (holds mid_holds last : Option (List ℕ)) (waiting rest : List ℕ) (requests : ℕ)
-    → SoFar known now pending spare turns reads now_reads old mid holds mid_holds waiting requests → ReadsOn pending next spare rest_spare now later now_reads later_reads → Sends mid_holds last waiting rest
-    → SoFar known later next rest_spare turns reads later_reads old mid holds last rest requests
-SoFar-next known now later pending next spare rest_spare turns reads now_reads later_reads old mid holds mid_holds last waiting rest requests so r sends =
-    SoFar-sends known later next rest_spare turns reads later_reads old mid holds mid_holds last waiting rest requests
-    (SoFar-reads known now later pending next spare rest_spare turns reads now_reads later_reads old mid holds mid_holds waiting requests so r) sends
+pub SoFar-next : {S : Type 0} (state : S → State) (known now later : Option (List ℕ)) (pending next : List ℕ) (spare rest_spare : ℕ) (turns reads now_reads later_reads : ℕ) (old mid : S) (holds mid_holds last : Option (List ℕ)) (waiting rest : List ℕ) (requests : ℕ)
+    → SoFar state known now pending spare turns reads now_reads old mid holds mid_holds waiting requests → ReadsOn Awaits pending next spare rest_spare now later now_reads later_reads → Sends mid_holds last waiting rest
+    → SoFar state known later next rest_spare turns reads later_reads old mid holds last rest requests
+SoFar-next state known now later pending next spare rest_spare turns reads now_reads later_reads old mid holds mid_holds last waiting rest requests so r sends =
+    SoFar-sends state known later next rest_spare turns reads later_reads old mid holds mid_holds last waiting rest requests
+    (SoFar-reads state known now later pending next spare rest_spare turns reads now_reads later_reads old mid holds mid_holds waiting requests so r) sends
 
 -- the desk is the same
-pub SoFar-same : {S : Type 0} (state : S → State) (mid_desk new_desk : S) (known now : Option (List ℕ)) (pending : List ℕ) (spare turns reads now_reads : ℕ) (old : State) (holds mid_holds : Option (List ℕ)) (waiting : List ℕ) (requests : ℕ)
-    → new_desk ≡ mid_desk → SoFar known now pending spare turns reads now_reads old (state mid_desk) holds mid_holds waiting requests
-    → SoFar known now pending spare turns reads now_reads old (state new_desk) holds mid_holds waiting requests
+pub SoFar-same : {S : Type 0} (state : S → State) (mid_desk new_desk : S) (known now : Option (List ℕ)) (pending : List ℕ) (spare turns reads now_reads : ℕ) (old : S) (holds mid_holds : Option (List ℕ)) (waiting : List ℕ) (requests : ℕ)
+    → new_desk ≡ mid_desk → SoFar state known now pending spare turns reads now_reads old mid_desk holds mid_holds waiting requests
+    → SoFar state known now pending spare turns reads now_reads old new_desk holds mid_holds waiting requests
 SoFar-same {S} state mid_desk new_desk known now pending spare turns reads now_reads old holds mid_holds waiting requests same so =
-    let P : S → Type 0 = λ d. SoFar known now pending spare turns reads now_reads old (state d) holds mid_holds waiting requests in
+    let P : S → Type 0 = λ d. SoFar state known now pending spare turns reads now_reads old d holds mid_holds waiting requests in
     subst P (sym same) so
 
-pub SoFar-input : (known now : Option (List ℕ)) (input new_input : Input) (turns reads now_reads : ℕ) (old mid : State) (holds mid_holds : Option (List ℕ)) (waiting : List ℕ) (requests : ℕ)
-    → new_input ≡ input → SoFar known now (unread input) input.turns turns reads now_reads old mid holds mid_holds waiting requests
-    → SoFar known now (unread new_input) new_input.turns turns reads now_reads old mid holds mid_holds waiting requests
-SoFar-input known now input new_input turns reads now_reads old mid holds mid_holds waiting requests same so =
-    let P : Input → Type 0 = λ i. SoFar known now (unread i) i.turns turns reads now_reads old mid holds mid_holds waiting requests in
+pub SoFar-input : {S : Type 0} (state : S → State) (known now : Option (List ℕ)) (input new_input : Input) (turns reads now_reads : ℕ) (old mid : S) (holds mid_holds : Option (List ℕ)) (waiting : List ℕ) (requests : ℕ)
+    → new_input ≡ input → SoFar state known now (unread input) input.turns turns reads now_reads old mid holds mid_holds waiting requests
+    → SoFar state known now (unread new_input) new_input.turns turns reads now_reads old mid holds mid_holds waiting requests
+SoFar-input state known now input new_input turns reads now_reads old mid holds mid_holds waiting requests same so =
+    let P : Input → Type 0 = λ i. SoFar state known now (unread i) i.turns turns reads now_reads old mid holds mid_holds waiting requests in
     subst P (sym same) so
 
 -- ---- the end
 
 -- the requests were read and answered, the connection ends so, and texts wait
-pub record Finishes (known : Option (List ℕ)) (old now : State) (holds now_holds : Option (List ℕ)) (waiting : List ℕ) (requests : ℕ) (end : End) : Type 0 where
+pub record Finishes {S : Type 0} (state : S → State) (known : Option (List ℕ)) (old now : S) (holds now_holds : Option (List ℕ)) (waiting : List ℕ) (requests : ℕ) (end : End) : Type 0 where
   pub bytes : List ℕ
   pub given : IfSome known (λ all. all ≡ bytes)
   pub parts : List Part
   pub replies : List Reply
   pub reads : Reads bytes parts end
-  pub answers : AreAnswered parts replies old now
+  pub answers : AreAnswered state parts replies old now
   pub written : Sends holds now_holds (texts parts replies) waiting
   pub count : requests ≡ length parts
 
-module _ (known : Option (List ℕ)) (old mid : State) (holds mid_holds last : Option (List ℕ)) (waiting : List ℕ) (requests : ℕ) (end : End) (f : Finishes known old mid holds mid_holds waiting requests end) where
-  served_so : Appends mid_holds last (waiting ++ ending end) → Serves known old mid holds last requests
+module _ {S : Type 0} (state : S → State) (known : Option (List ℕ)) (old mid : S) (holds mid_holds last : Option (List ℕ)) (waiting : List ℕ) (requests : ℕ) (end : End) (f : Finishes state known old mid holds mid_holds waiting requests end) where
+  served_so : Appends mid_holds last (waiting ++ ending end) → Serves state known old mid holds last requests
   served_so appends = record {
     bytes = f.bytes;
     given = f.given;
@@ -214,7 +211,7 @@ module _ (known : Option (List ℕ)) (old mid : State) (holds mid_holds last : O
     count = f.count;
   }
 
-  unwritten_so : AppendsFront mid_holds last (waiting ++ ending end) → Breaks (record { kind = Write; requests = requests }) known old mid holds last
+  unwritten_so : AppendsFront mid_holds last (waiting ++ ending end) → Breaks state (record { kind = Write; requests = requests }) known old mid holds last
   unwritten_so front = record {
     bytes = f.bytes;
     given = f.given;
@@ -226,22 +223,22 @@ module _ (known : Option (List ℕ)) (old mid : State) (holds mid_holds last : O
   }
 
   pub ended_served : (r : Result Served DeskFault) → IfOk r (λ served. (served.requests ≡ requests) × Appends mid_holds last (waiting ++ ending end))
-      → IfOk r (λ served. Serves known old mid holds last served.requests)
-  ended_served (Ok served) p = let P : ℕ → Type 0 = λ n. Serves known old mid holds last n in subst P (sym p.0) (served_so p.1)
+      → IfOk r (λ served. Serves state known old mid holds last served.requests)
+  ended_served (Ok served) p = let P : ℕ → Type 0 = λ n. Serves state known old mid holds last n in subst P (sym p.0) (served_so p.1)
   ended_served (Err e) p = tt
 
   pub ended_fault : (failures new_failures : ℕ) (r : Result Served DeskFault)
       → IfErr r (λ fault. (fault ≡ record { kind = Write; requests = requests }) × AppendsFront mid_holds last (waiting ++ ending end) × Rises failures new_failures)
-      → IfErr r (λ fault. Breaks fault known old mid holds last)
+      → IfErr r (λ fault. Breaks state fault known old mid holds last)
   ended_fault failures new_failures (Ok served) p = tt
   ended_fault failures new_failures (Err fault) p =
-      let P : DeskFault → Type 0 = λ f. Breaks f known old mid holds last in subst P (sym p.0) (unwritten_so p.1)
+      let P : DeskFault → Type 0 = λ f. Breaks state f known old mid holds last in subst P (sym p.0) (unwritten_so p.1)
 
 -- a write that failed at the end is the cause
 pub ended_cause : {S R W : Type 0} (state : S → State) (remaining : R → Option (List ℕ)) (contents : W → Option (List ℕ)) (desk new_desk : S) (reader new_reader : Counted R) (writer mid_writer new_writer : Counted W) (turns requests : ℕ) (bytes : List ℕ) (r : Result Served DeskFault)
     → failures_of mid_writer ≡ failures_of writer
     → IfErr r (λ fault. (fault ≡ record { kind = Write; requests = requests }) × AppendsFront (contents (inner_of mid_writer)) (contents (inner_of new_writer)) bytes × Rises (failures_of mid_writer) (failures_of new_writer))
-    → IfErr r (λ fault. Breaks fault (remaining (inner_of reader)) (state desk) (state new_desk) (contents (inner_of writer)) (contents (inner_of new_writer)))
+    → IfErr r (λ fault. Breaks state fault (remaining (inner_of reader)) desk new_desk (contents (inner_of writer)) (contents (inner_of new_writer)))
     → IfErr r (IsGivenUp state remaining contents desk new_desk reader new_reader writer new_writer turns)
 ended_cause state remaining contents desk new_desk reader new_reader writer mid_writer new_writer turns requests bytes (Ok served) same p b = tt
 ended_cause state remaining contents desk new_desk reader new_reader writer mid_writer new_writer turns requests bytes (Err fault) same p b =
@@ -268,7 +265,7 @@ ended_write requests failures new_failures before mid bytes (Err fault) p = λ i
 cut : (bytes left : List ℕ) (parts : List Part) (held : List ℕ) → AllByRecursion IsOpenPart parts → bytes ≡ (flat_map print_part parts ++ held) ++ left → Cuts bytes parts (held ++ left)
 cut bytes left parts held each e = record { whole = e ∙ append_assoc (flat_map print_part parts) held left; each = each }
 
-module _ (known now : Option (List ℕ)) (pending : List ℕ) (spare : ℕ) (turns reads now_reads : ℕ) (old mid : State) (holds mid_holds : Option (List ℕ)) (waiting : List ℕ) (requests : ℕ) (so : SoFar known now pending spare turns reads now_reads old mid holds mid_holds waiting requests) where
+module _ {S : Type 0} (state : S → State) (known now : Option (List ℕ)) (pending : List ℕ) (spare : ℕ) (turns reads now_reads : ℕ) (old mid : S) (holds mid_holds : Option (List ℕ)) (waiting : List ℕ) (requests : ℕ) (so : SoFar state known now pending spare turns reads now_reads old mid holds mid_holds waiting requests) where
   -- all bytes, as far as they are known
   abbrev all_so : List ℕ
   all_so = (flat_map print_part so.parts ++ pending) ++ unwrap_or now []
@@ -276,7 +273,7 @@ module _ (known now : Option (List ℕ)) (pending : List ℕ) (spare : ℕ) (tur
   cut_so : Cuts all_so so.parts (pending ++ unwrap_or now [])
   cut_so = cut all_so (unwrap_or now []) so.parts pending so.each refl
 
-  pub finishes : (end : End) → EndsSo pending now end → Finishes known old mid holds mid_holds waiting requests end
+  pub finishes : (end : End) → EndsSo pending now end → Finishes state known old mid holds mid_holds waiting requests end
   finishes end ends = record {
     bytes = all_so;
     given = given_of known now _ so.consumed;
@@ -314,7 +311,7 @@ module _ (known now : Option (List ℕ)) (pending : List ℕ) (spare : ℕ) (tur
   stopped : (last : Option (List ℕ)) → Appends mid_holds last waiting → Stopped all_so so.parts so.replies holds last
   stopped last appends = (pending ++ unwrap_or now [], cut_so, Sends-flushed holds mid_holds last _ waiting so.written appends)
 
-  broken : (kind : FaultKind) (last : Option (List ℕ)) → Written kind all_so so.parts so.replies holds last → Breaks (record { kind = kind; requests = requests }) known old mid holds last
+  broken : (kind : FaultKind) (last : Option (List ℕ)) → Written kind all_so so.parts so.replies holds last → Breaks state (record { kind = kind; requests = requests }) known old mid holds last
   broken kind last w = record {
     bytes = all_so;
     given = given_of known now _ so.consumed;
@@ -327,7 +324,7 @@ module _ (known now : Option (List ℕ)) (pending : List ℕ) (spare : ℕ) (tur
 
   -- what was written where no request came
   pub stopped_so : (kind : FaultKind) (last : Option (List ℕ)) (reader writer : ℕ × ℕ) → StopsBy kind pending spare reader writer mid_holds last waiting
-      → Breaks (record { kind = kind; requests = requests }) known old mid holds last
+      → Breaks state (record { kind = kind; requests = requests }) known old mid holds last
   stopped_so Read last reader writer by = broken Read last (stopped last by.2)
   stopped_so Turns last reader writer by = broken Turns last (stopped last by.2)
   stopped_so Write last reader writer by =
@@ -339,16 +336,16 @@ rises_from a b c same r = let P : ℕ → Type 0 = λ n. Rises n c in subst P sa
 
 -- no request came: what there was before, and why
 module _ {S R W : Type 0} (state : S → State) (remaining : R → Option (List ℕ)) (contents : W → Option (List ℕ)) (desk mid_desk : S) (reader mid_reader new_reader : Counted R) (writer mid_writer new_writer : Counted W) (pending : List ℕ) (spare : ℕ) (turns requests : ℕ) (waiting : List ℕ)
-    (so : SoFar (remaining (inner_of reader)) (remaining (inner_of new_reader)) pending spare turns (reads_of reader) (reads_of new_reader) (state desk) (state mid_desk) (contents (inner_of writer)) (contents (inner_of mid_writer)) waiting requests)
+    (so : SoFar state (remaining (inner_of reader)) (remaining (inner_of new_reader)) pending spare turns (reads_of reader) (reads_of new_reader) desk mid_desk (contents (inner_of writer)) (contents (inner_of mid_writer)) waiting requests)
     (same_reader : failures_of mid_reader ≡ failures_of reader) (same_writer : failures_of mid_writer ≡ failures_of writer) where
   caused : (kind : FaultKind) → StopsBy kind pending spare (failures_of mid_reader, failures_of new_reader) (failures_of mid_writer, failures_of new_writer) (contents (inner_of mid_writer)) (contents (inner_of new_writer)) waiting
       → CausedBy kind requests turns remaining reader new_reader writer new_writer
   caused Read by =
-      (rises_from _ _ _ same_reader by.1, needed_so _ _ pending spare turns _ _ _ _ _ _ waiting requests so by.0)
+      (rises_from _ _ _ same_reader by.1, needed_so state _ _ pending spare turns _ _ _ _ _ _ waiting requests so by.0)
   caused Turns by = (
-    counted_so _ _ pending spare turns _ _ _ _ _ _ waiting requests so by.1,
-    took_so _ _ pending spare turns _ _ _ _ _ _ waiting requests so by.1,
-    needed_so _ _ pending spare turns _ _ _ _ _ _ waiting requests so by.0,
+    counted_so state _ _ pending spare turns _ _ _ _ _ _ waiting requests so by.1,
+    took_so state _ _ pending spare turns _ _ _ _ _ _ waiting requests so by.1,
+    needed_so state _ _ pending spare turns _ _ _ _ _ _ waiting requests so by.0,
   )
   caused Write by = rises_from _ _ _ same_writer by.0
   caused Memory by = absurd by
@@ -356,7 +353,7 @@ module _ {S R W : Type 0} (state : S → State) (remaining : R → Option (List 
   pub given_up : (kind : FaultKind) → StopsBy kind pending spare (failures_of mid_reader, failures_of new_reader) (failures_of mid_writer, failures_of new_writer) (contents (inner_of mid_writer)) (contents (inner_of new_writer)) waiting
       → IsGivenUp state remaining contents desk mid_desk reader new_reader writer new_writer turns (record { kind = kind; requests = requests })
   given_up kind by = record {
-    breaks = stopped_so _ _ pending spare turns _ _ _ _ _ _ waiting requests so kind _ _ _ by;
+    breaks = stopped_so state _ _ pending spare turns _ _ _ _ _ _ waiting requests so kind _ _ _ by;
     cause = caused kind by;
   }
 
@@ -367,21 +364,41 @@ stops_not_memory Write bytes turns reader writer holds new_holds waiting by e = 
 stops_not_memory Memory bytes turns reader writer holds new_holds waiting by e = absurd by
 
 -- the turns were kept
-pub keeps_turns : {R : Type 0} (remaining : R → Option (List ℕ)) (reader new_reader : Counted R) (pending : List ℕ) (spare : ℕ) (turns : ℕ) (old mid : State) (holds mid_holds : Option (List ℕ)) (waiting : List ℕ) (requests : ℕ)
-    → SoFar (remaining (inner_of reader)) (remaining (inner_of new_reader)) pending spare turns (reads_of reader) (reads_of new_reader) old mid holds mid_holds waiting requests
+pub keeps_turns : {S R : Type 0} (state : S → State) (remaining : R → Option (List ℕ)) (reader new_reader : Counted R) (pending : List ℕ) (spare : ℕ) (turns : ℕ) (old mid : S) (holds mid_holds : Option (List ℕ)) (waiting : List ℕ) (requests : ℕ)
+    → ends_of new_reader ≤ ends_of reader + 1
+    → SoFar state (remaining (inner_of reader)) (remaining (inner_of new_reader)) pending spare turns (reads_of reader) (reads_of new_reader) old mid holds mid_holds waiting requests
     → KeepsTurns remaining reader new_reader turns
-keeps_turns remaining reader new_reader pending spare turns old mid holds mid_holds waiting requests so = record {
-  reads = most_reads _ _ pending spare turns _ _ old mid holds mid_holds waiting requests so;
-  most = most_bytes _ _ pending spare turns _ _ old mid holds mid_holds waiting requests so;
+keeps_turns state remaining reader new_reader pending spare turns old mid holds mid_holds waiting requests ends so = record {
+  pieces = so.pieces;
+  consumed = Consumes-is _ _ _ _ so.consumed so.joined;
+  each = so.pieces_are;
+  needed = so.needed;
+  counts = so.counts ∙ ap (λ (n : ℕ). counted_on (reads_of reader) n) (sym so.number);
+  within = omega (arith, so.number, so.turned);
+  ends = ends;
+  reads = most_reads state _ _ pending spare turns _ _ old mid holds mid_holds waiting requests so;
+  most = most_bytes state _ _ pending spare turns _ _ old mid holds mid_holds waiting requests so;
+}
+
+-- a reader that was not read keeps them
+pub no_turn : {R : Type 0} (remaining : R → Option (List ℕ)) (reader : Counted R) (turns : ℕ) → reads_of reader < 2 ^ 64 → KeepsTurns remaining reader reader turns
+no_turn remaining reader turns fits = record {
+  pieces = [];
+  consumed = Consumes-none (remaining (inner_of reader));
+  each = tt;
+  needed = tt;
+  counts = counted_none (reads_of reader) fits;
+  within = omega arith;
+  ends = omega arith;
+  reads = omega arith;
+  most = ([], Consumes-none (remaining (inner_of reader)), omega arith);
 }
 
 -- ---- one more request
 
-module _ (known now : Option (List ℕ)) (pending left : List ℕ) (spare turns reads now_reads : ℕ) (old mid new : State) (holds mid_holds last : Option (List ℕ)) (waiting later : List ℕ) (requests : ℕ)
-    (so : SoFar known now pending spare turns reads now_reads old mid holds mid_holds waiting requests) (part : Part) (is : IsPart part) (whole : pending ≡ print_part part ++ left)
-    (close : Bool) (is_last : close ≡ closes part.head) (office : new.office ≡ mid.office)
-    (clean : IsTrue new.is_clean → IsTrue mid.is_clean) (reply : Reply)
-    (step : IsTrue new.is_clean → Step mid.office mid.book (request_of part) reply new.book) where
+module _ {S : Type 0} (state : S → State) (known now : Option (List ℕ)) (pending left : List ℕ) (spare turns reads now_reads : ℕ) (old mid new : S) (holds mid_holds last : Option (List ℕ)) (waiting later : List ℕ) (requests : ℕ)
+    (so : SoFar state known now pending spare turns reads now_reads old mid holds mid_holds waiting requests) (part : Part) (is : IsPart part) (whole : pending ≡ print_part part ++ left)
+    (close : Bool) (is_last : close ≡ closes part.head) (reply : Reply) (step : Steps state mid new part reply) where
   longer : length pending ≡ length (print_part part) + length left
   longer = ap length whole ∙ length-append (print_part part) left
 
@@ -391,8 +408,8 @@ module _ (known now : Option (List ℕ)) (pending left : List ℕ) (spare turns 
       ∙ append_assoc (flat_map print_part so.parts) (print_part part) left
       ∙ ap (λ (v : List ℕ). flat_map print_part so.parts ++ v) (sym whole)
 
-  answers : AreAnswered (so.parts ++ part ∷ []) (so.replies ++ reply ∷ []) old new
-  answers = AreAnswered-more so.parts so.replies old mid new part reply so.answers office clean step
+  answers : AreAnswered state (so.parts ++ part ∷ []) (so.replies ++ reply ∷ []) old new
+  answers = one_answered_on state so.parts so.replies old mid new part reply so.answers step
 
   texts_are : texts so.parts so.replies ++ text reply close ≡ texts (so.parts ++ part ∷ []) (so.replies ++ reply ∷ [])
   texts_are =
@@ -416,7 +433,7 @@ module _ (known now : Option (List ℕ)) (pending left : List ℕ) (spare turns 
       Sends-is holds last _ _ later
       (Sends-more holds mid_holds last (texts so.parts so.replies) waiting (text reply close) later so.written sends) texts_are
 
-  pub goes_on : close ≡ false → Sends mid_holds last (waiting ++ text reply close) later → SoFar known now left spare turns reads now_reads old new holds last later (requests + 1)
+  pub goes_on : close ≡ false → Sends mid_holds last (waiting ++ text reply close) later → SoFar state known now left spare turns reads now_reads old new holds last later (requests + 1)
   goes_on e sends = record {
     parts = so.parts ++ part ∷ [];
     replies = so.replies ++ reply ∷ [];
@@ -431,6 +448,11 @@ module _ (known now : Option (List ℕ)) (pending left : List ℕ) (spare turns 
     fits = omega (arith, so.fits, longer, print_part-some part);
     least = omega (arith, so.least, ap length joined);
     most = omega (arith, so.most, ap length joined);
+    pieces = so.pieces;
+    joined = joined ∙ so.joined;
+    number = so.number;
+    pieces_are = so.pieces_are;
+    needed = so.needed;
   }
 
   -- all bytes, as far as they are known
@@ -451,7 +473,7 @@ module _ (known now : Option (List ℕ)) (pending left : List ℕ) (spare turns 
     (left ++ unwrap_or now [], is, sym is_last ∙ e, begun (unwrap_or now [])),
   )
 
-  pub closes_on : close ≡ true → Sends mid_holds last (waiting ++ text reply close) later → Finishes known old new holds last later (requests + 1) Closed
+  pub closes_on : close ≡ true → Sends mid_holds last (waiting ++ text reply close) later → Finishes state known old new holds last later (requests + 1) Closed
   closes_on e sends = record {
     bytes = every;
     given = given_of known now _ so.consumed;
@@ -478,7 +500,7 @@ module _ (known now : Option (List ℕ)) (pending left : List ℕ) (spare turns 
   unwritten_by true e f =
       inr (Closed, reads_closed e, AppendsFront-is holds last _ _ f (sym (append-nil (texts (so.parts ++ part ∷ []) (so.replies ++ reply ∷ [])))))
 
-  pub failed : AppendsFront mid_holds last (waiting ++ text reply close) → Breaks (record { kind = Write; requests = requests + 1 }) known old new holds last
+  pub failed : AppendsFront mid_holds last (waiting ++ text reply close) → Breaks state (record { kind = Write; requests = requests + 1 }) known old new holds last
   failed f = record {
     bytes = every;
     given = given_of known now _ so.consumed;
@@ -490,19 +512,19 @@ module _ (known now : Option (List ℕ)) (pending left : List ℕ) (spare turns 
   }
 
 -- what is left to do falls
-pub smaller : (old pending left : List ℕ) (turns spare : ℕ) (known later : Option (List ℕ)) (reads later_reads : ℕ) → ReadsOn old pending turns spare known later reads later_reads
+pub smaller : (old pending left : List ℕ) (turns spare : ℕ) (known later : Option (List ℕ)) (reads later_reads : ℕ) → ReadsOn Awaits old pending turns spare known later reads later_reads
     → length left < length pending → length left + spare * 16384 < length old + turns * 16384
 smaller old pending left turns spare known later reads later_reads r less =
     omega (arith, less, r.most, r.turned, ap length r.grown, length-append old r.more)
 
 -- nothing was read
-pub nothing_read : (known : Option (List ℕ)) (state : State) (holds : Option (List ℕ)) → Breaks (record { kind = Memory; requests = 0 }) known state state holds holds
-nothing_read known state holds = record {
+pub nothing_read : {S : Type 0} (state : S → State) (known : Option (List ℕ)) (desk : S) (holds : Option (List ℕ)) → Breaks state (record { kind = Memory; requests = 0 }) known desk desk holds holds
+nothing_read state known desk holds = record {
   bytes = unwrap_or known [];
   given = given_of known known [] (Consumes-none known);
   parts = [];
   replies = [];
-  answers = AreAnswered-none state;
+  answers = none_answered state desk;
   written = (unwrap_or known [], record { whole = refl; each = tt }, Appends-none holds);
   count = refl;
 }

@@ -9,7 +9,8 @@ use Rattle.society_core.specs.Answers.{added_answer, added_book, answer, close_a
 use Rattle.society_core.specs.Book.{Book}
 use Rattle.society_core.specs.Orders.{Order}
 use Rattle.society_core.specs.Requests.{Query, Puts, PutsReturn, Closes, ClosesFaulty, AsksAck, AsksSender, AsksWork, AsksVerdicts, AsksCredits, AsksBalance, AsksElsewhere, Reply}
-use Rattle.society_core.specs.Runs.{Step}
+use Rattle.society_core.specs.Runs.{Proceeds, Step}
+use Rattle.society_core.specs.State.{State}
 use Rattle.society_core.specs.declared.refusal.Refusal.{Refusal}
 use Rattle.society_core.specs.declared.return_key.ReturnKey.{ReturnKey}
 use Rattle.society_core.specs.declared.store.Known.{Known}
@@ -64,9 +65,16 @@ shown_stays office book (AsksBalance account) shown = refl
 shown_stays office book AsksElsewhere shown = refl
 
 -- what is told of a step's reply is a step's reply
-pub tells_step : (office : Office) (book : Book) (query : Query) (reply told : Reply) (after : Book)
+tells_step : (office : Office) (book : Book) (query : Query) (reply told : Reply) (after : Book)
     → Tells reply told → Step office book query reply after → Step office book query told after
 tells_step office book query reply told after (inl same) step = subst (λ (r : Reply). Step office book query r after) (sym same) step
 tells_step office book query reply told after (inr (shown, busy)) (inl (is, gone)) =
     inr (busy, gone ∙ shown_stays office book query (subst IsShown is shown))
 tells_step office book query reply told after (inr (shown, busy)) (inr (is, stays)) = inr (busy, stays)
+
+-- what is told of a call's reply is a call's reply
+pub tells_call : (old new : State) (query : Query) (reply told : Reply) → Tells reply told → Proceeds old new query reply → Proceeds old new query told
+tells_call old new query reply told tells call = record {
+  step = λ clean. tells_step old.office old.book query reply told new.book tells (call.step clean);
+  goes = call.goes;
+}

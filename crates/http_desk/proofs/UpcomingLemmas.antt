@@ -2,7 +2,9 @@
 use Rattle.std.proofs.Common.{◌≡◌, ◌≢◌, inl, inr, ℕ, ◌+◌, ◌<◌, ◌≤◌, List, [], ◌∷◌, ◌++◌, length, take, drop, Option, Some, None, refl, sym, ◌∙◌, ap, subst, arith, append_assoc, length-append}
 use Rattle.std.specs.Prelude.{unwrap_or, ◌^◌}
 use Rattle.std.proofs.lemmas.List.{append-nil, take-append-drop, length-take-le}
-use Rattle.std.specs.Io.KnownBytes.{IsAtEnd}
+use Rattle.std.specs.Io.KnownBytes.{Consumes, IsAtEnd}
+use Rattle.std.specs.List.{AllByRecursion}
+use Rattle.std.proofs.lemmas.Grind.{flat_map-append}
 use Rattle.httparse.specs.Grammar.{RequestHead, print_request}
 use Rattle.http_desk.specs.declared.connection_end.End.{End}
 use Rattle.http_desk.specs.declared.connection_end.End.TheVariants.{Quiet, Bad, TooLarge, Busy}
@@ -11,7 +13,7 @@ use Rattle.http_desk.specs.declared.head.Head.{Head}
 use Rattle.http_desk.specs.declared.upcoming.Upcoming.{Upcoming}
 use Rattle.http_desk.specs.declared.upcoming.Upcoming.TheVariants.{Request, Ended}
 use Rattle.http_desk.specs.Head.{HasHead, IsKept}
-use Rattle.http_desk.specs.Input.{ReadsOn}
+use Rattle.http_desk.specs.Input.{BeforeEach, IsPiece, ReadsOn, all_of}
 use Rattle.http_desk.specs.Upcoming.{EndsSo, HasPart, IsUpcoming, IsUpcomingHead, ended_with}
 use Rattle.http_desk.specs.Part.{Begins}
 use Rattle.http_desk.specs.Path.{PutsTransmission}
@@ -20,11 +22,43 @@ use Rattle.http_desk.specs.Counted.{counted_on}
 use Rattle.http_desk.proofs.Known.{Consumes-none, Consumes-join, counted_none, counted_join}
 use Rattle.http_desk.proofs.HeadLemmas.{Begins-append, none_partial}
 
+-- ---- before each piece
+
+pub all_append : (ps qs : List (List ℕ)) → all_of (ps ++ qs) ≡ all_of ps ++ all_of qs
+all_append ps qs = flat_map-append (λ (piece : List ℕ). piece) ps qs
+
+pub pieces_append : (ps qs : List (List ℕ)) → AllByRecursion IsPiece ps → AllByRecursion IsPiece qs → AllByRecursion IsPiece (ps ++ qs)
+pieces_append [] qs all more = more
+pieces_append (p ∷ ps) qs all more = (all.0, pieces_append ps qs all.1 more)
+
+-- it holds before each piece of two lists
+before_append : (P : List ℕ → Type 0) (bytes : List ℕ) (ps qs : List (List ℕ)) → BeforeEach P bytes ps → BeforeEach P (bytes ++ all_of ps) qs → BeforeEach P bytes (ps ++ qs)
+before_append P bytes [] qs first more = let Q : List ℕ → Type 0 = λ v. BeforeEach P v qs in subst Q (append-nil bytes) more
+before_append P bytes (p ∷ ps) qs first more =
+    let Q : List ℕ → Type 0 = λ v. BeforeEach P v qs in
+    (first.0, before_append P (bytes ++ p) ps qs first.1 (subst Q (sym (append_assoc bytes p (all_of ps))) more))
+
+-- before one piece at most it holds if it holds now
+before_one : (P : List ℕ → Type 0) (bytes : List ℕ) (ps : List (List ℕ)) → P bytes → length ps ≤ 1 → BeforeEach P bytes ps
+before_one P bytes [] now few = tt
+before_one P bytes (p ∷ []) now few = (now, tt)
+before_one P bytes (p ∷ q ∷ ps) now few = absurd (omega (arith, few))
+
+-- behind other bytes something else holds
+pub before_behind : (P Q : List ℕ → Type 0) (front : List ℕ) → ((v : List ℕ) → P v → Q (front ++ v)) → (bytes : List ℕ) (ps : List (List ℕ)) → BeforeEach P bytes ps → BeforeEach Q (front ++ bytes) ps
+before_behind P Q front so_then bytes [] all = tt
+before_behind P Q front so_then bytes (p ∷ ps) all =
+    let R : List ℕ → Type 0 = λ v. BeforeEach Q v ps in
+    (so_then bytes all.0, subst R (sym (append_assoc front bytes p)) (before_behind P Q front so_then (bytes ++ p) ps all.1))
+
+pub before_join : (P : List ℕ → Type 0) (bytes next : List ℕ) (ps qs : List (List ℕ)) → next ≡ bytes ++ all_of ps → BeforeEach P bytes ps → BeforeEach P next qs → BeforeEach P bytes (ps ++ qs)
+before_join P bytes next ps qs e first more = let Q : List ℕ → Type 0 = λ v. BeforeEach P v qs in before_append P bytes ps qs first (subst Q e more)
+
 -- ---- reading on
 
-pub ReadsOn-same : (old new : List ℕ) (turns new_turns : ℕ) (known : Option (List ℕ)) (reads : ℕ) → new ≡ old → new_turns ≡ turns → reads < 2 ^ 64
-    → ReadsOn old new turns new_turns known known reads reads
-ReadsOn-same old new turns new_turns known reads same kept fits = record {
+pub ReadsOn-same : (P : List ℕ → Type 0) (old new : List ℕ) (turns new_turns : ℕ) (known : Option (List ℕ)) (reads : ℕ) → new ≡ old → new_turns ≡ turns → reads < 2 ^ 64
+    → ReadsOn P old new turns new_turns known known reads reads
+ReadsOn-same P old new turns new_turns known reads same kept fits = record {
   more = [];
   spent = 0;
   grown = same ∙ sym (append-nil old);
@@ -33,11 +67,16 @@ ReadsOn-same old new turns new_turns known reads same kept fits = record {
   counts = counted_none reads fits;
   most = omega arith;
   least = omega arith;
+  pieces = [];
+  joined = refl;
+  number = refl;
+  each = tt;
+  needed = tt;
 }
 
-pub ReadsOn-join : (a b c : List ℕ) (x y z : ℕ) (k m n : Option (List ℕ)) (r s t : ℕ) → ReadsOn a b x y k m r s → ReadsOn b c y z m n s t
-    → ReadsOn a c x z k n r t
-ReadsOn-join a b c x y z k m n r s t p q = record {
+pub ReadsOn-join : (P : List ℕ → Type 0) (a b c : List ℕ) (x y z : ℕ) (k m n : Option (List ℕ)) (r s t : ℕ) → ReadsOn P a b x y k m r s → ReadsOn P b c y z m n s t
+    → ReadsOn P a c x z k n r t
+ReadsOn-join P a b c x y z k m n r s t p q = record {
   more = p.more ++ q.more;
   spent = p.spent + q.spent;
   grown = q.grown ∙ ap (λ (v : List ℕ). v ++ q.more) p.grown ∙ append_assoc a p.more q.more;
@@ -46,11 +85,61 @@ ReadsOn-join a b c x y z k m n r s t p q = record {
   counts = q.counts ∙ ap (λ (v : ℕ). counted_on v q.spent) p.counts ∙ counted_join r p.spent q.spent;
   most = omega (arith, p.most, q.most, length-append p.more q.more);
   least = omega (arith, p.least, q.least, length-append p.more q.more);
+  pieces = p.pieces ++ q.pieces;
+  joined =
+      ap (λ (v : List ℕ). v ++ q.more) p.joined ∙ ap (λ (v : List ℕ). all_of p.pieces ++ v) q.joined
+      ∙ sym (all_append p.pieces q.pieces);
+  number = omega (arith, p.number, q.number, length-append p.pieces q.pieces);
+  each = pieces_append p.pieces q.pieces p.each q.each;
+  needed = before_join P a b p.pieces q.pieces (p.grown ∙ ap (λ (v : List ℕ). a ++ v) p.joined) p.needed q.needed;
 }
 
+-- one read gave this piece
+pub ReadsOn-piece : (P : List ℕ → Type 0) (old new piece : List ℕ) (turns spare : ℕ) (known now : Option (List ℕ)) (reads now_reads : ℕ) → P old → new ≡ old ++ piece → Consumes known now piece
+    → turns ≡ spare + 1 → now_reads ≡ counted_on reads 1 → IsPiece piece → ReadsOn P old new turns spare known now reads now_reads
+ReadsOn-piece P old new piece turns spare known now reads now_reads holds grown consumed turned counts is = record {
+  more = piece;
+  spent = 1;
+  grown = grown;
+  consumed = consumed;
+  turned = turned;
+  counts = counts;
+  most = omega (arith, is.1);
+  least = is.0;
+  pieces = piece ∷ [];
+  joined = sym (append-nil piece);
+  number = refl;
+  each = (is, tt);
+  needed = (holds, tt);
+}
+
+-- one read gave a piece or none, and this held before it
+pub ReadsOn-once : (P Q : List ℕ → Type 0) (a b : List ℕ) (x y : ℕ) (k m : Option (List ℕ)) (r s : ℕ) → P a → ReadsOn Q a b x y k m r s → x ≤ y + 1 → ReadsOn P a b x y k m r s
+ReadsOn-once P Q a b x y k m r s now q one = record {
+  more = q.more;
+  spent = q.spent;
+  grown = q.grown;
+  consumed = q.consumed;
+  turned = q.turned;
+  counts = q.counts;
+  most = q.most;
+  least = q.least;
+  pieces = q.pieces;
+  joined = q.joined;
+  number = q.number;
+  each = q.each;
+  needed = before_one P a q.pieces now (omega (arith, q.number, q.turned, one));
+}
+
+-- so after others
+pub ReadsOn-read : (P Q : List ℕ → Type 0) (a b c : List ℕ) (x y z : ℕ) (k m n : Option (List ℕ)) (r s t : ℕ) → ReadsOn P a b x y k m r s → P b → ReadsOn Q b c y z m n s t → y ≤ z + 1
+    → ReadsOn P a c x z k n r t
+ReadsOn-read P Q a b c x y z k m n r s t p now q one = ReadsOn-join P a b c x y z k m n r s t p (ReadsOn-once P Q b c y z m n s t now q one)
+
 -- the same behind other bytes
-pub ReadsOn-behind : (front a b : List ℕ) (x y : ℕ) (k m : Option (List ℕ)) (r s : ℕ) → ReadsOn a b x y k m r s → ReadsOn (front ++ a) (front ++ b) x y k m r s
-ReadsOn-behind front a b x y k m r s p = record {
+pub ReadsOn-behind : (P Q : List ℕ → Type 0) (front a b : List ℕ) (x y : ℕ) (k m : Option (List ℕ)) (r s : ℕ) → ((v : List ℕ) → P v → Q (front ++ v)) → ReadsOn P a b x y k m r s
+    → ReadsOn Q (front ++ a) (front ++ b) x y k m r s
+ReadsOn-behind P Q front a b x y k m r s so_then p = record {
   more = p.more;
   spent = p.spent;
   grown = ap (λ (v : List ℕ). front ++ v) p.grown ∙ sym (append_assoc front a p.more);
@@ -59,13 +148,18 @@ ReadsOn-behind front a b x y k m r s p = record {
   counts = p.counts;
   most = p.most;
   least = p.least;
+  pieces = p.pieces;
+  joined = p.joined;
+  number = p.number;
+  each = p.each;
+  needed = before_behind P Q front so_then a p.pieces p.needed;
 }
 
-pub ReadsOn-is : (a b c : List ℕ) (x y : ℕ) (k m : Option (List ℕ)) (r s : ℕ) → ReadsOn a b x y k m r s → c ≡ b → ReadsOn a c x y k m r s
-ReadsOn-is a b c x y k m r s p e = let P : List ℕ → Type 0 = λ v. ReadsOn a v x y k m r s in subst P (sym e) p
+pub ReadsOn-is : (P : List ℕ → Type 0) (a b c : List ℕ) (x y : ℕ) (k m : Option (List ℕ)) (r s : ℕ) → ReadsOn P a b x y k m r s → c ≡ b → ReadsOn P a c x y k m r s
+ReadsOn-is P a b c x y k m r s p e = let Q : List ℕ → Type 0 = λ v. ReadsOn P a v x y k m r s in subst Q (sym e) p
 
-pub ReadsOn-spare : (a b : List ℕ) (x y z : ℕ) (k m : Option (List ℕ)) (r s : ℕ) → ReadsOn a b x y k m r s → z ≡ y → ReadsOn a b x z k m r s
-ReadsOn-spare a b x y z k m r s p e = let P : ℕ → Type 0 = λ n. ReadsOn a b x n k m r s in subst P (sym e) p
+pub ReadsOn-spare : (P : List ℕ → Type 0) (a b : List ℕ) (x y z : ℕ) (k m : Option (List ℕ)) (r s : ℕ) → ReadsOn P a b x y k m r s → z ≡ y → ReadsOn P a b x z k m r s
+ReadsOn-spare P a b x y z k m r s p e = let Q : ℕ → Type 0 = λ n. ReadsOn P a b x n k m r s in subst Q (sym e) p
 
 -- ---- heads stay
 

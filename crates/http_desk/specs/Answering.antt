@@ -1,5 +1,5 @@
 -- Representation, not meaning: what came next on a connection, and what was read for it.
-use Rattle.std.specs.Prelude.{◌≡◌, ℕ, Bool, List, ◌++◌, Option, Result, Ok, Err, ⊤}
+use Rattle.std.specs.Prelude.{◌≡◌, ℕ, Bool, true, false, List, ◌++◌, Option, Result, Ok, Err, ⊤}
 use Rattle.society_core.specs.State.{State}
 use Rattle.http_desk.specs.BodyLength.{closes}
 use Rattle.http_desk.specs.Counted.{failures_of, inner_of, reads_of}
@@ -21,6 +21,11 @@ abbrev pub IsReadyNext : Next → Type 0
 IsReadyNext (Request answered) = IsReadyToSend answered.told
 IsReadyNext (Ended end) = ⊤
 
+-- whether the end came
+abbrev pub is_end : Next → Bool
+is_end (Request answered) = false
+is_end (Ended end) = true
+
 -- the request at the front of the bytes was answered so by a step, and taken
 pub record Takes {S : Type 0} (state : S → State) (desk new_desk : S) (bytes rest : List ℕ) (told : Told) (close : Bool) : Type 0 where
   pub part : Part
@@ -35,16 +40,16 @@ Comes state desk new_desk bytes rest known (Ok (Request answered)) = Takes state
 Comes state desk new_desk bytes rest known (Ok (Ended end)) = EndsSo bytes known end × (new_desk ≡ desk)
 Comes state desk new_desk bytes rest known (Err kind) = Awaits bytes × (new_desk ≡ desk)
 
--- what came next, and the bytes that were read for it and not answered before
+-- what came next, and the bytes that were read for it and not answered before; each read was needed
 pub record ComesNext {S R : Type 0} (state : S → State) (remaining : R → Option (List ℕ)) (desk new_desk : S) (reader new_reader : Counted R) (input new_input : Input) (result : Result Next FaultKind) : Type 0 where
   pub bytes : List ℕ
-  pub reads : ReadsOn (unread input) bytes input.turns new_input.turns (remaining (inner_of reader)) (remaining (inner_of new_reader)) (reads_of reader) (reads_of new_reader)
+  pub reads : ReadsOn Awaits (unread input) bytes input.turns new_input.turns (remaining (inner_of reader)) (remaining (inner_of new_reader)) (reads_of reader) (reads_of new_reader)
   pub comes : Comes state desk new_desk bytes (unread new_input) (remaining (inner_of new_reader)) result
 
 -- why no request came, while these texts waited
 pub record IsLeft {S R W : Type 0} (state : S → State) (remaining : R → Option (List ℕ)) (contents : W → Option (List ℕ)) (desk new_desk : S) (reader new_reader : Counted R) (writer new_writer : Counted W) (input new_input : Input) (waiting : List ℕ) (kind : FaultKind) : Type 0 where
   pub bytes : List ℕ
-  pub reads : ReadsOn (unread input) bytes input.turns new_input.turns (remaining (inner_of reader)) (remaining (inner_of new_reader)) (reads_of reader) (reads_of new_reader)
+  pub reads : ReadsOn Awaits (unread input) bytes input.turns new_input.turns (remaining (inner_of reader)) (remaining (inner_of new_reader)) (reads_of reader) (reads_of new_reader)
   pub same : new_desk ≡ desk
   pub stops : StopsBy kind bytes new_input.turns (failures_of reader, failures_of new_reader) (failures_of writer, failures_of new_writer)
       (contents (inner_of writer)) (contents (inner_of new_writer)) waiting

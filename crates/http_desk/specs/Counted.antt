@@ -1,5 +1,5 @@
 -- A reader or a writer whose failures, and reads that gave bytes, are counted.
-use Rattle.std.specs.Prelude.{◌≡◌, ℕ, ◌+◌, ◌-◌, ◌^◌, ◌≤◌, zero, suc, min, List, ◌++◌, length, Option, Result, MatchResult}
+use Rattle.std.specs.Prelude.{◌≡◌, ℕ, ◌+◌, ◌-◌, ◌^◌, ◌≤◌, Bool, true, false, zero, suc, min, List, ◌++◌, length, Option, Result, MatchResult}
 use Rattle.std.specs.Io.KnownBytes.{Appends, Consumes}
 use Rattle.http_desk.specs.declared.counted.Counted.{Counted}
 
@@ -15,6 +15,10 @@ failures_of counted = counted.failures
 abbrev pub reads_of : {T : Type 0} → Counted T → ℕ
 reads_of counted = counted.reads
 
+-- how many of its reads gave no byte
+abbrev pub ends_of : {T : Type 0} → Counted T → ℕ
+ends_of counted = counted.ends
+
 -- a count after so many more, which stops at the greatest number of 64 bits
 abbrev pub counted_on : ℕ → ℕ → ℕ
 counted_on count more = min (count + more) (2 ^ 64 - 1)
@@ -23,6 +27,16 @@ counted_on count more = min (count + more) (2 ^ 64 - 1)
 abbrev pub reads_after : ℕ → ℕ → ℕ
 reads_after zero reads = reads
 reads_after (suc bytes) reads = counted_on reads 1
+
+-- the count of reads that gave no byte, after one that gave so many
+abbrev pub ends_after : ℕ → ℕ → ℕ
+ends_after zero ends = counted_on ends 1
+ends_after (suc bytes) ends = ends
+
+-- one more was counted at most, and none where a read was told to have given bytes
+abbrev pub MeetsEnd : Bool → ℕ → ℕ → Type 0
+MeetsEnd true ends new_ends = new_ends ≤ ends + 1
+MeetsEnd false ends new_ends = new_ends ≡ ends
 
 -- a front of these bytes was appended
 abbrev pub AppendsFront : Option (List ℕ) → Option (List ℕ) → List ℕ → Type 0

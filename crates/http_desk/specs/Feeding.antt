@@ -1,5 +1,5 @@
 -- Representation, not meaning: a request whose body is fed while it comes. What was read of it and not answered is its head, what was fed, and what is unread.
-use Rattle.std.specs.Prelude.{◌≡◌, ℕ, ◌+◌, ◌≤◌, List, ◌++◌, length, take, Option, Result, Ok, Err}
+use Rattle.std.specs.Prelude.{◌≡◌, ℕ, ◌+◌, ◌≤◌, Bool, true, false, List, ◌++◌, length, take, Option, Result, Ok, Err}
 use Rattle.cwr_files.specs.Fed.{Fed, WasFed}
 use Rattle.http_desk.specs.Counted.{inner_of, reads_of}
 use Rattle.http_desk.specs.declared.connection_end.End.TheVariants.{Bad}
@@ -22,7 +22,7 @@ pub record HasFed (before rest : List ℕ) (turns new_turns : ℕ) (known new_kn
   pub fed : List ℕ
   pub was_fed : WasFed sink fed
   pub size : length fed + left ≡ head.body
-  pub read_on : ReadsOn before (pending before head fed rest) turns new_turns known new_known reads new_reads
+  pub read_on : ReadsOn Awaits before (pending before head fed rest) turns new_turns known new_known reads new_reads
 
 -- why feeding ended, with so many bytes of the body still to be fed: with none; at the end of the bytes; for want of memory; or more bytes were awaited
 abbrev pub EndsFeeding : Result Feeding FaultKind → ℕ → List ℕ → Option (List ℕ) → Type 0
@@ -30,6 +30,12 @@ EndsFeeding (Ok Whole) left bytes known = left ≡ 0
 EndsFeeding (Ok Cut) left bytes known = EndsSo bytes known Bad
 EndsFeeding (Ok Refused) left bytes known = 1 ≤ left
 EndsFeeding (Err kind) left bytes known = Awaits bytes
+
+-- whether the end of the bytes was met
+abbrev pub is_cut : Feeding → Bool
+is_cut Whole = false
+is_cut Cut = true
+is_cut Refused = false
 
 -- a request was fed, as far as it came
 pub record FeedsRequest {R : Type 0} (remaining : R → Option (List ℕ)) (reader new_reader : Counted R) (input new_input : Input) (head : Head) (sink : Fed) (result : Result Feeding FaultKind) : Type 0 where

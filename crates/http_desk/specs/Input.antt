@@ -1,11 +1,13 @@
 -- Representation, not meaning: bytes that were read and not taken yet, and what reading on does to them.
-use Rattle.std.specs.Prelude.{◌≡◌, ℕ, ◌+◌, ◌*◌, ◌≤◌, List, ◌++◌, length, drop, Option}
+use Rattle.std.specs.Prelude.{◌≡◌, ℕ, ◌+◌, ◌*◌, ◌≤◌, List, [], ◌∷◌, ◌++◌, length, drop, Option}
 use Rattle.std.specs.Io.KnownBytes.{Consumes}
+use Rattle.std.specs.List.{flat_map, AllByRecursion}
 use Rattle.http_desk.specs.Counted.{counted_on, inner_of, reads_of}
 use Rattle.http_desk.specs.declared.counted.Counted.{Counted}
 use Rattle.http_desk.specs.declared.fault.FaultKind.{FaultKind}
 use Rattle.http_desk.specs.declared.fault.FaultKind.TheVariants.{Read, Write, Turns, Memory}
 use Rattle.http_desk.specs.declared.input.Input.{Input}
+use Rattle.http_desk.specs.Reads.{Awaits}
 use Rattle.society_core.specs.State.{Rises}
 
 -- the bytes that were read and not taken yet
@@ -16,8 +18,22 @@ unread input = drop input.start input.bytes.items
 abbrev pub max_piece : ℕ
 max_piece = 16384
 
--- bytes that the reader gave went to the end of those not answered yet; each turn that was spent is a read that gave 1 to 16,384 of them
-pub record ReadsOn (old new : List ℕ) (turns new_turns : ℕ) (known new_known : Option (List ℕ)) (reads new_reads : ℕ) : Type 0 where
+-- a piece is what one read gave: 1 to 16,384 bytes
+abbrev pub IsPiece : List ℕ → Type 0
+IsPiece piece = (1 ≤ length piece) × (length piece ≤ max_piece)
+
+-- the bytes of pieces, one behind another
+abbrev pub all_of : List (List ℕ) → List ℕ
+all_of pieces = flat_map (λ (piece : List ℕ). piece) pieces
+
+-- before each of these pieces came behind the bytes, this held of the bytes so far
+abbrev pub BeforeEach : (List ℕ → Type 0) → List ℕ → List (List ℕ) → Type 0
+BeforeEach Holds bytes [] = Unit {0}
+BeforeEach Holds bytes (piece ∷ pieces) = Holds bytes × BeforeEach Holds (bytes ++ piece) pieces
+
+-- bytes that the reader gave went to the end of those not answered yet; each turn that was spent is a read that gave 1 to 16,384 of
+-- them, and before each of these this held of the bytes so far
+pub record ReadsOn (Holds : List ℕ → Type 0) (old new : List ℕ) (turns new_turns : ℕ) (known new_known : Option (List ℕ)) (reads new_reads : ℕ) : Type 0 where
   pub more : List ℕ
   pub spent : ℕ
   pub grown : new ≡ old ++ more
@@ -26,11 +42,24 @@ pub record ReadsOn (old new : List ℕ) (turns new_turns : ℕ) (known new_known
   pub counts : new_reads ≡ counted_on reads spent
   pub most : length more ≤ spent * max_piece
   pub least : spent ≤ length more
+  pub pieces : List (List ℕ)
+  pub joined : more ≡ all_of pieces
+  pub number : length pieces ≡ spent
+  pub each : AllByRecursion IsPiece pieces
+  pub needed : BeforeEach Holds old pieces
 
 -- the same of a reader and an input that keeps all that it gives, from one state to another
+abbrev pub ReadsWhere : {R : Type 0} → (List ℕ → Type 0) → (R → Option (List ℕ)) → Counted R → Counted R → Input → Input → Type 0
+ReadsWhere Holds remaining reader new_reader input new_input =
+    ReadsOn Holds (unread input) (unread new_input) input.turns new_input.turns (remaining (inner_of reader)) (remaining (inner_of new_reader)) (reads_of reader) (reads_of new_reader)
+
+-- the same for a reason that is the caller's
 abbrev pub ReadsFrom : {R : Type 0} → (R → Option (List ℕ)) → Counted R → Counted R → Input → Input → Type 0
-ReadsFrom remaining reader new_reader input new_input =
-    ReadsOn (unread input) (unread new_input) input.turns new_input.turns (remaining (inner_of reader)) (remaining (inner_of new_reader)) (reads_of reader) (reads_of new_reader)
+ReadsFrom remaining reader new_reader input new_input = ReadsWhere (λ bytes. Unit {0}) remaining reader new_reader input new_input
+
+-- the same, where each read was needed: more bytes were awaited before it
+abbrev pub ReadsAwaited : {R : Type 0} → (R → Option (List ℕ)) → Counted R → Counted R → Input → Input → Type 0
+ReadsAwaited remaining reader new_reader input new_input = ReadsWhere Awaits remaining reader new_reader input new_input
 
 -- why reading failed: the reader did, or no turn was left
 abbrev pub FailsBy : FaultKind → ℕ → ℕ → ℕ → Type 0

@@ -1,10 +1,12 @@
 -- What a connection comes to: the requests that were read, their answers, the book after them, and why it was given up.
-use Rattle.std.specs.Prelude.{◌≡◌, ◌⊎◌, ℕ, ◌+◌, ◌*◌, ◌≤◌, IsTrue, IfSome, List, ◌++◌, length, map, Option}
+use Rattle.std.specs.Prelude.{◌≡◌, ◌⊎◌, ℕ, ◌+◌, ◌*◌, ◌≤◌, IsTrue, IfSome, List, [], ◌∷◌, ◌++◌, length, map, Option}
 use Rattle.std.specs.Io.KnownBytes.{Appends, Consumes}
 use Rattle.std.specs.List.{flat_map, AllByRecursion}
+use Rattle.society_core.specs.Book.{Book}
+use Rattle.society_core.specs.Entries.{Entry, IsIn}
 use Rattle.society_core.specs.Headline.{OneContent, HoldsWhatCame}
-use Rattle.society_core.specs.Requests.{Reply}
-use Rattle.society_core.specs.Runs.{Run, Step}
+use Rattle.society_core.specs.Requests.{Query, Reply}
+use Rattle.society_core.specs.Runs.{Proceeds, Run}
 use Rattle.society_core.specs.State.{State, Rises}
 use Rattle.http_desk.specs.declared.connection.Served.{Served}
 use Rattle.http_desk.specs.declared.connection_end.End.{End}
@@ -12,7 +14,8 @@ use Rattle.http_desk.specs.declared.counted.Counted.{Counted}
 use Rattle.http_desk.specs.declared.fault.DeskFault.{DeskFault}
 use Rattle.http_desk.specs.declared.fault.FaultKind.{FaultKind}
 use Rattle.http_desk.specs.declared.fault.FaultKind.TheVariants.{Read, Write, Turns, Memory}
-use Rattle.http_desk.specs.Counted.{AppendsFront, TakesAtLeast, TakesAtMost, counted_on, failures_of, inner_of, reads_of}
+use Rattle.http_desk.specs.Counted.{AppendsFront, TakesAtLeast, TakesAtMost, counted_on, ends_of, failures_of, inner_of, reads_of}
+use Rattle.http_desk.specs.Input.{BeforeEach, IsPiece, all_of}
 use Rattle.http_desk.specs.Part.{Part, print_part, IsOpenPart}
 use Rattle.http_desk.specs.Path.{request_of}
 use Rattle.http_desk.specs.Reads.{Awaits, Reads, Cuts, HasNoPart}
@@ -20,32 +23,56 @@ use Rattle.http_desk.specs.Text.{texts, ending}
 use Rattle.http_desk.specs.Upcoming.{HasPart}
 use Rattle.http_desk.specs.declared.head.Head.{Head}
 
--- a request was answered by a step from the old book to the new, where the store is clean
+-- a request was answered by a call that led the store on
 abbrev pub Steps : {S : Type 0} → (S → State) → S → S → Part → Reply → Type 0
-Steps state desk new_desk part reply =
-    IsTrue (state new_desk).is_clean
-    → Step (state desk).office (state desk).book (request_of part) reply (state new_desk).book
+Steps state desk new_desk part reply = Proceeds (state desk) (state new_desk) (request_of part) reply
 
--- the request at the front of the bytes, of whose head this is kept, was answered by such a step
+-- the request at the front of the bytes, of whose head this is kept, was answered by such a call
 abbrev pub IsAnswered : {S : Type 0} → (S → State) → S → S → List ℕ → Head → Reply → Type 0
 IsAnswered state desk new_desk bytes head reply = (has : HasPart bytes head) → Steps state desk new_desk has.part reply
 
--- the requests were answered in turn, from one state of the store to another; the book is told where the store is clean, and holds what came
-pub record AreAnswered (parts : List Part) (replies : List Reply) (old new : State) : Type 0 where
+-- the requests were answered in turn: each by a call that began where the one before had left the store
+abbrev pub Answered : {S : Type 0} → (S → State) → List Query → List Reply → S → S → Type 0
+Answered state [] [] desk new_desk = new_desk ≡ desk
+Answered {S} state (query ∷ queries) (reply ∷ replies) desk new_desk =
+    (middle : S) × Proceeds (state desk) (state middle) query reply × Answered state queries replies middle new_desk
+Answered state [] (reply ∷ replies) desk new_desk = ⊥
+Answered state (query ∷ queries) [] desk new_desk = ⊥
+
+-- the requests of a connection were answered in turn; from that follows what is told of the book where the store is clean at the end
+pub record AreAnswered {S : Type 0} (state : S → State) (parts : List Part) (replies : List Reply) (desk new_desk : S) : Type 0 where
   pub each : length replies ≡ length parts
-  pub office : new.office ≡ old.office
-  pub run : IsTrue new.is_clean → Run old.office old.book (map request_of parts) replies new.book
-  pub came : IsTrue new.is_clean → OneContent old.book (map request_of parts) replies → HoldsWhatCame old.book (map request_of parts) replies new.book
+  pub office : (state new_desk).office ≡ (state desk).office
+  pub steps : Answered state (map request_of parts) replies desk new_desk
+  pub run : IsTrue (state new_desk).is_clean → Run (state desk).office (state desk).book (map request_of parts) replies (state new_desk).book
+  pub came : IsTrue (state new_desk).is_clean → OneContent (state desk).book (map request_of parts) replies
+      → HoldsWhatCame (state desk).book (map request_of parts) replies (state new_desk).book
+
+-- First these requests were answered and then more, with a store in between. Where that one is clean, the first are a run from the
+-- opening book, its book holds what came, and whatever befell the store later, its entries stand in the later book where the store is
+-- still clean, and in each book that a crash may leave where the medium told the truth.
+pub record AnsweredThrough {S : Type 0} (state : S → State) (queries more : List Query) (replies : List Reply) (desk new_desk : S) : Type 0 where
+  pub middle : S
+  pub first : List Reply
+  pub later : List Reply
+  pub whole : replies ≡ first ++ later
+  pub before : Answered state queries first desk middle
+  pub after : Answered state more later middle new_desk
+  pub run : IsTrue (state middle).is_clean → Run (state desk).office (state desk).book queries first (state middle).book
+  pub came : IsTrue (state middle).is_clean → OneContent (state desk).book queries first → HoldsWhatCame (state desk).book queries first (state middle).book
+  pub stays : IsTrue (state middle).is_clean → IsTrue (state new_desk).is_clean → (entry : Entry) → IsIn (state middle).book entry → IsIn (state new_desk).book entry
+  pub left : IsTrue (state middle).is_clean → IsTrue (state new_desk).is_honest → (book : Book) → (state new_desk).left book
+      → (entry : Entry) → IsIn (state middle).book entry → IsIn book entry
 
 -- all bytes were read as requests, and what was written is their answers and then the text of the end, and nothing else; where the reader's bytes are known they are those
-pub record Serves (known : Option (List ℕ)) (old new : State) (holds new_holds : Option (List ℕ)) (requests : ℕ) : Type 0 where
+pub record Serves {S : Type 0} (state : S → State) (known : Option (List ℕ)) (desk new_desk : S) (holds new_holds : Option (List ℕ)) (requests : ℕ) : Type 0 where
   pub bytes : List ℕ
   pub given : IfSome known (λ all. all ≡ bytes)
   pub parts : List Part
   pub replies : List Reply
   pub end : End
   pub reads : Reads bytes parts end
-  pub answers : AreAnswered parts replies old new
+  pub answers : AreAnswered state parts replies desk new_desk
   pub written : Appends holds new_holds (texts parts replies ++ ending end)
   pub count : requests ≡ length parts
 
@@ -68,12 +95,12 @@ Written Memory = Stopped
 Written Write = Unwritten
 
 -- up to a fault these requests were read and answered, as far as the answers could be written
-pub record Breaks (fault : DeskFault) (known : Option (List ℕ)) (old new : State) (holds new_holds : Option (List ℕ)) : Type 0 where
+pub record Breaks {S : Type 0} (state : S → State) (fault : DeskFault) (known : Option (List ℕ)) (desk new_desk : S) (holds new_holds : Option (List ℕ)) : Type 0 where
   pub bytes : List ℕ
   pub given : IfSome known (λ all. all ≡ bytes)
   pub parts : List Part
   pub replies : List Reply
-  pub answers : AreAnswered parts replies old new
+  pub answers : AreAnswered state parts replies desk new_desk
   pub written : Written fault.kind bytes parts replies holds new_holds
   pub count : fault.requests ≡ length parts
 
@@ -101,8 +128,20 @@ CausedBy Turns requests turns remaining reader new_reader writer new_writer =
 CausedBy Memory requests turns remaining reader new_reader writer new_writer =
     (requests ≡ 0) × (new_reader ≡ reader) × (new_writer ≡ writer)
 
--- at most as many reads as turns gave bytes, each at most 16,384 of them (profile)
+-- what had come was requests after each of which the connection goes on, and behind them bytes of which more were awaited
+abbrev pub IsAwaiting : List ℕ → Type 0
+IsAwaiting bytes = (parts : List Part) × (rest : List ℕ) × Cuts bytes parts rest × Awaits rest
+
+-- At most as many reads as turns gave bytes, each at most 16,384 of them (profile). Each of these was needed: before it nothing that is
+-- whole, refused or too large stood behind the requests that had come. At most one further read gave none.
 pub record KeepsTurns {R : Type 0} (remaining : R → Option (List ℕ)) (reader new_reader : Counted R) (turns : ℕ) : Type 0 where
+  pub pieces : List (List ℕ)
+  pub consumed : Consumes (remaining (inner_of reader)) (remaining (inner_of new_reader)) (all_of pieces)
+  pub each : AllByRecursion IsPiece pieces
+  pub needed : BeforeEach IsAwaiting [] pieces
+  pub counts : reads_of new_reader ≡ counted_on (reads_of reader) (length pieces)
+  pub within : length pieces ≤ turns
+  pub ends : ends_of new_reader ≤ ends_of reader + 1
   pub reads : reads_of new_reader ≤ reads_of reader + turns
   pub most : TakesAtMost (remaining (inner_of reader)) (remaining (inner_of new_reader)) (turns * 16384)
 
@@ -118,12 +157,17 @@ FailsToClose contents writer new_writer requests bytes fault =
     × AppendsFront (contents (inner_of writer)) (contents (inner_of new_writer)) bytes
     × Rises (failures_of writer) (failures_of new_writer)
 
+-- neither the reader nor the writer failed
+abbrev pub NeitherFails : {R W : Type 0} → Counted R → Counted R → Counted W → Counted W → Type 0
+NeitherFails reader new_reader writer new_writer =
+    (failures_of new_reader ≡ failures_of reader) × (failures_of new_writer ≡ failures_of writer)
+
 -- a desk served a connection to its end
 abbrev pub IsServed : {S R W : Type 0} → (S → State) → (R → Option (List ℕ)) → (W → Option (List ℕ)) → S → S → Counted R → Counted W → Counted W → Served → Type 0
 IsServed state remaining contents desk new_desk reader writer new_writer served =
-    Serves (remaining (inner_of reader)) (state desk) (state new_desk) (contents (inner_of writer)) (contents (inner_of new_writer)) served.requests
+    Serves state (remaining (inner_of reader)) desk new_desk (contents (inner_of writer)) (contents (inner_of new_writer)) served.requests
 
 -- a desk gave a connection up: what came before, and why
 pub record IsGivenUp {S R W : Type 0} (state : S → State) (remaining : R → Option (List ℕ)) (contents : W → Option (List ℕ)) (desk new_desk : S) (reader new_reader : Counted R) (writer new_writer : Counted W) (turns : ℕ) (fault : DeskFault) : Type 0 where
-  pub breaks : Breaks fault (remaining (inner_of reader)) (state desk) (state new_desk) (contents (inner_of writer)) (contents (inner_of new_writer))
+  pub breaks : Breaks state fault (remaining (inner_of reader)) desk new_desk (contents (inner_of writer)) (contents (inner_of new_writer))
   pub cause : CausedBy fault.kind fault.requests turns remaining reader new_reader writer new_writer

@@ -1,5 +1,5 @@
 -- Representation, not meaning: what was found at the front of the bytes that were read, and why nothing was.
-use Rattle.std.specs.Prelude.{◌≡◌, ℕ, List, [], ◌∷◌, ◌++◌, length, unwrap_or, Option}
+use Rattle.std.specs.Prelude.{◌≡◌, ℕ, Bool, true, false, List, [], ◌∷◌, ◌++◌, length, unwrap_or, Option}
 use Rattle.std.specs.Io.KnownBytes.{Appends}
 use Rattle.http_desk.specs.Counted.{AppendsFront, failures_of, inner_of}
 use Rattle.http_desk.specs.declared.connection_end.End.{End}
@@ -44,6 +44,11 @@ IsUpcomingHead (Ended end) bytes known = EndsSo bytes known end
 abbrev pub IsUpcoming : Upcoming → List ℕ → Option (List ℕ) → Type 0
 IsUpcoming (Request kept) bytes known = HasPart bytes kept
 IsUpcoming (Ended end) bytes known = EndsSo bytes known end
+
+-- whether the end stands there
+abbrev pub is_ended : Upcoming → Bool
+is_ended (Request kept) = false
+is_ended (Ended end) = true
 
 -- why no request came: the reader failed or no turn was left, where more bytes were awaited and all that waited was written; or the writer failed
 abbrev pub StopsBy : FaultKind → List ℕ → ℕ → (ℕ × ℕ) → (ℕ × ℕ) → Option (List ℕ) → Option (List ℕ) → List ℕ → Type 0

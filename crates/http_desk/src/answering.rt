@@ -1,8 +1,8 @@
 //! The next request of a connection is answered: a transmission's body is fed while it comes, any other is read first.
-ghost use Rattle.std.specs.Prelude.{◌≡◌, ◌+◌, drop, Ok, IfOk, IfErr, OnOk, IsTrue};
+ghost use Rattle.std.specs.Prelude.{◌≡◌, ◌+◌, drop, Ok, IfOk, IfErr, OnOk, OnErr, IsTrue};
 ghost use Rattle.society_core.specs.Requests.{reply_of};
-ghost use Rattle.http_desk.specs.Answering.{ComesNext, IsLeft, IsReadyNext};
-ghost use Rattle.http_desk.specs.Counted.{failures_of};
+ghost use Rattle.http_desk.specs.Answering.{ComesNext, IsLeft, IsReadyNext, is_end};
+ghost use Rattle.http_desk.specs.Counted.{ends_of, failures_of, MeetsEnd};
 ghost use Rattle.http_desk.specs.Head.{HasHead};
 ghost use Rattle.http_desk.specs.Input.{unread, FailsBy};
 ghost use Rattle.http_desk.specs.Outbox.{waiting, SendsTo};
@@ -110,6 +110,8 @@ fn answer_whole<S: Store, R: Read>(
     ensures told { IfOk result IsReadyNext }
     ensures office { (S.state desk.new).office ≡ (S.state desk.old).office }
     ensures clean { IsTrue (S.state desk.new).is_clean → IsTrue (S.state desk.old).is_clean }
+    ensures met { IfOk result (λ next. MeetsEnd (is_end next) (ends_of reader.old) (ends_of reader.new)) }
+    ensures unmet { OnErr result (ends_of reader.new ≡ ends_of reader.old) }
     ensures kept { OnOk result (failures_of reader.new ≡ failures_of reader.old) }
     ensures fault { IfErr result (λ kind.
         FailsBy kind room.new.input.turns (failures_of reader.old) (failures_of reader.new)) }
@@ -146,6 +148,8 @@ fn answer_fed<S: Store, R: Read>(
     ensures told { IfOk result IsReadyNext }
     ensures office { (S.state desk.new).office ≡ (S.state desk.old).office }
     ensures clean { IsTrue (S.state desk.new).is_clean → IsTrue (S.state desk.old).is_clean }
+    ensures met { IfOk result (λ next. MeetsEnd (is_end next) (ends_of reader.old) (ends_of reader.new)) }
+    ensures unmet { OnErr result (ends_of reader.new ≡ ends_of reader.old) }
     ensures kept { OnOk result (failures_of reader.new ≡ failures_of reader.old) }
     ensures fault { IfErr result (λ kind.
         FailsBy kind room.new.input.turns (failures_of reader.old) (failures_of reader.new)) }
@@ -195,6 +199,8 @@ fn answer_head<S: Store, R: Read>(
     ensures told { IfOk result IsReadyNext }
     ensures office { (S.state desk.new).office ≡ (S.state desk.old).office }
     ensures clean { IsTrue (S.state desk.new).is_clean → IsTrue (S.state desk.old).is_clean }
+    ensures met { IfOk result (λ next. MeetsEnd (is_end next) (ends_of reader.old) (ends_of reader.new)) }
+    ensures unmet { OnErr result (ends_of reader.new ≡ ends_of reader.old) }
     ensures kept { OnOk result (failures_of reader.new ≡ failures_of reader.old) }
     ensures fault { IfErr result (λ kind.
         FailsBy kind room.new.input.turns (failures_of reader.old) (failures_of reader.new)) }
@@ -225,6 +231,8 @@ pub(crate) fn answer_upcoming<S: Store, R: Read, W: Write>(
     ensures told { IfOk result IsReadyNext }
     ensures office { (S.state desk.new).office ≡ (S.state desk.old).office }
     ensures clean { IsTrue (S.state desk.new).is_clean → IsTrue (S.state desk.old).is_clean }
+    ensures met { IfOk result (λ next. MeetsEnd (is_end next) (ends_of reader.old) (ends_of reader.new)) }
+    ensures unmet { OnErr result (ends_of reader.new ≡ ends_of reader.old) }
     ensures kept { OnOk result (failures_of reader.new ≡ failures_of reader.old) }
     ensures kept_writer { OnOk result (failures_of writer.new ≡ failures_of writer.old) }
     ensures ready { IsReady room.new }

@@ -5,7 +5,7 @@ ghost use Rattle.http_desk.specs.Counted.{failures_of};
 ghost use Rattle.http_desk.specs.Input.{unread};
 ghost use Rattle.http_desk.specs.Outbox.{waiting, Puts};
 ghost use Rattle.http_desk.specs.Room.{IsReady};
-ghost use Rattle.http_desk.specs.Serves.{ClosesBy, FailsToClose, IsServed, IsGivenUp, KeepsTurns};
+ghost use Rattle.http_desk.specs.Serves.{ClosesBy, FailsToClose, IsServed, IsGivenUp, KeepsTurns, NeitherFails};
 ghost use Rattle.http_desk.specs.Text.{text, ending};
 ghost use Rattle.http_desk.specs.Told.{IsReadyToSend, told_reply};
 
@@ -56,6 +56,7 @@ fn close_with<W: Write>(
 ) -> Result<Served, DeskFault>
     ensures served { IfOk result (ClosesBy W.contents writer.old writer.new requests
         (waiting outbox.old ++ ending end)) }
+    ensures kept { OnOk result (failures_of writer.new ≡ failures_of writer.old) }
     ensures fault { IfErr result (FailsToClose W.contents writer.old writer.new requests
         (waiting outbox.old ++ ending end)) }
 {
@@ -71,7 +72,8 @@ fn close_with<W: Write>(
 /// Serves one connection: reads requests, answers each at the desk in turn and writes its answer, until the bytes end,
 /// a request ends the connection, or bytes are no request. Answers are written together, before each further read and at
 /// the end. A transmission's body is fed to its reader while it comes; a faulty one is read to its end like any other. A
-/// turn is one read that gives bytes, at most 16,384. It is given up by `Read` and `Write` where that side
+/// turn is one read that gives bytes, at most 16,384. It reads only where what was read is not settled, and not again after a read that
+/// gave nothing. No failure is passed over: it is given up by `Read` and `Write` where that side
 /// failed, by `Turns` where all turns gave bytes and a further read was needed, and by `Memory` before the first read
 /// alone; the book is then that of the requests counted in the fault.
 pub fn serve<S: Store, R: Read, W: Write>(
@@ -81,6 +83,7 @@ pub fn serve<S: Store, R: Read, W: Write>(
     writer: &mut Counted<W>,
     turns: u64,
 ) -> Result<Served, DeskFault>
+    ensures kept { OnOk result (NeitherFails reader.old reader.new writer.old writer.new) }
     // What was read are requests with an end, and what was written is their answers in order and the text of the
     // end, and nothing else; as many requests as are told are a run from the old book to the new.
     ensures served { IfOk result
@@ -116,6 +119,7 @@ fn serve_in<S: Store, R: Read, W: Write>(
     requires unread { unread room.old.input ≡ [] }
     requires waiting { waiting room.old.outbox ≡ [] }
     requires turns { room.old.input.turns < 2 ^ 64 }
+    ensures kept { OnOk result (NeitherFails reader.old reader.new writer.old writer.new) }
     ensures served { IfOk result
         (IsServed S.state R.remaining W.contents desk.old desk.new reader.old writer.old writer.new) }
     ensures fault { IfErr result (IsGivenUp S.state R.remaining W.contents

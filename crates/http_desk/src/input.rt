@@ -23,10 +23,10 @@ pub(crate) struct Input {
 }
 
 impl Input {
-    ghost use Rattle.std.specs.Prelude.{◌≡◌, ◌<◌, ◌≤◌, ◌+◌, ◌^◌, [], true, false, length, drop, vec_capacity, IfOk, IfErr, OnOk, OnErr};
+    ghost use Rattle.std.specs.Prelude.{◌≡◌, ◌<◌, ◌≤◌, ◌+◌, ◌^◌, [], true, false, not, length, drop, vec_capacity, IfOk, IfErr, OnOk, OnErr};
     ghost use Rattle.std.specs.Io.KnownBytes.{IsAtEnd};
-    ghost use Rattle.http_desk.specs.Counted.{inner_of, failures_of};
-    ghost use Rattle.http_desk.specs.Input.{unread, ReadsFrom, FailsBy, max_piece};
+    ghost use Rattle.http_desk.specs.Counted.{inner_of, ends_of, failures_of, MeetsEnd};
+    ghost use Rattle.http_desk.specs.Input.{unread, ReadsFrom, ReadsWhere, FailsBy, max_piece};
     ghost use Rattle.http_desk.specs.Reads.{small_request};
 
     /// No byte yet, with room for heads.
@@ -93,11 +93,14 @@ impl Input {
 
     /// Reads where no byte is left here: whether there is one now. An error changes none of the bytes.
     pub(crate) fn fill<R: Read>(&mut self, reader: &mut Counted<R>) -> Result<bool, FaultKind>
-        ensures reads { ReadsFrom R.remaining reader.old reader.new self.old self.new }
+        ensures reads { ReadsWhere (λ bytes. bytes ≡ []) R.remaining reader.old reader.new self.old self.new }
+        ensures one { self.old.turns ≤ self.new.turns + 1 }
         ensures some { IfOk result (λ gave. gave ≡ true → 1 ≤ length (unread self.new)) }
         ensures end { IfOk result (λ gave. gave ≡ false
             → (unread self.new ≡ []) × IsAtEnd (R.remaining (inner_of reader.new))) }
         ensures stays { OnErr result (unread self.new ≡ []) }
+        ensures met { IfOk result (λ gave. MeetsEnd (not gave) (ends_of reader.old) (ends_of reader.new)) }
+        ensures unmet { OnErr result (ends_of reader.new ≡ ends_of reader.old) }
         ensures kept { OnOk result (failures_of reader.new ≡ failures_of reader.old) }
         ensures fault { IfErr result (λ kind.
             FailsBy kind self.new.turns (failures_of reader.old) (failures_of reader.new)) }
@@ -113,10 +116,13 @@ impl Input {
         requires { length (unread self.old) + max_piece ≤ vec_capacity self.old.bytes }
         ensures reads { ReadsFrom R.remaining reader.old reader.new self.old self.new }
         ensures room { vec_capacity self.old.bytes ≤ vec_capacity self.new.bytes }
+        ensures one { self.old.turns ≤ self.new.turns + 1 }
         ensures turn { IfOk result (λ gave. gave ≡ true → self.new.turns < self.old.turns) }
         ensures end { IfOk result (λ gave. gave ≡ false
             → (unread self.new ≡ unread self.old) × IsAtEnd (R.remaining (inner_of reader.new))) }
         ensures stays { OnErr result (unread self.new ≡ unread self.old) }
+        ensures met { IfOk result (λ gave. MeetsEnd (not gave) (ends_of reader.old) (ends_of reader.new)) }
+        ensures unmet { OnErr result (ends_of reader.new ≡ ends_of reader.old) }
         ensures kept { OnOk result (failures_of reader.new ≡ failures_of reader.old) }
         ensures fault { IfErr result (λ kind.
             FailsBy kind self.new.turns (failures_of reader.old) (failures_of reader.new)) }

@@ -29,4 +29,4 @@ pub use connection::{Served, serve};
 pub use connection_end::End;
 pub use counted::{Counted, NotWritten};
 pub use fault::{DeskFault, FaultKind};
-pub use laws::one_cutting;
+pub use laws::{one_cutting, what_was_answered_stays};

@@ -1,11 +1,11 @@
 //! What comes next on a connection: a request, or the end.
 ghost use Rattle.std.specs.Prelude.{◌≡◌, ◌⊎◌, [], ℕ, List, Option, IfOk, IfErr, IfSome, OnErr, OnOk};
-ghost use Rattle.http_desk.specs.Counted.{inner_of, failures_of};
+ghost use Rattle.http_desk.specs.Counted.{inner_of, ends_of, failures_of, MeetsEnd};
 ghost use Rattle.http_desk.specs.Head.{HasHead};
-ghost use Rattle.http_desk.specs.Input.{unread, ReadsFrom, FailsBy};
+ghost use Rattle.http_desk.specs.Input.{unread, ReadsAwaited, FailsBy};
 ghost use Rattle.http_desk.specs.Outbox.{waiting, SendsTo};
 ghost use Rattle.http_desk.specs.Reads.{Awaits};
-ghost use Rattle.http_desk.specs.Upcoming.{IsUpcomingHead, IsUpcoming, IsStopped, ended_with};
+ghost use Rattle.http_desk.specs.Upcoming.{IsUpcomingHead, IsUpcoming, IsStopped, ended_with, is_ended};
 
 use crate::connection_end::End;
 use crate::counted::Counted;
@@ -49,7 +49,9 @@ pub(crate) fn next_answered<R: Read, W: Write>(
     input: &mut Input,
     outbox: &mut Outbox,
 ) -> Result<Upcoming, FaultKind>
-    ensures reads { ReadsFrom R.remaining reader.old reader.new input.old input.new }
+    ensures reads { ReadsAwaited R.remaining reader.old reader.new input.old input.new }
+    ensures met { IfOk result (λ next. MeetsEnd (is_ended next) (ends_of reader.old) (ends_of reader.new)) }
+    ensures unmet { OnErr result (ends_of reader.new ≡ ends_of reader.old) }
     ensures next { IfOk result (λ next.
         IsUpcomingHead next (unread input.new) (R.remaining (inner_of reader.new))) }
     ensures written { IfOk result (λ next. (waiting outbox.new ≡ [])
@@ -71,7 +73,9 @@ pub(crate) fn next_answered<R: Read, W: Write>(
 
 // Reads on until a head stands at the front.
 fn next_head<R: Read>(reader: &mut Counted<R>, input: &mut Input) -> Result<Upcoming, FaultKind>
-    ensures reads { ReadsFrom R.remaining reader.old reader.new input.old input.new }
+    ensures reads { ReadsAwaited R.remaining reader.old reader.new input.old input.new }
+    ensures met { IfOk result (λ next. MeetsEnd (is_ended next) (ends_of reader.old) (ends_of reader.new)) }
+    ensures unmet { OnErr result (ends_of reader.new ≡ ends_of reader.old) }
     ensures next { IfOk result (λ next.
         IsUpcomingHead next (unread input.new) (R.remaining (inner_of reader.new))) }
     ensures awaits { OnErr result (Awaits (unread input.new)) }
@@ -110,7 +114,9 @@ pub(crate) fn whole_request<R: Read>(
     head: Head,
 ) -> Result<Upcoming, FaultKind>
     requires { HasHead (unread input.old) head }
-    ensures reads { ReadsFrom R.remaining reader.old reader.new input.old input.new }
+    ensures reads { ReadsAwaited R.remaining reader.old reader.new input.old input.new }
+    ensures met { IfOk result (λ next. MeetsEnd (is_ended next) (ends_of reader.old) (ends_of reader.new)) }
+    ensures unmet { OnErr result (ends_of reader.new ≡ ends_of reader.old) }
     ensures next { IfOk result (λ next.
         IsUpcoming next (unread input.new) (R.remaining (inner_of reader.new))) }
     ensures awaits { OnErr result (Awaits (unread input.new)) }

@@ -7,51 +7,16 @@ use Rattle.std.proofs.lemmas.List.{length-append, map-append}
 use Rattle.std.proofs.lemmas.Grind.{flat_map-append}
 use Rattle.http_desk.specs.Counted.{failures_of, inner_of}
 use Rattle.http_desk.specs.Part.{Part}
-use Rattle.http_desk.specs.Path.{request_of}
 use Rattle.http_desk.specs.Serves.{AreAnswered, IsGivenUp, IsServed}
 use Rattle.http_desk.specs.declared.connection.Served.{Served}
 use Rattle.http_desk.specs.declared.counted.Counted.{Counted}
 use Rattle.http_desk.specs.declared.fault.DeskFault.{DeskFault}
-use Rattle.share_rules.specs.declared.office.Office.{Office}
-use Rattle.society_core.proofs.HeadlineLemmas.{holds_what_came}
-use Rattle.society_core.specs.Book.{Book}
-use Rattle.society_core.specs.Requests.{Query, Reply}
-use Rattle.society_core.specs.Runs.{Run}
+use Rattle.http_desk.proofs.AnsweredLemmas.{answered_on, none_answered}
+use Rattle.society_core.specs.Requests.{Reply}
 use Rattle.society_core.specs.State.{Rises, State}
-use Rattle.society_commands.specs.Connections.{Brings, Connection, IsCounted, Prints, ServesConnections, ServesStore, connection_line, connection_lines, parts_of, replies_of, requests_of}
-
--- ---- a run goes on by a run
-
-run_append : (o : Office) (b : Book) (qs : List Query) (rs : List Reply) (c : Book) (ps : List Query) (ss : List Reply) (d : Book)
-    → Run o b qs rs c → Run o c ps ss d → Run o b (qs ++ ps) (rs ++ ss) d
-run_append o b [] [] c ps ss d same run = subst (λ (x : Book). Run o x ps ss d) same run
-run_append o b (q ∷ qs) (r ∷ rs) c ps ss d first run = (first.0, first.1, run_append o first.0 qs rs c ps ss d first.2 run)
-run_append o b [] (r ∷ rs) c ps ss d first run = absurd first
-run_append o b (q ∷ qs) [] c ps ss d first run = absurd first
-
-pub nothing_answered : (state : State) → AreAnswered [] [] state state
-nothing_answered state = record {
-  each = refl;
-  office = refl;
-  run = λ clean. refl;
-  came = λ clean. holds_what_came state.office state.book [] [] state.book refl;
-}
-
-answered_on : (ps qs : List Part) (rs ss : List Reply) (old mid new : State)
-    → AreAnswered ps rs old mid → AreAnswered qs ss mid new → (IsTrue new.is_clean → IsTrue mid.is_clean) → AreAnswered (ps ++ qs) (rs ++ ss) old new
-answered_on ps qs rs ss old mid new a b clean = record {
-  each = omega (arith, length-append rs ss, length-append ps qs, a.each, b.each);
-  office = b.office ∙ a.office;
-  run = ran;
-  came = λ c. holds_what_came old.office old.book _ _ new.book (ran c);
-}
-  where
-    ran : IsTrue new.is_clean → Run old.office old.book (map request_of (ps ++ qs)) (rs ++ ss) new.book
-    ran c =
-        let P : List Query → Type 0 = λ queries. Run old.office old.book queries (rs ++ ss) new.book in
-        let Q : Office → Type 0 = λ o. Run o mid.book (map request_of qs) ss new.book in
-        subst P (sym (map-append request_of ps qs))
-        (run_append old.office old.book (map request_of ps) rs mid.book (map request_of qs) ss new.book (a.run (clean c)) (subst Q a.office (b.run c)))
+use Rattle.sqlite.specs.State as connection
+use Rattle.share_rules.specs.declared.office.Office.{Office}
+use Rattle.society_commands.specs.Connections.{Brings, Connection, IsCounted, IsOver, Prints, ServesConnections, ServesDatabase, ServesStore, StopsServingDatabase, StopsServingStore, connection_line, connection_lines, parts_of, replies_of, requests_of}
 
 -- ---- what is printed
 
@@ -110,20 +75,20 @@ replies_more : (cs : List Connection) (c : Connection) → replies_of (cs ++ c �
 replies_more cs c = flat_map-append (λ (d : Connection). d.replies) cs (c ∷ []) ∙ ap (λ (v : List Reply). replies_of cs ++ v) (append-nil c.replies)
 
 -- no connection came yet
-pub serves_none : {W : Type 0} (contents : W → Option (List ℕ)) (state : State) (out : Counted W) → ServesConnections contents state state out out 0
-serves_none contents state out = record {
+pub serves_none : {S W : Type 0} (state : S → State) (desk : S) (contents : W → Option (List ℕ)) (out : Counted W) → ServesConnections state desk desk contents out out 0
+serves_none state desk contents out = record {
   connections = [];
   number = refl;
   counted = tt;
-  answers = nothing_answered state;
+  answers = none_answered state desk;
   printed = prints_nothing contents out;
 }
 
 -- one more connection came
-pub serves_more : {W : Type 0} (contents : W → Option (List ℕ)) (old mid new : State) (first out new_out : Counted W) (count : ℕ) (outcome : Result Served DeskFault)
-    → ServesConnections contents old mid first out count → Brings mid new outcome → Prints contents out new_out (connection_line (count + 1) outcome)
-    → ServesConnections contents old new first new_out (count + 1)
-serves_more contents old mid new first out new_out count outcome so b printed =
+pub serves_more : {S W : Type 0} (state : S → State) (old mid new : S) (contents : W → Option (List ℕ)) (first out new_out : Counted W) (count : ℕ) (outcome : Result Served DeskFault)
+    → ServesConnections state old mid contents first out count → Brings state mid new outcome → Prints contents out new_out (connection_line (count + 1) outcome)
+    → ServesConnections state old new contents first new_out (count + 1)
+serves_more state old mid new contents first out new_out count outcome so b printed =
     let c : Connection = record { parts = b.parts; replies = b.replies; outcome = outcome } in
     let cs = so.connections in
     let number : 1 + length cs ≡ count + 1 = omega (arith, so.number) in
@@ -132,9 +97,9 @@ serves_more contents old mid new first out new_out count outcome so b printed =
       number = omega (arith, length-append cs (c ∷ []), so.number);
       counted = counted_more cs c so.counted b.count;
       answers =
-          subst (λ (ps : List Part). AreAnswered ps (replies_of (cs ++ c ∷ [])) old new) (sym (parts_more cs c))
-          (subst (λ (rs : List Reply). AreAnswered (parts_of cs ++ b.parts) rs old new) (sym (replies_more cs c))
-          (answered_on (parts_of cs) b.parts (replies_of cs) b.replies old mid new so.answers b.answers b.clean));
+          subst (λ (ps : List Part). AreAnswered state ps (replies_of (cs ++ c ∷ [])) old new) (sym (parts_more cs c))
+          (subst (λ (rs : List Reply). AreAnswered state (parts_of cs ++ b.parts) rs old new) (sym (replies_more cs c))
+          (answered_on state (parts_of cs) b.parts (replies_of cs) b.replies old mid new so.answers b.answers));
       printed =
           subst (λ (l : List ℕ). Prints contents first new_out l)
           (sym (lines_more 1 cs c ∙ ap (λ (n : ℕ). connection_lines 1 cs ++ connection_line n outcome) number))
@@ -142,45 +107,55 @@ serves_more contents old mid new first out new_out count outcome so b printed =
     }
 
 -- a connection that is not served brings nothing
-pub brings_nothing : (state : State) (outcome : Result Served DeskFault) → requests_of outcome ≡ 0 → Brings state state outcome
-brings_nothing state outcome none = record {
-  parts = [];
-  replies = [];
-  count = none;
-  answers = nothing_answered state;
-  clean = λ clean. clean;
-}
+pub brings_nothing : {S : Type 0} (state : S → State) (desk : S) (outcome : Result Served DeskFault) → requests_of outcome ≡ 0 → Brings state desk desk outcome
+brings_nothing state desk outcome none = record { parts = []; replies = []; count = none; answers = none_answered state desk }
 
 -- a connection that was served, or given up, brought the requests of which that is told
 pub brings : {S R W : Type 0} (state : S → State) (remaining : R → Option (List ℕ)) (contents : W → Option (List ℕ)) (desk new_desk : S) (reader new_reader : Counted R) (writer new_writer : Counted W) (turns : ℕ)
     (outcome : Result Served DeskFault)
     → IfOk outcome (IsServed state remaining contents desk new_desk reader writer new_writer)
     → IfErr outcome (IsGivenUp state remaining contents desk new_desk reader new_reader writer new_writer turns)
-    → (IsTrue (state new_desk).is_clean → IsTrue (state desk).is_clean) → Brings (state desk) (state new_desk) outcome
-brings state remaining contents desk new_desk reader new_reader writer new_writer turns (Ok served) is none clean = record {
+    → Brings state desk new_desk outcome
+brings state remaining contents desk new_desk reader new_reader writer new_writer turns (Ok served) is none = record {
   parts = is.parts;
   replies = is.replies;
   count = is.count;
   answers = is.answers;
-  clean = clean;
 }
-brings state remaining contents desk new_desk reader new_reader writer new_writer turns (Err fault) none is clean = record {
+brings state remaining contents desk new_desk reader new_reader writer new_writer turns (Err fault) none is = record {
   parts = is.breaks.parts;
   replies = is.breaks.replies;
   count = is.breaks.count;
   answers = is.breaks.answers;
-  clean = clean;
 }
 
 -- what was served over a store, behind `listening`
-pub serves_store : {S W : Type 0} (state : S → State) (store begun ended : S) (contents : W → Option (List ℕ)) (first out new_out : Counted W) (count : ℕ)
-    → begun ≡ store → Prints contents first out (codes "listening\n") → ServesConnections contents (state begun) (state ended) out new_out count
-    → ServesStore state store contents first new_out count
-serves_store state store begun ended contents first out new_out count same listening s = record {
-  ended = ended;
+pub serves_store : {S W : Type 0} (state : S → State) (desk new_desk : S) (contents : W → Option (List ℕ)) (first out new_out : Counted W) (count : ℕ)
+    → Prints contents first out (codes "listening\n") → ServesConnections state desk new_desk contents out new_out count
+    → ServesStore state desk new_desk contents first new_out count
+serves_store state desk new_desk contents first out new_out count listening s = record {
   connections = s.connections;
   number = s.number;
   counted = s.counted;
-  answers = subst (λ (b : State). AreAnswered (parts_of s.connections) (replies_of s.connections) b (state ended)) (ap state same) s.answers;
+  answers = s.answers;
   printed = prints_on contents first out new_out (codes "listening\n") (connection_lines 1 s.connections) listening s.printed;
 }
+
+-- a store over a database was served, from where it was opened to where it is left
+module _ {S W : Type 0} (opened begun ended last : S) (state : S → State) (office : Office) (found : connection.State) (over : IsOver office found (state opened)) (same : begun ≡ opened) (stays : last ≡ ended)
+    (contents : W → Option (List ℕ)) (out new_out : Counted W) (count : ℕ) where
+  pub serves_database : ServesStore state begun ended contents out new_out count → ServesDatabase state office found last contents out new_out count
+  serves_database s = (
+    opened,
+    over,
+    subst (λ (d : S). ServesStore state opened d contents out new_out count) (sym stays)
+        (subst (λ (d : S). ServesStore state d ended contents out new_out count) same s),
+  )
+
+  pub stops_database : StopsServingStore state begun ended contents out new_out count → StopsServingDatabase state office found last contents out new_out count
+  stops_database s = (
+    opened,
+    over,
+    subst (λ (d : S). StopsServingStore state opened d contents out new_out count) (sym stays)
+        (subst (λ (d : S). StopsServingStore state d ended contents out new_out count) same s),
+  )

@@ -15,19 +15,21 @@ use Rattle.society_core.specs.State.{State}
 use Rattle.society_commands.specs.Replays.{AnswersFromNothing, Replays, BreaksOff, most_turns}
 
 -- the answers are a run from the empty book on
-pub from_nothing : (office : Office) (old new : State) (parts : List Part) (replies : List Reply) → old.office ≡ office → old.book ≡ empty_book → IsTrue new.is_clean → AreAnswered parts replies old new → AnswersFromNothing office parts replies
-from_nothing office old new parts replies same empty clean answers = record {
-  after = new.book;
+pub from_nothing : {S : Type 0} (state : S → State) (office : Office) (desk new_desk : S) (parts : List Part) (replies : List Reply) → (state desk).office ≡ office → (state desk).book ≡ empty_book
+    → IsTrue (state new_desk).is_clean → AreAnswered state parts replies desk new_desk → AnswersFromNothing office parts replies
+from_nothing state office desk new_desk parts replies same empty clean answers = record {
+  after = (state new_desk).book;
   each = answers.each;
   run =
-      subst (λ (o : Office). Run o empty_book (map request_of parts) replies new.book) same
-      (subst (λ (b : Book). Run old.office b (map request_of parts) replies new.book) empty (answers.run clean));
+      subst (λ (o : Office). Run o empty_book (map request_of parts) replies (state new_desk).book) same
+      (subst (λ (b : Book). Run (state desk).office b (map request_of parts) replies (state new_desk).book) empty (answers.run clean));
   came =
-      subst (λ (b : Book). OneContent b (map request_of parts) replies → HoldsWhatCame b (map request_of parts) replies new.book) empty (answers.came clean);
+      subst (λ (b : Book). OneContent b (map request_of parts) replies → HoldsWhatCame b (map request_of parts) replies (state new_desk).book) empty (answers.came clean);
 }
 
-module _ {R W : Type 0} (office : Office) (remaining : R → Option (List ℕ)) (contents : W → Option (List ℕ)) (reader new_reader : Counted R) (out new_out : Counted W) (old new : State) (same : old.office ≡ office) (empty : old.book ≡ empty_book) (clean : IsTrue new.is_clean) where
-  pub replays_from : (requests : ℕ) → Serves (remaining (inner_of reader)) old new (contents (inner_of out)) (contents (inner_of new_out)) requests
+module _ {S R W : Type 0} (desk new_desk : S) (state : S → State) (office : Office) (remaining : R → Option (List ℕ)) (contents : W → Option (List ℕ)) (reader new_reader : Counted R) (out new_out : Counted W)
+    (same : (state desk).office ≡ office) (empty : (state desk).book ≡ empty_book) (clean : IsTrue (state new_desk).is_clean) where
+  pub replays_from : (requests : ℕ) → Serves state (remaining (inner_of reader)) desk new_desk (contents (inner_of out)) (contents (inner_of new_out)) requests
       → Replays office remaining contents reader out new_out
   replays_from requests s = record {
     bytes = s.bytes;
@@ -36,11 +38,11 @@ module _ {R W : Type 0} (office : Office) (remaining : R → Option (List ℕ)) 
     replies = s.replies;
     end = s.end;
     reads = s.reads;
-    answers = from_nothing office old new s.parts s.replies same empty clean s.answers;
+    answers = from_nothing state office desk new_desk s.parts s.replies same empty clean s.answers;
     written = s.written;
   }
 
-  pub breaks_off_from : (fault : DeskFault) → Breaks fault (remaining (inner_of reader)) old new (contents (inner_of out)) (contents (inner_of new_out))
+  pub breaks_off_from : (fault : DeskFault) → Breaks state fault (remaining (inner_of reader)) desk new_desk (contents (inner_of out)) (contents (inner_of new_out))
       → CausedBy fault.kind fault.requests most_turns remaining reader new_reader out new_out
       → BreaksOff office remaining contents reader new_reader out new_out
   breaks_off_from fault b cause = record {
@@ -49,7 +51,7 @@ module _ {R W : Type 0} (office : Office) (remaining : R → Option (List ℕ)) 
     given = b.given;
     parts = b.parts;
     replies = b.replies;
-    answers = from_nothing office old new b.parts b.replies same empty clean b.answers;
+    answers = from_nothing state office desk new_desk b.parts b.replies same empty clean b.answers;
     written = b.written;
     count = b.count;
     cause = cause;

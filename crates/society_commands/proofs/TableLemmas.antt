@@ -4,10 +4,11 @@ use Rattle.std.specs.Prelude.{IfSome, true}
 use Rattle.http_desk.specs.Counted.{inner_of}
 use Rattle.http_desk.specs.declared.counted.Counted.{Counted}
 use Rattle.http_desk.specs.declared.fault.FaultKind.TheVariants.{Memory}
+use Rattle.http_desk.proofs.AnsweredLemmas.{none_answered}
 use Rattle.share_rules.specs.declared.office.Office.{Office}
 use Rattle.society_core.specs.Book.{empty_book}
 use Rattle.society_core.specs.State.{State}
-use Rattle.society_commands.proofs.ConnectionLemmas.{appends_nothing, nothing_answered}
+use Rattle.society_commands.proofs.ConnectionLemmas.{appends_nothing}
 use Rattle.society_commands.proofs.ReplayLemmas.{from_nothing}
 use Rattle.society_commands.specs.Replays.{BreaksOff}
 
@@ -27,7 +28,7 @@ no_tables office remaining contents reader out = record {
   given = known_or_none (remaining (inner_of reader));
   parts = [];
   replies = [];
-  answers = from_nothing office (nothing_yet office) (nothing_yet office) [] [] refl refl refl (nothing_answered (nothing_yet office));
+  answers = from_nothing nothing_yet office office office [] [] refl refl refl (none_answered nothing_yet office);
   written = (unwrap_or (remaining (inner_of reader)) [], record { whole = refl; each = tt }, appends_nothing (contents (inner_of out)));
   count = refl;
   cause = (refl, refl, refl);

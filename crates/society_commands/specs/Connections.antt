@@ -16,7 +16,8 @@ use Rattle.society_core.specs.State.{Rises, State}
 use Rattle.society_rows.specs.NewBook.{IsBare}
 use Rattle.society_rows.specs.Stored.{HasLayout}
 use Rattle.society_book.specs.BookRows.{book_of}
-use Rattle.society_tables.specs.Opening.{HoldsOne, IsOpenable}
+use Rattle.society_tables.specs.Opening.{HoldsOne, IsOpenable, ShowsAs, SurvivesOpening, Tells}
+use Rattle.society_tables.specs.declared.open_fault.OpenFault.{OpenFault}
 use Rattle.society_commands.specs.Replays.{fault_name}
 
 -- how many requests a connection brought, by what it came to
@@ -24,13 +25,12 @@ abbrev pub requests_of : Result Served DeskFault → ℕ
 requests_of (Ok served) = served.requests
 requests_of (Err fault) = fault.requests
 
--- a connection brought requests, as many as it tells, and they were answered in turn
-pub record Brings (old new : State) (outcome : Result Served DeskFault) : Type 0 where
+-- a connection brought requests, as many as it tells, and they were answered in turn, each by a call that led the store on
+pub record Brings {S : Type 0} (state : S → State) (desk new_desk : S) (outcome : Result Served DeskFault) : Type 0 where
   pub parts : List Part
   pub replies : List Reply
   pub count : requests_of outcome ≡ length parts
-  pub answers : AreAnswered parts replies old new
-  pub clean : IsTrue new.is_clean → IsTrue old.is_clean
+  pub answers : AreAnswered state parts replies desk new_desk
 
 -- a connection: the requests that it brought, their answers, and what it came to
 pub record Connection : Type 0 where
@@ -71,26 +71,26 @@ Prints contents out new_out bytes =
     ⊎ ((failures_of new_out ≡ failures_of out) × Appends (contents (inner_of out)) (contents (inner_of new_out)) bytes)
 
 -- so many connections were served one after another: their requests were answered in turn, and a line was printed for each
-pub record ServesConnections {W : Type 0} (contents : W → Option (List ℕ)) (old new : State) (out new_out : Counted W) (count : ℕ) : Type 0 where
+pub record ServesConnections {S W : Type 0} (state : S → State) (desk new_desk : S) (contents : W → Option (List ℕ)) (out new_out : Counted W) (count : ℕ) : Type 0 where
   pub connections : List Connection
   pub number : length connections ≡ count
   pub counted : AllByRecursion IsCounted connections
-  pub answers : AreAnswered (parts_of connections) (replies_of connections) old new
+  pub answers : AreAnswered state (parts_of connections) (replies_of connections) desk new_desk
   pub printed : Prints contents out new_out (connection_lines 1 connections)
 
--- so many connections were served over a store; `listening` was printed before, and a line for each
-pub record ServesStore {S : Type 0} (state : S → State) (begun : S) {W : Type 0} (contents : W → Option (List ℕ)) (out new_out : Counted W) (count : ℕ) : Type 0 where
-  pub ended : S
+-- so many connections were served over a store, and nothing else was asked of it; `listening` was printed before, and a line for each
+pub record ServesStore {S W : Type 0} (state : S → State) (desk new_desk : S) (contents : W → Option (List ℕ)) (out new_out : Counted W) (count : ℕ) : Type 0 where
   pub connections : List Connection
   pub number : length connections ≡ count
   pub counted : AllByRecursion IsCounted connections
-  pub answers : AreAnswered (parts_of connections) (replies_of connections) (state begun) (state ended)
+  pub answers : AreAnswered state (parts_of connections) (replies_of connections) desk new_desk
   pub printed : Prints contents out new_out (codes "listening\n" ++ connection_lines 1 connections)
 
--- serving over a store ended early: it could not listen, and printed nothing; or fewer connections came
-abbrev pub StopsServingStore : {S : Type 0} → (S → State) → S → {W : Type 0} → (W → Option (List ℕ)) → Counted W → Counted W → ℕ → Type 0
-StopsServingStore state begun contents out new_out connections =
-    (new_out ≡ out) ⊎ ((count : ℕ) × (count < connections) × ServesStore state begun contents out new_out count)
+-- serving over a store ended early: it could not listen, so the store is the same and nothing was printed; or fewer connections came
+abbrev pub StopsServingStore : {S W : Type 0} → (S → State) → S → S → (W → Option (List ℕ)) → Counted W → Counted W → ℕ → Type 0
+StopsServingStore state desk new_desk contents out new_out connections =
+    ((new_desk ≡ desk) × (new_out ≡ out))
+    ⊎ ((count : ℕ) × (count < connections) × ServesStore state desk new_desk contents out new_out count)
 
 -- What a store shows that is opened over what a connection was found with: it is the office's; where there was no table its book is
 -- empty, and where there were those of layout 2 they held a sound book with what is derived from it, and that is its book.
@@ -105,27 +105,49 @@ pub record IsOver (office : Office) (found : connection.State) (begun : State) :
 abbrev pub IsFound : connection.State → Type 0
 IsFound s = connection.HasCleanDisk s → connection.Opens s × connection.IsLive s
 
--- so many connections were served over a store that was opened over what a connection was found with
-abbrev pub ServesDatabase : {S : Type 0} → (S → State) → Office → connection.State → {W : Type 0} → (W → Option (List ℕ)) → Counted W → Counted W → ℕ → Type 0
-ServesDatabase {S} state office found contents out new_out count =
-    (begun : S) × IsOver office found (state begun) × ServesStore state begun contents out new_out count
+-- A database was not opened as the office's: this is why, its connection shows what was committed, and a crash leaves what it left
+-- before or what opening may leave.
+pub record IsNotOpened (office : Office) (found left : connection.State) : Type 0 where
+  pub fault : OpenFault
+  pub told : connection.HasCleanDisk left → IsTrue found.is_open → Tells office found.committed fault
+  pub unchanged : connection.HasCleanDisk left → ShowsAs found.committed left
+  pub crash : SurvivesOpening office found left
 
--- serving so ended early: nothing was printed, or fewer connections came
-abbrev pub StopsServingDatabase : {S : Type 0} → (S → State) → Office → connection.State → {W : Type 0} → (W → Option (List ℕ)) → Counted W → Counted W → ℕ → Type 0
-StopsServingDatabase state office found contents out new_out connections =
-    (new_out ≡ out) ⊎ ((count : ℕ) × (count < connections) × ServesDatabase state office found contents out new_out count)
+-- so many connections were served over a store that was opened over what a connection was found with, and this is the store behind them
+abbrev pub ServesDatabase : {S W : Type 0} → (S → State) → Office → connection.State → S → (W → Option (List ℕ)) → Counted W → Counted W → ℕ → Type 0
+ServesDatabase {S} state office found ended contents out new_out count =
+    (begun : S) × IsOver office found (state begun) × ServesStore state begun ended contents out new_out count
 
--- so many connections were served over a database that was opened so
-abbrev pub ServesOpened : {C S : Type 0} → (C → connection.State) → (connection.State → Type 0) → (S → State) → Office → {W : Type 0} → (W → Option (List ℕ)) → Counted W → Counted W → ℕ → Type 0
-ServesOpened {C} show MayOpen state office contents out new_out count =
-    (conn : C) × MayOpen (show conn) × ServesDatabase state office (show conn) contents out new_out count
+-- serving so ended early, and this is the store then
+abbrev pub StopsServingDatabase : {S W : Type 0} → (S → State) → Office → connection.State → S → (W → Option (List ℕ)) → Counted W → Counted W → ℕ → Type 0
+StopsServingDatabase {S} state office found ended contents out new_out connections =
+    (begun : S) × IsOver office found (state begun) × StopsServingStore state begun ended contents out new_out connections
 
--- serving so ended early: the database was not opened, and nothing was printed; or fewer connections came
-abbrev pub StopsServingOpened : {C S : Type 0} → (C → connection.State) → (connection.State → Type 0) → (S → State) → Office → {W : Type 0} → (W → Option (List ℕ)) → Counted W → Counted W → ℕ → Type 0
-StopsServingOpened show MayOpen state office contents out new_out connections =
-    (new_out ≡ out) ⊎ ((count : ℕ) × (count < connections) × ServesOpened show MayOpen state office contents out new_out count)
+-- so many connections were served over a database, and its store is left as they left it
+abbrev pub LeavesServed : {C S W : Type 0} → (S → State) → Office → connection.State → Result S C → (W → Option (List ℕ)) → Counted W → Counted W → ℕ → Type 0
+LeavesServed state office found (Ok ended) contents out new_out count = ServesDatabase state office found ended contents out new_out count
+LeavesServed state office found (Err left) contents out new_out count = ⊥
+
+-- serving ended early, and its store is left as the connections left it; or the database was not opened, its connection is left as
+-- opening left it, and nothing was printed
+abbrev pub LeavesBroken : {C S W : Type 0} → (C → connection.State) → (S → State) → Office → connection.State → Result S C → (W → Option (List ℕ)) → Counted W → Counted W → ℕ → Type 0
+LeavesBroken show state office found (Ok ended) contents out new_out connections =
+    StopsServingDatabase state office found ended contents out new_out connections
+LeavesBroken show state office found (Err left) contents out new_out connections =
+    IsNotOpened office found (show left) × (new_out ≡ out)
+
+-- so many connections were served over a database that was opened so, and its store is left as they left it
+abbrev pub ServesOpened : {C S W : Type 0} → (C → connection.State) → (connection.State → Type 0) → (S → State) → Office → (W → Option (List ℕ)) → Counted W → Counted W → ℕ → Type 0
+ServesOpened {C} {S} show MayOpen state office contents out new_out count =
+    (conn : C) × MayOpen (show conn) × ((left : Result S C) × LeavesServed state office (show conn) left contents out new_out count)
+
+-- serving so ended early: no database could be had, and nothing was printed; or this is what is left of it
+abbrev pub StopsServingOpened : {C S W : Type 0} → (C → connection.State) → (connection.State → Type 0) → (S → State) → Office → (W → Option (List ℕ)) → Counted W → Counted W → ℕ → Type 0
+StopsServingOpened {C} {S} show MayOpen state office contents out new_out connections =
+    (new_out ≡ out)
+    ⊎ ((conn : C) × MayOpen (show conn) × ((left : Result S C) × LeavesBroken show state office (show conn) left contents out new_out connections))
 
 -- fewer connections than were asked for were served
-abbrev pub StopsEarly : {W : Type 0} → (W → Option (List ℕ)) → State → State → Counted W → Counted W → ℕ → Type 0
-StopsEarly contents old new out new_out connections =
-    (count : ℕ) × (count < connections) × ServesConnections contents old new out new_out count
+abbrev pub StopsEarly : {S W : Type 0} → (S → State) → S → S → (W → Option (List ℕ)) → Counted W → Counted W → ℕ → Type 0
+StopsEarly state desk new_desk contents out new_out connections =
+    (count : ℕ) × (count < connections) × ServesConnections state desk new_desk contents out new_out count

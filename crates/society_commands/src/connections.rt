@@ -1,6 +1,6 @@
 //! Connections are served one after another, and a line is printed for each.
 ghost use Rattle.std.specs.Prelude.{decimal, IfErr, IfOk, OnOk, OnErr};
-ghost use Rattle.http_desk.specs.Serves.{IsGivenUp, IsServed, KeepsTurns};
+ghost use Rattle.http_desk.specs.Serves.{IsGivenUp, IsServed, KeepsTurns, NeitherFails};
 ghost use Rattle.society_commands.specs.Connections.{Brings, Prints, ServesConnections, StopsEarly, connection_line, outcome_text};
 ghost use Rattle.society_commands.specs.Replays.{most_turns};
 
@@ -31,9 +31,9 @@ pub fn serve_connections<S: Store, W: Write>(
     out: &mut Counted<W>,
 ) -> Result<(), AcceptFault>
     ensures served { OnOk result
-        (ServesConnections W.contents (S.state desk.old) (S.state desk.new) out.old out.new connections) }
+        (ServesConnections S.state desk.old desk.new W.contents out.old out.new connections) }
     ensures fault { OnErr result
-        (StopsEarly W.contents (S.state desk.old) (S.state desk.new) out.old out.new connections) }
+        (StopsEarly S.state desk.old desk.new W.contents out.old out.new connections) }
 {
     if connections == 0 {
         return Ok(());
@@ -59,7 +59,7 @@ fn serve_stream<S: Store>(
     desk: &mut Desk<S>,
     stream: &TcpStream,
 ) -> Result<Served, DeskFault>
-    ensures { Brings (S.state desk.old) (S.state desk.new) result }
+    ensures { Brings S.state desk.old desk.new result }
 {
     bound_waits(stream);
     let mut reader = Counted::new(stream);
@@ -74,8 +74,9 @@ fn serve_between<S: Store, R: Read, W: Write>(
     reader: &mut Counted<R>,
     writer: &mut Counted<W>,
 ) -> Result<Served, DeskFault>
-    ensures brings { Brings (S.state desk.old) (S.state desk.new) result }
+    ensures brings { Brings S.state desk.old desk.new result }
     // All that `serve` says, with as many turns as `replay` has.
+    ensures kept { OnOk result (NeitherFails reader.old reader.new writer.old writer.new) }
     ensures served { IfOk result
         (IsServed S.state R.remaining W.contents desk.old desk.new reader.old writer.old writer.new) }
     ensures fault { IfErr result (IsGivenUp S.state R.remaining W.contents

@@ -2,7 +2,7 @@
 ghost use Rattle.std.specs.Prelude.{◌≡◌, ◌⊎◌, IfOk, List, ℕ, false};
 ghost use Rattle.sqlite.specs.Held.{state};
 ghost use Rattle.sqlite.specs.State as connection;
-ghost use Rattle.society_commands.specs.Connections.{IsFound, ServesDatabase, ServesOpened, StopsServingDatabase, StopsServingOpened};
+ghost use Rattle.society_commands.specs.Connections.{IsFound, LeavesBroken, LeavesServed, ServesOpened, StopsServingOpened};
 ghost use Rattle.society_commands.specs.Refusals.{database_fault, opening_fault};
 
 use crate::replaying::BROKEN_OFF;
@@ -10,7 +10,7 @@ use crate::serving::serve_store;
 use crate::words::Place;
 use http_desk::Counted;
 use share_rules::Office;
-use society_core::Store;
+use society_core::{Desk, Store};
 use society_tables::{OpenFault, Tables};
 use sqlite::{Alter, Connection, Error, ErrorCode, FileFrom, FileStore, Wary};
 use std::alloc::Global;
@@ -75,17 +75,22 @@ pub fn serve_file<
     ensures status { (result ≡ 0) ⊎ (result ≡ 1) }
     ensures served { result ≡ 0 → ServesOpened (state H.Medium.Store) (H.may_open path.now)
         ⟦<Tables<H::Medium> as Store>⟧.state office.now W.contents out.old out.new place.connections }
-    // Nothing is printed where the database is not opened, or nothing can be listened on; else fewer connections came.
+    // Nothing is printed where the database is not opened, or nothing can be listened on; else fewer connections came. In each case
+    // the clause names what is left of the database.
     ensures broken_off { result ≡ 1 → StopsServingOpened (state H.Medium.Store) (H.may_open path.now)
         ⟦<Tables<H::Medium> as Store>⟧.state office.now W.contents out.old out.new place.connections }
 {
     match host.open_database(path) {
-        Ok(connection) => serve_database(host, alloc, connection, place, office, out, err),
+        Ok(connection) => {
+            let (status, _left) = serve_database(host, alloc, connection, place, office, out, err);
+            status
+        }
         Err(fault) => open_fault(fault, err),
     }
 }
 
-/// Opens a database as the office's, and serves so many connections over it. Answers the exit status as `serve_file`.
+/// Opens a database as the office's, and serves so many connections over it. Answers the exit status as `serve_file`, and hands back
+/// the tables, as the last request left them, or the connection where the office was not opened.
 fn serve_database<
     N: Net<Listener = TcpListener, Stream = TcpStream>,
     M: Alter + Drop,
@@ -99,17 +104,21 @@ fn serve_database<
     office: &Office,
     out: &mut Counted<W>,
     err: &mut E,
-) -> u8
+) -> (u8, Result<Tables<M>, Connection<M>>)
     requires { connection.in_transaction ≡ false }
-    ensures status { (result ≡ 0) ⊎ (result ≡ 1) }
-    ensures served { result ≡ 0 → ServesDatabase ⟦<Tables<M> as Store>⟧.state office.now (state M.Store connection)
-        W.contents out.old out.new place.connections }
-    ensures broken_off { result ≡ 1 → StopsServingDatabase ⟦<Tables<M> as Store>⟧.state office.now (state M.Store connection)
-        W.contents out.old out.new place.connections }
+    ensures status { (result.0 ≡ 0) ⊎ (result.0 ≡ 1) }
+    ensures served { result.0 ≡ 0 → LeavesServed ⟦<Tables<M> as Store>⟧.state office.now (state M.Store connection)
+        result.1 W.contents out.old out.new place.connections }
+    ensures broken_off { result.0 ≡ 1 → LeavesBroken (state M.Store) ⟦<Tables<M> as Store>⟧.state office.now (state M.Store connection)
+        result.1 W.contents out.old out.new place.connections }
 {
     match Tables::open(alloc, connection, office) {
-        Ok(tables) => serve_store(net, alloc, tables, place, out, err),
-        Err((fault, _)) => open_fault(fault, err),
+        Ok(tables) => {
+            let mut desk = Desk::new(tables);
+            let status = serve_store(net, alloc, &mut desk, place, out, err);
+            (status, Ok(desk.into_store()))
+        }
+        Err((fault, connection)) => (open_fault(fault, err), Err(connection)),
     }
 }
 

@@ -1,5 +1,6 @@
 ghost use Rattle.std.specs.Prelude.{◌≡◌, ◌⊎◌};
-ghost use Rattle.society_commands.specs.Replays.{Replays, BreaksOff, fault_name};
+ghost use Rattle.http_desk.specs.Serves.{KeepsTurns, NeitherFails};
+ghost use Rattle.society_commands.specs.Replays.{Replays, BreaksOff, fault_name, most_turns};
 
 use http_desk::{Counted, DeskFault, FaultKind, serve};
 use share_rules::Office;
@@ -33,6 +34,9 @@ pub fn replay<R: Read, W: Write, E: Write>(
     // A stream breaks off only by a fault that has its cause; the answers up to it are written as far as they could be.
     ensures broken_off { result ≡ 1
         → BreaksOff office.now R.remaining W.contents reader.old reader.new out.old out.new }
+    // No failure is passed over, and each read was needed.
+    ensures kept { result ≡ 0 → NeitherFails reader.old reader.new out.old out.new }
+    ensures turns { KeepsTurns R.remaining reader.old reader.new most_turns }
 {
     let Ok(tables) = Tables::in_memory(alloc, office) else {
         let fault = DeskFault {

@@ -11,26 +11,27 @@ use std::alloc::Global;
 use std::io::Write;
 use std::net::{Ipv4Addr, Net, TcpListener, TcpStream};
 
-/// Listens on this machine at a port, prints `listening`, and serves so many connections over a store. Answers the exit
-/// status: 0, or 1 with one line on `err` where it cannot listen or accept.
+/// Listens on this machine at a port, prints `listening`, and serves so many connections at the desk, and no other request. Answers
+/// the exit status: 0, or 1 with one line on `err` where it cannot listen or accept.
 pub fn serve_store<
     N: Net<Listener = TcpListener, Stream = TcpStream>,
-    S: Store + Drop,
+    S: Store,
     W: Write,
     E: Write,
->(net: &N, alloc: Global, store: S, place: Place, out: &mut Counted<W>, err: &mut E) -> u8
+>(net: &N, alloc: Global, desk: &mut Desk<S>, place: Place, out: &mut Counted<W>, err: &mut E) -> u8
     ensures status { (result ≡ 0) ⊎ (result ≡ 1) }
-    ensures served { result ≡ 0 → ServesStore S.state store W.contents out.old out.new place.connections }
-    // Nothing is printed where it cannot listen; else fewer connections came.
+    // The store is led from where it stood to where the last request left it.
+    ensures served { result ≡ 0
+        → ServesStore S.state desk.old desk.new W.contents out.old out.new place.connections }
+    // The store is the same and nothing is printed where it cannot listen; else fewer connections came.
     ensures broken_off { result ≡ 1
-        → StopsServingStore S.state store W.contents out.old out.new place.connections }
+        → StopsServingStore S.state desk.old desk.new W.contents out.old out.new place.connections }
 {
     let Ok(listener) = TcpListener::bind(net, (Ipv4Addr::LOCALHOST, place.port)) else {
         return break_off(err, "cannot listen");
     };
     print(out, b"listening\n");
-    let mut desk = Desk::new(store);
-    match serve_connections(alloc, &mut desk, &listener, place.connections, out) {
+    match serve_connections(alloc, desk, &listener, place.connections, out) {
         Ok(()) => SERVED,
         Err(AcceptFault) => break_off(err, "cannot accept"),
     }

@@ -144,3 +144,28 @@ fn a_peer_that_is_gone(rt: HostRuntime) -> Result<(), Fail> {
     holds(&rt, "the line of the other", last);
     Ok(())
 }
+
+/// A peer that waits for its answer with its sending half open gets it, and the end: nothing is read behind a request that is whole.
+#[test]
+fn a_peer_that_waits(rt: HostRuntime) -> Result<(), Fail> {
+    let alloc = rt.alloc();
+    let asked =
+        b"GET /v1/senders/PB000000012/acks/1 HTTP/1.1\r\nHost: office\r\nConnection: close\r\n\r\n";
+    let wanted =
+        b"HTTP/1.1 404 Not Found\r\nContent-Type: application/json\r\nContent-Length: 19\r\nConnection: close\r\n\r\n{\"error\":\"unknown\"}";
+    let listener = TcpListener::bind(&rt, (Ipv4Addr::LOCALHOST, 0))?;
+    let mut peer = TcpStream::connect(&rt, listener.local_addr()?)?;
+    peer.write_all(asked)?;
+    let mut desk = Desk::new(PlainStore::new(alloc, &office()?));
+    let mut out = Counted::new(Vec::<u8>::new(alloc));
+    let served = serve_connections(alloc, &mut desk, &listener, 1, &mut out);
+    holds(&rt, "it is served", served.is_ok());
+    is_text(&rt, "the peer", &got(alloc, &mut peer)?, wanted);
+    is_text(
+        &rt,
+        "lines",
+        &out.into_inner(),
+        b"connection 1: 1 requests\n",
+    );
+    Ok(())
+}

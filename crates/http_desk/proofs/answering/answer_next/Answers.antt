@@ -2,13 +2,13 @@ use Rattle.std.proofs.Common.{List, ℕ, subst, sym}
 use Rattle.society_core.specs.Requests.{reply_of}
 use Rattle.http_desk.specs.Told.{told_reply}
 use Rattle.http_desk.specs.Wanted.{PartAsks}
-use Rattle.http_desk.proofs.StepLemmas.{tells_step}
+use Rattle.http_desk.proofs.StepLemmas.{tells_call}
 use Rattle.http_desk.proofs.answering.answer_next.Goals as goal
 
 pub returns-clause-step : goal.returns-clause-step
 returns-clause-step g c =
     let step = rw c.unread-bytes.ensures at c.answer_front-answer.ensures.step in
-    λ has clean. tells_step _ _ _ (reply_of c.answer_front-answer.result) (told_reply c.tell.result) _ c.tell.ensures.tells (step has clean)
+    λ has. tells_call _ _ _ (reply_of c.answer_front-answer.result) (told_reply c.tell.result) c.tell.ensures.tells (step has)
 
 pub answer_front-answer-requires-clause-asks : goal.answer_front-answer-requires-clause-asks
 answer_front-answer-requires-clause-asks g c =

@@ -1,5 +1,6 @@
 use Rattle.std.proofs.Common.{refl}
 use Rattle.http_desk.specs.Input.{unread}
+use Rattle.http_desk.specs.Reads.{Awaits}
 use Rattle.http_desk.proofs.AnsweringLemmas.{part_asks, takes_part}
 use Rattle.http_desk.proofs.UpcomingLemmas.{ReadsOn-spare}
 use Rattle.http_desk.proofs.answering.answer_whole.Goals as goal
@@ -10,7 +11,7 @@ returns-in-Ok-Request-clause-comes g c =
     let after = c.answer_next-told in
     record {
       bytes = unread c.whole_request.new.input;
-      reads = ReadsOn-spare _ _ _ _ after.new.room.input.turns _ _ _ _ c.whole_request.ensures.reads after.ensures.turns;
+      reads = ReadsOn-spare Awaits _ _ _ _ after.new.room.input.turns _ _ _ _ c.whole_request.ensures.reads after.ensures.turns;
       comes =
           takes_part g.S.Store.state c.args.desk.now after.new.desk (unread c.whole_request.new.input) (unread after.new.room.input) after.result _ c.in-Ok-Request.whole has
           after.ensures.taken refl (after.ensures.step has);

@@ -2,4 +2,4 @@ use Rattle.society_commands.proofs.ConnectionLemmas.{brings}
 use Rattle.society_commands.proofs.connections.serve_between.Goals as goal
 
 pub returns-clause-brings : goal.returns-clause-brings
-returns-clause-brings g c = brings g.S.Store.state g.R.Read.remaining g.W.Write.contents c.args.desk.now c.serve.new.desk c.args.reader.now c.serve.new.reader c.args.writer.now c.serve.new.writer 100000000 c.serve.result c.serve.ensures.served c.serve.ensures.fault c.serve.ensures.clean
+returns-clause-brings g c = brings g.S.Store.state g.R.Read.remaining g.W.Write.contents c.args.desk.now c.serve.new.desk c.args.reader.now c.serve.new.reader c.args.writer.now c.serve.new.writer 100000000 c.serve.result c.serve.ensures.served c.serve.ensures.fault

@@ -5,13 +5,13 @@ use Rattle.society_commands.proofs.connections.serve_connections.Goals as goal
 
 pub returns-then-number-connections-clause-served : goal.returns-then-number-connections-clause-served
 returns-then-number-connections-clause-served g c =
-    subst (λ (n : ℕ). ServesConnections g.W.Write.contents (g.S.Store.state c.args.desk.now) (g.S.Store.state c.serve_stream-outcome.new.desk) c.args.out.now c.print_line.new.out n) c.if-number-connections.true
-    (serves_more g.W.Write.contents (g.S.Store.state c.args.desk.now) (g.S.Store.state c.loop-stream.desk) (g.S.Store.state c.serve_stream-outcome.new.desk) c.args.out.now c.loop-stream.out c.print_line.new.out c.loop-stream.number c.serve_stream-outcome.result c.loop-stream.invariant.3 c.serve_stream-outcome.ensures c.print_line.ensures)
+    subst (λ (n : ℕ). ServesConnections g.S.Store.state c.args.desk.now c.serve_stream-outcome.new.desk g.W.Write.contents c.args.out.now c.print_line.new.out n) c.if-number-connections.true
+    (serves_more g.S.Store.state c.args.desk.now c.loop-stream.desk c.serve_stream-outcome.new.desk g.W.Write.contents c.args.out.now c.loop-stream.out c.print_line.new.out c.loop-stream.number c.serve_stream-outcome.result c.loop-stream.invariant.3 c.serve_stream-outcome.ensures c.print_line.ensures)
 
 pub loop-stream-preserved : goal.loop-stream-preserved
 loop-stream-preserved g c = (
   tt,
   tt,
   omega (arith, c.loop-stream.invariant.2, c.if-number-connections.false),
-  serves_more g.W.Write.contents (g.S.Store.state c.args.desk.now) (g.S.Store.state c.loop-stream.desk) (g.S.Store.state c.serve_stream-outcome.new.desk) c.args.out.now c.loop-stream.out c.print_line.new.out c.loop-stream.number c.serve_stream-outcome.result c.loop-stream.invariant.3 c.serve_stream-outcome.ensures c.print_line.ensures,
+  serves_more g.S.Store.state c.args.desk.now c.loop-stream.desk c.serve_stream-outcome.new.desk g.W.Write.contents c.args.out.now c.loop-stream.out c.print_line.new.out c.loop-stream.number c.serve_stream-outcome.result c.loop-stream.invariant.3 c.serve_stream-outcome.ensures c.print_line.ensures,
 )

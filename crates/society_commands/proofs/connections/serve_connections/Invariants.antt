@@ -7,4 +7,4 @@ invariant-loop-stream g l =
     (goal.iterator-loop-stream g).can_next l.stream-iterator
     × (goal.iterator-loop-stream g).is_finite l.stream-iterator
     × (l.number < l.fn.connections)
-    × ServesConnections g.W.Write.contents (g.S.Store.state l.fn.desk) (g.S.Store.state l.desk) l.fn.out l.out l.number
+    × ServesConnections g.S.Store.state l.fn.desk l.desk g.W.Write.contents l.fn.out l.out l.number

@@ -1,12 +1,8 @@
-use Rattle.std.proofs.Common.{inl, inr}
+use Rattle.std.proofs.Common.{inr}
 use Rattle.society_commands.proofs.opening.serve_file.Goals as goal
 
 pub returns-in-Ok-clause-served : goal.returns-in-Ok-clause-served
-returns-in-Ok-clause-served g c = λ zero. (c.in-Ok.connection, c.in-Ok.ensures.opened, c.serve_database.ensures.served zero)
+returns-in-Ok-clause-served g c = λ zero. (c.in-Ok.connection, c.in-Ok.ensures.opened, (c.serve_database-status.result.1, c.serve_database-status.ensures.served zero))
 
 pub returns-in-Ok-clause-broken_off : goal.returns-in-Ok-clause-broken_off
-returns-in-Ok-clause-broken_off g c = λ one.
-    elim (c.serve_database.ensures.broken_off one) [
-      | inl same ↦ inl same
-      | inr (count, fewer, so) ↦ inr (count, fewer, (c.in-Ok.connection, c.in-Ok.ensures.opened, so))
-    ]
+returns-in-Ok-clause-broken_off g c = λ one. inr (c.in-Ok.connection, c.in-Ok.ensures.opened, (c.serve_database-status.result.1, c.serve_database-status.ensures.broken_off one))

@@ -1,6 +1,7 @@
 use Rattle.std.proofs.Common.{ap, ◌∙◌, refl}
 use Rattle.sqlite.specs.Held.{state}
 use Rattle.sqlite.specs.Steps.{over_memory}
+use Rattle.http_desk.proofs.ServeLemmas.{no_turn}
 use Rattle.society_book.specs.Kept.{tables_state}
 use Rattle.society_commands.proofs.ReplayLemmas.{replays_from, breaks_off_from}
 use Rattle.society_commands.proofs.TableLemmas.{no_tables}
@@ -9,13 +10,16 @@ use Rattle.society_commands.proofs.replaying.replay.Goals as goal
 pub returns-in_default-clause-broken_off : goal.returns-in_default-clause-broken_off
 returns-in_default-clause-broken_off g c = λ one. no_tables c.args.office.now g.R.Read.remaining g.W.Write.contents c.args.reader.now c.args.out.now
 
+pub returns-in_default-clause-turns : goal.returns-in_default-clause-turns
+returns-in_default-clause-turns g c = no_turn g.R.Read.remaining c.args.reader.now _ c.args.reader.now.reads_fit
+
 pub returns-in-Ok-serve-clause-served : goal.returns-in-Ok-serve-clause-served
 returns-in-Ok-serve-clause-served g c = λ zero.
     let first = c.new-desk.result in
     let last = c.serve.new.desk in
     let same = ap (λ s. s.office) c.new-desk.ensures ∙ c.in-Ok.ensures.office in
     let empty = ap (λ s. (tables_state s.office (state over_memory s.conn) s.failures).book) c.new-desk.ensures ∙ c.in-Ok.ensures.empty in
-    replays_from c.args.office.now g.R.Read.remaining g.W.Write.contents c.args.reader.now c.serve.new.reader c.args.out.now c.serve.new.writer (tables_state first.office (state over_memory first.conn) first.failures) (tables_state last.office (state over_memory last.conn) last.failures) same empty refl c.in-Ok-serve.field-0.requests c.in-Ok-serve.ensures.served
+    replays_from first last (λ t. tables_state t.office (state over_memory t.conn) t.failures) c.args.office.now g.R.Read.remaining g.W.Write.contents c.args.reader.now c.serve.new.reader c.args.out.now c.serve.new.writer same empty refl c.in-Ok-serve.field-0.requests c.in-Ok-serve.ensures.served
 
 pub returns-clause-broken_off : goal.returns-clause-broken_off
 returns-clause-broken_off g c = λ one.
@@ -23,4 +27,4 @@ returns-clause-broken_off g c = λ one.
     let last = c.serve.new.desk in
     let same = ap (λ s. s.office) c.new-desk.ensures ∙ c.in-Ok.ensures.office in
     let empty = ap (λ s. (tables_state s.office (state over_memory s.conn) s.failures).book) c.new-desk.ensures ∙ c.in-Ok.ensures.empty in
-    breaks_off_from c.args.office.now g.R.Read.remaining g.W.Write.contents c.args.reader.now c.serve.new.reader c.args.out.now c.serve.new.writer (tables_state first.office (state over_memory first.conn) first.failures) (tables_state last.office (state over_memory last.conn) last.failures) same empty refl c.in-Err.fault c.in-Err.ensures.fault.breaks c.in-Err.ensures.fault.cause
+    breaks_off_from first last (λ t. tables_state t.office (state over_memory t.conn) t.failures) c.args.office.now g.R.Read.remaining g.W.Write.contents c.args.reader.now c.serve.new.reader c.args.out.now c.serve.new.writer same empty refl c.in-Err.fault c.in-Err.ensures.fault.breaks c.in-Err.ensures.fault.cause

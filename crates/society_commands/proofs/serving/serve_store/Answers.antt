@@ -4,9 +4,9 @@ use Rattle.society_commands.proofs.serving.serve_store.Goals as goal
 
 pub returns-in-Ok-serve_connections-clause-served : goal.returns-in-Ok-serve_connections-clause-served
 returns-in-Ok-serve_connections-clause-served g c = λ zero.
-    serves_store g.S.Store.state c.args.store c.new-desk.result c.serve_connections.new.desk g.W.Write.contents c.args.out.now c.print.new.out c.serve_connections.new.out c.args.place.connections c.new-desk.ensures c.print.ensures c.in-Ok-serve_connections.ensures.served
+    serves_store g.S.Store.state c.args.desk.now c.serve_connections.new.desk g.W.Write.contents c.args.out.now c.print.new.out c.serve_connections.new.out c.args.place.connections c.print.ensures c.in-Ok-serve_connections.ensures.served
 
 pub returns-clause-broken_off : goal.returns-clause-broken_off
 returns-clause-broken_off g c = λ one.
     let came = c.in-Err.ensures.fault in
-    inr (came.0, came.1, serves_store g.S.Store.state c.args.store c.new-desk.result c.serve_connections.new.desk g.W.Write.contents c.args.out.now c.print.new.out c.serve_connections.new.out came.0 c.new-desk.ensures c.print.ensures came.2)
+    inr (came.0, came.1, serves_store g.S.Store.state c.args.desk.now c.serve_connections.new.desk g.W.Write.contents c.args.out.now c.print.new.out c.serve_connections.new.out came.0 c.print.ensures came.2)
