@@ -88,8 +88,18 @@ fn changed_works(rt: HostRuntime) -> Result<(), Fail> {
 
 /// A work, the right that a pool pays, and what the publisher, the writer and nobody are paid with.
 const WEIGHTS: [(&str, &[u8], Kind, [u64; 3]); 4] = [
-    ("registered", REGISTERED, Kind::Performing, [5_000, 5_000, 0]),
-    ("registered, mechanical", REGISTERED, Kind::Mechanical, [10_000, 0, 0]),
+    (
+        "registered",
+        REGISTERED,
+        Kind::Performing,
+        [5_000, 5_000, 0],
+    ),
+    (
+        "registered, mechanical",
+        REGISTERED,
+        Kind::Mechanical,
+        [10_000, 0, 0],
+    ),
     ("revised", REVISED, Kind::Performing, [0, 10_000, 0]),
     ("excluded", EXCLUDED, Kind::Performing, [0, 5_000, 5_000]),
 ];

@@ -108,10 +108,7 @@ impl Chosen {
     }
 
     /// The transmissions that have a version that is chosen, ascending.
-    pub(crate) fn transmissions(
-        &self,
-        alloc: Global,
-    ) -> Result<Vec<TransmissionNumber>, AllocError>
+    pub(crate) fn transmissions(&self, alloc: Global) -> Result<Vec<TransmissionNumber>, AllocError>
         ensures numbers { IfOk result (λ list. list.items ≡ self.now.transmissions.keys) }
         ensures ordered { IsStrictlySortedBy nat_cmp self.now.transmissions.keys }
     {

@@ -222,7 +222,9 @@ fn add_transmissions<S: Alter>(
 {
     let numbers = chosen.transmissions(alloc)?;
     for number in numbers.as_slice() {
-        add_transmission(alloc, kind, tx, office, tally, key, chosen, *number, candidates)?;
+        add_transmission(
+            alloc, kind, tx, office, tally, key, chosen, *number, candidates,
+        )?;
     }
     Ok(())
 }

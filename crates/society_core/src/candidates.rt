@@ -209,7 +209,9 @@ fn add_sender(
         let Some(number) = TransmissionNumber::from_u32(sent + 1) else {
             unreachable!();
         };
-        add_versions(alloc, kind, office, tally, book, key, &line, number, candidates)?;
+        add_versions(
+            alloc, kind, office, tally, book, key, &line, number, candidates,
+        )?;
     }
     Ok(())
 }
