@@ -1,5 +1,5 @@
 -- The faults of a transaction: eleven sentences over its list of records.
-use Rattle.std.specs.Prelude.{ℕ, Bool, false, not, ◌&&◌, ◌||◌, List, [], ◌∷◌, ◌++◌, Option, Some, None, is_ok, is_none, map, nat_lt, if◌then◌else◌}
+use Rattle.std.specs.Prelude.{ℕ, Bool, false, not, ◌&&◌, ◌||◌, List, [], ◌∷◌, ◌++◌, Option, Some, None, is_ok, is_none, map, nat_lt}
 use Rattle.std.specs.List.{list_any, sum}
 use Rattle.cwr_records.specs.Lines.{is_blank}
 use Rattle.cwr_records.specs.Typed.{share_of}

@@ -14,7 +14,6 @@ use Rattle.society_core.proofs.CandidateLemmas.{both}
 use Rattle.society_core.specs.Book.{Book}
 use Rattle.society_core.specs.Candidates.{Adds, transactions_sent, work_where}
 use Rattle.society_core.specs.Owners.{CutWork, cut_work, is_at, is_version_at, names_recording, versions_of_transmission}
-use Rattle.society_core.specs.Pools.{holders_of}
 use Rattle.society_core.specs.declared.claim_list.Candidate.{Candidate}
 use Rattle.society_core.specs.declared.transmission_key.TransmissionKey.{TransmissionKey}
 use Rattle.society_rows.specs.declared.fault.RowFault.{RowFault}

@@ -1,9 +1,9 @@
 -- Connections come one after another: their requests are one run, and their lines stand behind one another.
-use Rattle.std.proofs.Common.{◌≡◌, ℕ, ◌+◌, IsTrue, List, [], ◌∷◌, ◌++◌, Option, Some, None, Result, Ok, Err, arith, ap, append_assoc, append-nil, inl, inr, length, map, refl, subst, sym, zero, ◌∙◌}
+use Rattle.std.proofs.Common.{◌≡◌, ℕ, ◌+◌, List, [], ◌∷◌, ◌++◌, Option, Some, None, Result, Ok, Err, arith, ap, append_assoc, append-nil, inl, inr, length, refl, subst, sym, zero, ◌∙◌}
 use Rattle.std.specs.Prelude.{IfOk, IfErr, codes}
 use Rattle.std.specs.Io.KnownBytes.{Appends}
 use Rattle.std.specs.List.{AllByRecursion}
-use Rattle.std.proofs.lemmas.List.{length-append, map-append}
+use Rattle.std.proofs.lemmas.List.{length-append}
 use Rattle.std.proofs.lemmas.Grind.{flat_map-append}
 use Rattle.http_desk.specs.Counted.{failures_of, inner_of}
 use Rattle.http_desk.specs.Part.{Part}

@@ -21,7 +21,6 @@ use Rattle.cwr_files.specs.Transaction.{number_of_work}
 use Rattle.cwr_files.specs.declared.transmission.Transaction.{Transaction}
 use Rattle.cwr_files.specs.declared.transmission.Transmission.{Transmission}
 use Rattle.share_rules.specs.declared.holder.Holder.{Holder}
-use Rattle.share_rules.specs.Weights.{weights_of}
 use Rattle.share_rules.specs.declared.office.Office.{Office}
 use Rattle.society_core.specs.Book.{Book, body_at, front, transmissions_to}
 use Rattle.society_core.specs.Candidates.{Adds, ListsOnce, ReachesCut, StandFor, candidate_with, holders_among, holders_naming, is_version_by, transactions_sent, work_where}
@@ -29,7 +28,6 @@ use Rattle.society_core.specs.Claims.{is_candidate_for}
 use Rattle.society_core.proofs.Lines.{judged_under, line_has, line_push, line_to}
 use Rattle.society_core.specs.Orders.{Order}
 use Rattle.society_core.specs.Owners.{CutWork, cut_work, is_version_at, names_recording, versions_at_cut, versions_of_transmission}
-use Rattle.society_core.specs.Pools.{holders_of}
 use Rattle.society_core.specs.declared.claim_list.Candidate.{Candidate}
 use Rattle.society_core.specs.declared.transmission_key.TransmissionKey.{TransmissionKey}
 use Rattle.work_ids.specs.declared.fault.IdFault.{IdFault}

@@ -1,5 +1,5 @@
 -- Orders that close a pool: an amount, a cut of each sender's works, and the returns that are paid.
-use Rattle.std.specs.Prelude.{ℕ, Bool, true, false, not, List, [], ◌∷◌, ◌==◌, ◌&&◌, ◌||◌, ◌≡◌, Option, Some, None, is_none, Result, Ok, Err, bytes_eq, if◌then◌else◌, length, map, nat_lt, nat_le, refl}
+use Rattle.std.specs.Prelude.{ℕ, Bool, true, false, not, List, [], ◌∷◌, ◌==◌, ◌&&◌, ◌||◌, ◌≡◌, Option, Some, None, is_none, Result, Ok, Err, bytes_eq, length, map, nat_lt, nat_le, refl}
 use Rattle.std.specs.Cmp.Lexicographic.{pointwise}
 use Rattle.std.specs.Coded.{Coded, code_by, coded×, coded_ℕ, coded_list}
 use Rattle.std.specs.List.{list_any, list_all}

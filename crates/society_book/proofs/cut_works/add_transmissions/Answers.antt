@@ -1,8 +1,8 @@
-use Rattle.std.proofs.Common.{◌≡◌, ◌≤◌, ◌∙◌, ◌+◌, ◌++◌, ◌∷◌, [], List, ℕ, Ok, ap, flat_map, subst, sym, take}
+use Rattle.std.proofs.Common.{◌≡◌, ◌≤◌, ◌∙◌, ◌+◌, ◌++◌, ◌∷◌, [], List, ℕ, Ok, ap, subst, sym, take}
 use Rattle.std.proofs.lemmas.List.{append-nil, take_all, take_more}
 use Rattle.std.proofs.lemmas.Grind.{flat_map-append}
 use Rattle.sqlite.specs.Held.{state}
-use Rattle.society_core.proofs.CandidateLemmas.{adds_none, adds_then}
+use Rattle.society_core.proofs.CandidateLemmas.{adds_then}
 use Rattle.society_core.specs.Candidates.{Adds, transactions_sent}
 use Rattle.society_core.specs.Owners.{CutWork, versions_of_transmission}
 use Rattle.society_core.specs.Points.{is_tallied}
