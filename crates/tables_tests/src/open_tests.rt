@@ -4,7 +4,7 @@ ghost use Rattle.std.specs.Prelude.{◌≡◌, IfOk, false};
 use crate::checks::{holds, told};
 use share_rules::Office;
 use society_core::{Desk, PoolOrder, ReturnKey, Store};
-use society_tables::{AuditFault, OpenFault, Tables, confirm};
+use society_tables::{AuditFault, OpenFault, Tables, confirm, reopen};
 use sqlite::{Connection, MemStore};
 use std::alloc::Global;
 use std::test::Fail;
@@ -138,6 +138,18 @@ fn an_empty_database_becomes_a_new_book(rt: HostRuntime) -> Result<(), Fail> {
         return Err(Fail::new("an opening"));
     };
     told(&rt, "the front", &tables.front(&sender()?), &Ok(0));
+    Ok(())
+}
+
+#[test]
+fn a_store_is_found_again_by_its_connection(rt: HostRuntime) -> Result<(), Fail> {
+    let Ok(tables) = Tables::open(rt.alloc(), filled(rt.alloc())?, &office(900)?) else {
+        return Err(Fail::new("an opening"));
+    };
+    let Ok(mut again) = reopen(rt.alloc(), tables) else {
+        return Err(Fail::new("a second opening"));
+    };
+    told(&rt, "the front", &again.front(&sender()?), &Ok(1));
     Ok(())
 }
 
