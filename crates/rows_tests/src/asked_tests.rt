@@ -4,7 +4,7 @@ ghost use Rattle.society_rows.specs.declared.fault.RowFault.TheVariants.{Memory}
 
 use crate::book::{SENDER, book, shown, write_book, write_fronts, write_works};
 use crate::checks::told;
-use society_rows::{Question, RowFault, RowFold, TableName, ask, fold_above, fold_run, fold_table};
+use society_rows::{Question, RowFault, RowFold, TableName, ask, fold_run, fold_table};
 use sqlite::{Alter, Connection, MemStore, Row};
 use std::alloc::Global;
 use std::process::Abort;
@@ -54,12 +54,6 @@ fn count_of<S: Alter>(conn: &mut Connection<S>, table: TableName) -> Result<u64,
     Ok(count.rows)
 }
 
-fn count_above<S: Alter>(conn: &mut Connection<S>, number: u32) -> Result<u64, RowFault> {
-    let mut count = Count { rows: 0 };
-    fold_above(conn, SENDER, number, &mut count)?;
-    Ok(count.rows)
-}
-
 fn run_from<S: Alter>(conn: &mut Connection<S>, first: u32) -> Result<u64, RowFault> {
     if !conn.is_autocommit() {
         return Err(RowFault::Unread);
@@ -90,7 +84,6 @@ fn check_counts<S: Alter>(rt: &impl Abort, conn: &mut Connection<S>) -> Result<(
     ] {
         told(rt, row, count_of(conn, table)?, wanted);
     }
-    told(rt, "above 1", count_above(conn, 1)?, 1);
     Ok(())
 }
 

@@ -2,10 +2,10 @@
 ghost use Rattle.std.specs.Prelude.{◌≡◌, false, IfOk, OnOk};
 
 use society_rows::{
-    BalanceRow, CreditRow, FrontRow, OfficeRow, PoolCutRow, PoolReturnRow, PoolRow, RecordingRow,
-    ReturnRow, RowFault, TransmissionRow, VerdictRow, VersionRow, add_credits, add_pool_cuts,
-    add_pool_returns, add_pools, add_recordings, add_returns, add_transmissions, add_verdicts,
-    add_versions, create, put_balances, put_fronts,
+    BalanceRow, CreditRow, Found, FrontRow, OfficeRow, PoolCutRow, PoolReturnRow, PoolRow,
+    RecordingRow, ReturnRow, RowFault, TransmissionRow, VerdictRow, VersionRow, add_credits,
+    add_pool, add_pool_cuts, add_pool_returns, add_recordings, add_returns, add_transmissions,
+    add_verdicts, add_versions, create, layout_found, put_balance, put_front,
 };
 use sqlite::{Alter, Connection, MemStore, Row, Transaction};
 use sqlite_value::value::ValueRef;
@@ -29,14 +29,17 @@ pub fn begin<S: Alter>(conn: &mut Connection<S>) -> Result<(), RowFault>
     if !conn.is_autocommit() {
         return Err(RowFault::Unread);
     }
-    create(
-        conn,
-        &OfficeRow {
-            society: 900,
-            territory: 40,
-            name: b"EXAMPLE SOCIETY",
-        },
-    )
+    match layout_found(conn) {
+        Found::Nothing => create(
+            conn,
+            &OfficeRow {
+                society: 900,
+                territory: 40,
+                name: b"EXAMPLE SOCIETY",
+            },
+        ),
+        Found::Layout | Found::Other => Err(RowFault::Schema),
+    }
 }
 
 fn tell(text: &mut String, alloc: Global, value: ValueRef<'_>) -> Result<(), AllocError> {
@@ -96,12 +99,12 @@ pub fn write_book<S: Alter>(tx: &mut Transaction<'_, S>) -> Result<(), RowFault>
 }
 
 pub fn write_pools<S: Alter>(tx: &mut Transaction<'_, S>) -> Result<(), RowFault> {
-    add_pools(
+    add_pool(
         tx,
-        &[PoolRow {
+        &PoolRow {
             pool: 7,
             amount: 1_000_000_000_000,
-        }],
+        },
     )?;
     add_pool_cuts(
         tx,
@@ -190,7 +193,9 @@ pub fn write_fronts<S: Alter>(tx: &mut Transaction<'_, S>) -> Result<(), RowFaul
         front: 1,
         works: 0,
     };
-    put_fronts(tx, &[early, other, late])
+    put_front(tx, &early)?;
+    put_front(tx, &other)?;
+    put_front(tx, &late)
 }
 
 pub fn write_balances<S: Alter>(tx: &mut Transaction<'_, S>) -> Result<(), RowFault> {
@@ -202,5 +207,6 @@ pub fn write_balances<S: Alter>(tx: &mut Transaction<'_, S>) -> Result<(), RowFa
         account: b"UNCLAIMED",
         units: 999_999_999_999_999_999,
     };
-    put_balances(tx, &[before, after])
+    put_balance(tx, &before)?;
+    put_balance(tx, &after)
 }

@@ -1,18 +1,16 @@
 //! The rows of tables, as text.
 use crate::book::{SENDER, shown};
 use society_rows::{
-    RowFault, all_balances, all_credits, all_fronts, all_offices, all_pool_cuts, all_pool_returns,
-    all_pools, all_recordings, all_returns, all_transmissions, all_verdicts, all_versions,
-    balance_at, credits_of, cuts_of, front_at, pool_at, pool_return_at, recordings_of,
-    recordings_with, return_at, returns_of_pool, transmission_at, transmissions_above, verdicts_of,
-    versions_of,
+    RowFault, TableName, all_offices, all_rows, balance_at, credits_of, cuts_of, front_at,
+    numbers_above, pool_at, pool_return_at, return_at, returns_of_pool, transmission_at,
+    verdicts_of, versions_of,
 };
 use sqlite::{Alter, Transaction};
 use std::alloc::Global;
 
 pub fn read_book<S: Alter>(tx: &mut Transaction<'_, S>, alloc: Global) -> Result<String, RowFault> {
-    let mut text = shown(alloc, all_transmissions(tx)?)?;
-    text.push_str(shown(alloc, all_returns(tx)?)?.as_str())?;
+    let mut text = shown(alloc, all_rows(tx, TableName::Transmissions)?)?;
+    text.push_str(shown(alloc, all_rows(tx, TableName::Returns)?)?.as_str())?;
     Ok(text)
 }
 
@@ -20,9 +18,9 @@ pub fn read_pools<S: Alter>(
     tx: &mut Transaction<'_, S>,
     alloc: Global,
 ) -> Result<String, RowFault> {
-    let mut text = shown(alloc, all_pools(tx)?)?;
-    text.push_str(shown(alloc, all_pool_cuts(tx)?)?.as_str())?;
-    text.push_str(shown(alloc, all_pool_returns(tx)?)?.as_str())?;
+    let mut text = shown(alloc, all_rows(tx, TableName::Pools)?)?;
+    text.push_str(shown(alloc, all_rows(tx, TableName::PoolCuts)?)?.as_str())?;
+    text.push_str(shown(alloc, all_rows(tx, TableName::PoolReturns)?)?.as_str())?;
     Ok(text)
 }
 
@@ -30,8 +28,8 @@ pub fn read_works<S: Alter>(
     tx: &mut Transaction<'_, S>,
     alloc: Global,
 ) -> Result<String, RowFault> {
-    let mut text = shown(alloc, all_versions(tx)?)?;
-    text.push_str(shown(alloc, all_recordings(tx)?)?.as_str())?;
+    let mut text = shown(alloc, all_rows(tx, TableName::Versions)?)?;
+    text.push_str(shown(alloc, all_rows(tx, TableName::Recordings)?)?.as_str())?;
     Ok(text)
 }
 
@@ -39,8 +37,8 @@ pub fn read_verdicts<S: Alter>(
     tx: &mut Transaction<'_, S>,
     alloc: Global,
 ) -> Result<String, RowFault> {
-    let mut text = shown(alloc, all_verdicts(tx)?)?;
-    text.push_str(shown(alloc, all_credits(tx)?)?.as_str())?;
+    let mut text = shown(alloc, all_rows(tx, TableName::Verdicts)?)?;
+    text.push_str(shown(alloc, all_rows(tx, TableName::Credits)?)?.as_str())?;
     Ok(text)
 }
 
@@ -48,8 +46,8 @@ pub fn read_fronts<S: Alter>(
     tx: &mut Transaction<'_, S>,
     alloc: Global,
 ) -> Result<String, RowFault> {
-    let mut text = shown(alloc, all_fronts(tx)?)?;
-    text.push_str(shown(alloc, all_balances(tx)?)?.as_str())?;
+    let mut text = shown(alloc, all_rows(tx, TableName::Fronts)?)?;
+    text.push_str(shown(alloc, all_rows(tx, TableName::Balances)?)?.as_str())?;
     Ok(text)
 }
 
@@ -58,8 +56,8 @@ pub fn read_by_key<S: Alter>(
     alloc: Global,
 ) -> Result<String, RowFault> {
     let mut text = shown(alloc, transmission_at(tx, SENDER, 2)?)?;
-    text.push_str(shown(alloc, transmissions_above(tx, SENDER, 1)?)?.as_str())?;
-    text.push_str(shown(alloc, transmissions_above(tx, SENDER, 2)?)?.as_str())?;
+    text.push_str(shown(alloc, numbers_above(tx, SENDER, 1)?)?.as_str())?;
+    text.push_str(shown(alloc, numbers_above(tx, SENDER, 2)?)?.as_str())?;
     text.push_str(shown(alloc, return_at(tx, b"RADIO1", 3)?)?.as_str())?;
     Ok(text)
 }
@@ -74,8 +72,6 @@ pub fn read_pool<S: Alter>(tx: &mut Transaction<'_, S>, alloc: Global) -> Result
 
 pub fn read_work<S: Alter>(tx: &mut Transaction<'_, S>, alloc: Global) -> Result<String, RowFault> {
     let mut text = shown(alloc, versions_of(tx, SENDER, b"W1")?)?;
-    text.push_str(shown(alloc, recordings_of(tx, SENDER, b"W2")?)?.as_str())?;
-    text.push_str(shown(alloc, recordings_with(tx, b"ATABC2600001")?)?.as_str())?;
     text.push_str(shown(alloc, verdicts_of(tx, SENDER, 1)?)?.as_str())?;
     Ok(text)
 }
@@ -94,14 +90,14 @@ pub fn read_balances<S: Alter>(
     tx: &mut Transaction<'_, S>,
     alloc: Global,
 ) -> Result<String, RowFault> {
-    Ok(shown(alloc, all_balances(tx)?)?)
+    Ok(shown(alloc, all_rows(tx, TableName::Balances)?)?)
 }
 
 pub fn read_verdicts_alone<S: Alter>(
     tx: &mut Transaction<'_, S>,
     alloc: Global,
 ) -> Result<String, RowFault> {
-    Ok(shown(alloc, all_verdicts(tx)?)?)
+    Ok(shown(alloc, all_rows(tx, TableName::Verdicts)?)?)
 }
 
 pub fn read_credits<S: Alter>(

@@ -85,7 +85,7 @@ fn check_book<S: Alter>(
         rt,
         "by key",
         seen.as_str(),
-        "PB000000012|2|second|;PB000000012|2|second|;RADIO1|3|isrc,plays,seconds|;",
+        "PB000000012|2|second|;PB000000012|2|;RADIO1|3|isrc,plays,seconds|;",
     );
     let seen = read_pool(tx, alloc)?;
     told(
@@ -128,7 +128,7 @@ fn check_derived<S: Alter>(
         rt,
         "work",
         seen.as_str(),
-        "PB000000012|W1|0|1|0|99999999999|;PB000000012|W1|1|2|4|99999999999|;PB000000012|W1|0|ATABC2600001|;PB000000012|1|0|21|0|0|;",
+        "PB000000012|W1|0|1|0|99999999999|;PB000000012|W1|1|2|4|99999999999|;PB000000012|1|0|21|0|0|;",
     );
     Ok(())
 }

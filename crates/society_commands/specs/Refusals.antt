@@ -36,6 +36,7 @@ opening_fault _ = fault.Store
 abbrev pub database_fault : OpenFault → List ℕ
 database_fault fault.Memory = codes "memory"
 database_fault fault.Store = codes "store"
+database_fault fault.Empty = codes "empty"
 database_fault fault.Schema = codes "schema"
 database_fault fault.OtherOffice = codes "of another office"
 database_fault fault.Damaged = codes "damaged"

@@ -120,6 +120,7 @@ fn fault_name(fault: OpenFault) -> &'static str
     match fault {
         OpenFault::Memory => "memory",
         OpenFault::Store => "store",
+        OpenFault::Empty => "empty",
         OpenFault::Schema => "schema",
         OpenFault::OtherOffice => "of another office",
         OpenFault::Damaged => "damaged",

@@ -1,5 +1,5 @@
 -- Errors that SQLite tells as failures.
-use Rattle.std.proofs.Common.{◌≡◌, ℕ, true, false, ◌||◌, ◌&&◌, is_some, true≢false, List, length, Option, Some, None, Result, Ok, Err, refl, sym, ap, subst, subst₂, ◌∙◌, append-nil, inl, inr, arith}
+use Rattle.std.proofs.Common.{◌≡◌, ◌⊎◌, ℕ, true, false, [], ◌||◌, ◌&&◌, is_some, true≢false, List, length, Option, Some, None, Result, Ok, Err, refl, sym, ap, subst, subst₂, ◌∙◌, append-nil, inl, inr, arith}
 use Rattle.sqlite_value.specs.Order.{Row}
 use Rattle.sqlite_trees.specs.declared.error.StoreError.{StoreError}
 use Rattle.sqlite_trees.specs.declared.error.StoreError.TheVariants as store
@@ -7,6 +7,10 @@ use Rattle.sqlite_schema.specs.declared.command.Command.{Command}
 use Rattle.sqlite_schema.specs.declared.command.Command.TheVariants.{Select}
 use Rattle.sqlite_schema.specs.declared.command.Returning.{Returning}
 use Rattle.sqlite_schema.specs.declared.program.Program.{Program}
+use Rattle.sqlite_schema.specs.Program.{lets_of}
+use Rattle.sqlite_sql.specs.Program.{ProgramOverflows}
+use Rattle.sqlite_trees.specs.Tree.{Trees}
+use Rattle.sqlite_typing.specs.Types.{accepts_program}
 use Rattle.sqlite_schema.specs.declared.schema.Schema.{Schema}
 use Rattle.sqlite_resolve.specs.declared.compiled.Compiled.{Compiled}
 use Rattle.sqlite_resolve.specs.declared.error.CompileError.{CompileError}
@@ -17,10 +21,11 @@ use Rattle.sqlite.specs.declared.error.ErrorCode.TheVariants as code
 use Rattle.sqlite.specs.Clock.{timed}
 use Rattle.sqlite.specs.Does.{Does}
 use Rattle.sqlite.specs.Effect.{Database, is_query, RefusesQuery, RefusesToRead}
-use Rattle.sqlite.specs.Listing.{understood}
-use Rattle.sqlite.specs.State.{State, mode_of, text_of, store_error, Fails, FailsToShow, FailsToQuery, IsMisplaced, IsNoStatement, IsNotRun, RunsCommand, ExecutesIn, ExecutesInside, is_pragma, shows_rows}
+use Rattle.sqlite.specs.Listing.{understood, reads_listing, IsSourceOf}
+use Rattle.sqlite.specs.State.{State, mode_of, text_of, store_error, Fails, FailsToShow, HasCause, FailsToQuery, IsMisplaced, IsNoStatement, IsNotRun, RunsCommand, ExecutesIn, ExecutesInside, is_pragma, shows_rows}
 use Rattle.sqlite.proofs.Callers.{IsPlain, command_of, statement_of}
 use Rattle.society_rows.specs.declared.fault.RowFault.{RowFault}
+use Rattle.society_rows.specs.Effects.{MayFail}
 use Rattle.society_rows.specs.Faults.{fault_of, IsFailure}
 
 -- SQLite told it as a failure
@@ -49,6 +54,18 @@ store_coded store.Unstorable = (code.TooBig, refl)
 
 pub fails_coded : (old new : State) (TooBig : Type 0) (e : Error) → Fails old new TooBig e → IsCoded e
 fails_coded old new TooBig e h = let told = store_coded h.0 in (told.0, h.1 ∙ told.1)
+
+-- the store itself errs by want of memory, or where it may fail
+store_reasons : (old new : State) (e : Error) → Fails old new ⊥ e → (e ≡ SqliteFailure code.OutOfMemory) ⊎ MayFail old new
+store_reasons old new e h = by_cause h.0 h.1 h.2
+  where
+    by_cause : (cause : StoreError) → e ≡ store_error cause → HasCause old new ⊥ cause → (e ≡ SqliteFailure code.OutOfMemory) ⊎ MayFail old new
+    by_cause store.OutOfMemory is cause = inl is
+    by_cause store.Io is cause = inr (inl cause)
+    by_cause store.Corrupt is cause = inr (inl cause)
+    by_cause store.Full is cause = inr (inl cause)
+    by_cause store.Broken is cause = inr (inr (inl cause))
+    by_cause store.Unstorable is cause = absurd cause
 
 pub refused_coded : (limit : Option ℕ) (db : Database) (q : Program) (params : Row) (e : Error) → RefusesQuery limit db q params e → IsCoded e
 refused_coded limit db q params e (inl h) = (code.TypeMismatch, h.0)
@@ -103,6 +120,37 @@ module _ (schema : Schema) (text : List ℕ) (params : Row) (old new : State) (h
       let bare = (subst IsPlain is plain).0 in
       let refused = subst (FailsToShow old new text h.0 full e) bare h.2 in
       read_coded old.step_limit h.0.command refused.0 full e (sym (ap (λ r. is_query (command_of r)) is) ∙ query) refused.2
+
+  -- no error comes of a text that is one statement
+  stated : (e : Error) → IsNoStatement old text params e → ⊥
+  stated e (inl h) = absurd (subst (IsSingle text (length params)) (known (Err h.0) h.1) single)
+  stated e (inr h) =
+      let is = known (Ok h.0) h.1 in
+      let one = subst (IsSingle text (length params)) is single in
+      let bare = subst IsPlain is plain in
+      elim h.2 [
+        | inl more ↦ more.0 (omega (arith, one.0))
+        | inr rest ↦ elim rest [ inl count ↦ count.0 (sym one.1) | inr clock ↦ clock.0 bare.1 ]
+      ]
+
+  -- a query that is typed and sums nothing errs by want of memory, or where it may fail
+  pub query_reasons : (q : Program) (names : List (List ℕ)) → command_of (understood schema text) ≡ Select q names → reads_listing schema text ≡ false
+      → accepts_program schema (lets_of q) q.body params ≡ true → ((db : Trees) → ProgramOverflows db params [] (lets_of q) q.body → ⊥)
+      → (e : Error) → FailsToQuery text params old new e → (e ≡ SqliteFailure code.OutOfMemory) ⊎ MayFail old new
+  unfolding FailsToQuery IsNotRun
+  query_reasons q names command unlisted typed sums e (inl (inl h)) = absurd (stated e h.0)
+  query_reasons q names command unlisted typed sums e (inl (inr h)) = store_reasons old new e h
+  query_reasons q names command unlisted typed sums e (inr h) =
+      let is = known (Ok h.0) h.1.is in
+      let bare = subst IsPlain is plain in
+      let refused = rw (bare.0, bare.1, append-nil params) at h.2 in
+      let db : refused.0 ≡ old.now = subst (λ b. IsSourceOf b old.now refused.0) (ap (λ s. reads_listing s text) has ∙ unlisted) refused.1 in
+      let read : RefusesQuery old.step_limit old.now q params e =
+      subst₂ (λ k d. RefusesToRead old.step_limit k d params e) (sym (ap command_of is) ∙ command) db refused.2 in
+      elim read [
+        | inl wrong ↦ absurd (true≢false (sym typed ∙ sym (ap (λ s. accepts_program s (lets_of q) q.body params) has) ∙ wrong.1))
+        | inr rest ↦ elim rest [ inl over ↦ absurd (sums old.now.trees over.1) | inr limit ↦ inr (inr (inr limit.1)) ]
+      ]
 
   -- a statement that shows no rows errs by a failure alone, if its command does
   pub statement_coded : (command : Command) → command_of (understood schema text) ≡ command → is_query command ≡ false → is_pragma command ≡ false

@@ -12,7 +12,7 @@ use Rattle.sqlite_schema.specs.declared.schema.Table.{Table}
 use Rattle.sqlite.specs.State.{State, HasCleanDisk, Survives}
 use Rattle.society_rows.specs.declared.fault.RowFault.{RowFault}
 use Rattle.society_rows.specs.Effects.{Writes, IsWhole, LeavesFirst}
-use Rattle.society_rows.specs.Stored.{rows_in, HasLayout, has_first, put_over, Adds, Puts, PutsAll}
+use Rattle.society_rows.specs.Stored.{rows_in, HasLayout, Adds}
 use Rattle.society_rows.proofs.Adds.{others_then, others_same, adds_none, adds_then}
 use Rattle.society_rows.proofs.Effects.{writes_none, writes_then}
 
@@ -38,30 +38,6 @@ module _ {R : Type 0} (table : Table) (values : R → Row) (rows : List R) (i : 
       → Writes a c result (Adds table all)
   adds_fails fault all result is more =
       fails_after a b c (Adds table (map values (take i rows))) (Adds table (values (get_or rows i d) ∷ [])) (Adds table all) (λ e f h. h.layout) fault result is before more
-
-pub puts_first : (table : Table) (a : State) → Writes {X = Unit {0}} a a (Ok tt) (PutsAll table [])
-puts_first table a = writes_none HasLayout a (PutsAll table []) (λ has. record { layout = has; rows = λ _. IsPermutation-refl _; numbered = λ h. h; others = others_same table a.now })
-
-puts_then : (table : Table) (before : List Row) (row : Row) (a b c : Database) → PutsAll table before a b → Puts table row b c → PutsAll table (before ++ row ∷ []) a c
-puts_then table before row a b c one two = record {
-  layout = two.layout;
-  rows = λ old. subst (λ l. IsPermutation l (rows_in table c.trees)) (sym (fold_push (λ rs r. put_over r rs) (rows_in table a.trees) before row))
-      (IsPermutation-trans _ _ _ (IsPermutation-cons row _ _ (IsPermutation-filter (λ r. not (has_first (column row 0) r)) _ _ (one.rows old))) (two.rows (one.numbered old)));
-  numbered = λ old. two.numbered (one.numbered old);
-  others = others_then table a b c one.others two.others;
-}
-
-module _ {R : Type 0} (table : Table) (values : R → Row) (rows : List R) (i : ℕ) (d : R) (a b c : State) (before : Writes {X = Unit {0}} a b (Ok tt) (PutsAll table (map values (take i rows)))) where
-  pub puts_next : (within : i < length rows) (x : Unit {0}) → Writes b c (Ok x) (Puts table (values (get_or rows i d))) → Writes {X = Unit {0}} a c (Ok tt) (PutsAll table (map values (take (i + 1) rows)))
-  puts_next within x more =
-      subst (λ l. Writes {X = Unit {0}} a c (Ok tt) (PutsAll table l)) (sym (map-append values (take i rows) (get_or rows i d ∷ [])) ∙ ap (map values) (sym (take_more rows i d within)))
-      (writes_then HasLayout HasLayout a b c tt (Ok tt) (PutsAll table (map values (take i rows))) (Puts table (values (get_or rows i d))) (PutsAll table (map values (take i rows) ++ values (get_or rows i d) ∷ []))
-      (λ e f h. h.layout) (λ e f k. puts_then table (map values (take i rows)) (values (get_or rows i d)) e f k) before more)
-
-  pub puts_fails : (fault : RowFault) (all : List Row) (result : Result (Unit {0}) RowFault) → IsErr result → Writes {X = Unit {0}} b c (Err fault) (Puts table (values (get_or rows i d)))
-      → Writes a c result (PutsAll table all)
-  puts_fails fault all result is more =
-      fails_after a b c (PutsAll table (map values (take i rows))) (Puts table (values (get_or rows i d))) (PutsAll table all) (λ e f h. h.layout) fault result is before more
 
 -- a write failed after so many
 pub leaves_first : (a b c : State) (First : ℕ → Database → Database → Type 0) (count : ℕ) (fault : RowFault) (result : Result (Unit {0}) RowFault) → Writes {X = Unit {0}} a b (Ok tt) (First count)

@@ -2,20 +2,21 @@
 use Rattle.std.proofs.Common.{List, [], ◌++◌, Vec, Result, true, refl}
 use Rattle.std.specs.declared.alloc.Global.{Global}
 use Rattle.sqlite_value.specs.Order.{Row}
+use Rattle.sqlite_tied.specs.Compute.{everything}
 use Rattle.sqlite.specs.Listing.{understood}
 use Rattle.sqlite.specs.State.{State, HasCleanDisk, IsUnchanged, Shown, Begins}
 use Rattle.sqlite.proofs.Callers.{IsPlain}
 use Rattle.society_rows.specs.declared.fault.RowFault.{RowFault}
 use Rattle.society_rows.specs.declared.tables.TableName.{TableName}
 use Rattle.society_rows.specs.declared.tables.TableName.TheVariants as name
-use Rattle.society_rows.specs.Effects.{OnlyFails}
+use Rattle.society_rows.specs.Effects.{ErrsByMedium, OnlyFails}
 use Rattle.society_rows.specs.Folds.{IsAsked}
-use Rattle.society_rows.specs.Layout.{layout}
+use Rattle.society_rows.specs.Layout.{layout, written_out}
 use Rattle.society_rows.specs.Reads.{Lists, Selected}
 use Rattle.society_rows.specs.Stored.{HasLayout}
 use Rattle.society_rows.specs.TableNames.{table_called, listing_width, listing_text}
 use Rattle.society_rows.proofs.RowFolds.{query_asked, whole_listed}
-use Rattle.society_rows.proofs.Told.{query_tells}
+use Rattle.society_rows.proofs.Told.{query_reads, query_tells}
 use Rattle.society_rows.proofs.OfficeTable.{all_offices_is, all_offices_lists}
 use Rattle.society_rows.proofs.TransmissionTable.{all_transmissions_is, all_transmissions_lists}
 use Rattle.society_rows.proofs.ReturnTable.{all_returns_is, all_returns_lists}
@@ -85,6 +86,22 @@ listing_tells name.Versions = query_tells all_versions_is [] refl
 listing_tells name.Recordings = query_tells all_recordings_is [] refl
 listing_tells name.Credits = query_tells all_credits_is [] refl
 listing_tells name.Balances = query_tells all_balances_is [] refl
+
+-- it errs by want of memory, or where it may fail
+pub listing_reads : (table : TableName) (old new : State) (result : Result (Vec Row Global) RowFault) → (HasCleanDisk new → Selected (listing_text table) [] old new result) → ErrsByMedium old new result
+unfolding understood everything written_out
+listing_reads name.Office = query_reads all_offices_is refl
+listing_reads name.Transmissions = query_reads all_transmissions_is refl
+listing_reads name.Returns = query_reads all_returns_is refl
+listing_reads name.Pools = query_reads all_pools_is refl
+listing_reads name.PoolCuts = query_reads all_pool_cuts_is refl
+listing_reads name.PoolReturns = query_reads all_pool_returns_is refl
+listing_reads name.Fronts = query_reads all_fronts_is refl
+listing_reads name.Verdicts = query_reads all_verdicts_is refl
+listing_reads name.Versions = query_reads all_versions_is refl
+listing_reads name.Recordings = query_reads all_recordings_is refl
+listing_reads name.Credits = query_reads all_credits_is refl
+listing_reads name.Balances = query_reads all_balances_is refl
 
 -- what such a query shows first is the first of the table's rows
 pub first_called : (table : TableName) (old new : State) (rows : List Row) → HasLayout old.now → Begins (listing_text table) [] old rows × IsUnchanged old new

@@ -90,33 +90,3 @@ all_recordings_listing = record { shows = λ r. refl; tests = λ r. refl; orders
 pub all_recordings_lists : (old new : State) (rows : List Row) → HasLayout old.now → Shown all_recordings_text ([]) old new rows → Lists recordings (λ _. true) 4 old.now.trees rows
 unfolding written_out
 all_recordings_lists = lists_by recordings all_recordings_text ([]) project order shown_names all_recordings_is ([]) (λ _. true) 4 all_recordings_listing
-
-abbrev pub recordings_of_text : List ℕ
-recordings_of_text = codes "SELECT sender, work, revision, isrc FROM recordings WHERE sender = ?1 AND work = ?2 ORDER BY sender, work, revision, isrc"
-
-pub recordings_of_is : IsQuery recordings_of_text 2 (picked 16 (op2 (Compare Eq Binary) (col 1 1) (col 0 0) ∷ op2 (Compare Eq Binary) (col 1 2) (col 0 1) ∷ []) project order) shown_names
-unfolding understood everything written_out
-recordings_of_is = record { command = refl; plain = (refl, refl); unlisted = refl; single = (refl, refl) }
-
-recordings_of_listing : (sender : List ℕ) (work : List ℕ) → IsListing recordings (op2 (Compare Eq Binary) (col 1 1) (col 0 0) ∷ op2 (Compare Eq Binary) (col 1 2) (col 0 1) ∷ []) project order (Text sender ∷ Text work ∷ []) (has_key (Text sender ∷ Text work ∷ [])) 4
-unfolding written_out
-recordings_of_listing sender work = record { shows = λ r. refl; tests = λ r. refl; orders = λ a b. refl }
-
-pub recordings_of_lists : (sender : List ℕ) (work : List ℕ) (old new : State) (rows : List Row) → HasLayout old.now → Shown recordings_of_text (Text sender ∷ Text work ∷ []) old new rows → Lists recordings (has_key (Text sender ∷ Text work ∷ [])) 4 old.now.trees rows
-unfolding written_out
-recordings_of_lists sender work = lists_by recordings recordings_of_text (op2 (Compare Eq Binary) (col 1 1) (col 0 0) ∷ op2 (Compare Eq Binary) (col 1 2) (col 0 1) ∷ []) project order shown_names recordings_of_is (Text sender ∷ Text work ∷ []) (has_key (Text sender ∷ Text work ∷ [])) 4 (recordings_of_listing sender work)
-
-abbrev pub recordings_with_text : List ℕ
-recordings_with_text = codes "SELECT sender, work, revision, isrc FROM recordings WHERE isrc = ?1 ORDER BY sender, work, revision, isrc"
-
-pub recordings_with_is : IsQuery recordings_with_text 1 (picked 16 (op2 (Compare Eq Binary) (col 1 4) (col 0 0) ∷ []) project order) shown_names
-unfolding understood everything written_out
-recordings_with_is = record { command = refl; plain = (refl, refl); unlisted = refl; single = (refl, refl) }
-
-recordings_with_listing : (isrc : List ℕ) → IsListing recordings (op2 (Compare Eq Binary) (col 1 4) (col 0 0) ∷ []) project order (Text isrc ∷ []) (has_at 3 (Text isrc)) 4
-unfolding written_out
-recordings_with_listing isrc = record { shows = λ r. refl; tests = λ r. sym (and_true (equal Binary (column r 4) (Text isrc))); orders = λ a b. refl }
-
-pub recordings_with_lists : (isrc : List ℕ) (old new : State) (rows : List Row) → HasLayout old.now → Shown recordings_with_text (Text isrc ∷ []) old new rows → Lists recordings (has_at 3 (Text isrc)) 4 old.now.trees rows
-unfolding written_out
-recordings_with_lists isrc = lists_by recordings recordings_with_text (op2 (Compare Eq Binary) (col 1 4) (col 0 0) ∷ []) project order shown_names recordings_with_is (Text isrc ∷ []) (has_at 3 (Text isrc)) 4 (recordings_with_listing isrc)

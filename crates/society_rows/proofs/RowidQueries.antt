@@ -1,5 +1,5 @@
 -- The query that shows the rowids of a table, for each table.
-use Rattle.std.proofs.Common.{◌≡◌, ◌↔◌, ℕ, true, IsTrue, List, [], ◌∷◌, map, codes, Result, Ok, Err, IsErrAnd, refl, subst, IsPermutation}
+use Rattle.std.proofs.Common.{◌≡◌, ◌↔◌, ℕ, true, IsTrue, List, [], ◌∷◌, map, codes, Vec, Result, Ok, Err, IsErrAnd, refl, subst, IsPermutation}
 use Rattle.std.proofs.lemmas.Bool.{and_parts}
 use Rattle.std.specs.List.{list_all, AllByRecursion}
 use Rattle.std.proofs.lemmas.List.Sorted.{IsPermutation-sym}
@@ -13,16 +13,19 @@ use Rattle.sqlite_sql.specs.Query.{Query}
 use Rattle.sqlite_schema.specs.declared.schema.Table.{Table}
 use Rattle.sqlite_tied.specs.Compute.{everything}
 use Rattle.sqlite.specs.Listing.{understood}
-use Rattle.sqlite.specs.State.{State, Shown}
+use Rattle.sqlite.specs.State.{State, HasCleanDisk, Shown}
 use Rattle.society_rows.specs.declared.fault.RowFault.{RowFault}
 use Rattle.society_rows.specs.declared.tables.TableName.{TableName}
 use Rattle.society_rows.specs.declared.tables.TableName.TheVariants as name
+use Rattle.society_rows.specs.Effects.{ErrsByMedium}
 use Rattle.society_rows.specs.Layout.{written_out}
-use Rattle.society_rows.specs.Reads.{Reads}
+use Rattle.society_rows.specs.Reads.{Reads, Selected}
 use Rattle.society_rows.specs.Stored.{HasLayout, AreNumbered}
 use Rattle.society_rows.specs.TableNames.{table_called, rowids_text}
 use Rattle.society_rows.proofs.Answers.{picked, passes_in, answers_are}
 use Rattle.society_rows.proofs.Queries.{IsQuery, answer_of}
+use Rattle.society_rows.proofs.Told.{query_reads}
+use Rattle.std.specs.declared.alloc.Global.{Global}
 
 abbrev rowid_only : List Term
 rowid_only = col 1 0 ∷ []
@@ -106,6 +109,22 @@ rowids_are name.Versions = versions_is
 rowids_are name.Recordings = recordings_is
 rowids_are name.Credits = credits_is
 rowids_are name.Balances = balances_is
+
+-- it errs by want of memory, or where it may fail
+pub rowids_read : (table : TableName) (old new : State) (result : Result (Vec Row Global) RowFault) → (HasCleanDisk new → Selected (rowids_text table) [] old new result) → ErrsByMedium old new result
+unfolding understood everything written_out
+rowids_read name.Office = query_reads office_is refl
+rowids_read name.Transmissions = query_reads transmissions_is refl
+rowids_read name.Returns = query_reads returns_is refl
+rowids_read name.Pools = query_reads pools_is refl
+rowids_read name.PoolCuts = query_reads pool_cuts_is refl
+rowids_read name.PoolReturns = query_reads pool_returns_is refl
+rowids_read name.Fronts = query_reads fronts_is refl
+rowids_read name.Verdicts = query_reads verdicts_is refl
+rowids_read name.Versions = query_reads versions_is refl
+rowids_read name.Recordings = query_reads recordings_is refl
+rowids_read name.Credits = query_reads credits_is refl
+rowids_read name.Balances = query_reads balances_is refl
 
 -- the first value is a whole number
 abbrev IsWhole : Row → Type 0

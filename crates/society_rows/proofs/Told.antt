@@ -1,9 +1,12 @@
 -- What a call tells of an error.
-use Rattle.std.proofs.Common.{◌≡◌, ℕ, false, List, length, Vec, Result, Ok, Err, IfErr, IsTrue, IsErrAnd, refl, sym, ap, subst, inl, inr, arith}
-use Rattle.std.proofs.lemmas.Bool.{cases_Bool}
+use Rattle.std.proofs.Common.{◌≡◌, ◌⊎◌, ◌∙◌, ℕ, true, false, List, [], ◌∷◌, length, IsSome, Vec, Result, Ok, Err, IfErr, IsTrue, IsErrAnd, refl, sym, ap, subst, inl, inr, arith}
+use Rattle.std.proofs.lemmas.Bool.{cases_Bool, false≢true}
 use Rattle.std.specs.declared.alloc.Global.{Global}
+use Rattle.sqlite_value.specs.declared.keys.Key.{Key}
 use Rattle.sqlite_value.specs.Order.{Row}
 use Rattle.sqlite_sql.specs.Query.{Query}
+use Rattle.sqlite_sql.specs.Term.{Term}
+use Rattle.sqlite_typing.specs.Types.{accepts_program}
 use Rattle.sqlite_schema.specs.declared.command.Command.TheVariants.{Insert, InsertOr}
 use Rattle.sqlite_schema.specs.declared.command.Conflict.{Conflict}
 use Rattle.sqlite_schema.specs.declared.command.Source.{Source}
@@ -12,15 +15,17 @@ use Rattle.sqlite.specs.declared.error.Error.{Error}
 use Rattle.sqlite.specs.declared.error.ErrorCode.TheVariants as code
 use Rattle.sqlite.specs.Effect.{Database, is_query}
 use Rattle.sqlite.specs.Listing.{understood}
-use Rattle.sqlite.specs.State.{State, HasCleanDisk, ExecutesInside, Survives, mode_of}
+use Rattle.sqlite.specs.State.{State, HasCleanDisk, ExecutesInside, IsTooLate, Survives, mode_of}
 use Rattle.sqlite.proofs.Callers.{IsPlain, command_of, statement_of}
 use Rattle.society_rows.specs.declared.fault.RowFault.{RowFault}
-use Rattle.society_rows.specs.Effects.{OnlyFails, OnlyFailsInside, OnlyFailsOver, RanAs, WritesOver}
-use Rattle.society_rows.specs.Faults.{IsFailure}
+use Rattle.society_rows.specs.Effects.{ErrsByMedium, MayFail, OnlyFails, OnlyFailsInside, OnlyFailsOver, RanAs, WritesOver}
+use Rattle.society_rows.specs.Faults.{fault_of, IsFailure}
+use Rattle.society_rows.specs.declared.fault.RowFault.TheVariants.{Memory}
 use Rattle.society_rows.specs.Layout.{layout}
 use Rattle.society_rows.specs.Reads.{Selected}
 use Rattle.society_rows.specs.Stored.{HasLayout}
-use Rattle.society_rows.proofs.Failures.{IsCoded, IsSingle, failure_told, query_coded, statement_coded}
+use Rattle.society_rows.proofs.Failures.{IsCoded, IsSingle, failure_told, query_coded, query_reasons, statement_coded}
+use Rattle.society_rows.proofs.Answers.{picked}
 use Rattle.society_rows.proofs.Inserts.{IsSettled}
 use Rattle.society_rows.proofs.Queries.{IsQuery}
 use Rattle.society_rows.proofs.Refusals.{insert_coded, insert_or_coded}
@@ -39,6 +44,28 @@ query_tells {text} {count} is params long old new result selected clean has = on
       | inl failed ↦ query_coded layout text params old new has is.plain single (ap is_query is.command) h.0 failed
       | inr late ↦ (code.TransactionState, late.4)
     ])
+
+-- a query of one table, which sums nothing
+pub query_reads : {text : List ℕ} {tree : ℕ} {filters project : List Term} {order : List (Term × Key)} {names : List (List ℕ)} → IsQuery text 0 (picked tree filters project order) names
+    → accepts_program layout [] (picked tree filters project order) [] ≡ true
+    → (old new : State) (result : Result (Vec Row Global) RowFault) → (HasCleanDisk new → Selected text [] old new result) → ErrsByMedium old new result
+query_reads {text} {tree} {filters} {project} {order} {names} is typed old new result selected clean has = on result (selected clean)
+  where
+    on : (r : Result (Vec Row Global) RowFault) → Selected text [] old new r → IfErr r (λ fault. (fault ≡ Memory) ⊎ MayFail old new)
+    on (Ok rows) h = tt
+    on (Err fault) h = elim h.2 [
+      | inl failed ↦ elim (query_reasons layout text [] old new has is.plain is.single (record { lets = []; body = picked tree filters project order }) names is.command is.unlisted typed (λ db over. elim over [ inl none ↦ none | inr more ↦ more.4 ]) h.0 failed) [
+        | inl memory ↦ inl (h.1 ∙ ap fault_of memory)
+        | inr may ↦ inr may
+      ]
+      | inr late ↦ absurd (never late)
+    ]
+      where
+        never : IsTooLate text [] old new h.0 → ⊥
+        never late =
+            let is_here = sym (ap (λ s. understood s text) has) ∙ late.1.is in
+            let bare = subst IsPlain is_here is.plain in
+            false≢true (subst IsSome bare.0 late.2)
 
 -- of a statement that shows no rows
 pub statement_tells : (Was : Database → Type 0) (text : List ℕ) (params : Row) (old new : State) (result : Result (Unit {0}) RowFault) → (old.in_transaction ≡ false → IfErr result IsFailure)

@@ -89,17 +89,6 @@ pub transmission_at_lists : (sender : List ℕ) (number : ℤ) (old new : State)
 unfolding written_out
 transmission_at_lists sender number = lists_by transmissions transmission_at_text (op2 (Compare Eq Binary) (col 1 1) (col 0 0) ∷ op2 (Compare Eq Binary) (col 1 2) (col 0 1) ∷ []) project order shown_names transmission_at_is (Text sender ∷ Int number ∷ []) (has_key (Text sender ∷ Int number ∷ [])) 2 (transmission_at_listing sender number)
 
-abbrev pub transmissions_above_text : List ℕ
-transmissions_above_text = codes "SELECT sender, number, body FROM transmissions WHERE sender = ?1 AND number > ?2 ORDER BY sender, number"
-
-pub transmissions_above_is : IsQuery transmissions_above_text 2 (picked 1 (op2 (Compare Eq Binary) (col 1 1) (col 0 0) ∷ op2 (Compare Gt Binary) (col 1 2) (col 0 1) ∷ []) project order) shown_names
-unfolding understood everything written_out
-transmissions_above_is = record { command = refl; plain = (refl, refl); unlisted = refl; single = (refl, refl) }
-
 pub transmissions_above_listing : (sender : List ℕ) (number : ℤ) → IsListing transmissions (op2 (Compare Eq Binary) (col 1 1) (col 0 0) ∷ op2 (Compare Gt Binary) (col 1 2) (col 0 1) ∷ []) project order (Text sender ∷ Int number ∷ []) (is_above (Text sender) (Int number)) 2
 unfolding written_out
 transmissions_above_listing sender number = record { shows = λ r. refl; tests = λ r. ap (λ b. equal Binary (column r 1) (Text sender) && b) (sym (and_true (exceeds (column r 2) (Int number)))); orders = λ a b. refl }
-
-pub transmissions_above_lists : (sender : List ℕ) (number : ℤ) (old new : State) (rows : List Row) → HasLayout old.now → Shown transmissions_above_text (Text sender ∷ Int number ∷ []) old new rows → Lists transmissions (is_above (Text sender) (Int number)) 2 old.now.trees rows
-unfolding written_out
-transmissions_above_lists sender number = lists_by transmissions transmissions_above_text (op2 (Compare Eq Binary) (col 1 1) (col 0 0) ∷ op2 (Compare Gt Binary) (col 1 2) (col 0 1) ∷ []) project order shown_names transmissions_above_is (Text sender ∷ Int number ∷ []) (is_above (Text sender) (Int number)) 2 (transmissions_above_listing sender number)

@@ -1,10 +1,12 @@
 -- What a call within a transaction does, whatever table it is on.
-use Rattle.std.specs.Prelude.{◌≡◌, ◌⊎◌, ℕ, List, Result, Ok, Err, IsTrue, false, IfErr, OnOk, OnErr, MatchResult}
+use Rattle.std.specs.Prelude.{◌≡◌, ◌⊎◌, ℕ, List, Result, Ok, Err, IsTrue, false, IfErr, IsSome, OnOk, OnErr, MatchResult}
+use Rattle.sqlite_disk.specs.Disk.{MoreFaults}
 use Rattle.sqlite_value.specs.Order.{Row}
 use Rattle.sqlite.specs.declared.error.Error.{Error}
 use Rattle.sqlite.specs.Effect.{Database}
 use Rattle.sqlite.specs.State.{State, HasCleanDisk, IsUnchanged, IsRolledBack, KeepsCommit, Survives, ExecutesInside}
 use Rattle.society_rows.specs.declared.fault.RowFault.{RowFault}
+use Rattle.society_rows.specs.declared.fault.RowFault.TheVariants.{Memory}
 use Rattle.society_rows.specs.Faults.{fault_of, IsFailure}
 use Rattle.society_rows.specs.Stored.{HasLayout}
 
@@ -23,6 +25,14 @@ OnlyFails = OnlyFailsOver HasLayout
 -- the same in a transaction
 abbrev pub OnlyFailsInside : {X : Type 0} → (Database → Type 0) → State → State → Result X RowFault → Type 0
 OnlyFailsInside Was old new result = IsTrue old.in_transaction → OnlyFailsOver Was old new result
+
+-- why a reading may fail while the disk tells the truth: the medium failed meanwhile, or the connection was shut or has a limit of steps
+abbrev pub MayFail : State → State → Type 0
+MayFail old new = MoreFaults old.faults new.faults ⊎ ((old.is_open ≡ false) ⊎ IsSome old.step_limit)
+
+-- over layout 2, and where the disk told the truth, the reading errs by want of memory, or where it may fail
+abbrev pub ErrsByMedium : {X : Type 0} → State → State → Result X RowFault → Type 0
+ErrsByMedium old new result = HasCleanDisk new → HasLayout old.now → IfErr result (λ fault. (fault ≡ Memory) ⊎ MayFail old new)
 
 -- the statement ran, or its error is told
 abbrev pub RanAs : List ℕ → Row → State → State → Result (Unit {0}) RowFault → Type 0

@@ -16,7 +16,6 @@ abbrev pub Answers : Question → Trees → List Row → Type 0
 Answers question.Office = Lists office (λ _. true) 1
 Answers (question.Front sender) = Lists fronts (has_key (Text sender.now ∷ [])) 1
 Answers (question.Transmission sender number) = Lists transmissions (has_key (Text sender.now ∷ Int (pos number) ∷ [])) 2
-Answers (question.TransmissionsAbove sender number) = Lists transmissions (is_above (Text sender.now) (Int (pos number))) 2
 Answers (question.NumbersAbove sender number) = ListsKeys transmissions (is_above (Text sender.now) (Int (pos number))) 2
 Answers (question.Return reporter number) = Lists returns (has_key (Text reporter.now ∷ Int (pos number) ∷ [])) 2
 Answers (question.HasReturn reporter number) = ListsKeys returns (has_key (Text reporter.now ∷ Int (pos number) ∷ [])) 2
@@ -27,8 +26,6 @@ Answers (question.PaidBy pool) = Lists pool_returns (has_at 2 (Int (pos pool))) 
 Answers (question.Verdicts sender number) = Lists verdicts (has_key (Text sender.now ∷ Int (pos number) ∷ [])) 3
 Answers (question.Versions sender work) = Lists versions (has_key (Text sender.now ∷ Text work.now ∷ [])) 3
 Answers (question.LastVersion sender work) = IsFirstOf versions (has_key (Text sender.now ∷ Text work.now ∷ [])) 3
-Answers (question.Recordings sender work) = Lists recordings (has_key (Text sender.now ∷ Text work.now ∷ [])) 4
-Answers (question.RecordingsWith isrc) = Lists recordings (has_at 3 (Text isrc.now)) 4
 Answers (question.Credits pool) = Lists credits (has_key (Int (pos pool) ∷ [])) 2
 Answers (question.Balance account) = Lists balances (has_key (Text account.now ∷ [])) 1
 

@@ -1,5 +1,5 @@
 -- What the tables hold, as rows of values, and what a statement makes of it.
-use Rattle.std.specs.Prelude.{◌≡◌, ◌≢◌, Bool, true, not, List, ◌∷◌, ◌++◌, length, map, filter, fold, IsPermutation}
+use Rattle.std.specs.Prelude.{◌≡◌, ◌≢◌, Bool, true, not, List, ◌∷◌, ◌++◌, length, map, filter, IsPermutation}
 use Rattle.std.specs.List.{AllByRecursion, range_with_len}
 use Rattle.sqlite_value.specs.declared.value.Value.{Value}
 use Rattle.sqlite_value.specs.declared.keys.Collation.TheVariants.{Binary}
@@ -51,12 +51,5 @@ put_over row rows = row ∷ filter (λ r. not (has_first (column row 0) r)) rows
 pub record Puts (table : Table) (row : Row) (old new : Database) : Type 0 where
   pub layout : HasLayout new
   pub rows : AreNumbered table old.trees → IsPermutation (put_over row (rows_in table old.trees)) (rows_in table new.trees)
-  pub numbered : AreNumbered table old.trees → AreNumbered table new.trees
-  pub others : KeepsOthers table old.trees new.trees
-
--- the table has each of these rows, in turn, in place of any whose first column is the same
-pub record PutsAll (table : Table) (puts : List Row) (old new : Database) : Type 0 where
-  pub layout : HasLayout new
-  pub rows : AreNumbered table old.trees → IsPermutation (fold (λ rows row. put_over row rows) (rows_in table old.trees) puts) (rows_in table new.trees)
   pub numbered : AreNumbered table old.trees → AreNumbered table new.trees
   pub others : KeepsOthers table old.trees new.trees

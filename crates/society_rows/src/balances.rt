@@ -1,22 +1,22 @@
 //! The table of balances.
-ghost use Rattle.std.specs.Prelude.{◌≡◌, map, take, true, [], ◌∷◌, IfOk, IfErr, FitsSigned};
+ghost use Rattle.std.specs.Prelude.{◌≡◌, [], ◌∷◌, IfOk, IfErr, FitsSigned};
 ghost use Rattle.std.specs.Int.{w64};
 ghost use Rattle.sqlite_value.specs.declared.value.Value.TheVariants.{Text};
 ghost use Rattle.sqlite.specs.Held.{state};
 ghost use Rattle.sqlite.specs.State.{HasCleanDisk};
 ghost use Rattle.society_rows.specs.declared.fault.RowFault.TheVariants.{Unread};
 ghost use Rattle.society_rows.specs.Balances.{HasUnits, AddsUnits, HidesUnits, RefusesUnits};
-ghost use Rattle.society_rows.specs.Effects.{Writes, IsWhole, LeavesFirst, OnlyFails, OnlyFailsInside};
+ghost use Rattle.society_rows.specs.Effects.{Writes, IsWhole, OnlyFails};
 ghost use Rattle.society_rows.specs.Folds.{ReadsInside};
 ghost use Rattle.society_rows.specs.Forms.{IsRead, balance_forms};
 ghost use Rattle.society_rows.specs.Layout.{balances};
 ghost use Rattle.society_rows.specs.Reads.{Lists, Reads, has_key};
 ghost use Rattle.society_rows.specs.Rows.{balance_values};
-ghost use Rattle.society_rows.specs.Stored.{HasLayout, Puts, PutsAll};
+ghost use Rattle.society_rows.specs.Stored.{HasLayout, Puts};
 
+use crate::RowFault;
 use crate::reading::{integer, text};
 use crate::statement::{run, select};
-use crate::{RowFault, TableName, all_rows};
 use sqlite::types::ToSql;
 use sqlite::{Alter, Row, Transaction};
 use sqlite_value::value::ValueRef;
@@ -62,35 +62,6 @@ pub fn put_balance<S: Alter>(
         "INSERT INTO balances (account, units) VALUES (?1, ?2) ON CONFLICT (account) DO UPDATE SET account = excluded.account, units = excluded.units",
         &[ValueRef::Text(row.account), (&row.units).to_sql()],
     )
-}
-
-/// Puts balances, each in place of the one that is there under its key. After an error the first of them may be
-/// in the transaction.
-pub fn put_balances<S: Alter>(
-    tx: &mut Transaction<'_, S>,
-    rows: &[BalanceRow<'_>],
-) -> Result<(), RowFault>
-    ensures same_reference { tx.new.conn.ghost_name ≡ tx.old.conn.ghost_name }
-    ensures written { Writes (state S.Store tx.old.conn.now) (state S.Store tx.new.conn.now) result
-        (PutsAll balances (map balance_values rows.now)) }
-    ensures left { LeavesFirst (state S.Store tx.old.conn.now) (state S.Store tx.new.conn.now) result
-        (λ count. PutsAll balances (map balance_values (take count rows.now))) }
-    ensures told { OnlyFailsInside HasLayout (state S.Store tx.old.conn.now) (state S.Store tx.new.conn.now) result }
-{
-    for row in rows {
-        put_balance(tx, row)?;
-    }
-    Ok(())
-}
-
-/// All balances, by account.
-pub fn all_balances<S: Alter>(tx: &mut Transaction<'_, S>) -> Result<Vec<Row>, RowFault>
-    ensures same_reference { tx.new.conn.ghost_name ≡ tx.old.conn.ghost_name }
-    ensures read { Reads (state S.Store tx.old.conn.now) (state S.Store tx.new.conn.now) result
-        (λ db rows. Lists balances (λ _. true) 1 db rows.items) }
-    ensures told { OnlyFails (state S.Store tx.old.conn.now) (state S.Store tx.new.conn.now) result }
-{
-    all_rows(tx, TableName::Balances)
 }
 
 /// The balance of an account, if it has one.

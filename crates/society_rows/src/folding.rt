@@ -1,19 +1,17 @@
 //! Rows that are gone over one at a time, so that no answer is kept.
-ghost use Rattle.std.specs.Prelude.{◌≡◌, ◌++◌, [], false, fold, pos, true, length, List, IsTrue, IfErr, OnOk};
+ghost use Rattle.std.specs.Prelude.{◌≡◌, [], false, true, length, IfErr, OnOk};
 ghost use Rattle.sqlite.specs.Held.{state};
 ghost use Rattle.sqlite_value.specs.Order.{Row as SqlRow};
-ghost use Rattle.sqlite_value.specs.declared.value.Value.TheVariants.{Int, Text};
-ghost use Rattle.sqlite.specs.State.{HasCleanDisk, Shown, Survives};
+ghost use Rattle.sqlite.specs.State.{Shown};
 ghost use Rattle.sqlite.specs.Listing.{understood};
 ghost use Rattle.sqlite.specs.Values.{bound};
 ghost use Rattle.society_rows.specs.Folds.{IsAsked, ReadsAlone, ReadsInside, HasTaken, IsRun, AreFirst, AreShownFirst, StopsOver, StopsRun};
 ghost use Rattle.society_rows.specs.Layout.{layout, transmissions};
-ghost use Rattle.society_rows.specs.Reads.{Lists, Reads, is_above};
+ghost use Rattle.society_rows.specs.Reads.{Lists};
 ghost use Rattle.society_rows.specs.TableNames.{table_called, listing_width};
 
 use crate::tables::listing;
 use crate::{RowFault, TableName, transmission_at};
-use sqlite::types::ToSql;
 use sqlite::{Alter, Connection, Row, Transaction};
 use sqlite_value::value::ValueRef;
 
@@ -71,27 +69,6 @@ pub fn fold_table<S: Alter, F: RowFold>(
         (AreFirst (state S.Store conn.old) (state S.Store conn.new) (Lists (table_called table) (λ _. true) (listing_width table))) into.old) }
 {
     fold_shown(conn, listing(table), &[], into)
-}
-
-/// Goes over the transmissions of a sender above a number, by number. After an error some have been taken.
-pub fn fold_above<S: Alter, F: RowFold>(
-    conn: &mut Connection<S>,
-    sender: &[u8],
-    number: u32,
-    into: &mut F,
-) -> Result<(), RowFault>
-    ensures taken { ReadsAlone (state S.Store conn.old) (state S.Store conn.new) result
-        (λ db _. HasTaken F.step (Lists transmissions (is_above (Text sender.now) (Int (pos number))) 2 db) into.old into.new) }
-    ensures mode { conn.old.in_transaction ≡ false → conn.new.in_transaction ≡ false }
-    ensures told { IfErr result (StopsOver F.step F.refusal (state S.Store conn.old) (state S.Store conn.new)
-        (AreFirst (state S.Store conn.old) (state S.Store conn.new) (Lists transmissions (is_above (Text sender.now) (Int (pos number))) 2)) into.old) }
-{
-    fold_shown(
-        conn,
-        "SELECT sender, number, body FROM transmissions WHERE sender = ?1 AND number > ?2 ORDER BY sender, number",
-        &[ValueRef::Text(sender), number.to_sql()],
-        into,
-    )
 }
 
 /// Goes over the transmissions of a sender from a number upwards, up to the first number that is not there, each by its

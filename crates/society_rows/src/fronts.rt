@@ -1,18 +1,18 @@
 //! The table of fronts.
-ghost use Rattle.std.specs.Prelude.{◌≡◌, map, take, true, [], ◌∷◌, IfOk, IfErr};
+ghost use Rattle.std.specs.Prelude.{◌≡◌, [], ◌∷◌, IfOk, IfErr};
 ghost use Rattle.sqlite_value.specs.declared.value.Value.TheVariants.{Text};
 ghost use Rattle.sqlite.specs.Held.{state};
 ghost use Rattle.society_rows.specs.declared.fault.RowFault.TheVariants.{Unread};
-ghost use Rattle.society_rows.specs.Effects.{Writes, IsWhole, LeavesFirst, OnlyFails, OnlyFailsInside};
+ghost use Rattle.society_rows.specs.Effects.{Writes, IsWhole, OnlyFails};
 ghost use Rattle.society_rows.specs.Forms.{IsRead, front_forms};
 ghost use Rattle.society_rows.specs.Layout.{fronts};
 ghost use Rattle.society_rows.specs.Reads.{Lists, Reads, has_key};
 ghost use Rattle.society_rows.specs.Rows.{front_values};
-ghost use Rattle.society_rows.specs.Stored.{HasLayout, Puts, PutsAll};
+ghost use Rattle.society_rows.specs.Stored.{Puts};
 
+use crate::RowFault;
 use crate::reading::{integer, text, whole};
 use crate::statement::{run, select};
-use crate::{RowFault, TableName, all_rows};
 use sqlite::types::ToSql;
 use sqlite::{Alter, Row, Transaction};
 use sqlite_value::value::ValueRef;
@@ -61,35 +61,6 @@ pub fn put_front<S: Alter>(tx: &mut Transaction<'_, S>, row: &FrontRow<'_>) -> R
             (&row.works).to_sql(),
         ],
     )
-}
-
-/// Puts fronts, each in place of the one that is there under its key. After an error the first of them may be
-/// in the transaction.
-pub fn put_fronts<S: Alter>(
-    tx: &mut Transaction<'_, S>,
-    rows: &[FrontRow<'_>],
-) -> Result<(), RowFault>
-    ensures same_reference { tx.new.conn.ghost_name ≡ tx.old.conn.ghost_name }
-    ensures written { Writes (state S.Store tx.old.conn.now) (state S.Store tx.new.conn.now) result
-        (PutsAll fronts (map front_values rows.now)) }
-    ensures left { LeavesFirst (state S.Store tx.old.conn.now) (state S.Store tx.new.conn.now) result
-        (λ count. PutsAll fronts (map front_values (take count rows.now))) }
-    ensures told { OnlyFailsInside HasLayout (state S.Store tx.old.conn.now) (state S.Store tx.new.conn.now) result }
-{
-    for row in rows {
-        put_front(tx, row)?;
-    }
-    Ok(())
-}
-
-/// All fronts, by sender.
-pub fn all_fronts<S: Alter>(tx: &mut Transaction<'_, S>) -> Result<Vec<Row>, RowFault>
-    ensures same_reference { tx.new.conn.ghost_name ≡ tx.old.conn.ghost_name }
-    ensures read { Reads (state S.Store tx.old.conn.now) (state S.Store tx.new.conn.now) result
-        (λ db rows. Lists fronts (λ _. true) 1 db rows.items) }
-    ensures told { OnlyFails (state S.Store tx.old.conn.now) (state S.Store tx.new.conn.now) result }
-{
-    all_rows(tx, TableName::Fronts)
 }
 
 /// The front of a sender, if it has one.

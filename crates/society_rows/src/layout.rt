@@ -1,9 +1,10 @@
 //! The layout of the tables, and how they begin.
-ghost use Rattle.std.specs.Prelude.{◌≡◌, ℕ, List, map, false, IsTrue, OnOk, OnErr};
+ghost use Rattle.std.specs.Prelude.{◌≡◌, ℕ, List, map, false, IsTrue, IfErr, OnOk, OnErr};
 ghost use Rattle.std.specs.Borrow.{Bor};
 ghost use Rattle.sqlite.specs.Held.{state};
 ghost use Rattle.sqlite.specs.State.{HasCleanDisk, Survives};
-ghost use Rattle.society_rows.specs.Effects.{WritesOver, OnlyFailsInside, OnlyFailsOver};
+ghost use Rattle.society_rows.specs.Effects.{WritesOver, OnlyFailsInside};
+ghost use Rattle.society_rows.specs.Faults.{IsFailure};
 ghost use Rattle.society_rows.specs.NewBook.{IsBare, IsEmptyBook, IsNewBook, Begins};
 ghost use Rattle.society_rows.specs.Rows.{office_values};
 ghost use Rattle.society_rows.specs.Texts.{all_texts};
@@ -64,20 +65,20 @@ fn begin_book<S: Alter>(tx: &mut Transaction<'_, S>, office: &OfficeRow<'_>) -> 
     add_office(tx, office)
 }
 
-/// Makes the tables of layout 2 in a database that has none, and writes the row of the office, in one transaction.
-/// After an error, and after a crash, the database is as it was or the whole new book.
+/// Makes the tables of layout 2 in a database that has none, and writes the row of the office, in one transaction;
+/// `layout_found` says whether it has any. After an error, and after a crash, the database is as it was or the whole new book.
 pub fn create<S: Alter>(conn: &mut Connection<S>, office: &OfficeRow<'_>) -> Result<(), RowFault>
-    requires { conn.old.in_transaction ≡ false }
-    ensures created { HasCleanDisk (state S.Store conn.new) → IsBare (state S.Store conn.old).now
+    requires idle { conn.old.in_transaction ≡ false }
+    requires bare { IsBare (state S.Store conn.old).now }
+    ensures created { HasCleanDisk (state S.Store conn.new)
         → OnOk result (Begins (office_values office.now) (state S.Store conn.new).now
         × ((state S.Store conn.new).now ≡ (state S.Store conn.new).committed)) }
     ensures neither { HasCleanDisk (state S.Store conn.new) → IsTrue (state S.Store conn.new).is_open
         → OnErr result (((state S.Store conn.new).now ≡ (state S.Store conn.old).committed)
         × ((state S.Store conn.new).committed ≡ (state S.Store conn.old).committed)) }
     ensures ended { conn.new.in_transaction ≡ false }
-    ensures crash { Survives (state S.Store conn.old) (state S.Store conn.new)
-        (λ db. IsBare (state S.Store conn.old).now → IsNewBook (office_values office.now) db) }
-    ensures told { OnlyFailsOver IsBare (state S.Store conn.old) (state S.Store conn.new) result }
+    ensures crash { Survives (state S.Store conn.old) (state S.Store conn.new) (IsNewBook (office_values office.now)) }
+    ensures told { HasCleanDisk (state S.Store conn.new) → IfErr result IsFailure }
 {
     let mut tx = conn.transaction();
     begin_book(&mut tx, office)?;

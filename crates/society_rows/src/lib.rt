@@ -30,35 +30,28 @@ mod transmissions;
 mod verdicts;
 mod versions;
 
-pub use balances::{
-    BalanceRow, add_units, all_balances, balance_at, put_balance, put_balances, units_of,
-};
-pub use credits::{CreditRow, add_credit, add_credits, all_credits, credits_of};
+pub use balances::{BalanceRow, add_units, balance_at, put_balance, units_of};
+pub use credits::{CreditRow, add_credit, add_credits, credits_of};
 pub use fault::RowFault;
 pub use finding::{Found, layout_found};
-pub use folding::{RowFold, fold_above, fold_run, fold_table};
-pub use fronts::{FrontRow, all_fronts, front_at, put_front, put_fronts};
+pub use folding::{RowFold, fold_run, fold_table};
+pub use fronts::{FrontRow, front_at, put_front};
 pub use keys::keys_are_values;
 pub use layout::create;
 pub use numbering::are_numbered;
 pub use office::{LAYOUT, OfficeRow, all_offices};
-pub use pool_cuts::{PoolCutRow, add_pool_cut, add_pool_cuts, all_pool_cuts, cuts_of};
+pub use pool_cuts::{PoolCutRow, add_pool_cut, add_pool_cuts, cuts_of};
 pub use pool_returns::{
-    PoolReturnRow, add_pool_return, add_pool_returns, all_pool_returns, pool_return_at,
-    returns_of_pool,
+    PoolReturnRow, add_pool_return, add_pool_returns, pool_return_at, returns_of_pool,
 };
-pub use pools::{PoolRow, add_pool, add_pools, all_pools, pool_at};
+pub use pools::{PoolRow, add_pool, pool_at};
 pub use questions::{Question, answer, ask};
-pub use recordings::{
-    RecordingRow, add_recording, add_recordings, all_recordings, recordings_of, recordings_with,
-};
-pub use returns::{ReturnRow, add_return, add_returns, all_returns, return_at, return_known};
+pub use recordings::{RecordingRow, add_recording, add_recordings};
+pub use returns::{ReturnRow, add_return, add_returns, return_at, return_known};
 pub use tables::{TableName, all_rows};
 pub use transmissions::{
-    TransmissionKeyRow, TransmissionRow, add_transmission, add_transmissions, all_transmissions,
-    numbers_above, transmission_at, transmissions_above,
+    TransmissionKeyRow, TransmissionRow, add_transmission, add_transmissions, numbers_above,
+    transmission_at,
 };
-pub use verdicts::{VerdictRow, add_verdict, add_verdicts, all_verdicts, verdicts_of};
-pub use versions::{
-    VersionRow, add_version, add_versions, all_versions, last_version_of, versions_of,
-};
+pub use verdicts::{VerdictRow, add_verdict, add_verdicts, verdicts_of};
+pub use versions::{VersionRow, add_version, add_versions, last_version_of, versions_of};

@@ -4,7 +4,7 @@ ghost use Rattle.std.specs.List.{list_all};
 ghost use Rattle.sqlite.specs.Held.{state};
 ghost use Rattle.sqlite_value.specs.Order.{column};
 ghost use Rattle.sqlite_trees.specs.View.{is_int};
-ghost use Rattle.society_rows.specs.Effects.{OnlyFails};
+ghost use Rattle.society_rows.specs.Effects.{ErrsByMedium, OnlyFails};
 ghost use Rattle.society_rows.specs.Reads.{Reads};
 ghost use Rattle.society_rows.specs.Stored.{AreNumbered};
 ghost use Rattle.society_rows.specs.TableNames.{table_called, rowids_text};
@@ -57,6 +57,7 @@ pub fn are_numbered<S: Alter>(
     ensures read { Reads (state S.Store tx.old.conn.now) (state S.Store tx.new.conn.now) result
         (λ db yes. IsTrue yes ↔ AreNumbered (table_called table) db) }
     ensures told { OnlyFails (state S.Store tx.old.conn.now) (state S.Store tx.new.conn.now) result }
+    ensures medium { ErrsByMedium (state S.Store tx.old.conn.now) (state S.Store tx.new.conn.now) result }
 {
     let rows = select(tx, rowids(table), &[])?;
     Ok(begin_whole(&rows))

@@ -1,5 +1,5 @@
 //! The table of the returns that pools pay.
-ghost use Rattle.std.specs.Prelude.{◌≡◌, map, take, [], ◌∷◌, true, pos, IfOk, IfErr};
+ghost use Rattle.std.specs.Prelude.{◌≡◌, map, take, [], ◌∷◌, pos, IfOk, IfErr};
 ghost use Rattle.sqlite_value.specs.declared.value.Value.TheVariants.{Int, Text};
 ghost use Rattle.sqlite.specs.Held.{state};
 ghost use Rattle.society_rows.specs.declared.fault.RowFault.TheVariants.{Unread};
@@ -10,9 +10,9 @@ ghost use Rattle.society_rows.specs.Reads.{Lists, Reads, has_key, has_at};
 ghost use Rattle.society_rows.specs.Rows.{pool_return_values};
 ghost use Rattle.society_rows.specs.Stored.{HasLayout, Adds};
 
+use crate::RowFault;
 use crate::reading::{text, whole};
 use crate::statement::{run, select};
-use crate::{RowFault, TableName, all_rows};
 use sqlite::types::ToSql;
 use sqlite::{Alter, Row, Transaction};
 use sqlite_value::value::ValueRef;
@@ -81,16 +81,6 @@ pub fn add_pool_returns<S: Alter>(
         add_pool_return(tx, row)?;
     }
     Ok(())
-}
-
-/// All the returns that pools pay, by reporter and number.
-pub fn all_pool_returns<S: Alter>(tx: &mut Transaction<'_, S>) -> Result<Vec<Row>, RowFault>
-    ensures same_reference { tx.new.conn.ghost_name ≡ tx.old.conn.ghost_name }
-    ensures read { Reads (state S.Store tx.old.conn.now) (state S.Store tx.new.conn.now) result
-        (λ db rows. Lists pool_returns (λ _. true) 3 db rows.items) }
-    ensures told { OnlyFails (state S.Store tx.old.conn.now) (state S.Store tx.new.conn.now) result }
-{
-    all_rows(tx, TableName::PoolReturns)
 }
 
 /// The pool that pays a return, if there is one.

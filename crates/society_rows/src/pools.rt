@@ -1,21 +1,20 @@
 //! The table of pools.
-ghost use Rattle.std.specs.Prelude.{◌≡◌, map, take, [], ◌∷◌, true, pos, IfOk, IfErr};
+ghost use Rattle.std.specs.Prelude.{◌≡◌, [], ◌∷◌, pos, IfOk, IfErr};
 ghost use Rattle.sqlite_value.specs.declared.value.Value.TheVariants.{Int};
 ghost use Rattle.sqlite.specs.Held.{state};
 ghost use Rattle.society_rows.specs.declared.fault.RowFault.TheVariants.{Unread};
-ghost use Rattle.society_rows.specs.Effects.{Writes, IsWhole, LeavesFirst, OnlyFails, OnlyFailsInside};
+ghost use Rattle.society_rows.specs.Effects.{Writes, IsWhole, OnlyFails};
 ghost use Rattle.society_rows.specs.Forms.{IsRead, pool_forms};
 ghost use Rattle.society_rows.specs.Layout.{pools};
 ghost use Rattle.society_rows.specs.Reads.{Lists, Reads, has_key};
 ghost use Rattle.society_rows.specs.Rows.{pool_values};
-ghost use Rattle.society_rows.specs.Stored.{HasLayout, Adds};
+ghost use Rattle.society_rows.specs.Stored.{Adds};
 
+use crate::RowFault;
 use crate::reading::{integer, whole};
 use crate::statement::{run, select};
-use crate::{RowFault, TableName, all_rows};
 use sqlite::types::ToSql;
 use sqlite::{Alter, Row, Transaction};
-use sqlite_value::value::ValueRef;
 
 /// A pool: its number and its amount in units of money.
 #[derive(Clone, Copy, Debug)]
@@ -54,31 +53,6 @@ pub fn add_pool<S: Alter>(tx: &mut Transaction<'_, S>, row: &PoolRow) -> Result<
         "INSERT INTO pools (pool, amount) VALUES (?1, ?2)",
         &[row.pool.to_sql(), (&row.amount).to_sql()],
     )
-}
-
-/// Adds pools, whose keys have to be free. After an error the first of them may be in the transaction.
-pub fn add_pools<S: Alter>(tx: &mut Transaction<'_, S>, rows: &[PoolRow]) -> Result<(), RowFault>
-    ensures same_reference { tx.new.conn.ghost_name ≡ tx.old.conn.ghost_name }
-    ensures written { Writes (state S.Store tx.old.conn.now) (state S.Store tx.new.conn.now) result
-        (Adds pools (map pool_values rows.now)) }
-    ensures left { LeavesFirst (state S.Store tx.old.conn.now) (state S.Store tx.new.conn.now) result
-        (λ count. Adds pools (map pool_values (take count rows.now))) }
-    ensures told { OnlyFailsInside HasLayout (state S.Store tx.old.conn.now) (state S.Store tx.new.conn.now) result }
-{
-    for row in rows {
-        add_pool(tx, row)?;
-    }
-    Ok(())
-}
-
-/// All pools, by pool.
-pub fn all_pools<S: Alter>(tx: &mut Transaction<'_, S>) -> Result<Vec<Row>, RowFault>
-    ensures same_reference { tx.new.conn.ghost_name ≡ tx.old.conn.ghost_name }
-    ensures read { Reads (state S.Store tx.old.conn.now) (state S.Store tx.new.conn.now) result
-        (λ db rows. Lists pools (λ _. true) 1 db rows.items) }
-    ensures told { OnlyFails (state S.Store tx.old.conn.now) (state S.Store tx.new.conn.now) result }
-{
-    all_rows(tx, TableName::Pools)
 }
 
 /// The pool of a number, if there is one.

@@ -7,8 +7,8 @@ ghost use Rattle.society_rows.specs.Reads.{Reads};
 
 use crate::{
     RowFault, all_offices, balance_at, credits_of, cuts_of, front_at, last_version_of,
-    numbers_above, pool_at, pool_return_at, recordings_of, recordings_with, return_at,
-    return_known, returns_of_pool, transmission_at, transmissions_above, verdicts_of, versions_of,
+    numbers_above, pool_at, pool_return_at, return_at, return_known, returns_of_pool,
+    transmission_at, verdicts_of, versions_of,
 };
 use sqlite::{Alter, Connection, Row, Transaction};
 
@@ -21,8 +21,6 @@ pub enum Question<'a> {
     Front(&'a [u8]),
     /// The transmission of a sender under a number.
     Transmission(&'a [u8], u32),
-    /// The transmissions of a sender above a number.
-    TransmissionsAbove(&'a [u8], u32),
     /// The keys of the transmissions of a sender above a number.
     NumbersAbove(&'a [u8], u32),
     /// The return of a reporter under a number.
@@ -43,10 +41,6 @@ pub enum Question<'a> {
     Versions(&'a [u8], &'a [u8]),
     /// The last version of a work of a sender.
     LastVersion(&'a [u8], &'a [u8]),
-    /// The recordings of a work of a sender.
-    Recordings(&'a [u8], &'a [u8]),
-    /// The recordings under an ISRC.
-    RecordingsWith(&'a [u8]),
     /// The credits of a pool.
     Credits(u32),
     /// The balance of an account.
@@ -67,7 +61,6 @@ pub fn answer<S: Alter>(
         Question::Office => all_offices(tx),
         Question::Front(sender) => front_at(tx, sender),
         Question::Transmission(sender, number) => transmission_at(tx, sender, number),
-        Question::TransmissionsAbove(sender, number) => transmissions_above(tx, sender, number),
         Question::NumbersAbove(sender, number) => numbers_above(tx, sender, number),
         Question::Return(reporter, number) => return_at(tx, reporter, number),
         Question::HasReturn(reporter, number) => return_known(tx, reporter, number),
@@ -78,8 +71,6 @@ pub fn answer<S: Alter>(
         Question::Verdicts(sender, number) => verdicts_of(tx, sender, number),
         Question::Versions(sender, work) => versions_of(tx, sender, work),
         Question::LastVersion(sender, work) => last_version_of(tx, sender, work),
-        Question::Recordings(sender, work) => recordings_of(tx, sender, work),
-        Question::RecordingsWith(isrc) => recordings_with(tx, isrc),
         Question::Credits(pool) => credits_of(tx, pool),
         Question::Balance(account) => balance_at(tx, account),
     }

@@ -1,5 +1,5 @@
 //! The table of recordings of versions.
-ghost use Rattle.std.specs.Prelude.{◌≡◌, map, take, [], ◌∷◌, true, IfOk, IfErr, length, ◌≤◌, ◌⊎◌, IsTrue, OnErr};
+ghost use Rattle.std.specs.Prelude.{◌≡◌, map, take, [], ◌∷◌, IfOk, IfErr, length, ◌≤◌, ◌⊎◌, IsTrue, OnErr};
 ghost use Rattle.sqlite_value.specs.declared.value.Value.TheVariants.{Text};
 ghost use Rattle.sqlite.specs.Held.{state};
 ghost use Rattle.sqlite.specs.State.{HasCleanDisk, IsUnchanged, IsRolledBack};
@@ -7,13 +7,12 @@ ghost use Rattle.society_rows.specs.declared.fault.RowFault.TheVariants.{Unread}
 ghost use Rattle.society_rows.specs.Effects.{Writes, IsWhole, LeavesFirst, OnlyFails, OnlyFailsInside};
 ghost use Rattle.society_rows.specs.Forms.{IsRead, recording_forms};
 ghost use Rattle.society_rows.specs.Layout.{recordings};
-ghost use Rattle.society_rows.specs.Reads.{Lists, Reads, has_key, has_at};
 ghost use Rattle.society_rows.specs.Rows.{recording_values};
 ghost use Rattle.society_rows.specs.Stored.{HasLayout, Adds};
 
+use crate::RowFault;
 use crate::reading::{integer, text};
-use crate::statement::{run, select};
-use crate::{RowFault, TableName, all_rows};
+use crate::statement::run;
 use sqlite::types::ToSql;
 use sqlite::{Alter, Row, Transaction};
 use sqlite_value::value::ValueRef;
@@ -135,49 +134,4 @@ pub fn add_recordings<S: Alter>(
         add_part(tx, part)?;
     }
     Ok(())
-}
-
-/// All recordings of versions, by sender, work, revision and isrc.
-pub fn all_recordings<S: Alter>(tx: &mut Transaction<'_, S>) -> Result<Vec<Row>, RowFault>
-    ensures same_reference { tx.new.conn.ghost_name ≡ tx.old.conn.ghost_name }
-    ensures read { Reads (state S.Store tx.old.conn.now) (state S.Store tx.new.conn.now) result
-        (λ db rows. Lists recordings (λ _. true) 4 db rows.items) }
-    ensures told { OnlyFails (state S.Store tx.old.conn.now) (state S.Store tx.new.conn.now) result }
-{
-    all_rows(tx, TableName::Recordings)
-}
-
-/// The recordings of a work, by revision and ISRC.
-pub fn recordings_of<S: Alter>(
-    tx: &mut Transaction<'_, S>,
-    sender: &[u8],
-    work: &[u8],
-) -> Result<Vec<Row>, RowFault>
-    ensures same_reference { tx.new.conn.ghost_name ≡ tx.old.conn.ghost_name }
-    ensures read { Reads (state S.Store tx.old.conn.now) (state S.Store tx.new.conn.now) result
-        (λ db rows. Lists recordings (has_key (Text sender.now ∷ Text work.now ∷ [])) 4 db rows.items) }
-    ensures told { OnlyFails (state S.Store tx.old.conn.now) (state S.Store tx.new.conn.now) result }
-{
-    select(
-        tx,
-        "SELECT sender, work, revision, isrc FROM recordings WHERE sender = ?1 AND work = ?2 ORDER BY sender, work, revision, isrc",
-        &[ValueRef::Text(sender), ValueRef::Text(work)],
-    )
-}
-
-/// The recordings under an ISRC, by sender, work and revision.
-pub fn recordings_with<S: Alter>(
-    tx: &mut Transaction<'_, S>,
-    isrc: &[u8],
-) -> Result<Vec<Row>, RowFault>
-    ensures same_reference { tx.new.conn.ghost_name ≡ tx.old.conn.ghost_name }
-    ensures read { Reads (state S.Store tx.old.conn.now) (state S.Store tx.new.conn.now) result
-        (λ db rows. Lists recordings (has_at 3 (Text isrc.now)) 4 db rows.items) }
-    ensures told { OnlyFails (state S.Store tx.old.conn.now) (state S.Store tx.new.conn.now) result }
-{
-    select(
-        tx,
-        "SELECT sender, work, revision, isrc FROM recordings WHERE isrc = ?1 ORDER BY sender, work, revision, isrc",
-        &[ValueRef::Text(isrc)],
-    )
 }

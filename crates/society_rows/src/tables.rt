@@ -1,7 +1,7 @@
 //! The tables by name, and the query that shows all rows of each.
 ghost use Rattle.std.specs.Prelude.{◌≡◌, true};
 ghost use Rattle.sqlite.specs.Held.{state};
-ghost use Rattle.society_rows.specs.Effects.{OnlyFails};
+ghost use Rattle.society_rows.specs.Effects.{ErrsByMedium, OnlyFails};
 ghost use Rattle.society_rows.specs.Reads.{Lists, Reads};
 ghost use Rattle.society_rows.specs.TableNames.{table_called, listing_width, listing_text};
 
@@ -73,6 +73,7 @@ pub fn all_rows<S: Alter>(
     ensures read { Reads (state S.Store tx.old.conn.now) (state S.Store tx.new.conn.now) result
         (λ db rows. Lists (table_called table) (λ _. true) (listing_width table) db rows.items) }
     ensures told { OnlyFails (state S.Store tx.old.conn.now) (state S.Store tx.new.conn.now) result }
+    ensures medium { ErrsByMedium (state S.Store tx.old.conn.now) (state S.Store tx.new.conn.now) result }
 {
     select(tx, listing(table), &[])
 }

@@ -1,5 +1,5 @@
 //! The table of transmissions.
-ghost use Rattle.std.specs.Prelude.{◌≡◌, map, take, [], ◌∷◌, true, pos, IfOk, IfErr};
+ghost use Rattle.std.specs.Prelude.{◌≡◌, map, take, [], ◌∷◌, pos, IfOk, IfErr};
 ghost use Rattle.sqlite_value.specs.declared.value.Value.TheVariants.{Int, Text};
 ghost use Rattle.sqlite.specs.Held.{state};
 ghost use Rattle.society_rows.specs.declared.fault.RowFault.TheVariants.{Unread};
@@ -10,9 +10,9 @@ ghost use Rattle.society_rows.specs.Reads.{Lists, ListsKeys, Reads, has_key, is_
 ghost use Rattle.society_rows.specs.Rows.{transmission_values, transmission_key_values};
 ghost use Rattle.society_rows.specs.Stored.{HasLayout, Adds};
 
+use crate::RowFault;
 use crate::reading::{bytes, text, whole};
 use crate::statement::{run, select};
-use crate::{RowFault, TableName, all_rows};
 use sqlite::types::ToSql;
 use sqlite::{Alter, Row, Transaction};
 use sqlite_value::value::ValueRef;
@@ -107,16 +107,6 @@ pub fn add_transmissions<S: Alter>(
     Ok(())
 }
 
-/// All transmissions, by sender and number.
-pub fn all_transmissions<S: Alter>(tx: &mut Transaction<'_, S>) -> Result<Vec<Row>, RowFault>
-    ensures same_reference { tx.new.conn.ghost_name ≡ tx.old.conn.ghost_name }
-    ensures read { Reads (state S.Store tx.old.conn.now) (state S.Store tx.new.conn.now) result
-        (λ db rows. Lists transmissions (λ _. true) 2 db rows.items) }
-    ensures told { OnlyFails (state S.Store tx.old.conn.now) (state S.Store tx.new.conn.now) result }
-{
-    all_rows(tx, TableName::Transmissions)
-}
-
 /// The transmission of a sender under a number, if there is one.
 pub fn transmission_at<S: Alter>(
     tx: &mut Transaction<'_, S>,
@@ -131,24 +121,6 @@ pub fn transmission_at<S: Alter>(
     select(
         tx,
         "SELECT sender, number, body FROM transmissions WHERE sender = ?1 AND number = ?2 ORDER BY sender, number",
-        &[ValueRef::Text(sender), number.to_sql()],
-    )
-}
-
-/// The transmissions of a sender above a number, by number.
-pub fn transmissions_above<S: Alter>(
-    tx: &mut Transaction<'_, S>,
-    sender: &[u8],
-    number: u32,
-) -> Result<Vec<Row>, RowFault>
-    ensures same_reference { tx.new.conn.ghost_name ≡ tx.old.conn.ghost_name }
-    ensures read { Reads (state S.Store tx.old.conn.now) (state S.Store tx.new.conn.now) result
-        (λ db rows. Lists transmissions (is_above (Text sender.now) (Int (pos number))) 2 db rows.items) }
-    ensures told { OnlyFails (state S.Store tx.old.conn.now) (state S.Store tx.new.conn.now) result }
-{
-    select(
-        tx,
-        "SELECT sender, number, body FROM transmissions WHERE sender = ?1 AND number > ?2 ORDER BY sender, number",
         &[ValueRef::Text(sender), number.to_sql()],
     )
 }

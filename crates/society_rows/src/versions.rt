@@ -1,5 +1,5 @@
 //! The table of versions of works.
-ghost use Rattle.std.specs.Prelude.{◌≡◌, map, take, [], ◌∷◌, true, IfOk, IfErr, length, ◌≤◌, ◌⊎◌, IsTrue, OnErr};
+ghost use Rattle.std.specs.Prelude.{◌≡◌, map, take, [], ◌∷◌, IfOk, IfErr, length, ◌≤◌, ◌⊎◌, IsTrue, OnErr};
 ghost use Rattle.sqlite_value.specs.declared.value.Value.TheVariants.{Text};
 ghost use Rattle.sqlite.specs.Held.{state};
 ghost use Rattle.sqlite.specs.State.{HasCleanDisk, IsUnchanged, IsRolledBack};
@@ -11,9 +11,9 @@ ghost use Rattle.society_rows.specs.Reads.{Lists, Reads, IsFirstOf, has_key};
 ghost use Rattle.society_rows.specs.Rows.{version_values};
 ghost use Rattle.society_rows.specs.Stored.{HasLayout, Adds};
 
+use crate::RowFault;
 use crate::reading::{integer, text, whole};
 use crate::statement::{run, select};
-use crate::{RowFault, TableName, all_rows};
 use sqlite::types::ToSql;
 use sqlite::{Alter, Row, Transaction};
 use sqlite_value::value::ValueRef;
@@ -142,16 +142,6 @@ pub fn add_versions<S: Alter>(
         add_part(tx, part)?;
     }
     Ok(())
-}
-
-/// All versions of works, by sender, work and revision.
-pub fn all_versions<S: Alter>(tx: &mut Transaction<'_, S>) -> Result<Vec<Row>, RowFault>
-    ensures same_reference { tx.new.conn.ghost_name ≡ tx.old.conn.ghost_name }
-    ensures read { Reads (state S.Store tx.old.conn.now) (state S.Store tx.new.conn.now) result
-        (λ db rows. Lists versions (λ _. true) 6 db rows.items) }
-    ensures told { OnlyFails (state S.Store tx.old.conn.now) (state S.Store tx.new.conn.now) result }
-{
-    all_rows(tx, TableName::Versions)
 }
 
 /// The versions of a work, by revision.

@@ -26,3 +26,4 @@ pub mod SenderLists
 pub mod LineWrites
 pub mod Mixed
 pub mod StoreQuestions
+pub mod Reopening

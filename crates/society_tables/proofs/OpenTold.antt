@@ -1,5 +1,5 @@
 -- What the fault of an opening says of the office.
-use Rattle.std.proofs.Common.{◌≡◌, ◌≢◌, ◌∙◌, ◌<◌, ◌^◌, ◌&&◌, ℕ, nat_le, leb-true, arith, Bool, true, false, List, [], ◌∷◌, Result, Ok, Err, IfErr, IsPermutation, ap, refl, subst, sym}
+use Rattle.std.proofs.Common.{◌≡◌, ◌≢◌, ◌∙◌, ◌<◌, length, ◌^◌, ◌&&◌, ℕ, nat_le, leb-true, arith, Bool, true, false, List, [], ◌∷◌, Result, Ok, Err, IfErr, IsPermutation, ap, refl, subst, sym}
 use Rattle.std.specs.Result.{IsErrAnd}
 use Rattle.std.proofs.lemmas.Bool.{false≢true}
 use Rattle.std.proofs.Math.Logic.{∥∥₁_elim}
@@ -7,8 +7,10 @@ use Rattle.share_rules.specs.Office.{name_of}
 use Rattle.std.proofs.lemmas.List.Sorted.{IsPermutation-sym}
 use Rattle.share_rules.specs.declared.office.Office.{Office}
 use Rattle.sqlite.specs.Effect.{Database}
+use Rattle.sqlite_schema.specs.declared.schema.Schema.{Schema}
 use Rattle.sqlite_value.specs.Order.{Row}
 use Rattle.society_rows.specs.Layout as layout
+use Rattle.society_rows.specs.Layout.{no_schema}
 use Rattle.society_rows.specs.NewBook.{IsBare}
 use Rattle.society_rows.specs.Stored.{HasLayout, rows_in}
 use Rattle.society_rows.specs.declared.fault.RowFault.{RowFault}
@@ -33,12 +35,42 @@ failed_office o rows row.Overflow = tt
 failed_office o rows (row.Refused error) = tt
 
 -- nor of the database
-pub failed_opening : (o : Office) (db : Database) (e : RowFault) → Tells o db (opened_by (audit_fault_by e))
-failed_opening o db row.Memory = tt
-failed_opening o db row.Schema = tt
-failed_opening o db row.Unread = tt
-failed_opening o db row.Overflow = tt
-failed_opening o db (row.Refused error) = tt
+pub failed_outside : (e : RowFault) → IsOutside (opened_by (audit_fault_by e))
+failed_outside row.Memory = tt
+failed_outside row.Schema = tt
+failed_outside row.Unread = tt
+failed_outside row.Overflow = tt
+failed_outside (row.Refused error) = tt
+
+pub outside_told : (o : Office) (db : Database) (e : OpenFault) → IsOutside e → Tells o db e
+outside_told o db fault.Memory outside = tt
+outside_told o db fault.Store outside = tt
+outside_told o db fault.Empty outside = absurd outside
+outside_told o db fault.Schema outside = absurd outside
+outside_told o db fault.OtherOffice outside = absurd outside
+outside_told o db fault.Damaged outside = absurd outside
+
+-- rows that do not pass are no empty database
+abbrev is_empty : OpenFault → Bool
+is_empty fault.Empty = true
+is_empty _ = false
+
+pub outside_there : (e : OpenFault) → IsOutside e → e ≢ fault.Empty
+outside_there fault.Empty outside is = absurd outside
+outside_there fault.Memory outside is = absurd (false≢true (ap is_empty is))
+outside_there fault.Store outside is = absurd (false≢true (ap is_empty is))
+outside_there fault.Schema outside is = absurd outside
+outside_there fault.OtherOffice outside is = absurd outside
+outside_there fault.Damaged outside is = absurd outside
+
+opened_there : (f : AuditFault) → opened_by f ≢ fault.Empty
+opened_there audit.Memory is = absurd (false≢true (ap is_empty is))
+opened_there audit.Store is = absurd (false≢true (ap is_empty is))
+opened_there audit.Damaged is = absurd (false≢true (ap is_empty is))
+
+pub there_by : (f : AuditFault) (r : Result (Unit {0}) OpenFault) → IsErrAnd r (λ e. e ≡ opened_by f) → IfErr r (λ e. e ≢ fault.Empty)
+there_by f (Ok x) h = tt
+there_by f (Err e) h = λ is. opened_there f (sym h ∙ is)
 
 -- rows that do not pass are still this office's
 pub audited_office : (o : Office) (rows : List Row) (f : AuditFault) → rows ≡ office_row o ∷ [] → TellsOffice o rows (opened_by f)
@@ -56,6 +88,7 @@ one_likewise (r ∷ s ∷ rows) two same one = absurd one
 pub told_likewise : (o : Office) (one two : List Row) (e : OpenFault) → IsPermutation one two → TellsOffice o two e → TellsOffice o one e
 told_likewise o one two fault.Memory same told = tt
 told_likewise o one two fault.Store same told = tt
+told_likewise o one two fault.Empty same told = absurd told
 told_likewise o one two fault.Schema same told = λ is. told (one_likewise one two same is)
 told_likewise o one two fault.OtherOffice same told =
     (one_likewise two one (IsPermutation-sym one two same) told.0, λ is. told.1 (one_else (office_row o) two (subst (λ rows. IsPermutation rows two) is same)))
@@ -65,9 +98,17 @@ told_likewise o one two fault.Damaged same told = one_else (office_row o) one (s
 pub told_of_layout : (o : Office) (db : Database) (e : OpenFault) → HasLayout db → (IsBare db → ⊥) → TellsOffice o (rows_in layout.office db.trees) e → (e ≡ fault.Damaged → ¬ Holds o db.trees) → Tells o db e
 told_of_layout o db fault.Memory has bare told damaged = tt
 told_of_layout o db fault.Store has bare told damaged = tt
+told_of_layout o db fault.Empty has bare told damaged = absurd told
 told_of_layout o db fault.Schema has bare told damaged = (bare, λ _. told)
 told_of_layout o db fault.OtherOffice has bare told damaged = (has, told)
 told_of_layout o db fault.Damaged has bare told damaged = (has, told, damaged refl)
+
+-- a database is not both bare and of the layout
+pub not_both : (s : Schema) → s ≡ no_schema → s ≡ layout.layout → ⊥
+unfolding layout.layout layout.written_out
+not_both s bare has =
+    let e : 0 ≡ 12 = ap (λ (z : Schema). length z.tables) (sym bare ∙ has) in
+    omega (e, arith)
 
 nothing_alone : (x y : ⊥) → x ≡ y
 nothing_alone x y = absurd x
@@ -91,6 +132,7 @@ own_office o =
 pub opened_else : (o : Office) (db : Database) (e : OpenFault) → HasLayout db → HoldsOne o db.trees → Tells o db e → IsOutside e
 opened_else o db fault.Memory has holds told = tt
 opened_else o db fault.Store has holds told = tt
+opened_else o db fault.Empty has holds told = absurd (not_both db.schema told has)
 opened_else o db fault.Schema has holds told = refuted o db holds (λ h. told.1 has (subst IsOneOffice (sym h.registered) (own_office o)))
 opened_else o db fault.OtherOffice has holds told = refuted o db holds (λ h. told.1.1 h.registered)
 opened_else o db fault.Damaged has holds told = refuted o db holds told.2

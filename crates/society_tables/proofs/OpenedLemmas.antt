@@ -1,24 +1,25 @@
 -- What an opening does, by what the database was found to be.
-use Rattle.std.proofs.Common.{◌≡◌, ◌∙◌, ◌&&◌, ⊎_elim, inl, inr, Bool, true, false, Result, Ok, Err, IsTrue, OnOk, OnErr, IfErr, length, refl, ap, sym, subst, arith}
+use Rattle.std.proofs.Common.{◌≡◌, ◌≢◌, ◌∙◌, ◌&&◌, ⊎_elim, inl, inr, Bool, true, false, Result, Ok, Err, IsTrue, OnOk, OnErr, IfErr, length, refl, ap, sym, subst, arith}
 use Rattle.std.proofs.lemmas.Bool.{false≢true}
 use Rattle.std.proofs.Math.Logic.{∥∥₁_map}
 use Rattle.share_rules.specs.declared.office.Office.{Office}
-use Rattle.sqlite_schema.specs.declared.schema.Schema.{Schema}
 use Rattle.sqlite.specs.Effect.{Database}
-use Rattle.sqlite.specs.State.{HasCleanDisk, State}
+use Rattle.sqlite.specs.State.{HasCleanDisk, State, Survives}
 use Rattle.society_core.specs.Book.{empty_book}
-use Rattle.society_rows.specs.Layout.{layout, no_schema, written_out}
-use Rattle.society_rows.specs.NewBook.{Begins, IsBare}
+use Rattle.society_rows.specs.Finding.{IsFound}
+use Rattle.society_rows.specs.declared.finding.Found.{Found}
+use Rattle.society_rows.specs.declared.finding.Found.TheVariants as kind
+use Rattle.society_rows.specs.NewBook.{Begins, IsBare, IsNewBook}
 use Rattle.society_rows.specs.Layout.{office as layout_office}
 use Rattle.society_rows.specs.Stored.{HasLayout, rows_in}
 use Rattle.society_book.specs.BookRows.{book_of}
 use Rattle.society_book.specs.Kept.{Holds, IsAtRest, Rests, office_row}
-use Rattle.society_tables.specs.Opening.{HoldsOne, Inspects, Opens, ShowsAs, SurvivesOpening, Tells, TellsOffice}
+use Rattle.society_tables.specs.Opening.{HoldsOne, Inspects, IsOutside, Opens, ShowsAs, SurvivesOpening, Tells, TellsOffice}
 use Rattle.society_tables.specs.declared.open_fault.OpenFault.{OpenFault}
 use Rattle.society_tables.specs.declared.open_fault.OpenFault.TheVariants.{Damaged}
 use Rattle.society_book.proofs.AskLemmas.{clean_is, first_true, second_true}
 use Rattle.society_tables.proofs.EmptyTables.{begun_book, begun_rests}
-use Rattle.society_tables.proofs.OpenTold.{told_of_layout}
+use Rattle.society_tables.proofs.OpenTold.{not_both, outside_told, told_of_layout}
 
 -- what an answer says, by the answer
 on_ok : {X : Type 0} (r : Result X OpenFault) {P : Type 0} → P → OnOk r P
@@ -29,13 +30,6 @@ on_err : {X : Type 0} (r : Result X OpenFault) {P : Type 0} → P → OnErr r P
 on_err (Ok x) h = tt
 on_err (Err e) h = h
 
--- a database is not both bare and of the layout
-not_both : (s : Schema) → s ≡ no_schema → s ≡ layout → ⊥
-unfolding layout written_out
-not_both s bare has =
-    let e : 0 ≡ 12 = ap (λ (z : Schema). length z.tables) (sym bare ∙ has) in
-    omega (e, arith)
-
 -- what is so of some where a truth holds is so of one that needs it
 rests_from : (b : Bool) (P : Type 0) → (IsTrue b → ∥ P ∥₁) → ∥ (IsTrue b → P) ∥₁
 rests_from true P h = ∥∥₁_map (h refl) (λ p _. p)
@@ -43,24 +37,31 @@ rests_from false P h = ∣ (λ is. absurd (false≢true is)) ∣₁
 
 module _ (o : Office) (old new : State) (r : Result (Unit {0}) OpenFault) (settled : IsTrue old.is_open → old.now ≡ old.committed) where
   -- a database that had no table
-  pub opens_begun : IsBare old.now → (HasCleanDisk new → IsBare old.now → OnOk r (Begins (office_row o) new.now × (new.now ≡ new.committed))) → (HasCleanDisk new → OnErr r (ShowsAs old.committed new)) → IfErr r (λ e. (db : Database) → Tells o db e) → SurvivesOpening o old new → Opens o old new r
+  pub opens_begun : IsBare old.now → (HasCleanDisk new → OnOk r (Begins (office_row o) new.now × (new.now ≡ new.committed))) → (HasCleanDisk new → OnErr r (ShowsAs old.committed new)) → IfErr r IsOutside → Survives old new (IsNewBook (office_row o)) → Opens o old new r
   opens_begun bare created neither failed crash = record {
-    rests = rests_by r (λ clean. created clean bare);
-    begun = λ clean is_open was. book_by r (created clean bare);
+    rests = rests_by r created;
+    begun = λ clean is_open was. book_by r (created clean);
     audited = λ clean is_open has. absurd (not_both old.now.schema bare (subst HasLayout (sym (settled is_open)) has));
     known = λ clean is_open. on_ok r (inl (subst IsBare (settled is_open) bare));
     unchanged = neither;
     told = λ clean is_open. told_by r failed;
-    crash = crash;
+    crash = record {
+      clean = crash.clean;
+      shield = crash.shield;
+      counts = crash.counts;
+      limit = crash.limit;
+      closes = crash.closes;
+      crash = λ clean db left. ⊎_elim (λ (before : old.may_leave db). inl before) (λ (made : IsNewBook (office_row o) db). inr (bare, made)) (crash.crash clean db left);
+    };
   }
     where
       rests_by : (z : Result (Unit {0}) OpenFault) → (HasCleanDisk new → OnOk z (Begins (office_row o) new.now × (new.now ≡ new.committed))) → OnOk z ∥ Rests o new ∥₁
       rests_by (Ok x) made = ∣ (λ live. begun_rests o (office_row o) new refl (made (clean_is new.is_clean (first_true new.is_clean new.is_open live))).0 (made (clean_is new.is_clean (first_true new.is_clean new.is_open live))).1) ∣₁
       rests_by (Err e) made = tt
 
-      told_by : (z : Result (Unit {0}) OpenFault) → IfErr z (λ e. (db : Database) → Tells o db e) → IfErr z (Tells o old.committed)
+      told_by : (z : Result (Unit {0}) OpenFault) → IfErr z IsOutside → IfErr z (Tells o old.committed)
       told_by (Ok x) failed = tt
-      told_by (Err e) failed = failed old.committed
+      told_by (Err e) failed = outside_told o old.committed e failed
 
       book_by : (z : Result (Unit {0}) OpenFault) → OnOk z (Begins (office_row o) new.now × (new.now ≡ new.committed)) → OnOk z (book_of new.now.trees ≡ empty_book)
       book_by (Ok x) made = begun_book o (office_row o) new.now refl made.0
@@ -124,3 +125,23 @@ opens_other o s told settled says = record {
   told = λ clean is_open. subst (λ (db : Database). Tells o db told) (settled is_open) says;
   crash = record { clean = omega arith; shield = λ h. h; counts = omega arith; limit = refl; closes = λ clean is. inl is; crash = λ clean db h. inl h };
 }
+
+-- where tables are there nothing is begun, so a crash leaves what it left before
+pub survives_there : (o : Office) (old new : State) → (IsBare old.now → ⊥) → SurvivesOpening o old new → Survives old new (λ _. ⊥)
+survives_there o old new never s = record {
+  clean = s.clean;
+  shield = s.shield;
+  counts = s.counts;
+  limit = s.limit;
+  closes = s.closes;
+  crash = λ clean db left. ⊎_elim (λ (before : old.may_leave db). inl before) (λ (made : IsBare old.now × IsNewBook (office_row o) db). absurd (never made.0)) (s.crash clean db left);
+}
+
+pub survives_same : (s : State) → Survives s s (λ _. ⊥)
+survives_same s = record { clean = omega arith; shield = λ h. h; counts = omega arith; limit = refl; closes = λ clean is. inl is; crash = λ clean db h. inl h }
+
+-- what was found is not bare
+pub found_there : (db : Database) (what : Found) → IsFound db what → what ≢ kind.Nothing → IsBare db → ⊥
+found_there db kind.Nothing is other bare = other refl
+found_there db kind.Layout is other bare = not_both db.schema bare is
+found_there db kind.Other is other bare = is.0 bare

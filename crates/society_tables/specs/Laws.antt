@@ -14,6 +14,7 @@ use Rattle.society_core.specs.Keys.{coded_return_key, coded_transmission_key}
 use Rattle.society_core.specs.Orders.{IsOrder, Order}
 use Rattle.society_core.specs.PlainMaps.{coded_book}
 use Rattle.society_core.specs.State.{IsState}
+use Rattle.society_rows.specs.Stored.{HasLayout}
 use Rattle.society_book.specs.BookRows.{book_of}
 use Rattle.society_book.specs.Kept.{Holds, Rests, tables_state}
 
@@ -47,6 +48,12 @@ sound_alone book x y = λ i. record {
   orders = λ pool order e. order_alone order (x.orders pool order e) (y.orders pool order e) i;
   paid_once = λ pool other order another key a b c d. Coded-set coded_ℕ _ _ (x.paid_once pool other order another key a b c d) (y.paid_once pool other order another key a b c d) i;
 }
+
+-- an open connection shows layout 2 with rows that a crash may leave of another
+pub record IsLeftBy (s found : connection.State) : Type 0 where
+  pub is_open : IsTrue found.is_open
+  pub layout : HasLayout found.committed
+  pub left : s.may_leave found.committed.trees
 
 -- What holds of every store holds of one over a connection: a clean one is honest, at rest a crash leaves its book, and that is sound.
 pub is_state : (o : Office) (s : connection.State) (failures : ℕ) → ((db : Trees) → IsTrue s.is_open → s.may_leave db → db ≡ s.committed.trees) → ∥ Rests o s ∥₁ → IsState (tables_state o s failures)

@@ -43,20 +43,22 @@ IsOneOffice [] = ⊥
 IsOneOffice (row ∷ []) = IsOfForms office_forms row
 IsOneOffice (row ∷ other ∷ rows) = ⊥
 
--- what a fault says of the rows of offices: that no office can be read, that it is another, or that it is this one
+-- what a fault says of the rows of offices: that no office can be read, that it is another, or that it is this one; where there are such rows none says `Empty`
 abbrev pub TellsOffice : Office → List Row → OpenFault → Type 0
 TellsOffice office rows fault.Memory = Unit {0}
 TellsOffice office rows fault.Store = Unit {0}
+TellsOffice office rows fault.Empty = ⊥
 TellsOffice office rows fault.Schema = ¬ IsOneOffice rows
 TellsOffice office rows fault.OtherOffice = IsOneOffice rows × (rows ≢ office_row office ∷ [])
 TellsOffice office rows fault.Damaged = rows ≡ office_row office ∷ []
 
--- What a fault says of a database: `Schema` that it has tables, and not those of layout 2 with an office that can be read;
--- `OtherOffice` that it has those of another office; `Damaged` that it has those of this office, and they hold no sound book with
--- exactly what is derived from it.
+-- What a fault says of a database: `Empty` that it has no table; `Schema` that it has tables, and not those of layout 2 with an
+-- office that can be read; `OtherOffice` that it has those of another office; `Damaged` that it has those of this office, and they
+-- hold no sound book with exactly what is derived from it.
 abbrev pub Tells : Office → Database → OpenFault → Type 0
 Tells office db fault.Memory = Unit {0}
 Tells office db fault.Store = Unit {0}
+Tells office db fault.Empty = IsBare db
 Tells office db fault.Schema = (¬ IsBare db) × (HasLayout db → TellsOffice office (rows_in layout.office db.trees) fault.Schema)
 Tells office db fault.OtherOffice = HasLayout db × TellsOffice office (rows_in layout.office db.trees) fault.OtherOffice
 Tells office db fault.Damaged = HasLayout db × TellsOffice office (rows_in layout.office db.trees) fault.Damaged × (¬ Holds office db.trees)
@@ -101,9 +103,9 @@ HoldsOne office db = ∥ Holds office db ∥₁
 abbrev pub IsOpenable : Database → Type 0
 IsOpenable db = IsBare db ⊎ HasLayout db
 
--- a crash leaves what it left before, or, of a database that had no table, the new book of the office
+-- a crash leaves what it left before, or, only where the database had no table, the new book of the office
 abbrev pub SurvivesOpening : Office → connection.State → connection.State → Type 0
-SurvivesOpening office old new = connection.Survives old new (λ db. IsBare old.now → IsNewBook (office_row office) db)
+SurvivesOpening office old new = connection.Survives old new (λ db. IsBare old.now × IsNewBook (office_row office) db)
 
 -- A database becomes an office's tables or is left as it is: one that had no table begins an empty book, one of layout 2 held a sound
 -- book with what is derived from it and is shown as it was, a fault says what the database has, and a crash leaves what it left before or

@@ -6,6 +6,7 @@ mod comparing;
 mod confirming;
 mod entries;
 mod fault;
+mod laws;
 mod lines;
 mod money;
 mod open_fault;
@@ -16,5 +17,6 @@ mod tables;
 
 pub use audit_fault::AuditFault;
 pub use confirming::confirm;
+pub use laws::{open_after_crash, reopen};
 pub use open_fault::OpenFault;
 pub use tables::Tables;

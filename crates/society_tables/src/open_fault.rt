@@ -14,6 +14,9 @@ pub enum OpenFault {
     /// The database could not be read or written.
     #[error("store")]
     Store,
+    /// The database has no table, and was to be an office's.
+    #[error("empty")]
+    Empty,
     /// The database has tables, and they are not those of layout 2, or its office cannot be read.
     #[error("schema")]
     Schema,

@@ -1,6 +1,6 @@
 //! How a database is opened as an office's tables.
 ghost use Rattle.std.specs.Prelude.{[], ◌∷◌, ◌≡◌, ◌≢◌, ◌↔◌, IsTrue, IfErr, IfOk, MatchResult, OnErr, OnOk, ⊤, false};
-ghost use Rattle.sqlite.specs.Effect.{Database};
+ghost use Rattle.std.specs.Result.{IsErrAnd};
 ghost use Rattle.sqlite.specs.Held.{state};
 ghost use Rattle.sqlite.specs.State.{HasCleanDisk, Survives};
 ghost use Rattle.share_rules.specs.declared.office.Office.{Office as OfficeValue};
@@ -14,7 +14,7 @@ ghost use Rattle.society_rows.specs.TableNames.{table_called};
 ghost use Rattle.society_book.specs.Kept.{Holds, office_row};
 ghost use Rattle.society_tables.specs.Opening.{HoldsOne, Inspects, IsOpenable, IsOutside, Opens, ShowsAs, SurvivesOpening, Tells, TellsOffice};
 ghost use Rattle.society_tables.specs.Rebuilding.{Passes, ShowsBook};
-ghost use Rattle.society_tables.specs.declared.open_fault.OpenFault.TheVariants.{Damaged};
+ghost use Rattle.society_tables.specs.declared.open_fault.OpenFault.TheVariants.{Damaged, Empty};
 
 use crate::audit_fault::AuditFault;
 use crate::comparing::{listed, tables_agree};
@@ -32,6 +32,7 @@ fn is_office(rows: &[Row], office: &Office) -> Result<(), OpenFault>
     ensures same { IfOk result (λ _. rows.now ≡ office_row office.now ∷ []) }
     ensures told { IfErr result (TellsOffice office.now rows.now) }
     ensures other { IfErr result (λ e. e ≢ Damaged) }
+    ensures there { IfErr result (λ e. e ≢ Empty) }
 {
     let [row] = rows else {
         return Err(OpenFault::Schema);
@@ -56,6 +57,7 @@ fn office_agrees<S: Alter>(conn: &mut Connection<S>, office: &Office) -> Result<
     ensures told { HasCleanDisk (state S.Store conn.new) → HasLayout (state S.Store conn.old).now
         → IfErr result (TellsOffice office.now (rows_in office_table (state S.Store conn.old).now.trees)) }
     ensures other { IfErr result (λ e. e ≢ Damaged) }
+    ensures there { IfErr result (λ e. e ≢ Empty) }
     ensures idle { conn.new.in_transaction ≡ false }
 {
     let rows = listed(conn, TableName::Office)?;
@@ -136,7 +138,7 @@ fn holds_rebuilt<S: Alter>(
 }
 
 /// That the tables hold what their own rows make of an empty book: confirmed with one body in memory at a time, and where that
-/// confirms nothing, worked out anew before they are told as damaged.
+/// confirms nothing, worked out anew, so that damage is told as damage whatever stopped the confirmation.
 fn holds_own<S: Alter>(
     alloc: Global,
     conn: &mut Connection<S>,
@@ -151,9 +153,8 @@ fn holds_own<S: Alter>(
     let _settled = conn.is_autocommit();
     match confirm(alloc, conn, office) {
         Ok(()) => Ok(()),
-        Err(AuditFault::Damaged) => holds_rebuilt(alloc, conn, office),
         Err(AuditFault::Memory) => Err(AuditFault::Memory),
-        Err(AuditFault::Store) => Err(AuditFault::Store),
+        Err(AuditFault::Damaged | AuditFault::Store) => holds_rebuilt(alloc, conn, office),
     }
 }
 
@@ -185,6 +186,7 @@ fn audit<S: Alter>(
         → IfErr result (TellsOffice office.now (rows_in office_table (state S.Store conn.old).now.trees)) }
     ensures damaged { HasCleanDisk (state S.Store conn.new) → HasLayout (state S.Store conn.old).now
         → IfErr result (λ e. e ≡ Damaged → ¬ Holds office.now (state S.Store conn.old).now.trees) }
+    ensures there { IfErr result (λ e. e ≢ Empty) }
     ensures idle { conn.new.in_transaction ≡ false }
 {
     let _settled = conn.is_autocommit();
@@ -195,15 +197,15 @@ fn audit<S: Alter>(
 
 /// Makes the tables of an office to which nothing has come.
 fn begin<S: Alter>(conn: &mut Connection<S>, office: &Office) -> Result<(), OpenFault>
-    requires { conn.old.in_transaction ≡ false }
-    ensures created { HasCleanDisk (state S.Store conn.new) → IsBare (state S.Store conn.old).now
+    requires idle { conn.old.in_transaction ≡ false }
+    requires bare { IsBare (state S.Store conn.old).now }
+    ensures created { HasCleanDisk (state S.Store conn.new)
         → OnOk result (Begins (office_row office.now) (state S.Store conn.new).now
         × ((state S.Store conn.new).now ≡ (state S.Store conn.new).committed)) }
     ensures neither { HasCleanDisk (state S.Store conn.new) → OnErr result (ShowsAs (state S.Store conn.old).committed (state S.Store conn.new)) }
-    ensures told { IfErr result (λ e. (db : Database) → Tells office.now db e) }
+    ensures told { IfErr result IsOutside }
     ensures idle { conn.new.in_transaction ≡ false }
-    ensures crash { Survives (state S.Store conn.old) (state S.Store conn.new)
-        (λ db. IsBare (state S.Store conn.old).now → IsNewBook (office_row office.now) db) }
+    ensures crash { Survives (state S.Store conn.old) (state S.Store conn.new) (IsNewBook (office_row office.now)) }
 {
     let row = OfficeRow {
         society: u32::from(office.society),
@@ -222,6 +224,7 @@ fn prepare<S: Alter>(
 ) -> Result<(), OpenFault>
     requires { conn.old.in_transaction ≡ false }
     ensures opens { Opens office.now (state S.Store conn.old) (state S.Store conn.new) result }
+    ensures begins { IfErr result (λ e. e ≢ Empty) }
     ensures idle { conn.new.in_transaction ≡ false }
 {
     let _settled = conn.is_autocommit();
@@ -254,6 +257,7 @@ impl<S: Alter> Tables<S> {
             → HoldsOne office.now (state S.Store connection).committed.trees × ShowsAs (state S.Store connection).committed (state S.Store t.conn)) }
         ensures known { IfOk result (λ t. HasCleanDisk (state S.Store t.conn) → IsTrue (state S.Store connection).is_open → IsOpenable (state S.Store connection).committed) }
         ensures told { IfErr result (λ e. HasCleanDisk (state S.Store e.1) → IsTrue (state S.Store connection).is_open → Tells office.now (state S.Store connection).committed e.0) }
+        ensures begins { IfErr result (λ e. e.0 ≢ Empty) }
         ensures opens { IfErr result (λ e. HasCleanDisk (state S.Store e.1) → IsTrue (state S.Store connection).is_open → HasLayout (state S.Store connection).committed → HoldsOne office.now (state S.Store connection).committed.trees → IsOutside e.0) }
         ensures unchanged { IfErr result (λ e. HasCleanDisk (state S.Store e.1) → ShowsAs (state S.Store connection).committed (state S.Store e.1)) }
         ensures idle { IfErr result (λ e. e.1.in_transaction ≡ false) }
@@ -263,6 +267,36 @@ impl<S: Alter> Tables<S> {
         match prepare(alloc, &mut conn, office) {
             Ok(()) => Ok(Tables::over(conn, office)),
             Err(fault) => Err((fault, conn)),
+        }
+    }
+
+    /// The tables of an office in a database that has tables already; nothing is made.
+    ///
+    /// `Empty` where the database has no table, index or view: then the connection comes back as it was. Otherwise the
+    /// outcome is that of `open`.
+    pub fn open_existing(
+        alloc: Global,
+        connection: Connection<S>,
+        office: &Office,
+    ) -> Result<Tables<S>, (OpenFault, Connection<S>)>
+        requires { connection.in_transaction ≡ false }
+        ensures office { IfOk result (λ t. (⟦<Tables<S> as Store>⟧.state t).office ≡ office.now) }
+        ensures uncounted { IfOk result (λ t. (⟦<Tables<S> as Store>⟧.state t).failures ≡ 0) }
+        ensures empty { IsTrue (state S.Store connection).is_open → IsBare (state S.Store connection).committed → IsErrAnd result (λ e. e.0 ≡ Empty) }
+        ensures audited { IfOk result (λ t. HasCleanDisk (state S.Store t.conn) → IsTrue (state S.Store connection).is_open → HasLayout (state S.Store connection).committed
+            × HoldsOne office.now (state S.Store connection).committed.trees × ShowsAs (state S.Store connection).committed (state S.Store t.conn)) }
+        ensures told { IfErr result (λ e. HasCleanDisk (state S.Store e.1) → IsTrue (state S.Store connection).is_open → Tells office.now (state S.Store connection).committed e.0) }
+        ensures opens { IfErr result (λ e. HasCleanDisk (state S.Store e.1) → IsTrue (state S.Store connection).is_open → HasLayout (state S.Store connection).committed → HoldsOne office.now (state S.Store connection).committed.trees → IsOutside e.0) }
+        ensures untouched { IfErr result (λ e. e.0 ≡ Empty → e.1 ≡ connection) }
+        ensures unchanged { IfErr result (λ e. HasCleanDisk (state S.Store e.1) → ShowsAs (state S.Store connection).committed (state S.Store e.1)) }
+        ensures idle { IfErr result (λ e. e.1.in_transaction ≡ false) }
+        // A crash leaves what it left before.
+        ensures crash { MatchResult result (λ t. Survives (state S.Store connection) (state S.Store t.conn) (λ _. ⊥)) (λ e. Survives (state S.Store connection) (state S.Store e.1) (λ _. ⊥)) }
+    {
+        let _settled = connection.is_autocommit();
+        match layout_found(&connection) {
+            Found::Nothing => Err((OpenFault::Empty, connection)),
+            Found::Layout | Found::Other => Tables::open(alloc, connection, office),
         }
     }
 }

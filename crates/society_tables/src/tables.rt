@@ -1,8 +1,10 @@
 //! The store over a database.
-ghost use Rattle.std.specs.Prelude.{◌≡◌, ◌<◌, ◌^◌, IfOk, false, true};
+ghost use Rattle.std.specs.Prelude.{◌≡◌, ◌<◌, ◌^◌, IfOk, IsTrue, false, true};
 ghost use Rattle.sqlite.specs.Held.{state};
+ghost use Rattle.sqlite.specs.State.{HasCleanDisk};
 ghost use Rattle.society_core.specs.Book.{empty_book};
-ghost use Rattle.society_book.specs.Kept.{Rests};
+ghost use Rattle.society_book.specs.BookRows.{book_of};
+ghost use Rattle.society_book.specs.Kept.{IsAtRest, Rests};
 
 use crate::fault::told;
 use cwr_files::FileReader;
@@ -214,10 +216,14 @@ impl<S: Alter> Store for Tables<S> {
 }
 
 impl<S: Alter> Tables<S> {
-    /// The connection that the tables lie behind; it is in no transaction.
+    /// The connection that the tables lie behind; it is in no transaction. That of a clean store is open, shows what the last
+    /// commit left, and has layout 2 with the store's book and what is derived from it.
     pub fn into_connection(self) -> Connection<S>
         ensures same { result ≡ self.conn }
         ensures idle { result.in_transaction ≡ false }
+        ensures live { IsTrue (⟦<Tables<S> as Store>⟧.state self).is_clean → HasCleanDisk (state S.Store result) × IsTrue (state S.Store result).is_open }
+        ensures rests { IsTrue (⟦<Tables<S> as Store>⟧.state self).is_clean → ∥ IsAtRest (⟦<Tables<S> as Store>⟧.state self).office (state S.Store result) ∥₁ }
+        ensures book { (⟦<Tables<S> as Store>⟧.state self).book ≡ book_of (state S.Store result).now.trees }
     {
         let Tables { conn, .. } = self;
         conn

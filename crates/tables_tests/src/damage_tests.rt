@@ -14,13 +14,19 @@ use test_bodies::{REGISTERED, changed, office};
 const BODIES: [&str; 1] = ["SELECT number, body FROM transmissions ORDER BY number"];
 
 /// Changes of rows that no requests leave so.
-const DAMAGES: [&str; 7] = [
+const DAMAGES: [&str; 12] = [
     "UPDATE balances SET units = 502 WHERE account = 'I00000000199'",
     "UPDATE fronts SET front = 4",
     "DELETE FROM versions",
     "UPDATE verdicts SET fault = 5",
     "INSERT INTO recordings (sender, work, revision, isrc) VALUES ('PB000000012', 'W1', 0, 'GBXYZ2600002')",
     "UPDATE credits SET account = 'I00000000493' WHERE line = 1",
+    "UPDATE pools SET amount = 1002",
+    "DELETE FROM pool_cuts",
+    "DELETE FROM pool_returns",
+    "UPDATE returns SET body = x'00'",
+    // A play of another recording.
+    "UPDATE returns SET body = x'697372632c706c6179732c7365636f6e64730a4154414243323630303030322c31302c3230300a'",
     "UPDATE credits SET line = 9 WHERE line = 0; UPDATE credits SET line = 0 WHERE line = 1; UPDATE credits SET line = 1 WHERE line = 9",
 ];
 
@@ -128,6 +134,19 @@ fn another_office_is_told_before_damage(rt: HostRuntime) -> Result<(), Fail> {
 fn another_layout_is_no_office(rt: HostRuntime) -> Result<(), Fail> {
     let later = "UPDATE office SET layout = 9";
     check_changed(&rt, rt.alloc(), later, OpenFault::Schema)
+}
+
+#[test]
+fn what_somebody_else_made_is_no_office(rt: HostRuntime) -> Result<(), Fail> {
+    let strays = [
+        "CREATE INDEX stray ON credits (account)",
+        "CREATE VIEW stray AS SELECT account FROM credits",
+        "CREATE TABLE stray (one INTEGER) STRICT",
+    ];
+    for stray in strays {
+        check_changed(&rt, rt.alloc(), stray, OpenFault::Schema)?;
+    }
+    Ok(())
 }
 
 #[test]

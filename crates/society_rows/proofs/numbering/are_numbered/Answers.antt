@@ -7,7 +7,7 @@ use Rattle.society_rows.specs.Stored.{AreNumbered}
 use Rattle.society_rows.specs.TableNames.{table_called, rowids_text}
 use Rattle.society_rows.proofs.Effects.{handed_on}
 use Rattle.society_rows.proofs.Queries.{reads_by}
-use Rattle.society_rows.proofs.RowidQueries.{rowids_are, numbered_by, reads_of, reads_not}
+use Rattle.society_rows.proofs.RowidQueries.{rowids_are, rowids_read, numbered_by, reads_of, reads_not}
 use Rattle.society_rows.proofs.Told.{query_tells}
 use Rattle.society_rows.proofs.numbering.are_numbered.Goals as goal
 
@@ -25,6 +25,11 @@ pub returns-in_err-rows-clause-told : goal.returns-in_err-rows-clause-told
 returns-in_err-rows-clause-told g c = λ clean has.
     handed_on c.in_err-rows.field-0.0 c.from_residual.result _ c.from_residual.ensures.1
     (query_tells (rowids_are c.args.table) [] refl (state g.S.Store c.args.tx.now.conn.now) (state g.S.Store c.select.new.tx.conn.now) (Err c.in_err-rows.field-0.0) (λ clean. rw c.rowids.ensures at (c.in_err-rows.ensures.selected clean)) clean has)
+
+pub returns-in_err-rows-clause-medium : goal.returns-in_err-rows-clause-medium
+returns-in_err-rows-clause-medium g c = λ clean has.
+    handed_on c.in_err-rows.field-0.0 c.from_residual.result _ c.from_residual.ensures.1
+    (rowids_read c.args.table (state g.S.Store c.args.tx.now.conn.now) (state g.S.Store c.select.new.tx.conn.now) (Err c.in_err-rows.field-0.0) (λ clean. rw c.rowids.ensures at (c.in_err-rows.ensures.selected clean)) clean has)
 
 pub returns-clause-read : goal.returns-clause-read
 returns-clause-read g c =

@@ -10,9 +10,6 @@ returns-in-Front-clause-read g c = answers_as _ _ c.front_at.result c.args.quest
 pub returns-in-Transmission-clause-read : goal.returns-in-Transmission-clause-read
 returns-in-Transmission-clause-read g c = answers_as _ _ c.transmission_at.result c.args.question _ c.in-Transmission.is c.transmission_at.ensures.read
 
-pub returns-in-TransmissionsAbove-clause-read : goal.returns-in-TransmissionsAbove-clause-read
-returns-in-TransmissionsAbove-clause-read g c = answers_as _ _ c.transmissions_above.result c.args.question _ c.in-TransmissionsAbove.is c.transmissions_above.ensures.read
-
 pub returns-in-NumbersAbove-clause-read : goal.returns-in-NumbersAbove-clause-read
 returns-in-NumbersAbove-clause-read g c = answers_as _ _ c.numbers_above.result c.args.question _ c.in-NumbersAbove.is c.numbers_above.ensures.read
 
@@ -42,12 +39,6 @@ returns-in-Versions-clause-read g c = answers_as _ _ c.versions_of.result c.args
 
 pub returns-in-LastVersion-clause-read : goal.returns-in-LastVersion-clause-read
 returns-in-LastVersion-clause-read g c = answers_as _ _ c.last_version_of.result c.args.question _ c.in-LastVersion.is c.last_version_of.ensures.read
-
-pub returns-in-Recordings-clause-read : goal.returns-in-Recordings-clause-read
-returns-in-Recordings-clause-read g c = answers_as _ _ c.recordings_of.result c.args.question _ c.in-Recordings.is c.recordings_of.ensures.read
-
-pub returns-in-RecordingsWith-clause-read : goal.returns-in-RecordingsWith-clause-read
-returns-in-RecordingsWith-clause-read g c = answers_as _ _ c.recordings_with.result c.args.question _ c.in-RecordingsWith.is c.recordings_with.ensures.read
 
 pub returns-in-Credits-clause-read : goal.returns-in-Credits-clause-read
 returns-in-Credits-clause-read g c = answers_as _ _ c.credits_of.result c.args.question _ c.in-Credits.is c.credits_of.ensures.read

@@ -2,7 +2,7 @@ use Rattle.std.proofs.Common.{[], true}
 use Rattle.sqlite.specs.Held.{state}
 use Rattle.society_rows.specs.Reads.{Lists}
 use Rattle.society_rows.specs.TableNames.{table_called, listing_width, listing_text}
-use Rattle.society_rows.proofs.Listings.{is_plain, lists_called, listing_tells}
+use Rattle.society_rows.proofs.Listings.{is_plain, lists_called, listing_reads, listing_tells}
 use Rattle.society_rows.proofs.Queries.{reads_by}
 use Rattle.society_rows.proofs.tables.all_rows.Goals as goal
 
@@ -17,3 +17,7 @@ returns-clause-read g c =
 pub returns-clause-told : goal.returns-clause-told
 returns-clause-told g c =
     listing_tells c.args.table (state g.S.Store c.args.tx.now.conn.now) (state g.S.Store c.select.new.tx.conn.now) c.select.result (λ clean. rw c.listing.ensures at (c.select.ensures.selected clean))
+
+pub returns-clause-medium : goal.returns-clause-medium
+returns-clause-medium g c =
+    listing_reads c.args.table (state g.S.Store c.args.tx.now.conn.now) (state g.S.Store c.select.new.tx.conn.now) c.select.result (λ clean. rw c.listing.ensures at (c.select.ensures.selected clean))

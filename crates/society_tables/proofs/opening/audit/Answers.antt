@@ -9,6 +9,7 @@ use Rattle.society_tables.specs.declared.open_fault.OpenFault.{OpenFault}
 use Rattle.society_tables.proofs.OpenLemmas.{inspected_then, same_answer}
 use Rattle.society_tables.proofs.ComesAgain.{clean_before, shows_still}
 use Rattle.society_tables.proofs.OpenTold.{audited_office, damaged_so, undamaged}
+use Rattle.society_tables.proofs.OpenTold.{there_by}
 use Rattle.society_tables.proofs.opening.audit.Goals as goal
 
 fails : (o : Office) (rows : List Row) (f : AuditFault) (r : Result (Unit {0}) OpenFault) → rows ≡ office_row o ∷ [] → IsErrAnd r (λ e. e ≡ opened_by f) → IfErr r (TellsOffice o rows)
@@ -33,3 +34,6 @@ returns-in_err-is_whole-clause-damaged g c clean has =
     damaged_so _ c.in_err-is_whole.field-0.0 c.from_residual-in_err-is_whole.result c.from_residual-in_err-is_whole.ensures.1
     (λ held. c.in_err-is_whole.ensures.passes _ clean held.sound
     (shows_still c.args.office.now _ _ _ _ _ (λ is_open. c.is_autocommit-settled.ensures.settled (rw (c.is_autocommit-settled.ensures.value, c.requires) refl) is_open) c.in_ok-office_agrees.ensures.asked mid (λ _. (has, held))))
+
+pub returns-in_err-is_whole-clause-there : goal.returns-in_err-is_whole-clause-there
+returns-in_err-is_whole-clause-there g c = there_by c.in_err-is_whole.field-0.0 c.from_residual-in_err-is_whole.result c.from_residual-in_err-is_whole.ensures.1

@@ -1,0 +1,17 @@
+use Rattle.sqlite.specs.Held.{state}
+use Rattle.society_tables.proofs.Reopening.{err_so, kept_left, ok_so, outside_left}
+use Rattle.society_tables.proofs.laws.open_after_crash.Goals as goal
+
+pub returns-clause-kept : goal.returns-clause-kept
+returns-clause-kept g c clean left =
+    let t = c.args.tables.now in
+    ok_so c.open.result
+    (λ opened audited live. kept_left t.office (state g.S.Store t.conn) (state g.T.Store c.args.found) t.rests clean (λ db is_open may. g.met.S.Store.settled t.conn.store db is_open may) left (state g.T.Store opened.conn) live audited)
+    (rw c.office.ensures at c.open.ensures.audited)
+
+pub returns-clause-told : goal.returns-clause-told
+returns-clause-told g c clean left =
+    let t = c.args.tables.now in
+    err_so c.open.result
+    (λ e opens now. outside_left t.office (state g.S.Store t.conn) (state g.T.Store c.args.found) t.rests clean (λ db is_open may. g.met.S.Store.settled t.conn.store db is_open may) left (state g.T.Store e.1) e.0 now opens)
+    (rw c.office.ensures at c.open.ensures.opens)

@@ -1,0 +1,43 @@
+//! What was answered is kept: what an opening finds of a store.
+ghost use Rattle.std.specs.Prelude.{◌≡◌, IfErr, IfOk, IsTrue, false};
+ghost use Rattle.sqlite.specs.Held.{state};
+ghost use Rattle.sqlite.specs.State.{HasCleanDisk};
+ghost use Rattle.society_tables.specs.Laws.{IsLeftBy};
+ghost use Rattle.society_tables.specs.Opening.{IsOutside};
+
+use crate::{OpenFault, Tables};
+use society_core::Store;
+use sqlite::{Alter, Connection};
+use std::alloc::Global;
+
+/// Opens the database of a store anew. Of a clean store it finds the store's book, and so all that was answered as accepted; a
+/// fault is `Memory` or `Store` then.
+pub fn reopen<S: Alter>(
+    alloc: Global,
+    tables: Tables<S>,
+) -> Result<Tables<S>, (OpenFault, Connection<S>)>
+    ensures office { IfOk result (λ t. (⟦<Tables<S> as Store>⟧.state t).office ≡ (⟦<Tables<S> as Store>⟧.state tables).office) }
+    ensures kept { IsTrue (⟦<Tables<S> as Store>⟧.state tables).is_clean
+        → IfOk result (λ t. IsTrue (⟦<Tables<S> as Store>⟧.state t).is_clean → (⟦<Tables<S> as Store>⟧.state t).book ≡ (⟦<Tables<S> as Store>⟧.state tables).book) }
+    ensures told { IsTrue (⟦<Tables<S> as Store>⟧.state tables).is_clean → IfErr result (λ e. HasCleanDisk (state S.Store e.1) → IsOutside e.0) }
+{
+    let office = *tables.office();
+    Tables::open(alloc, tables.into_connection(), &office)
+}
+
+/// Opens a database as the office of a store. Where it has layout 2 with rows that a crash may leave of the store, which is clean,
+/// it finds the store's book; a fault is `Memory` or `Store` then.
+pub fn open_after_crash<S: Alter, T: Alter>(
+    alloc: Global,
+    tables: &Tables<S>,
+    found: Connection<T>,
+) -> Result<Tables<T>, (OpenFault, Connection<T>)>
+    requires { found.in_transaction ≡ false }
+    ensures office { IfOk result (λ t. (⟦<Tables<T> as Store>⟧.state t).office ≡ (⟦<Tables<S> as Store>⟧.state tables.now).office) }
+    ensures kept { IsTrue (⟦<Tables<S> as Store>⟧.state tables.now).is_clean → IsLeftBy (state S.Store tables.now.conn) (state T.Store found)
+        → IfOk result (λ t. IsTrue (⟦<Tables<T> as Store>⟧.state t).is_clean → (⟦<Tables<T> as Store>⟧.state t).book ≡ (⟦<Tables<S> as Store>⟧.state tables.now).book) }
+    ensures told { IsTrue (⟦<Tables<S> as Store>⟧.state tables.now).is_clean → IsLeftBy (state S.Store tables.now.conn) (state T.Store found)
+        → IfErr result (λ e. HasCleanDisk (state T.Store e.1) → IsOutside e.0) }
+{
+    Tables::open(alloc, found, tables.office())
+}
