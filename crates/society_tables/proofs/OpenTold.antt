@@ -51,7 +51,7 @@ outside_told o db fault.OtherOffice outside = absurd outside
 outside_told o db fault.Damaged outside = absurd outside
 
 -- rows that do not pass are no empty database
-abbrev is_empty : OpenFault → Bool
+is_empty : OpenFault → Bool
 is_empty fault.Empty = true
 is_empty _ = false
 

@@ -5,6 +5,7 @@ ghost use Rattle.sqlite.specs.Held.{state};
 ghost use Rattle.sqlite.specs.State.{HasCleanDisk, Survives};
 ghost use Rattle.share_rules.specs.declared.office.Office.{Office as OfficeValue};
 ghost use Rattle.society_core.specs.Book.{Book, IsSound, empty_book};
+ghost use Rattle.society_rows.specs.Effects.{ErrsByMedium, MayFail};
 ghost use Rattle.society_rows.specs.Layout.{balances, fronts};
 ghost use Rattle.society_rows.specs.Layout.{office as office_table};
 ghost use Rattle.society_rows.specs.NewBook.{Begins, IsBare, IsNewBook};
@@ -12,8 +13,10 @@ ghost use Rattle.society_rows.specs.Questions.{Asks};
 ghost use Rattle.society_rows.specs.Stored.{AreNumbered, HasLayout, rows_in};
 ghost use Rattle.society_rows.specs.TableNames.{table_called};
 ghost use Rattle.society_book.specs.Kept.{Holds, office_row};
-ghost use Rattle.society_tables.specs.Opening.{HoldsOne, Inspects, IsOpenable, IsOutside, Opens, ShowsAs, SurvivesOpening, Tells, TellsOffice};
+ghost use Rattle.society_tables.specs.Opening.{HoldsOne, Inspects, IsOpenable, IsOutside, Opens, ShowsAs, SurvivesOpening, Tells, TellsFailure, TellsOffice};
 ghost use Rattle.society_tables.specs.Rebuilding.{Passes, ShowsBook};
+ghost use Rattle.society_tables.specs.declared.audit_fault.AuditFault.TheVariants as audit;
+ghost use Rattle.society_tables.specs.declared.open_fault.OpenFault.TheVariants as fault;
 ghost use Rattle.society_tables.specs.declared.open_fault.OpenFault.TheVariants.{Damaged, Empty};
 
 use crate::audit_fault::AuditFault;
@@ -33,6 +36,7 @@ fn is_office(rows: &[Row], office: &Office) -> Result<(), OpenFault>
     ensures told { IfErr result (TellsOffice office.now rows.now) }
     ensures other { IfErr result (λ e. e ≢ Damaged) }
     ensures there { IfErr result (λ e. e ≢ Empty) }
+    ensures read { IfErr result (λ e. e ≢ fault.Store) }
 {
     let [row] = rows else {
         return Err(OpenFault::Schema);
@@ -56,6 +60,7 @@ fn office_agrees<S: Alter>(conn: &mut Connection<S>, office: &Office) -> Result<
     ensures asked { Inspects (state S.Store conn.old) (state S.Store conn.new) result (λ db _. rows_in office_table db ≡ office_row office.now ∷ []) }
     ensures told { HasCleanDisk (state S.Store conn.new) → HasLayout (state S.Store conn.old).now
         → IfErr result (TellsOffice office.now (rows_in office_table (state S.Store conn.old).now.trees)) }
+    ensures failed { TellsFailure fault.Store (state S.Store conn.old) (state S.Store conn.new) result }
     ensures other { IfErr result (λ e. e ≢ Damaged) }
     ensures there { IfErr result (λ e. e ≢ Empty) }
     ensures idle { conn.new.in_transaction ≡ false }
@@ -69,6 +74,7 @@ fn is_numbered<S: Alter>(conn: &mut Connection<S>, table: TableName) -> Result<b
     requires { conn.old.in_transaction ≡ false }
     ensures asked { Asks (state S.Store conn.old) (state S.Store conn.new) result
         (λ db yes. IsTrue yes ↔ AreNumbered (table_called table) db) }
+    ensures medium { ErrsByMedium (state S.Store conn.old) (state S.Store conn.new) result }
     ensures idle { conn.new.in_transaction ≡ false }
 {
     let mut tx = conn.transaction();
@@ -83,6 +89,7 @@ fn has_numbers<S: Alter>(conn: &mut Connection<S>, table: TableName) -> Result<(
     ensures asked { Inspects (state S.Store conn.old) (state S.Store conn.new) result (λ db _. AreNumbered (table_called table) db) }
     ensures passes { HasCleanDisk (state S.Store conn.new) → (IsTrue (state S.Store conn.old).is_open → HasLayout (state S.Store conn.old).now × AreNumbered (table_called table) (state S.Store conn.old).now.trees)
         → Passes result (λ _. ⊤) }
+    ensures failed { TellsFailure audit.Store (state S.Store conn.old) (state S.Store conn.new) result }
     ensures idle { conn.new.in_transaction ≡ false }
 {
     if is_numbered(conn, table)? {
@@ -98,6 +105,7 @@ fn fronts_and_balances_numbered<S: Alter>(conn: &mut Connection<S>) -> Result<()
     ensures asked { Inspects (state S.Store conn.old) (state S.Store conn.new) result
         (λ db _. AreNumbered fronts db × AreNumbered balances db) }
     ensures passes { (o : OfficeValue) → (b : Book) → HasCleanDisk (state S.Store conn.new) → ShowsBook o b (state S.Store conn.old) → Passes result (λ _. ⊤) }
+    ensures failed { TellsFailure audit.Store (state S.Store conn.old) (state S.Store conn.new) result }
     ensures idle { conn.new.in_transaction ≡ false }
 {
     let _settled = conn.is_autocommit();
@@ -114,6 +122,7 @@ fn agrees_with<S: Alter>(
     ensures agree { Inspects (state S.Store conn.old) (state S.Store conn.new) result
         (λ db _. AreNumbered fronts db × AreNumbered balances db → HoldsOne (⟦<Tables<MemStore> as Store>⟧.state tables).office db) }
     ensures passes { HasCleanDisk (state S.Store conn.new) → ShowsBook (⟦<Tables<MemStore> as Store>⟧.state tables).office (⟦<Tables<MemStore> as Store>⟧.state tables).book (state S.Store conn.old) → Passes result (λ _. ⊤) }
+    ensures failed { TellsFailure audit.Store (state S.Store conn.old) (state S.Store conn.new) result }
     ensures idle { conn.new.in_transaction ≡ false }
 {
     let mut memory = tables.into_connection();
@@ -130,6 +139,7 @@ fn holds_rebuilt<S: Alter>(
     ensures agree { Inspects (state S.Store conn.old) (state S.Store conn.new) result
         (λ db _. AreNumbered fronts db × AreNumbered balances db → HoldsOne office.now db) }
     ensures passes { (b : Book) → HasCleanDisk (state S.Store conn.new) → IsSound b → ShowsBook office.now b (state S.Store conn.old) → Passes result (λ _. ⊤) }
+    ensures failed { TellsFailure audit.Store (state S.Store conn.old) (state S.Store conn.new) result }
     ensures idle { conn.new.in_transaction ≡ false }
 {
     let _settled = conn.is_autocommit();
@@ -148,6 +158,7 @@ fn holds_own<S: Alter>(
     ensures agree { Inspects (state S.Store conn.old) (state S.Store conn.new) result
         (λ db _. AreNumbered fronts db × AreNumbered balances db → HoldsOne office.now db) }
     ensures passes { (b : Book) → HasCleanDisk (state S.Store conn.new) → IsSound b → ShowsBook office.now b (state S.Store conn.old) → Passes result (λ _. ⊤) }
+    ensures failed { TellsFailure audit.Store (state S.Store conn.old) (state S.Store conn.new) result }
     ensures idle { conn.new.in_transaction ≡ false }
 {
     let _settled = conn.is_autocommit();
@@ -167,6 +178,7 @@ fn is_whole<S: Alter>(
     requires { conn.old.in_transaction ≡ false }
     ensures whole { Inspects (state S.Store conn.old) (state S.Store conn.new) result (λ db _. HoldsOne office.now db) }
     ensures passes { (b : Book) → HasCleanDisk (state S.Store conn.new) → IsSound b → ShowsBook office.now b (state S.Store conn.old) → Passes result (λ _. ⊤) }
+    ensures failed { TellsFailure audit.Store (state S.Store conn.old) (state S.Store conn.new) result }
     ensures idle { conn.new.in_transaction ≡ false }
 {
     let _settled = conn.is_autocommit();
@@ -186,6 +198,7 @@ fn audit<S: Alter>(
         → IfErr result (TellsOffice office.now (rows_in office_table (state S.Store conn.old).now.trees)) }
     ensures damaged { HasCleanDisk (state S.Store conn.new) → HasLayout (state S.Store conn.old).now
         → IfErr result (λ e. e ≡ Damaged → ¬ Holds office.now (state S.Store conn.old).now.trees) }
+    ensures failed { TellsFailure fault.Store (state S.Store conn.old) (state S.Store conn.new) result }
     ensures there { IfErr result (λ e. e ≢ Empty) }
     ensures idle { conn.new.in_transaction ≡ false }
 {
@@ -259,6 +272,8 @@ impl<S: Alter> Tables<S> {
         ensures told { IfErr result (λ e. HasCleanDisk (state S.Store e.1) → IsTrue (state S.Store connection).is_open → Tells office.now (state S.Store connection).committed e.0) }
         ensures begins { IfErr result (λ e. e.0 ≢ Empty) }
         ensures opens { IfErr result (λ e. HasCleanDisk (state S.Store e.1) → IsTrue (state S.Store connection).is_open → HasLayout (state S.Store connection).committed → HoldsOne office.now (state S.Store connection).committed.trees → IsOutside e.0) }
+        ensures failed { IfErr result (λ e. HasCleanDisk (state S.Store e.1) → IsTrue (state S.Store connection).is_open → HasLayout (state S.Store connection).committed
+            → e.0 ≡ fault.Store → MayFail (state S.Store connection) (state S.Store e.1)) }
         ensures unchanged { IfErr result (λ e. HasCleanDisk (state S.Store e.1) → ShowsAs (state S.Store connection).committed (state S.Store e.1)) }
         ensures idle { IfErr result (λ e. e.1.in_transaction ≡ false) }
         ensures crash { MatchResult result (λ t. SurvivesOpening office.now (state S.Store connection) (state S.Store t.conn)) (λ e. SurvivesOpening office.now (state S.Store connection) (state S.Store e.1)) }
@@ -288,6 +303,8 @@ impl<S: Alter> Tables<S> {
         ensures told { IfErr result (λ e. HasCleanDisk (state S.Store e.1) → IsTrue (state S.Store connection).is_open → Tells office.now (state S.Store connection).committed e.0) }
         ensures opens { IfErr result (λ e. HasCleanDisk (state S.Store e.1) → IsTrue (state S.Store connection).is_open → HasLayout (state S.Store connection).committed → HoldsOne office.now (state S.Store connection).committed.trees → IsOutside e.0) }
         ensures untouched { IfErr result (λ e. e.0 ≡ Empty → e.1 ≡ connection) }
+        ensures failed { IfErr result (λ e. HasCleanDisk (state S.Store e.1) → IsTrue (state S.Store connection).is_open → HasLayout (state S.Store connection).committed
+            → e.0 ≡ fault.Store → MayFail (state S.Store connection) (state S.Store e.1)) }
         ensures unchanged { IfErr result (λ e. HasCleanDisk (state S.Store e.1) → ShowsAs (state S.Store connection).committed (state S.Store e.1)) }
         ensures idle { IfErr result (λ e. e.1.in_transaction ≡ false) }
         // A crash leaves what it left before.
