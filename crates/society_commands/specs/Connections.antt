@@ -136,16 +136,16 @@ LeavesBroken show state office found (Ok ended) contents out new_out connections
 LeavesBroken show state office found (Err left) contents out new_out connections =
     IsNotOpened office found (show left) × (new_out ≡ out)
 
--- so many connections were served over a database that was opened so, and its store is left as they left it
-abbrev pub ServesOpened : {C S W : Type 0} → (C → connection.State) → (connection.State → Type 0) → (S → State) → Office → (W → Option (List ℕ)) → Counted W → Counted W → ℕ → Type 0
-ServesOpened {C} {S} show MayOpen state office contents out new_out count =
-    (conn : C) × MayOpen (show conn) × ((left : Result S C) × LeavesServed state office (show conn) left contents out new_out count)
+-- so many connections were served over a database that was opened so, and its store was closed as they left it
+abbrev pub ServesOpened : {C S W : Type 0} → (C → connection.State) → (connection.State → Type 0) → (S → State) → (Result S C → Type 0) → Office → (W → Option (List ℕ)) → Counted W → Counted W → ℕ → Type 0
+ServesOpened {C} {S} show MayOpen state IsClosed office contents out new_out count =
+    (conn : C) × MayOpen (show conn) × ((left : Result S C) × LeavesServed state office (show conn) left contents out new_out count × IsClosed left)
 
--- serving so ended early: no database could be had, and nothing was printed; or this is what is left of it
-abbrev pub StopsServingOpened : {C S W : Type 0} → (C → connection.State) → (connection.State → Type 0) → (S → State) → Office → (W → Option (List ℕ)) → Counted W → Counted W → ℕ → Type 0
-StopsServingOpened {C} {S} show MayOpen state office contents out new_out connections =
+-- serving so ended early: no database could be had, and nothing was printed; or this is what was left of it, and closed where it is a store
+abbrev pub StopsServingOpened : {C S W : Type 0} → (C → connection.State) → (connection.State → Type 0) → (S → State) → (Result S C → Type 0) → Office → (W → Option (List ℕ)) → Counted W → Counted W → ℕ → Type 0
+StopsServingOpened {C} {S} show MayOpen state IsClosed office contents out new_out connections =
     (new_out ≡ out)
-    ⊎ ((conn : C) × MayOpen (show conn) × ((left : Result S C) × LeavesBroken show state office (show conn) left contents out new_out connections))
+    ⊎ ((conn : C) × MayOpen (show conn) × ((left : Result S C) × LeavesBroken show state office (show conn) left contents out new_out connections × IsClosed left))
 
 -- fewer connections than were asked for were served
 abbrev pub StopsEarly : {S W : Type 0} → (S → State) → S → S → (W → Option (List ℕ)) → Counted W → Counted W → ℕ → Type 0

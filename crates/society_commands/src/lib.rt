@@ -2,6 +2,7 @@
 //! this machine over the database at a path, `--help` tells both.
 #![tactic(auto)]
 
+mod closing;
 mod command_line;
 mod connections;
 mod opening;

@@ -1,10 +1,13 @@
 //! The office over a database: how one is opened, and what is said where it is not.
 ghost use Rattle.std.specs.Prelude.{◌≡◌, ◌⊎◌, IfOk, List, ℕ, false};
+ghost use Rattle.sqlite.specs.Files.{file_state};
 ghost use Rattle.sqlite.specs.Held.{state};
 ghost use Rattle.sqlite.specs.State as connection;
+ghost use Rattle.society_commands.specs.Closing.{IsLeftClosed};
 ghost use Rattle.society_commands.specs.Connections.{IsFound, LeavesBroken, LeavesServed, ServesOpened, StopsServingOpened};
 ghost use Rattle.society_commands.specs.Refusals.{database_fault, opening_fault};
 
+use crate::closing::close_left;
 use crate::replaying::BROKEN_OFF;
 use crate::serving::serve_store;
 use crate::words::Place;
@@ -13,31 +16,35 @@ use share_rules::Office;
 use society_core::{Desk, Store};
 use society_tables::{OpenFault, Tables};
 use sqlite::{Alter, Connection, Error, ErrorCode, FileFrom, FileStore, Wary};
+use sqlite_disk::Disk;
 use std::alloc::Global;
 use std::io::Write;
 use std::net::{Net, TcpListener, TcpStream};
 
 /// What opens databases by their paths.
 pub trait OpenDatabase {
-    /// What holds a database.
-    type Medium: Alter + Drop;
+    /// A file: a database lies in two, the database file and its log.
+    type File: Disk + Drop;
 
     /// What a connection may show that was opened at a path.
     ghost may_open: { List ℕ → connection.State → Type 0 };
 
     /// A connection to the database at a path, which is made where there is none. `Memory` where memory was refused, `Schema` where the
     /// file holds no tables that can be read, `Damaged` where it is not as it was written, else `Store`.
-    fn open_database(&self, path: &str) -> Result<Connection<Self::Medium>, OpenFault>
-        ensures opened { IfOk result (λ c. may_open path.now (state Self.Medium.Store c)) }
+    fn open_database(&self, path: &str) -> Result<Connection<FileStore<Self::File>>, OpenFault>
+        ensures opened { IfOk result (λ c. may_open path.now (file_state c)) }
         ensures idle { IfOk result (λ c. c.in_transaction ≡ false) };
 }
 
 impl OpenDatabase for HostRuntime {
-    type Medium = FileStore<FileFrom<Wary>>;
+    type File = FileFrom<Wary>;
 
     ghost may_open = { λ path s. IsFound s };
 
-    fn open_database(&self, path: &str) -> Result<Connection<Self::Medium>, OpenFault> {
+    fn open_database(
+        &self,
+        path: &str,
+    ) -> Result<Connection<FileStore<Self::File>>, OpenFault> {
         match Connection::open_from(self, path, false, Wary) {
             Ok(connection) => Ok(connection),
             Err((error, _)) => Err(fault_of(&error)),
@@ -57,8 +64,9 @@ fn fault_of(error: &Error) -> OpenFault
     }
 }
 
-/// Opens the database at a path as the office's, and serves so many connections over it. Answers the exit status: 0, or 1 with
-/// one line on `err` where the database is not opened, or the port cannot be listened on or a connection not accepted.
+/// Opens the database at a path as the office's, serves so many connections over it, and closes it, so that its file alone is the book.
+/// Answers the exit status: 0, or 1 with one line on `err` where the database is not opened, or the port cannot be listened on or a
+/// connection not accepted. That it can't be closed changes no status: both files together are the book then, as while it was open.
 pub fn serve_file<
     H: Net<Listener = TcpListener, Stream = TcpStream> + OpenDatabase,
     W: Write,
@@ -73,16 +81,18 @@ pub fn serve_file<
     err: &mut E,
 ) -> u8
     ensures status { (result ≡ 0) ⊎ (result ≡ 1) }
-    ensures served { result ≡ 0 → ServesOpened (state H.Medium.Store) (H.may_open path.now)
-        ⟦<Tables<H::Medium> as Store>⟧.state office.now W.contents out.old out.new place.connections }
+    ensures served { result ≡ 0 → ServesOpened file_state (H.may_open path.now) ⟦<Tables<FileStore<H::File>> as Store>⟧.state
+        (IsLeftClosed ⟦<Tables<FileStore<H::File>> as Store>⟧.state (λ t. t.conn)) office.now W.contents out.old out.new place.connections }
     // Nothing is printed where the database is not opened, or nothing can be listened on; else fewer connections came. In each case
     // the clause names what is left of the database.
-    ensures broken_off { result ≡ 1 → StopsServingOpened (state H.Medium.Store) (H.may_open path.now)
-        ⟦<Tables<H::Medium> as Store>⟧.state office.now W.contents out.old out.new place.connections }
+    ensures broken_off { result ≡ 1 → StopsServingOpened file_state (H.may_open path.now) ⟦<Tables<FileStore<H::File>> as Store>⟧.state
+        (IsLeftClosed ⟦<Tables<FileStore<H::File>> as Store>⟧.state (λ t. t.conn)) office.now W.contents out.old out.new place.connections }
 {
     match host.open_database(path) {
         Ok(connection) => {
-            let (status, _left) = serve_database(host, alloc, connection, place, office, out, err);
+            let (status, left) =
+                serve_database(host, alloc, connection, place, office, out, err);
+            let _closed = close_left(left, err);
             status
         }
         Err(fault) => open_fault(fault, err),

@@ -18,7 +18,14 @@ pub fn serve_store<
     S: Store,
     W: Write,
     E: Write,
->(net: &N, alloc: Global, desk: &mut Desk<S>, place: Place, out: &mut Counted<W>, err: &mut E) -> u8
+>(
+    net: &N,
+    alloc: Global,
+    desk: &mut Desk<S>,
+    place: Place,
+    out: &mut Counted<W>,
+    err: &mut E,
+) -> u8
     ensures status { (result ≡ 0) ⊎ (result ≡ 1) }
     // The store is led from where it stood to where the last request left it.
     ensures served { result ≡ 0

@@ -3,7 +3,8 @@ ghost use Rattle.std.specs.Prelude.{◌≡◌, ◌≢◌, ◌⊎◌, IfErr, IfOk
 ghost use Rattle.std.specs.IoError.{error_kind};
 ghost use Rattle.clap.specs.Words.{kind_of};
 ghost use Rattle.clap.specs.declared.error.kind.ErrorKind.TheVariants.{DisplayHelp, OutOfMemory};
-ghost use Rattle.sqlite.specs.Held.{state};
+ghost use Rattle.sqlite.specs.Files.{file_state};
+ghost use Rattle.society_commands.specs.Closing.{IsLeftClosed};
 ghost use Rattle.society_commands.specs.Connections.{ServesOpened, StopsServingOpened};
 ghost use Rattle.society_commands.specs.Replays.{Replays, BreaksOff};
 ghost use Rattle.society_commands.specs.Refusals.{ended_with, no_words_by, status_without};
@@ -18,6 +19,7 @@ use clap::error::ErrorKind as ClapKind;
 use http_desk::{Counted, DeskFault, FaultKind};
 use society_core::Store;
 use society_tables::Tables;
+use sqlite::FileStore;
 use std::alloc::Global;
 use std::io::{self, ErrorKind, Read, Write};
 use std::net::{Net, TcpListener, TcpStream};
@@ -63,12 +65,14 @@ pub fn start<
         ⊎ (StartsReplay (asked (map string_bytes words.now)) (λ office.
         Replays office R.remaining W.contents reader.old out.old out.new)
         ⊎ StartsServing (asked (map string_bytes words.now)) (λ path place office.
-        ServesOpened (state H.Medium.Store) (H.may_open path) ⟦<Tables<H::Medium> as Store>⟧.state office W.contents out.old out.new place.connections))) }
+        ServesOpened file_state (H.may_open path) ⟦<Tables<FileStore<H::File>> as Store>⟧.state
+        (IsLeftClosed ⟦<Tables<FileStore<H::File>> as Store>⟧.state (λ t. t.conn)) office W.contents out.old out.new place.connections))) }
     ensures broken_off { IfOk result (λ status. status ≡ 1
         → StartsReplay (asked (map string_bytes words.now)) (λ office.
         BreaksOff office R.remaining W.contents reader.old reader.new out.old out.new)
         ⊎ StartsServing (asked (map string_bytes words.now)) (λ path place office.
-        StopsServingOpened (state H.Medium.Store) (H.may_open path) ⟦<Tables<H::Medium> as Store>⟧.state office W.contents out.old out.new place.connections)) }
+        StopsServingOpened file_state (H.may_open path) ⟦<Tables<FileStore<H::File>> as Store>⟧.state
+        (IsLeftClosed ⟦<Tables<FileStore<H::File>> as Store>⟧.state (λ t. t.conn)) office W.contents out.old out.new place.connections)) }
 {
     match words_in(alloc, words) {
         Ok(Words::Replay(office)) => Ok(replay(alloc, &office, reader, out, err)),

@@ -83,11 +83,14 @@ impl<'a> Net for Host<'a> {
 }
 
 impl<'a> OpenDatabase for Host<'a> {
-    type Medium = FileStore<FileFrom<Wary>>;
+    type File = FileFrom<Wary>;
 
     ghost may_open = { λ path s. ⊤ };
 
-    fn open_database(&self, path: &str) -> Result<Connection<Self::Medium>, OpenFault> {
+    fn open_database(
+        &self,
+        path: &str,
+    ) -> Result<Connection<FileStore<Self::File>>, OpenFault> {
         self.rt.open_database(path)
     }
 }
@@ -149,5 +152,20 @@ fn connections_over_a_file(rt: HostRuntime) -> Result<(), Fail> {
         is_text(&rt, path, &out, printed.as_bytes());
         is_text(&rt, path, &err, told.as_bytes());
     }
+    Ok(())
+}
+
+/// After a normal end the database file alone is the book: it opens without its log, with what had come before.
+#[test]
+fn the_file_alone_is_the_book(rt: HostRuntime) -> Result<(), Fail> {
+    empty(&rt, "alone.db", "alone.db-wal")?;
+    let (before, behind) = DAY.split_at(3_992);
+    let mut written = answered(&rt, "alone.db", before)?;
+    let (_, err, status) = served(&rt, "alone.db", 900)?;
+    is_status(&rt, "a normal end", status, 0);
+    is_text(&rt, "standard error", &err, b"");
+    fs::write(&rt, "alone.db-wal", "")?;
+    written.extend_from_slice(answered(&rt, "alone.db", behind)?.as_slice())?;
+    is_text(&rt, "the day's answers", &written, ANSWERS);
     Ok(())
 }
