@@ -4,7 +4,7 @@
 #
 # usage: bench/stop_trials.sh [NAME]     (a part of the tests' names; all: some 30 minutes)
 #
-# The trials are crates/tables_tests/src/stop_trials.rt. Tests of them are made here, in a copy of the crates, and run under `rt try`,
+# The trials are crates/file_tests/src/stop_trials.rt. Tests of them are made here, in a copy of the crates, and run under `rt try`,
 # unproved.
 set -eu
 case ${1:-} in
@@ -17,7 +17,7 @@ here=$(cd "$(dirname "$0")/.." && pwd)
 copy=$(mktemp -d)
 trap 'rm -rf "$copy"' EXIT
 tar -C "$here" --exclude=out -cf - crates crates.txt HANDLES | tar -C "$copy" -xf -
-cd "$copy/crates/tables_tests"
+cd "$copy/crates/file_tests"
 trial() {
   printf '\n#[test]\nfn %s(rt: HostRuntime) -> Result<(), Fail> {\n    check_trial(&rt, rt.alloc(), Trial::%s, Part::%s, File::%s)\n}\n' "$@" >>src/stop_trials.rt
 }

@@ -1,6 +1,5 @@
 //! Connections over TCP, in one process: what each peer gets, and the lines that are printed.
 use crate::checks::{holds, is_text};
-use crate::streams::{answer, get, put};
 use http_desk::Counted;
 use society_commands::serve_connections;
 use society_core::{Desk, PlainStore};
@@ -8,7 +7,7 @@ use std::alloc::Global;
 use std::io::{Read, Write};
 use std::net::{Ipv4Addr, Shutdown, TcpListener, TcpStream};
 use std::test::Fail;
-use test_bodies::{EMPTY, EMPTY_ACK, REGISTERED, REGISTERED_ACK, office};
+use test_bodies::{EMPTY, EMPTY_ACK, REGISTERED, REGISTERED_ACK, answer, get, office, put};
 
 /// A connection that has sent these bytes, and sends no more. The system keeps it until it is accepted.
 fn sent(rt: &HostRuntime, listener: &TcpListener, bytes: &[u8]) -> Result<TcpStream, Fail> {

@@ -1,13 +1,12 @@
 //! Streams and words that fail: what is written, the exit status, and the lines on standard error.
 use crate::checks::{holds, is_status, is_text};
-use crate::streams::get;
 use http_desk::{Counted, DeskFault, FaultKind};
 use society_commands::{NoWords, ended, replay, report, why_no_words};
 use std::alloc::Global;
 use std::io::{ErrorKind, Read, Write};
 use std::str;
 use std::test::Fail;
-use test_bodies::office;
+use test_bodies::{get, office};
 
 /// A reader and a writer that fail at once.
 #[derive(Drop)]

@@ -1,6 +1,5 @@
 //! Words of the program: what is answered, and what is said of them.
 use crate::checks::{holds, is_status, is_text};
-use crate::streams::get;
 use http_desk::Counted;
 use society_commands::start;
 use std::alloc::{AllocError, Global};
@@ -8,6 +7,7 @@ use std::fs;
 use std::net::{Ipv4Addr, TcpListener};
 use std::process::Abort;
 use std::test::Fail;
+use test_bodies::get;
 
 /// Words of the program after its name, parted by `|`; the status; and how the text on standard error begins.
 type Row = (&'static str, u8, &'static str);

@@ -1,4 +1,4 @@
-//! Tests of the office's tables: what arrives, pools, rows, and databases that are opened, damaged ones among them.
+//! Tests of the office's tables: what arrives, cuts and pools, and databases that are opened, empty ones among them.
 #![tactic(auto)]
 
 #[cfg(test)]
@@ -8,22 +8,8 @@ mod checks;
 #[cfg(test)]
 mod cut_tests;
 #[cfg(test)]
-mod damage_tests;
-#[cfg(test)]
 mod empty_tests;
-#[cfg(test)]
-mod fused;
-#[cfg(test)]
-mod listing;
 #[cfg(test)]
 mod open_tests;
 #[cfg(test)]
 mod pool_tests;
-#[cfg(test)]
-mod row_tests;
-#[cfg(test)]
-mod steps;
-#[cfg(test)]
-mod stop_trials;
-#[cfg(test)]
-mod stops;

@@ -1,11 +1,11 @@
 //! With ample memory nothing is answered 503: the greatest body, many transactions, groups, numbers and requests.
 use crate::checks::{holds, is_number, is_status};
-use crate::streams::{answer, get, put, replayed};
+use crate::streams::replayed;
 use std::alloc::{AllocError, Global};
 use std::process::Abort;
 use std::str;
 use std::test::Fail;
-use test_bodies::{EMPTY, REGISTERED, REVISED};
+use test_bodies::{EMPTY, REGISTERED, REVISED, answer, get, put};
 
 /// The greatest body, in bytes.
 const MAX_BODY: usize = 1_048_576;

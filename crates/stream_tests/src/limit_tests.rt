@@ -1,13 +1,13 @@
 //! The limits of heads and returns: what is just within them is served, and what is just past them refused.
 use crate::checks::{holds, is_number, is_status, is_text};
-use crate::streams::{answer, put, put_return, replayed};
+use crate::streams::replayed;
 use http_desk::{Counted, Served, serve};
 use society_core::{Desk, PlainStore};
 use std::alloc::{AllocError, Global};
 use std::process::Abort;
 use std::str;
 use std::test::Fail;
-use test_bodies::{REGISTERED, REVISED, office};
+use test_bodies::{REGISTERED, REVISED, answer, office, put, put_return};
 
 /// The greatest head, in bytes.
 const MAX_HEAD: usize = 8_192;
