@@ -1,11 +1,12 @@
 -- What the derived rows of a sender are once a transmission has come.
-use Rattle.std.proofs.Common.{◌≡◌, ◌≤◌, ◌<◌, ◌+◌, ℕ, zero, suc, List, [], ◌∷◌, ◌++◌, Option, refl, ap, ap₂, ◌∙◌, unwrap_or, arith}
+use Rattle.std.proofs.Common.{◌≡◌, ◌≤◌, ◌<◌, ◌+◌, ℕ, zero, suc, List, [], ◌++◌, Option, refl, ap, ap₂, ◌∙◌, unwrap_or, arith}
 use Rattle.std.specs.List.{flat_map, range_with_len}
 use Rattle.std.proofs.lemmas.Grind.{flat_map-append}
 use Rattle.cwr_files.specs.Contents.{transactions_of, transmission_in}
 use Rattle.share_rules.specs.declared.office.Office.{Office}
 use Rattle.society_core.specs.Book.{Book, body_at, front, verdicts_in}
 use Rattle.society_core.proofs.Gaps.{transmissions_alike}
+use Rattle.society_core.proofs.LineNumbers.{one_of_first, one_of_within, range_split}
 use Rattle.society_book.specs.DerivedRows.{Telling, told_by, told_from, told_to_front}
 use Rattle.sqlite_value.specs.Order.{Row}
 use Rattle.works_core.specs.Line.{NumberedTransmission, line_of, verdicts_at}
@@ -19,20 +20,13 @@ AlikeTo a b sender n = (k : ℕ) → 1 ≤ k → k ≤ n → body_at a sender k 
 pub told_alike : (tells : Telling) (o : Office) (a b : Book) (s : List ℕ) (n : ℕ) → 1 ≤ n → AlikeTo a b s n → told_by tells o a s n ≡ told_by tells o b s n
 told_alike tells o a b s n some same =
     let body : body_at a s n ≡ body_at b s n = same n some (omega arith) in
-    let verdicts : verdicts_in o a s n ≡ verdicts_in o b s n = ap (λ (ts : List NumberedTransmission). verdicts_at (line_of o ts) n) (transmissions_alike a b s n same) in
+    let verdicts : verdicts_in o a s n ≡ verdicts_in o b s n = ap (λ (ts : List NumberedTransmission). verdicts_at (line_of o ts) n) (transmissions_alike a b s n (λ k one. same k (one_of_first n k one) (one_of_within n k one))) in
     ap₂ (λ (x : Option (List ℕ)) (y : List Verdict). told_from tells s n 0 (transactions_of (transmission_in (unwrap_or x []))) y) body verdicts
 
 each_alike : (f g : ℕ → List Row) (from len : ℕ) → ((k : ℕ) → from ≤ k → k < from + len → f k ≡ g k) → flat_map f (range_with_len from len) ≡ flat_map g (range_with_len from len)
 each_alike f g from zero same = refl
 each_alike f g from (suc len) same =
     ap₂ ◌++◌ (same from (omega arith) (omega arith)) (each_alike f g (from + 1) len (λ k above below. same k (omega arith) (omega arith)))
-
--- numbers from one on, cut in two
-pub range_split : (from a b : ℕ) → range_with_len from (a + b) ≡ range_with_len from a ++ range_with_len (from + a) b
-range_split from zero b = ap₂ range_with_len (let e : from ≡ from + 0 = omega arith in e) (let e : 0 + b ≡ b = omega arith in e)
-range_split from (suc a) b =
-    ap (range_with_len from) (let e : suc a + b ≡ suc (a + b) = omega arith in e)
-    ∙ ap (λ l. from ∷ l) (range_split (from + 1) a b ∙ ap (λ n. range_with_len (from + 1) a ++ range_with_len n b) (let e : (from + 1) + a ≡ from + suc a = omega arith in e))
 
 -- what the transmissions from one to another tell
 abbrev pub told_of : Telling → Office → Book → List ℕ → ℕ → ℕ → List Row

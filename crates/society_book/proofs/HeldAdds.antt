@@ -11,6 +11,7 @@ use Rattle.society_core.proofs.ClosedPools.{PaysAlike}
 use Rattle.society_core.proofs.Fronts.{all_stay, all_there, front_gap, front_only}
 use Rattle.society_core.proofs.Gaps.{transmissions_alike}
 use Rattle.society_core.proofs.KeyOrders.{transmissions_total}
+use Rattle.society_core.proofs.LineNumbers.{one_of_first, one_of_within}
 use Rattle.society_core.proofs.Fronts.{first_holds, second_holds}
 use Rattle.std.proofs.lemmas.Bool.Decides.{Decides-eqb}
 use Rattle.society_core.specs.Book.{Book, body_at, front, is_there, transmissions_to, with_transmission}
@@ -133,10 +134,13 @@ module _ (b : Book) (s : List ℕ) (n : ℕ) (body : List ℕ) (free : body_at b
     pub works_after : (o : Office) (t : List ℕ) → works_to o after t ≡ works_to o b t
     works_after o t =
         ap (λ (k : ℕ). works_in (judged_of (placed_line (line_of o (transmissions_to after t k))))) (front_after t)
-        ∙ ap (λ (ts : List NumberedTransmission). works_in (judged_of (placed_line (line_of o ts)))) (transmissions_alike after b t (front b t) (λ k some within. alike_after t k some within))
+        ∙ ap (λ (ts : List NumberedTransmission). works_in (judged_of (placed_line (line_of o ts)))) (transmissions_alike after b t (front b t) (λ k one. alike_after t k (one_of_first (front b t) k one) (one_of_within (front b t) k one)))
 
   pub pays_after : PaysAlike b after
   pays_after = record {
-    sent = λ t k within. transmissions_alike b after t k (λ j some le. sym (alike_after t j some (omega arith)));
+    sent = λ t k is. transmissions_alike b after t k (λ j one.
+        let up_to = one_of_within (front b t) k is in
+        let below = one_of_within k j one in
+        sym (alike_after t j (one_of_first k j one) (omega (arith, up_to, below))));
     returned = λ key there. refl;
   }

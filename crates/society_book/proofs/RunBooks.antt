@@ -10,6 +10,7 @@ use Rattle.sqlite_value.specs.Order.{Row}
 use Rattle.society_core.proofs.Books.{added_keeps, some_body}
 use Rattle.society_core.proofs.Fronts.{all_stay, all_there, all_to_next, front_only, second_holds}
 use Rattle.society_core.proofs.Gaps.{transmissions_alike}
+use Rattle.society_core.proofs.LineNumbers.{one_of_first, one_of_within}
 use Rattle.society_core.specs.Book.{Book, body_at, front, has_all, is_entry, is_there, with_transmission}
 use Rattle.society_core.specs.Keys.{transmission_key}
 use Rattle.society_core.specs.Orders.{same_transmission_key}
@@ -146,7 +147,7 @@ module _ (o : Office) (b : Book) (s : List ℕ) (n : ℕ) (body : List ℕ) (fre
   module _ (notes : List Notes) (goes : GoesOnBy o b s n body notes) where
     -- up to the front that was reached the line is the same
     same_line : line_at_front o b s ≡ placed_line (line_to o next s (front b s))
-    same_line = ap (λ (ts : List _). placed_line (line_of o ts)) (sym (transmissions_alike next b s (front b s) (λ k some within. alike_after b s n body free s k some within)))
+    same_line = ap (λ (ts : List _). placed_line (line_of o ts)) (sym (transmissions_alike next b s (front b s) (λ k one. alike_after b s n body free s k (one_of_first (front b s) k one) (one_of_within (front b s) k one))))
 
     -- behind the run stands the line up to the front that is then reached
     new_line : behind_run (line_at_front o b s) (front b s + 1) notes ≡ line_at_front o next s

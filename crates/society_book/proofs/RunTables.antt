@@ -16,6 +16,7 @@ use Rattle.sqlite_value.specs.Order.{Row}
 use Rattle.society_core.proofs.Books.{sound_with}
 use Rattle.society_core.proofs.Fronts.{all_stay, all_there, front_gap, front_only}
 use Rattle.society_core.proofs.Gaps.{transmissions_alike}
+use Rattle.society_core.proofs.LineNumbers.{one_of_first, one_of_within}
 use Rattle.society_core.specs.Book.{Book, body_at, front, is_entry, is_there, transmissions_to, verdicts_in, with_transmission}
 use Rattle.society_core.specs.Keys.{ascending, bytes_cmp, transmission_key}
 use Rattle.society_core.specs.Orders.{same_transmission_key}
@@ -166,7 +167,7 @@ module _ (o : Office) (b : Book) (s : List ℕ) (n : ℕ) (body : List ℕ) (fre
   works_stay : (t : List ℕ) → bytes_eq s t ≡ false → works_to o next t ≡ works_to o b t
   works_stay t other =
       ap (λ (k : ℕ). works_in (judged_of (placed_line (line_of o (transmissions_to next t k))))) (front_stays t other)
-      ∙ ap (λ (ts : List NumberedTransmission). works_in (judged_of (placed_line (line_of o ts)))) (transmissions_alike next b t (front b t) (λ k some within. alike_after b s n body free t k some within))
+      ∙ ap (λ (ts : List NumberedTransmission). works_in (judged_of (placed_line (line_of o ts)))) (transmissions_alike next b t (front b t) (λ k one. alike_after b s n body free t k (one_of_first (front b t) k one) (one_of_within (front b t) k one)))
 
   fronts_run : (t : List ℕ) → front_rows o next t ≡ cond (bytes_eq s t) (front_row o next s ∷ []) (front_rows o b t)
   fronts_run t = ap (λ x. cond x (front_row o next t ∷ []) []) (sent_after b s n body free t) ∙ by_case (bytes_eq s t) refl
