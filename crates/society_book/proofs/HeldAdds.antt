@@ -1,5 +1,5 @@
 -- A book to which a transmission has come, and the front of its sender where it is held.
-use Rattle.std.proofs.Common.{◌≡◌, ◌∙◌, ◌≤◌, ◌+◌, ◌||◌, ◌==◌, ℕ, Bool, true, false, cond, List, [], ◌∷◌, Some, None, is_some, refl, ap, ap₂, sym, subst, arith, bytes_eq, ◌⊎◌, ⊎_elim, inl, inr}
+use Rattle.std.proofs.Common.{◌≡◌, ◌∙◌, ◌+◌, ◌||◌, ◌==◌, ℕ, Bool, true, false, cond, List, [], ◌∷◌, Some, None, is_some, refl, ap, ap₂, sym, subst, bytes_eq, ◌⊎◌, ⊎_elim, inl, inr}
 use Rattle.std.specs.FinMap as finite
 use Rattle.std.specs.List.{list_any}
 use Rattle.std.specs.Ordering.{eq_by_cmp}
