@@ -52,7 +52,7 @@ fn numbers_past(
     sender: &SenderKey,
     front: u32,
 ) -> Result<Vec<TransmissionNumber>, AllocError>
-    ensures numbers { IfOk result (λ numbers. numbers.items ≡ map (λ key. key.number) (filter (λ key. bytes_eq key.sender sender.now && not (is_one_of (numbers_to front) key.number)) (keys entries.now))) }
+    ensures numbers { IfOk result (λ numbers. numbers.items ≡ map (λ k. k.number) (filter (λ k. bytes_eq k.sender sender.now && not (is_one_of (numbers_to front) k.number)) (keys entries.now))) }
     ensures ordered { IsStrictlySortedBy transmission_cmp (keys entries.now) }
 {
     entries
