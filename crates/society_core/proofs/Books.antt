@@ -10,12 +10,13 @@ use Rattle.cwr_files.specs.FileFault.{file_fault}
 use Rattle.cwr_files.specs.declared.fault.FileFault.{FileFault}
 use Rattle.work_ids.specs.Numbers.{is_pool_number, is_transmission_number}
 use Rattle.work_ids.specs.SenderKey.{is_sender_key}
-use Rattle.society_core.specs.Book.{Book, IsSound, body_at, empty_book, front, is_entry, is_pool_entry, is_return_entry, is_there, order_at, return_at, with_pool, with_return, with_transmission}
+use Rattle.society_core.specs.Book.{Book, IsSound, body_at, empty_book, front, is_applied, is_entry, is_pool_entry, is_return_entry, is_there, order_at, return_at, with_pool, with_return, with_transmission}
 use Rattle.society_core.specs.Keys.{return_cmp, transmission_key, transmission_cmp}
 use Rattle.society_core.specs.Orders.{IsOrder, Order, names_return}
 use Rattle.society_core.specs.declared.return_key.ReturnKey.{ReturnKey}
 use Rattle.society_core.specs.declared.transmission_key.TransmissionKey.{TransmissionKey}
 use Rattle.society_core.proofs.Fronts.{all_there, both_hold, first_holds, front_grows, front_only, second_holds, there_at}
+use Rattle.society_core.proofs.LineNumbers.{longer_line}
 use Rattle.society_core.proofs.Inserts.{inserted_from, inserted_keeps}
 use Rattle.society_core.proofs.KeyOrders.{exact_numbers, exact_returns, exact_transmissions, returns_total, transmissions_total}
 
@@ -57,9 +58,6 @@ front_kept b s n body free t = front_grows b (with_transmission b s n body) t (�
     let found = some_body (body_at b t k) there in
     ap is_some (added_keeps b s n body free t k found.0 found.1))
 
-le_more : (n f g : ℕ) → f ≤ g → nat_le n f ≡ true → nat_le n g ≡ true
-le_more n f g more h = grind (arith, nat_tests)
-
 -- the three tests of an entry
 three_hold : (a b c d : Bool) → (a && b && c) ≡ true → (b ≡ true → d ≡ true) → (a && d && c) ≡ true
 three_hold true true true d h more = ap (λ x. true && x && true) (more refl) ∙ refl
@@ -75,10 +73,11 @@ last_of_three false b c d h more = absurd (false≢true h)
 -- an order stands in a book to which a transmission has come
 entry_stays : (b : Book) (s : List ℕ) (n : ℕ) (body : List ℕ) → body_at b s n ≡ None → (pool : ℕ) (order : Order) → is_pool_entry b pool order ≡ true → is_pool_entry (with_transmission b s n body) pool order ≡ true
 entry_stays b s n body free pool order h =
-    three_hold (is_pool_number pool) (list_all (λ key. nat_le key.number (front b key.sender)) order.cut) (list_all (λ key. is_some (return_at b key)) order.returns)
-    (list_all (λ key. nat_le key.number (front (with_transmission b s n body) key.sender)) order.cut) h
-    (all_more (λ (key : TransmissionKey). nat_le key.number (front b key.sender)) (λ (key : TransmissionKey). nat_le key.number (front (with_transmission b s n body) key.sender)) order.cut
-    (λ key. le_more key.number (front b key.sender) (front (with_transmission b s n body) key.sender) (front_kept b s n body free key.sender)))
+    let next = with_transmission b s n body in
+    three_hold (is_pool_number pool) (list_all (is_applied b) order.cut) (list_all (λ key. is_some (return_at b key)) order.returns)
+    (list_all (is_applied next) order.cut) h
+    (all_more (is_applied b) (is_applied next) order.cut
+    (λ key. longer_line (front b key.sender) (front next key.sender) key.number (front_kept b s n body free key.sender)))
 
 -- a sound book is sound with one transmission more
 pub sound_with : (b : Book) (s : List ℕ) (n : ℕ) (body : List ℕ) → IsSound b → body_at b s n ≡ None → is_entry s n body ≡ true → IsSound (with_transmission b s n body)
@@ -108,7 +107,7 @@ sound_with_return b key body sound free entry = record {
       (λ (before : return_at b other ≡ Some found). sound.returns other found before)
       (inserted_from returns_total exact_returns b.returns key body other found there);
   pools = λ pool order there.
-      last_of_three (is_pool_number pool) (list_all (λ k. nat_le k.number (front b k.sender)) order.cut) (list_all (λ k. is_some (return_at b k)) order.returns)
+      last_of_three (is_pool_number pool) (list_all (is_applied b) order.cut) (list_all (λ k. is_some (return_at b k)) order.returns)
       (list_all (λ k. is_some (return_at (with_return b key body) k)) order.returns) (sound.pools pool order there)
       (all_more (λ (k : ReturnKey). is_some (return_at b k)) (λ (k : ReturnKey). is_some (return_at (with_return b key body) k)) order.returns
       (λ k is. let found = some_body (return_at b k) is in ap is_some (inserted_keeps returns_total exact_returns b.returns key body k found.0 free found.1)));

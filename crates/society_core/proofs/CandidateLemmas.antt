@@ -1,5 +1,5 @@
 -- What candidates stand for: one recording more, one transaction more, one transmission more.
-use Rattle.std.proofs.Common.{◌≡◌, ◌≢◌, ◌==◌, ⊎_elim, ℕ, zero, suc, ◌+◌, ◌<◌, ◌≤◌, Bool, true, false, ◌||◌, ◌&&◌, nat_le, cond, not, List, [], ◌∷◌, ◌++◌, length, map, flat_map, None, Result, Ok, Err, OnOk, slice_get, refl, ap, sym, subst, ◌∙◌, arith, append_assoc, append-nil, get_or, unwrap_or}
+use Rattle.std.proofs.Common.{◌≡◌, ◌≢◌, ◌==◌, ⊎_elim, ℕ, zero, suc, ◌+◌, ◌<◌, ◌≤◌, Bool, true, false, ◌||◌, ◌&&◌, cond, not, List, [], ◌∷◌, ◌++◌, length, map, flat_map, None, Result, Ok, Err, OnOk, slice_get, refl, ap, sym, subst, ◌∙◌, arith, append_assoc, append-nil, get_or, unwrap_or}
 use Rattle.std.proofs.lemmas.List.{map-append, length-map}
 use Rattle.std.specs.Ordering.{eq_by_cmp}
 use Rattle.std.proofs.lemmas.Bool.{false≢true}
@@ -10,7 +10,7 @@ use Rattle.works_core.specs.Verdicts.{behind, verdicts_from}
 use Rattle.works_core.specs.declared.judged.Judged.{Judged}
 use Rattle.society_core.specs.Keys.{bytes_cmp}
 use Rattle.std.specs.List.{AllByRecursion, enumerate_from, filter, list_all, list_any}
-use Rattle.std.proofs.lemmas.Bool.Decides.{eqb_tells, nat_tests}
+use Rattle.std.proofs.lemmas.Bool.Decides.{eqb_tells}
 use Rattle.std.specs.Str.{bytes_eq}
 use Rattle.std.proofs.lemmas.List.Elements.{filter-append}
 use Rattle.std.proofs.lemmas.List.Folds.{list_any-append}
@@ -22,10 +22,11 @@ use Rattle.cwr_files.specs.declared.transmission.Transaction.{Transaction}
 use Rattle.cwr_files.specs.declared.transmission.Transmission.{Transmission}
 use Rattle.share_rules.specs.declared.holder.Holder.{Holder}
 use Rattle.share_rules.specs.declared.office.Office.{Office}
-use Rattle.society_core.specs.Book.{Book, body_at, front, transmissions_to}
+use Rattle.society_core.specs.Book.{Book, body_at, is_applied, is_one_of, numbers_to, sent_under, transmissions_to}
 use Rattle.society_core.specs.Candidates.{Adds, ListsOnce, ReachesCut, StandFor, candidate_with, holders_among, holders_naming, is_version_by, transactions_sent, work_where}
 use Rattle.society_core.specs.Claims.{is_candidate_for}
-use Rattle.society_core.proofs.Lines.{judged_under, line_has, line_push, line_to}
+use Rattle.society_core.proofs.LineNumbers.{one_of_first, one_of_within}
+use Rattle.society_core.proofs.Lines.{judged_under, line_has, line_push, line_to, sent_push}
 use Rattle.society_core.specs.Orders.{Order}
 use Rattle.society_core.specs.Owners.{CutWork, cut_work, is_version_at, names_recording, versions_at_cut, versions_of_transmission}
 use Rattle.society_core.specs.declared.claim_list.Candidate.{Candidate}
@@ -188,9 +189,10 @@ versions_to office book key n =
 pub versions_to_next : (office : Office) (book : Book) (key : TransmissionKey) (n : ℕ) →
     versions_to office book key (suc n) ≡ versions_to office book key n ++ versions_of_transmission office book key (suc n) (transactions_sent book key.sender (suc n))
 versions_to_next office book key n =
-    let last : NumberedTransmission = (suc n, transmission_in (unwrap_or (body_at book key.sender (suc n)) [])) in
+    let last = sent_under book key.sender (suc n) in
     let f = λ (sent : NumberedTransmission). versions_of_transmission office book key sent.0 (transactions_of sent.1) in
-    flat_map-append f (transmissions_to book key.sender n) (last ∷ [])
+    ap (flat_map f) (sent_push office book key.sender n)
+    ∙ flat_map-append f (transmissions_to book key.sender n) (last ∷ [])
     ∙ ap (λ (ws : List CutWork). versions_to office book key n ++ ws) (append-nil (f last))
 
 -- one sender more
@@ -237,6 +239,9 @@ pub verdicts_are_counted : (office : Office) (book : Book) (sender : List ℕ) (
 unfolding verdicts_at
 verdicts_are_counted office book sender n k some within =
     counted_behind [] k (length (transactions_sent book sender k)) (line_to office book sender n) (counted_line office book sender k n) (line_has office book sender n k some within)
+
+pub verdicts_counted_in : (office : Office) (book : Book) (sender : List ℕ) (n k : ℕ) → is_one_of (numbers_to n) k ≡ true → length (verdicts_at (line_of office (transmissions_to book sender n)) k) ≡ length (transactions_sent book sender k)
+verdicts_counted_in office book sender n k is = verdicts_are_counted office book sender n k (one_of_first n k is) (one_of_within n k is)
 
 -- one key more in a set of those that were named
 pub seen_more : (x i : List ℕ) (named : List (List ℕ)) (had : Bool) → had ≡ is_among x named → cond (eq_by_cmp bytes_cmp i x) true had ≡ is_among x (named ++ i ∷ [])
@@ -291,11 +296,7 @@ all_at p [] i d e h = absurd (omega arith)
 all_at p (x ∷ xs) zero d e h = (both (p x) (list_all p xs) e).0
 all_at p (x ∷ xs) (suc i) d e h = all_at p xs i d (both (p x) (list_all p xs) e).1 (omega arith)
 
-pub at_most : (a b : ℕ) → nat_le a b ≡ true → a ≤ b
-at_most a b e = grind (arith, nat_tests)
-
--- the cut of an order is reached at each of its senders
-pub reached_at : (book : Book) (order : Order) (keys : List TransmissionKey) (i : ℕ) (key : TransmissionKey) → ReachesCut book order → keys ≡ order.cut → key ≡ get_or keys i key → i < length keys → key.number ≤ front book key.sender
+-- each number of an order's cut is in its sender's line
+pub reached_at : (book : Book) (order : Order) (keys : List TransmissionKey) (i : ℕ) (key : TransmissionKey) → ReachesCut book order → keys ≡ order.cut → key ≡ get_or keys i key → i < length keys → is_applied book key ≡ true
 reached_at book order keys i key reached same is h =
-    let all : list_all (λ (k : TransmissionKey). nat_le k.number (front book k.sender)) keys ≡ true = ap (list_all (λ (k : TransmissionKey). nat_le k.number (front book k.sender))) same ∙ reached in
-    at_most key.number (front book key.sender) (ap (λ (k : TransmissionKey). nat_le k.number (front book k.sender)) is ∙ all_at (λ (k : TransmissionKey). nat_le k.number (front book k.sender)) keys i key all h)
+    ap (is_applied book) is ∙ all_at (is_applied book) keys i key (ap (list_all (is_applied book)) same ∙ reached) h

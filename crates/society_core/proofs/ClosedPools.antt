@@ -1,7 +1,6 @@
 -- The credits of a closed pool are the same in every book that keeps what was there.
-use Rattle.std.proofs.Common.{◌≡◌, ◌≤◌, ◌&&◌, ◌++◌, ℕ, Bool, true, cond, List, [], ◌∷◌, Option, Some, Result, Ok, Err, is_some, nat_le, map, option_map, unwrap_or, refl, ap, sym, ◌∙◌, arith}
+use Rattle.std.proofs.Common.{◌≡◌, ◌&&◌, ◌++◌, ℕ, Bool, true, cond, List, [], ◌∷◌, Option, Some, Result, Ok, Err, is_some, map, option_map, unwrap_or, refl, ap, sym, ◌∙◌}
 use Rattle.std.specs.List.{enumerate_from, filter, flat_map, list_all}
-use Rattle.std.proofs.lemmas.Bool.Decides.{nat_tests}
 use Rattle.cwr_files.specs.Contents.{transactions_of}
 use Rattle.cwr_files.specs.Transaction.{number_of_work}
 use Rattle.cwr_files.specs.declared.transmission.Transaction.{Transaction}
@@ -16,7 +15,7 @@ use Rattle.work_ids.specs.declared.fault.IdFault.{IdFault}
 use Rattle.works_core.specs.Line.{NumberedTransmission, line_of}
 use Rattle.works_core.specs.Versions.{work_at}
 use Rattle.society_core.specs.Answers.{answer, credits_answer}
-use Rattle.society_core.specs.Book.{Book, IsSound, body_at, front, is_pool_entry, order_at, return_at, transmissions_to}
+use Rattle.society_core.specs.Book.{Book, IsSound, body_at, front, is_applied, is_in_line, is_pool_entry, order_at, return_at, transmissions_to}
 use Rattle.society_core.specs.Entries as entries
 use Rattle.society_core.specs.Entries.{Entry, IsIn}
 use Rattle.society_core.specs.Orders.{Order}
@@ -27,10 +26,11 @@ use Rattle.society_core.specs.Requests.{AsksCredits, Credited, Query, Reply}
 use Rattle.society_core.specs.Runs.{Run}
 use Rattle.society_core.specs.declared.return_key.ReturnKey.{ReturnKey}
 use Rattle.society_core.specs.declared.transmission_key.TransmissionKey.{TransmissionKey}
-use Rattle.society_core.proofs.Books.{some_body, there_to_front}
+use Rattle.society_core.proofs.Books.{some_body}
 use Rattle.society_core.proofs.Fronts.{first_holds, second_holds}
 use Rattle.society_core.proofs.Gaps.{transmissions_alike}
 use Rattle.society_core.proofs.HeadlineLemmas.{run_keeps}
+use Rattle.society_core.proofs.LineNumbers.{longer_line, one_of_within, there_in_line}
 use Rattle.share_rules.specs.declared.kind.Kind.TheVariants.{Performing}
 
 filter_alike : {X : Type 0} (p q : X → Bool) (xs : List X) → ((x : X) → p x ≡ q x) → filter p xs ≡ filter q xs
@@ -62,9 +62,9 @@ versions_same o a b key same =
     (filter_alike (λ (placed : ℕ × Transaction). is_version_at o a key sent.0 placed.0 (number_of_work placed.1)) (λ (placed : ℕ × Transaction). is_version_at o b key sent.0 placed.0 (number_of_work placed.1)) (enumerate_from 0 (transactions_of sent.1))
     (λ placed. version_same o a b key sent.0 placed.0 (number_of_work placed.1) same)))
 
--- two books show the same to the cuts and the returns of the first: its senders' transmissions up to their fronts, and its returns
+-- two books show the same to the cuts and the returns of the first: its senders' transmissions up to each number of their lines, and its returns
 pub record PaysAlike (a b : Book) : Type 0 where
-  pub sent : (s : List ℕ) (n : ℕ) → n ≤ front a s → transmissions_to a s n ≡ transmissions_to b s n
+  pub sent : (s : List ℕ) (n : ℕ) → is_in_line a s n ≡ true → transmissions_to a s n ≡ transmissions_to b s n
   pub returned : (key : ReturnKey) → is_some (return_at a key) ≡ true → return_at a key ≡ return_at b key
 
 -- what a book has stays in another
@@ -74,20 +74,17 @@ pub record Keeps (a b : Book) : Type 0 where
 -- a book that keeps what another has pays alike
 pub kept_pays : (a b : Book) → Keeps a b → PaysAlike a b
 kept_pays a b keeps = record {
-  sent = λ s n within. transmissions_alike a b s n (λ k some le.
-      let found = some_body (body_at a s k) (there_to_front a s k some (omega arith)) in
+  sent = λ s n is. transmissions_alike a b s n (λ k one.
+      let in_it = longer_line n (front a s) k (one_of_within (front a s) n is) one in
+      let found = some_body (body_at a s k) (there_in_line a s k in_it) in
       found.1 ∙ sym (keeps.kept (entries.Transmission s k found.0) found.1));
   returned = λ key is. let found = some_body (return_at a key) is in found.1 ∙ sym (keeps.kept (entries.Return key found.0) found.1);
 }
 
-cut_within : (n f : ℕ) → nat_le n f ≡ true → n ≤ f
-cut_within n f h = grind (arith, nat_tests)
-
 -- the cut shows the same works
-works_same : (o : Office) (a b : Book) (order : Order) → PaysAlike a b → list_all (λ key. nat_le key.number (front a key.sender)) order.cut ≡ true → works_of_cut o a order ≡ works_of_cut o b order
-works_same o a b order alike within =
-    flat_map_where (λ (key : TransmissionKey). nat_le key.number (front a key.sender)) (versions_at_cut o a) (versions_at_cut o b) order.cut within
-    (λ key le. versions_same o a b key (alike.sent key.sender key.number (cut_within key.number (front a key.sender) le)))
+works_same : (o : Office) (a b : Book) (order : Order) → PaysAlike a b → list_all (is_applied a) order.cut ≡ true → works_of_cut o a order ≡ works_of_cut o b order
+works_same o a b order alike applied =
+    flat_map_where (is_applied a) (versions_at_cut o a) (versions_at_cut o b) order.cut applied (λ key is. versions_same o a b key (alike.sent key.sender key.number is))
 
 -- the returns have the same rows
 rows_same : (a b : Book) (order : Order) → PaysAlike a b → list_all (λ key. is_some (return_at a key)) order.returns ≡ true → rows_named a order ≡ rows_named b order
@@ -99,7 +96,7 @@ rows_same a b order alike there =
 pub credits_same : (o : Office) (a b : Book) (pool : ℕ) (order : Order) → PaysAlike a b → is_pool_entry a pool order ≡ true → credits_of o a order ≡ credits_of o b order
 unfolding credits_of
 credits_same o a b pool order alike entry =
-    let cut = list_all (λ (key : TransmissionKey). nat_le key.number (front a key.sender)) order.cut in
+    let cut = list_all (is_applied a) order.cut in
     let returns = list_all (λ (key : ReturnKey). is_some (return_at a key)) order.returns in
     let both = first_holds (is_pool_number pool && cut) returns entry in
     let works = works_same o a b order alike (second_holds (is_pool_number pool) cut both) in

@@ -1,11 +1,11 @@
 -- What holds of an order that nothing refuses.
-use Rattle.std.proofs.Common.{◌≡◌, ◌+◌, ◌<◌, ◌&&◌, ◌||◌, ℕ, suc, add-one, drop, drop-cons, get_or, length, Bool, true, false, cond, List, [], ◌∷◌, Option, Some, None, is_some, nat_le, refl, ap, sym, subst, ◌∙◌, ⊎_elim}
+use Rattle.std.proofs.Common.{◌≡◌, ◌+◌, ◌<◌, ◌&&◌, ◌||◌, ℕ, suc, add-one, drop, drop-cons, get_or, length, Bool, true, false, cond, List, [], ◌∷◌, Option, Some, None, is_some, refl, ap, sym, subst, ◌∙◌, ⊎_elim}
 use Rattle.std.specs.FinMap as finite
 use Rattle.std.specs.List.{find, list_all, list_any}
 use Rattle.std.specs.Ordering.{eq_by_cmp, nat_cmp}
 use Rattle.std.proofs.lemmas.Bool.{cases_Bool, false≢true}
 use Rattle.society_core.specs.Answers.{close_refusal, cut_refusal, first_of, first_refusal, payer, payment_by, payment_refusal, pool_of, return_refusal}
-use Rattle.society_core.specs.Book.{Book, front, is_pool_entry, order_at, return_at}
+use Rattle.society_core.specs.Book.{Book, front, is_applied, is_pool_entry, order_at, return_at}
 use Rattle.society_core.specs.Orders.{Order, names_return, same_return_key}
 use Rattle.society_core.specs.declared.refusal.Refusal.{Refusal}
 use Rattle.society_core.specs.declared.refusal.Refusal.TheVariants as refusals
@@ -33,14 +33,14 @@ none_refused f test [] passes e = refl
 none_refused f test (x ∷ xs) passes e =
     both_hold (test x) (list_all test xs) (passes x (first_none (f x) (first_refusal f xs) e)) (none_refused f test xs passes (second_none (f x) (first_refusal f xs) e))
 
-cut_passes : (b : Book) (key : TransmissionKey) → cut_refusal b key ≡ None → nat_le key.number (front b key.sender) ≡ true
+cut_passes : (b : Book) (key : TransmissionKey) → cut_refusal b key ≡ None → is_applied b key ≡ true
 cut_passes b key e =
     ⊎_elim
-    (λ (yes : nat_le key.number (front b key.sender) ≡ true). yes)
-    (λ (no : nat_le key.number (front b key.sender) ≡ false).
+    (λ (yes : is_applied b key ≡ true). yes)
+    (λ (no : is_applied b key ≡ false).
     absurd (some_none (refusals.Cut key.sender (front b key.sender))
     (sym (ap (λ (t : Bool). cond t None (Some (refusals.Cut key.sender (front b key.sender)))) no) ∙ e)))
-    (cases_Bool (nat_le key.number (front b key.sender)))
+    (cases_Bool (is_applied b key))
 
 return_passes : (b : Book) (key : ReturnKey) → return_refusal b key ≡ None → is_some (return_at b key) ≡ true
 return_passes b key e = passes (return_at b key) (payer b key) e
@@ -60,9 +60,9 @@ unpaid_passes b key e = passes (return_at b key) (payer b key) e
 -- an order that nothing refuses may stand in the book
 pub entry_of_close : (b : Book) (pool : ℕ) (order : Order) → is_pool_number pool ≡ true → close_refusal b order ≡ None → is_pool_entry b pool order ≡ true
 entry_of_close b pool order number e =
-    both_hold (is_pool_number pool && list_all (λ key. nat_le key.number (front b key.sender)) order.cut) (list_all (λ key. is_some (return_at b key)) order.returns)
-    (both_hold (is_pool_number pool) (list_all (λ key. nat_le key.number (front b key.sender)) order.cut) number
-    (none_refused (cut_refusal b) (λ (key : TransmissionKey). nat_le key.number (front b key.sender)) order.cut (cut_passes b) (first_none (first_refusal (cut_refusal b) order.cut) (first_refusal (return_refusal b) order.returns) e)))
+    both_hold (is_pool_number pool && list_all (is_applied b) order.cut) (list_all (λ key. is_some (return_at b key)) order.returns)
+    (both_hold (is_pool_number pool) (list_all (is_applied b) order.cut) number
+    (none_refused (cut_refusal b) (is_applied b) order.cut (cut_passes b) (first_none (first_refusal (cut_refusal b) order.cut) (first_refusal (return_refusal b) order.returns) e)))
     (none_refused (return_refusal b) (λ (key : ReturnKey). is_some (return_at b key)) order.returns (return_passes b) (second_none (first_refusal (cut_refusal b) order.cut) (first_refusal (return_refusal b) order.returns) e))
 
 -- an element that gives rise to no refusal is passed over
@@ -79,13 +79,13 @@ due_here f xs i x r within is due =
     let at : drop i xs ≡ x ∷ drop (suc i) xs = rw (drop-cons xs i x) (ap (λ z. z ∷ drop (suc i) xs) (sym is)) in
     ap (first_refusal f) at ∙ ap (λ (o : Option Refusal). first_of o (first_refusal f (drop (suc i) xs))) due
 
--- a cut at most the front is not refused
-pub cut_free : (b : Book) (key : TransmissionKey) → nat_le key.number (front b key.sender) ≡ true → cut_refusal b key ≡ None
-cut_free b key below = ap (λ (t : Bool). cond t None (Some (refusals.Cut key.sender (front b key.sender)))) below
+-- a cut that is in its sender's line is not refused
+pub cut_free : (b : Book) (key : TransmissionKey) → is_applied b key ≡ true → cut_refusal b key ≡ None
+cut_free b key is = ap (λ (t : Bool). cond t None (Some (refusals.Cut key.sender (front b key.sender)))) is
 
--- a cut above the front is
-pub cut_due : (b : Book) (key : TransmissionKey) → nat_le key.number (front b key.sender) ≡ false → cut_refusal b key ≡ Some (refusals.Cut key.sender (front b key.sender))
-cut_due b key above = ap (λ (t : Bool). cond t None (Some (refusals.Cut key.sender (front b key.sender)))) above
+-- a cut that is not is refused
+pub cut_due : (b : Book) (key : TransmissionKey) → is_applied b key ≡ false → cut_refusal b key ≡ Some (refusals.Cut key.sender (front b key.sender))
+cut_due b key is = ap (λ (t : Bool). cond t None (Some (refusals.Cut key.sender (front b key.sender)))) is
 
 -- no entry passes a test that none is found by
 not_found : {X : Type 0} (test : X → Bool) (es : List (ℕ × X)) (q : ℕ) (x : X) → find (λ (e : ℕ × X). test e.1) es ≡ None → finite.find nat_cmp q es ≡ Some x → test x ≡ false

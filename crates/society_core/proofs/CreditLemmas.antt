@@ -1,6 +1,6 @@
 -- A version of a work is a clean transaction, so that its weights can be paid.
 use Rattle.std.proofs.Common.{◌≡◌, ℕ, zero, suc, ◌+◌, ◌<◌, ◌≤◌, Bool, true, false, ◌&&◌, cond, List, [], ◌∷◌, length, map, get_or, Option, Some, None, refl, ap, sym, subst, ◌∙◌, arith}
-use Rattle.std.proofs.Common.{◌==◌, All, is_some, nat_le, Result, Ok, Err, is_none, option_map, slice_get, unwrap_or, flat_map}
+use Rattle.std.proofs.Common.{◌==◌, All, is_some, Result, Ok, Err, is_none, option_map, slice_get, unwrap_or, flat_map}
 use Rattle.std.specs.Cmp.{unsigned_Decides}
 use Rattle.std.specs.List.{AllByRecursion, enumerate_from, filter, list_all}
 use Rattle.std.proofs.lemmas.List.Elements.{All-map}
@@ -21,7 +21,7 @@ use Rattle.work_ids.specs.declared.fault.IdFault.{IdFault}
 use Rattle.works_core.specs.Line.{filled_number, judged, judged_by, judged_in}
 use Rattle.works_core.specs.Numbered.{JudgedTransmission}
 use Rattle.works_core.proofs.KeptLemmas.{placed_push}
-use Rattle.society_core.specs.Book.{Book, IsSound, body_at, front, is_reporter, order_at, return_at}
+use Rattle.society_core.specs.Book.{Book, IsSound, body_at, is_applied, is_reporter, order_at, return_at}
 use Rattle.society_core.specs.Candidates.{HasReturns, ReachesCut, StandFor, transactions_sent}
 use Rattle.society_core.specs.Claims.{claims_among, is_candidate_for}
 use Rattle.society_core.specs.Orders.{Order}
@@ -221,13 +221,13 @@ claims_payable office book order ps h = All-map IsPayable (claim_of office book 
 -- what stands in a sound book of an order
 pub order_has_returns : (book : Book) (pool : ℕ) (order : Order) → IsSound book → order_at book pool ≡ Some order → HasReturns book order
 order_has_returns book pool order sound there =
-    let cuts = list_all (λ (key : TransmissionKey). nat_le key.number (front book key.sender)) order.cut in
+    let cuts = list_all (is_applied book) order.cut in
     let returns = list_all (λ (key : ReturnKey). is_some (return_at book key)) order.returns in
     (both (is_pool_number pool && cuts) returns (sound.pools pool order there)).1
 
 pub order_reaches_cut : (book : Book) (pool : ℕ) (order : Order) → IsSound book → order_at book pool ≡ Some order → ReachesCut book order
 order_reaches_cut book pool order sound there =
-    let cuts = list_all (λ (key : TransmissionKey). nat_le key.number (front book key.sender)) order.cut in
+    let cuts = list_all (is_applied book) order.cut in
     let returns = list_all (λ (key : ReturnKey). is_some (return_at book key)) order.returns in
     (both (is_pool_number pool) cuts (both (is_pool_number pool && cuts) returns (sound.pools pool order there)).0).1
 

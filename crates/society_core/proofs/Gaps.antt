@@ -1,5 +1,5 @@
 -- What stands behind a sender's first gap counts nowhere.
-use Rattle.std.proofs.Common.{◌≡◌, ℕ, zero, suc, ◌+◌, ◌≤◌, ◌&&◌, Bool, true, false, cond, List, [], ◌∷◌, ◌++◌, Option, Some, None, nat_le, option_map, unwrap_or, refl, ap, sym, subst, ◌∙◌, arith, ⊎_elim}
+use Rattle.std.proofs.Common.{◌≡◌, ℕ, ◌+◌, ◌≤◌, Bool, true, false, cond, List, [], ◌∷◌, Option, Some, None, map, nat_le, option_map, unwrap_or, refl, ap, sym, subst, ◌∙◌, arith, ⊎_elim}
 use Rattle.std.specs.List.{AllByRecursion, slice_get}
 use Rattle.std.specs.Option.{option_and_then}
 use Rattle.std.proofs.lemmas.Bool.{cases_Bool}
@@ -13,10 +13,10 @@ use Rattle.works_core.specs.Versions.{Placed, is_version, last_version, placed_a
 use Rattle.works_core.specs.declared.judged.Judged as judgement
 use Rattle.works_core.specs.declared.version.WorkVersion.{WorkVersion}
 use Rattle.society_core.specs.Answers.{answer, judged_answer, shown_ack, shown_by, shown_version, work_answer}
-use Rattle.society_core.specs.Book.{Book, ack, body_at, front, shown_verdicts, transmissions_to, verdicts_in, version_in}
+use Rattle.society_core.specs.Book.{Book, ack, body_at, front, is_in_line, is_one_of, line, numbers_to, sent_under, shown_verdicts, transmissions_to, verdicts_in, version_in}
 use Rattle.society_core.specs.Headline.{AlikeToTheGap}
 use Rattle.society_core.specs.Requests.{AsksAck, AsksVerdicts, AsksWork}
-use Rattle.society_core.proofs.Fronts.{first_holds, second_holds}
+use Rattle.society_core.proofs.LineNumbers.{is_first, is_later, longer_line, one_of_by, one_of_within, same_front}
 use Rattle.society_core.proofs.Lines.{line_rises}
 
 -- transactions of transmissions up to a limit
@@ -64,27 +64,36 @@ pub version_within : (line : List JudgedTransmission) (work : List ℕ) (cut : �
 unfolding work_at
 version_within line work cut v rises e = last_within cut work (placed_line (up_to cut line)) v (all_within cut 0 [] line rises tt) e
 
--- a sender's transmissions up to a number are alike where the bodies are
-pub transmissions_alike : (a b : Book) (s : List ℕ) (n : ℕ) → ((k : ℕ) → 1 ≤ k → k ≤ n → body_at a s k ≡ body_at b s k) → transmissions_to a s n ≡ transmissions_to b s n
-transmissions_alike a b s zero same = refl
-transmissions_alike a b s (suc n) same =
-    ap (λ (ts : List NumberedTransmission). ts ++ (suc n, transmission_in (unwrap_or (body_at a s (suc n)) [])) ∷ []) (transmissions_alike a b s n (λ k some le. same k some (omega arith)))
-    ∙ ap (λ (o : Option (List ℕ)). transmissions_to b s n ++ (suc n, transmission_in (unwrap_or o [])) ∷ []) (same (suc n) (omega arith) (omega arith))
+-- a sender's transmissions under some numbers are alike where the bodies are
+pub alike_over : (a b : Book) (s : List ℕ) (ns : List ℕ) → ((k : ℕ) → is_one_of ns k ≡ true → body_at a s k ≡ body_at b s k) → map (sent_under a s) ns ≡ map (sent_under b s) ns
+alike_over a b s [] same = refl
+alike_over a b s (n ∷ ns) same =
+    ap (λ (o : Option (List ℕ)). (n, transmission_in (unwrap_or o [])) ∷ map (sent_under a s) ns) (same n (is_first n ns))
+    ∙ ap (λ (ts : List NumberedTransmission). sent_under b s n ∷ ts) (alike_over a b s ns (λ k is. same k (is_later n k ns is)))
 
--- the same up to a number that is at most the front
-pub alike_to : (a b : Book) (s : List ℕ) (n : ℕ) → AlikeToTheGap a b s → n ≤ front a s → transmissions_to a s n ≡ transmissions_to b s n
-alike_to a b s n alike le = transmissions_alike a b s n (λ k some within. alike.same_bodies k some (omega arith))
+-- so they are up to a number
+pub transmissions_alike : (a b : Book) (s : List ℕ) (n : ℕ) → ((k : ℕ) → is_one_of (numbers_to n) k ≡ true → body_at a s k ≡ body_at b s k) → transmissions_to a s n ≡ transmissions_to b s n
+transmissions_alike a b s n same = alike_over a b s (numbers_to n) same
+
+-- the same up to a number of the line
+pub alike_to : (a b : Book) (s : List ℕ) (n : ℕ) → AlikeToTheGap a b s → is_in_line a s n ≡ true → transmissions_to a s n ≡ transmissions_to b s n
+alike_to a b s n alike is = transmissions_alike a b s n (λ k one. alike.same_bodies k (longer_line n (front a s) k (one_of_within (front a s) n is) one))
+
+-- and of the whole line
+line_alike : (a b : Book) (s : List ℕ) → AlikeToTheGap a b s → transmissions_to a s (front a s) ≡ transmissions_to b s (front a s)
+line_alike a b s alike = alike_over a b s (line a s) alike.same_bodies
 
 version_alike : (o : Office) (a b : Book) (s work : List ℕ) → AlikeToTheGap a b s → version_in o a s work (front a s) ≡ version_in o b s work (front b s)
 version_alike o a b s work alike =
-    ap (λ (ts : List NumberedTransmission). work_at (line_of o ts) work (front a s)) (alike_to a b s (front a s) alike (omega arith))
-    ∙ ap (λ (n : ℕ). version_in o b s work n) alike.same_front
+    ap (λ (ts : List NumberedTransmission). work_at (line_of o ts) work (front a s)) (line_alike a b s alike)
+    ∙ ap (λ (n : ℕ). version_in o b s work n) (same_front a b s alike.same_line)
 
 shown_alike : (o : Office) (a b : Book) (s work : List ℕ) (v : Option WorkVersion) → AlikeToTheGap a b s → version_in o a s work (front a s) ≡ v → option_and_then (shown_version o a s work) v ≡ option_and_then (shown_version o b s work) v
 shown_alike o a b s work None alike e = refl
 shown_alike o a b s work (Some v) alike e =
     ap (λ (x : Option (List ℕ)). option_map (shown_by o s work v) (slice_get (transactions_of (transmission_in (unwrap_or x []))) v.place))
-    (let place = version_within (line_of o (transmissions_to a s (front a s))) work (front a s) v (line_rises o a s (front a s)) e in alike.same_bodies v.transmission place.0 place.1)
+    (let place = version_within (line_of o (transmissions_to a s (front a s))) work (front a s) v (line_rises o a s (front a s)) e in
+    alike.same_bodies v.transmission (one_of_by (front a s) v.transmission place.0 place.1))
 
 -- what is asked of a work is answered alike
 pub works_alike : (o : Office) (a b : Book) (s work : List ℕ) → AlikeToTheGap a b s → answer o a (AsksWork s work) ≡ answer o b (AsksWork s work)
@@ -93,25 +102,16 @@ works_alike o a b s work alike =
     (shown_alike o a b s work (version_in o a s work (front a s)) alike refl
     ∙ ap (option_and_then (shown_version o b s work)) (version_alike o a b s work alike))
 
--- a test whose number is at most the front
-shown_at : (f : ℕ) (n : ℕ) → (nat_le 1 n && nat_le n f) ≡ true → (1 ≤ n) × (n ≤ f)
-shown_at f n h =
-    let low : nat_le 1 n ≡ true = first_holds (nat_le 1 n) (nat_le n f) h in
-    let high : nat_le n f ≡ true = second_holds (nat_le 1 n) (nat_le n f) h in
-    (grind (arith, nat_tests), grind (arith, nat_tests))
-
-chosen_alike : {X : Type 0} (f n : ℕ) (x y z : X) → (1 ≤ n → n ≤ f → x ≡ y) → cond (nat_le 1 n && nat_le n f) x z ≡ cond (nat_le 1 n && nat_le n f) y z
-chosen_alike f n x y z same =
-    ⊎_elim
-    (λ (yes : (nat_le 1 n && nat_le n f) ≡ true). ap (λ (b : Bool). cond b x z) yes ∙ same (shown_at f n yes).0 (shown_at f n yes).1 ∙ sym (ap (λ (b : Bool). cond b y z) yes))
-    (λ (no : (nat_le 1 n && nat_le n f) ≡ false). ap (λ (b : Bool). cond b x z) no ∙ sym (ap (λ (b : Bool). cond b y z) no))
-    (cases_Bool (nat_le 1 n && nat_le n f))
+-- what is chosen by a test is alike where it is alike for those that pass
+chosen_alike : {X : Type 0} (test : Bool) (x y z : X) → (test ≡ true → x ≡ y) → cond test x z ≡ cond test y z
+chosen_alike true x y z same = same refl
+chosen_alike false x y z same = refl
 
 shown_verdicts_alike : (o : Office) (a b : Book) (s : List ℕ) (n : ℕ) → AlikeToTheGap a b s → shown_verdicts o a s n ≡ shown_verdicts o b s n
 shown_verdicts_alike o a b s n alike =
-    chosen_alike (front a s) n (Some (verdicts_in o a s n)) (Some (verdicts_in o b s n)) None
-    (λ some le. ap (λ (ts : List NumberedTransmission). Some (verdicts_at (line_of o ts) n)) (alike_to a b s n alike le))
-    ∙ ap (λ (f : ℕ). cond (nat_le 1 n && nat_le n f) (Some (verdicts_in o b s n)) None) alike.same_front
+    chosen_alike (is_in_line a s n) (Some (verdicts_in o a s n)) (Some (verdicts_in o b s n)) None
+    (λ is. ap (λ (ts : List NumberedTransmission). Some (verdicts_at (line_of o ts) n)) (alike_to a b s n alike is))
+    ∙ ap (λ (ns : List ℕ). cond (is_one_of ns n) (Some (verdicts_in o b s n)) None) alike.same_line
 
 -- and so are the verdicts of a transmission
 pub verdicts_alike : (o : Office) (a b : Book) (s : List ℕ) (n : ℕ) → AlikeToTheGap a b s → answer o a (AsksVerdicts s n) ≡ answer o b (AsksVerdicts s n)
@@ -120,9 +120,9 @@ verdicts_alike o a b s n alike = ap judged_answer (shown_verdicts_alike o a b s 
 ack_alike : (o : Office) (a b : Book) (s : List ℕ) (n : ℕ) → AlikeToTheGap a b s → ack o a s n ≡ ack o b s n
 ack_alike o a b s n alike =
     let text = λ (body : Option (List ℕ)) (ts : List NumberedTransmission). Some (acknowledgement o s (transmission_in (unwrap_or body [])) (verdicts_at (line_of o ts) n)) in
-    chosen_alike (front a s) n (text (body_at a s n) (transmissions_to a s n)) (text (body_at b s n) (transmissions_to b s n)) None
-    (λ some le. ap (λ (body : Option (List ℕ)). text body (transmissions_to a s n)) (alike.same_bodies n some le) ∙ ap (text (body_at b s n)) (alike_to a b s n alike le))
-    ∙ ap (λ (f : ℕ). cond (nat_le 1 n && nat_le n f) (text (body_at b s n) (transmissions_to b s n)) None) alike.same_front
+    chosen_alike (is_in_line a s n) (text (body_at a s n) (transmissions_to a s n)) (text (body_at b s n) (transmissions_to b s n)) None
+    (λ is. ap (λ (body : Option (List ℕ)). text body (transmissions_to a s n)) (alike.same_bodies n is) ∙ ap (text (body_at b s n)) (alike_to a b s n alike is))
+    ∙ ap (λ (ns : List ℕ). cond (is_one_of ns n) (text (body_at b s n) (transmissions_to b s n)) None) alike.same_line
 
 -- and its acknowledgement
 pub acks_alike : (o : Office) (a b : Book) (s : List ℕ) (n : ℕ) → AlikeToTheGap a b s → answer o a (AsksAck s n) ≡ answer o b (AsksAck s n)

@@ -1,5 +1,5 @@
--- The numbers of held transmissions: those above the front that are there, ascending.
-use Rattle.std.proofs.Common.{◌≡◌, ℕ, ◌==◌, ◌&&◌, ◌||◌, Bool, true, false, cond, List, [], ◌∷◌, bytes_eq, filter, map, nat_lt, refl, ap, sym, ◌∙◌, arith}
+-- The numbers of held transmissions: those that are there and not in the line, ascending.
+use Rattle.std.proofs.Common.{◌≡◌, ◌≤◌, ℕ, ◌==◌, ◌&&◌, ◌||◌, Bool, true, false, cond, List, [], ◌∷◌, Option, Some, None, bytes_eq, filter, is_none, is_some, map, nat_le, nat_lt, not, refl, ap, ap₂, sym, ◌∙◌, arith}
 use Rattle.std.specs.FinMap as finite
 use Rattle.std.specs.List.{AllByRecursion, list_any}
 use Rattle.std.specs.List.Sorted.{IsStrictlySortedBy}
@@ -12,64 +12,63 @@ use Rattle.std.proofs.lemmas.List.Elements.{filter_passes, recursion_from_All}
 use Rattle.std.proofs.lemmas.List.Kept.{IsStrictlySortedBy-filter}
 use Rattle.std.proofs.lemmas.Map.Text.{is_eq-slice_cmp}
 use Rattle.std.proofs.lemmas.Slice.Eq.{bytes_eq-Decides}
-use Rattle.society_core.specs.Book.{Book, front, held, is_there, numbers_of}
+use Rattle.society_core.specs.Book.{Book, IsSound, body_at, front, held, is_in_line, is_one_of, is_there, numbers_of}
 use Rattle.society_core.specs.Keys.{bytes_cmp, transmission_cmp, transmission_key}
 use Rattle.society_core.specs.declared.transmission_key.TransmissionKey.{TransmissionKey}
+use Rattle.cwr_files.specs.FileFault.{file_fault}
+use Rattle.work_ids.specs.Numbers.{is_transmission_number}
+use Rattle.work_ids.specs.SenderKey.{is_sender_key}
 use Rattle.society_core.proofs.Ascending.{keys_ascend}
+use Rattle.society_core.proofs.Fronts.{first_holds, second_holds}
+use Rattle.society_core.proofs.LineNumbers.{one_of_from_one}
 
 -- whether a key is one of a sender's
 abbrev pub is_of : List ℕ → TransmissionKey → Bool
 is_of sender key = bytes_eq key.sender sender
 
--- the numbers of a sender's keys above a number, chosen in one pass or in two
-pub chosen_twice : (s : List ℕ) (f : ℕ) (keys : List TransmissionKey) → map (λ key. key.number) (filter (λ key. bytes_eq key.sender s && nat_lt f key.number) keys) ≡ filter (nat_lt f) (map (λ key. key.number) (filter (is_of s) keys))
-chosen_twice s f [] = refl
-chosen_twice s f (k ∷ keys) =
-    let once = filter (λ (key : TransmissionKey). bytes_eq key.sender s && nat_lt f key.number) keys in
-    let rest = filter (nat_lt f) (map (λ (key : TransmissionKey). key.number) (filter (is_of s) keys)) in
-    first once rest (is_of s k) (nat_lt f k.number) (chosen_twice s f keys) ∙ sym (second (filter (is_of s) keys) (is_of s k))
+-- whether a number is not in a sender's line
+abbrev pub waits : Book → List ℕ → ℕ → Bool
+waits book sender n = not (is_in_line book sender n)
+
+-- the numbers of a sender's keys that pass a test, chosen in one pass or in two
+pub chosen_twice : (s : List ℕ) (passes : ℕ → Bool) (keys : List TransmissionKey) → map (λ key. key.number) (filter (λ key. bytes_eq key.sender s && passes key.number) keys) ≡ filter passes (map (λ key. key.number) (filter (is_of s) keys))
+chosen_twice s passes [] = refl
+chosen_twice s passes (k ∷ keys) =
+    let once = filter (λ (key : TransmissionKey). bytes_eq key.sender s && passes key.number) keys in
+    let rest = filter passes (map (λ (key : TransmissionKey). key.number) (filter (is_of s) keys)) in
+    first once rest (is_of s k) (passes k.number) (chosen_twice s passes keys) ∙ sym (second (filter (is_of s) keys) (is_of s k))
   where
     first : (once : List TransmissionKey) (rest : List ℕ) (a b : Bool) → map (λ key. key.number) once ≡ rest → map (λ key. key.number) (cond (a && b) (k ∷ once) once) ≡ cond a (cond b (k.number ∷ rest) rest) rest
     first once rest true true e = ap (λ (ns : List ℕ). k.number ∷ ns) e
     first once rest true false e = e
     first once rest false b e = e
 
-    second : (mine : List TransmissionKey) (a : Bool) → filter (nat_lt f) (map (λ key. key.number) (cond a (k ∷ mine) mine)) ≡ cond a (cond (nat_lt f k.number) (k.number ∷ filter (nat_lt f) (map (λ key. key.number) mine)) (filter (nat_lt f) (map (λ key. key.number) mine))) (filter (nat_lt f) (map (λ key. key.number) mine))
+    second : (mine : List TransmissionKey) (a : Bool) → filter passes (map (λ key. key.number) (cond a (k ∷ mine) mine)) ≡ cond a (cond (passes k.number) (k.number ∷ filter passes (map (λ key. key.number) mine)) (filter passes (map (λ key. key.number) mine))) (filter passes (map (λ key. key.number) mine))
     second mine true = refl
     second mine false = refl
 
--- a number is among those above another one where it is above it and among all
-any_above : (f n : ℕ) (xs : List ℕ) → list_any (λ m. m == n) (filter (nat_lt f) xs) ≡ (nat_lt f n && list_any (λ m. m == n) xs)
-any_above f n [] = none (nat_lt f n)
+-- a number is among those that pass a test where it passes and is among all
+any_passes : (passes : ℕ → Bool) (n : ℕ) (xs : List ℕ) → is_one_of (filter passes xs) n ≡ (passes n && is_one_of xs n)
+any_passes passes n [] = none (passes n)
   where
     none : (b : Bool) → false ≡ (b && false)
     none true = refl
     none false = refl
-any_above f n (x ∷ xs) = by_case (nat_lt f x) (x == n) refl refl ∙ ap (λ (r : Bool). (nat_lt f n && (x == n)) || r) (any_above f n xs) ∙ spread (nat_lt f n) (x == n) (list_any (λ m. m == n) xs)
+any_passes passes n (x ∷ xs) = kept (passes x) ∙ ap₂ (λ (t r : Bool). t || r) (same (x == n) refl) (any_passes passes n xs) ∙ spread (passes n) (x == n) (is_one_of xs n)
   where
-    rest : Bool
-    rest = list_any (λ m. m == n) (filter (nat_lt f) xs)
+    kept : (c : Bool) → is_one_of (cond c (x ∷ filter passes xs) (filter passes xs)) n ≡ ((c && (x == n)) || is_one_of (filter passes xs) n)
+    kept true = refl
+    kept false = refl
 
-    same : (b e : Bool) → nat_lt f x ≡ b → (x == n) ≡ e → (b && e) ≡ (nat_lt f n && e)
-    same b true is equal = let one : x ≡ n = grind (arith, nat_tests) in ap (λ (t : Bool). t && true) (sym is ∙ ap (nat_lt f) one)
-    same true false is equal = none (nat_lt f n)
+    same : (e : Bool) → (x == n) ≡ e → (passes x && (x == n)) ≡ (passes n && (x == n))
+    same true equal = let one : x ≡ n = grind (arith, nat_tests) in ap (λ (m : ℕ). passes m && (x == n)) one
+    same false equal = ap (λ (t : Bool). passes x && t) equal ∙ neither (passes x) (passes n) ∙ sym (ap (λ (t : Bool). passes n && t) equal)
       where
-        none : (b : Bool) → false ≡ (b && false)
-        none true = refl
-        none false = refl
-    same false false is equal = none (nat_lt f n)
-      where
-        none : (b : Bool) → false ≡ (b && false)
-        none true = refl
-        none false = refl
-
-    by_case : (b e : Bool) → nat_lt f x ≡ b → (x == n) ≡ e → list_any (λ m. m == n) (cond (nat_lt f x) (x ∷ filter (nat_lt f) xs) (filter (nat_lt f) xs)) ≡ ((nat_lt f n && (x == n)) || rest)
-    by_case b e is equal =
-        kept (nat_lt f x) ∙ ap (λ (t : Bool). t || rest) (ap (λ (t : Bool). t && (x == n)) is ∙ ap (λ (t : Bool). b && t) equal ∙ same b e is equal ∙ ap (λ (t : Bool). nat_lt f n && t) (sym equal))
-      where
-        kept : (c : Bool) → list_any (λ m. m == n) (cond c (x ∷ filter (nat_lt f) xs) (filter (nat_lt f) xs)) ≡ ((c && (x == n)) || rest)
-        kept true = refl
-        kept false = refl
+        neither : (a b : Bool) → (a && false) ≡ (b && false)
+        neither true true = refl
+        neither true false = refl
+        neither false true = refl
+        neither false false = refl
 
     spread : (a b c : Bool) → ((a && b) || (a && c)) ≡ (a && (b || c))
     spread true b c = refl
@@ -113,11 +112,38 @@ any_number s n (k ∷ keys) =
     kept true = refl
     kept false = refl
 
--- a number is held exactly where it is above the front and there
-pub held_waits : (b : Book) (s : List ℕ) (n : ℕ) → list_any (λ m. m == n) (held b s) ≡ (nat_lt (front b s) n && is_there b s n)
+-- a number is held exactly where it is there and not in the line
+pub held_waits : (b : Book) (s : List ℕ) (n : ℕ) → is_one_of (held b s) n ≡ (not (is_in_line b s n) && is_there b s n)
 held_waits b s n =
-    any_above (front b s) n (numbers_of b s)
-    ∙ ap (λ (t : Bool). nat_lt (front b s) n && t) (any_number s n (finite.keys b.transmissions) ∙ sym (finite.contains_key-keys b.transmissions (transmission_key s n)))
+    any_passes (waits b s) n (numbers_of b s)
+    ∙ ap (λ (t : Bool). waits b s n && t) (any_number s n (finite.keys b.transmissions) ∙ sym (finite.contains_key-keys b.transmissions (transmission_key s n)))
+
+-- of a sound book they are those above the front that are there
+pub held_past : (b : Book) → IsSound b → (s : List ℕ) (n : ℕ) → is_one_of (held b s) n ≡ (nat_lt (front b s) n && is_there b s n)
+held_past b sound s n = held_waits b s n ∙ by_case (body_at b s n) refl
+  where
+    neither : (x y : Bool) → (x && false) ≡ (y && false)
+    neither true true = refl
+    neither true false = refl
+    neither false true = refl
+    neither false false = refl
+
+    turned : (t : Bool) → nat_le n (front b s) ≡ t → not t ≡ nat_lt (front b s) n
+    turned true e = grind (arith, nat_tests)
+    turned false e = grind (arith, nat_tests)
+
+    by_case : (o : Option (List ℕ)) → body_at b s n ≡ o → (not (is_in_line b s n) && is_there b s n) ≡ (nat_lt (front b s) n && is_there b s n)
+    by_case None e =
+        let gone : is_there b s n ≡ false = ap is_some e in
+        ap (λ (t : Bool). not (is_in_line b s n) && t) gone ∙ neither (not (is_in_line b s n)) (nat_lt (front b s) n) ∙ sym (ap (λ (t : Bool). nat_lt (front b s) n && t) gone)
+    by_case (Some body) e =
+        let entry = sound.transmissions s n body e in
+        let number = second_holds (is_sender_key s) (is_transmission_number n) (first_holds (is_sender_key s && is_transmission_number n) (is_none (file_fault s body)) entry) in
+        let some : 1 ≤ n = at_least n (first_holds (nat_le 1 n) (nat_le n 999999) number) in
+        ap (λ (t : Bool). t && is_there b s n) (ap not (one_of_from_one (front b s) n some) ∙ turned (nat_le n (front b s)) refl)
+      where
+        at_least : (m : ℕ) → nat_le 1 m ≡ true → 1 ≤ m
+        at_least m h = grind (arith, nat_tests)
 
 ties : (r : Ordering) → is_eq r ≡ true → r ≡ Equal
 ties Equal e = refl
@@ -142,5 +168,5 @@ pub held_ascend : (b : Book) (s : List ℕ) → IsStrictlySortedBy nat_cmp (held
 held_ascend b s =
     let keys = finite.keys b.transmissions in
     let rise = keys_ascend transmission_cmp (finite.entries b.transmissions) (finite.entries_sorted b.transmissions) in
-    IsStrictlySortedBy-filter nat_cmp (nat_lt (front b s)) (numbers_of b s)
+    IsStrictlySortedBy-filter nat_cmp (waits b s) (numbers_of b s)
     (numbers_rise s (filter (is_of s) keys) (recursion_from_All (λ key. is_of s key ≡ true) (filter (is_of s) keys) (filter_passes (is_of s) keys)) (IsStrictlySortedBy-filter transmission_cmp (is_of s) keys rise))

@@ -17,12 +17,14 @@ pub mod RunLemmas
 pub mod Changes
 pub mod HeadlineLemmas
 pub mod ClosedPools
+pub mod GrowthLemmas
 pub mod PointLemmas
 pub mod CandidateLemmas
 pub mod CreditLemmas
 pub mod PoolLemmas
 pub mod HeldLemmas
 pub mod SoundRuns
+pub mod LineNumbers
 pub mod Lines
 pub mod Numbers
 pub mod FedLemmas

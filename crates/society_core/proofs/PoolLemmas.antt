@@ -27,13 +27,12 @@ use Rattle.pool_split.specs.Credits.{units_of}
 use Rattle.pool_split.specs.declared.claim.Credit.{Credit}
 use Rattle.share_rules.specs.declared.office.Office.{Office}
 use Rattle.society_core.specs.Accounts.{same_account}
-use Rattle.society_core.specs.Book.{Book, IsSound, front, order_at, return_at}
+use Rattle.society_core.specs.Book.{Book, IsSound, is_applied, order_at, return_at}
 use Rattle.society_core.specs.Candidates.{CanBePaid, rows_of_return}
 use Rattle.society_core.specs.Orders.{Order}
 use Rattle.society_core.specs.Points.{HasPoints, points_by_recording, rows_named}
 use Rattle.society_core.specs.Pools.{AreAllAccounts, IsOnceAmong, all_credits, balance, claims_of, credits_of, units_to}
 use Rattle.society_core.specs.declared.return_key.ReturnKey.{ReturnKey}
-use Rattle.society_core.specs.declared.transmission_key.TransmissionKey.{TransmissionKey}
 use Rattle.society_core.proofs.Ascending.{keys_ascend}
 use Rattle.society_core.proofs.CreditLemmas.{claims_payable, order_has_returns, order_reaches_cut}
 use Rattle.society_core.proofs.Fronts.{first_holds, second_holds}
@@ -127,7 +126,8 @@ pools_add_up o b (order ∷ orders) =
 equal_here : (k : ℕ) → eq_by_cmp nat_cmp k k ≡ true
 equal_here k = grind (arith, nat_tests)
 
-less_than : (k j : ℕ) → nat_cmp k j ≡ Less → k < j
+-- a number that comes before another is less
+pub less_than : (k j : ℕ) → nat_cmp k j ≡ Less → k < j
 less_than k j e = by_case (nat_lt k j) refl e
   where
     by_equal : (b : Bool) → cond b Equal Greater ≡ Less → ⊥
@@ -191,7 +191,7 @@ orders_can_be_paid b sound = All-from_recursion (CanBePaid b) (finite.values b.p
 numbers_within : (b : Book) → IsSound b → (es : List (ℕ × Order)) → AllByRecursion (IsPool b) es → AllByRecursion (λ n. n < 100000) (map (λ e. e.0) es)
 numbers_within b sound [] there = tt
 numbers_within b sound (e ∷ es) there =
-    let cuts = list_all (λ (key : TransmissionKey). nat_le key.number (front b key.sender)) e.1.cut in
+    let cuts = list_all (is_applied b) e.1.cut in
     let returns = list_all (λ (key : ReturnKey). is_some (return_at b key)) e.1.returns in
     let number : is_pool_number e.0 ≡ true = first_holds (is_pool_number e.0) cuts (first_holds (is_pool_number e.0 && cuts) returns (sound.pools e.0 e.1 there.0)) in
     (below e.0 (second_holds (nat_le 1 e.0) (nat_le e.0 99999) number), numbers_within b sound es there.1)

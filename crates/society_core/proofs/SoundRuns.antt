@@ -55,7 +55,7 @@ run_is_sound o before (q ∷ qs) (r ∷ rs) after run rightly sound =
 -- books that are alike to the gaps pay alike
 gaps_pay : (a b : Book) → AlikeToTheGaps a b → PaysAlike a b
 gaps_pay a b alike = record {
-  sent = λ s n within. alike_to a b s n (alike.sent s) within;
+  sent = λ s n is. alike_to a b s n (alike.sent s) is;
   returned = λ key there. ap (λ m. finite.get m key) alike.returns;
 }
 

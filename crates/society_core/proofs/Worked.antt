@@ -1,8 +1,8 @@
 -- Worked values of the book's numbers and of what a put is answered.
-use Rattle.std.specs.Prelude.{ℕ, ◌≡◌, false, [], ◌∷◌, Some, None, nat_le, refl, codes}
+use Rattle.std.specs.Prelude.{ℕ, ◌≡◌, false, true, [], ◌∷◌, Some, None, nat_le, refl, codes}
 use Rattle.std.proofs.Common.{Less, Greater}
 use Rattle.society_core.specs.Answers.{arrival_at, known_by, put_answer, shown_ack}
-use Rattle.society_core.specs.Book.{empty_book, greatest_of, greatest_to}
+use Rattle.society_core.specs.Book.{empty_book, greatest_of, greatest_to, is_one_of, numbers_to}
 use Rattle.society_core.specs.Orders.{order_fault}
 use Rattle.society_core.specs.Owners.{sole}
 use Rattle.society_core.specs.Requests.{Refused}
@@ -17,6 +17,16 @@ up_to_three = refl
 
 none_passes : greatest_to 5 (λ n. nat_le 9 n) ≡ 0
 none_passes = refl
+
+-- the numbers of a line begin with 1
+line_to_three : numbers_to 3 ≡ 1 ∷ 2 ∷ 3 ∷ []
+line_to_three = refl
+
+last_of_it : is_one_of (numbers_to 3) 3 ≡ true
+last_of_it = refl
+
+none_before : is_one_of (numbers_to 3) 0 ≡ false
+none_before = refl
 
 -- applied up to the front, held above it
 at_the_front : arrival_at false 3 3 ≡ record { known = false; front = 3; standing = Applied }

@@ -1,5 +1,5 @@
 -- The answer to each request over a book, and the book after it.
-use Rattle.std.specs.Prelude.{ℕ, Bool, true, false, List, [], ◌∷◌, Option, Some, None, if◌then◌else◌, nat_le, option_map}
+use Rattle.std.specs.Prelude.{ℕ, Bool, true, false, List, [], ◌∷◌, Option, Some, None, if◌then◌else◌, option_map}
 use Rattle.std.specs.Option.{option_and_then}
 use Rattle.std.specs.FinMap as finite
 use Rattle.std.specs.List.{find}
@@ -14,7 +14,7 @@ use Rattle.perf_returns.specs.declared.fault.ReturnFault.{ReturnFault}
 use Rattle.share_rules.specs.Weights.{weights_of}
 use Rattle.share_rules.specs.declared.kind.Kind.TheVariants.{Performing}
 use Rattle.share_rules.specs.declared.office.Office.{Office}
-use Rattle.society_core.specs.Book.{Book, ack, body_at, front, held, order_at, return_at, shown_verdicts, transaction_at, version_in, with_pool, with_return, with_transmission}
+use Rattle.society_core.specs.Book.{Book, ack, body_at, front, held, is_applied, is_one_of, numbers_to, order_at, return_at, shown_verdicts, transaction_at, version_in, with_pool, with_return, with_transmission}
 use Rattle.society_core.specs.Orders.{Order, names_return, same_order}
 use Rattle.society_core.specs.Pools.{balance, credits_of}
 use Rattle.society_core.specs.Requests.{Query, Puts, PutsReturn, Closes, ClosesFaulty, AsksAck, AsksSender, AsksWork, AsksVerdicts, AsksCredits, AsksBalance, AsksElsewhere, Reply, Arrived, Stored, Closed, Acknowledged, Stands, Shown, Shows, Judged, Credited, Owed, Refused}
@@ -37,9 +37,9 @@ use Rattle.works_core.specs.Recordings.{isrcs_of, right_one}
 use Rattle.works_core.specs.declared.verdict.Verdict.{Verdict}
 use Rattle.works_core.specs.declared.version.WorkVersion.{WorkVersion}
 
--- a transmission is applied where its number is at most the front, else it is held (profile)
+-- a transmission is applied where its number is in a line up to a front, else it is held (profile)
 abbrev pub standing_at : ℕ → ℕ → Standing
-standing_at number front = if nat_le number front then Applied else Held
+standing_at number front = if is_one_of (numbers_to front) number then Applied else Held
 
 -- how a transmission stands under its sender's front, and whether it came again
 abbrev pub arrival_at : Bool → ℕ → ℕ → Arrival
@@ -157,10 +157,9 @@ abbrev pub first_refusal : {X : Type 0} → (X → Option Refusal) → List X �
 first_refusal refusal [] = None
 first_refusal refusal (x ∷ xs) = first_of (refusal x) (first_refusal refusal xs)
 
--- a cut above its sender's front is refused, with that front (profile)
+-- a cut whose number is not in its sender's line is refused, with the sender's front (profile)
 abbrev pub cut_refusal : Book → TransmissionKey → Option Refusal
-cut_refusal book key =
-    if nat_le key.number (front book key.sender) then None else Some (refusals.Cut key.sender (front book key.sender))
+cut_refusal book key = if is_applied book key then None else Some (refusals.Cut key.sender (front book key.sender))
 
 -- the pool of an entry
 abbrev pub pool_of : Option (ℕ × Order) → Option ℕ
@@ -195,7 +194,7 @@ payment_refusal key payments.Unpaid = None
 abbrev pub return_refusal : Book → ReturnKey → Option Refusal
 return_refusal book key = payment_refusal key (payment_in book key)
 
--- why a pool is not closed by an order: its first cut above the front, else its first return that is unknown or paid (profile)
+-- why a pool is not closed by an order: its first cut that is not in its sender's line, else its first return that is unknown or paid (profile)
 abbrev pub close_refusal : Book → Order → Option Refusal
 close_refusal book order = first_of (first_refusal (cut_refusal book) order.cut) (first_refusal (return_refusal book) order.returns)
 

@@ -1,7 +1,7 @@
 -- The book: what has been accepted, as finite maps that know no order of arrival.
-use Rattle.std.specs.Prelude.{ℕ, zero, suc, Bool, true, false, List, [], ◌∷◌, ◌++◌, ◌≡◌, ◌&&◌, Option, Some, None, is_some, is_none, Result, Ok, Err, map, max, unwrap_or, if◌then◌else◌, nat_le, nat_lt, bytes_eq}
+use Rattle.std.specs.Prelude.{ℕ, zero, suc, Bool, true, false, List, [], ◌∷◌, ◌≡◌, ◌&&◌, ◌==◌, Option, Some, None, is_some, is_none, not, Result, Ok, Err, map, max, unwrap_or, if◌then◌else◌, bytes_eq}
 use Rattle.std.specs.FinMap as finite
-use Rattle.std.specs.List.{filter, list_all, slice_get}
+use Rattle.std.specs.List.{filter, list_all, list_any, range_with_len, slice_get}
 use Rattle.std.specs.Ordering.{nat_cmp}
 use Rattle.cwr_files.specs.Contents.{transmission_in, transactions_of}
 use Rattle.cwr_files.specs.FileFault.{file_fault}
@@ -110,40 +110,54 @@ front_in bodies sender = greatest_to (greatest_of (finite.keys bodies)) (has_all
 abbrev pub front : Book → List ℕ → ℕ
 front book sender = front_in book.transmissions sender
 
--- a sender's transmissions 1 to n under their numbers, in number order, read out of some bodies
-abbrev pub transmissions_in : Transmissions → List ℕ → ℕ → List NumberedTransmission
-transmissions_in bodies sender zero = []
-transmissions_in bodies sender (suc n) =
-    transmissions_in bodies sender n ++ (suc n, transmission_in (unwrap_or (finite.get bodies (transmission_key sender (suc n))) [])) ∷ []
+-- the numbers of a line up to one of them, in order
+abbrev pub numbers_to : ℕ → List ℕ
+numbers_to n = range_with_len 1 n
 
--- a sender's transmissions 1 to n under their numbers, in number order
+-- whether a number is one of some
+abbrev pub is_one_of : List ℕ → ℕ → Bool
+is_one_of numbers n = list_any (λ m. m == n) numbers
+
+-- the numbers of a sender's line, in order: those of its transmissions that are applied, up to its front (profile)
+abbrev pub line : Book → List ℕ → List ℕ
+line book sender = numbers_to (front book sender)
+
+-- whether a number is in a sender's line (profile)
+abbrev pub is_in_line : Book → List ℕ → ℕ → Bool
+is_in_line book sender n = is_one_of (line book sender) n
+
+-- whether a key's number is in its sender's line
+abbrev pub is_applied : Book → TransmissionKey → Bool
+is_applied book key = is_in_line book key.sender key.number
+
+-- a sender's transmission under its number
+abbrev pub sent_under : Book → List ℕ → ℕ → NumberedTransmission
+sent_under book sender n = (n, transmission_in (unwrap_or (body_at book sender n) []))
+
+-- a sender's transmissions under their numbers up to one of its line, in order
 abbrev pub transmissions_to : Book → List ℕ → ℕ → List NumberedTransmission
-transmissions_to book sender n = transmissions_in book.transmissions sender n
+transmissions_to book sender n = map (sent_under book sender) (numbers_to n)
 
 -- the verdicts of a sender's transmission n, by its transmissions up to n alone
 abbrev pub verdicts_in : Office → Book → List ℕ → ℕ → List Verdict
 verdicts_in office book sender n = verdicts_at (line_of office (transmissions_to book sender n)) n
 
--- whether a number is 1 to a sender's front
-abbrev pub is_applied : Book → List ℕ → ℕ → Bool
-is_applied book sender n = nat_le 1 n && nat_le n (front book sender)
-
--- the verdicts of a sender's transmission n: there once n is at most the front (profile)
+-- the verdicts of a sender's transmission n: there once n is in the line (profile)
 abbrev pub shown_verdicts : Office → Book → List ℕ → ℕ → Option (List Verdict)
-shown_verdicts office book sender n = if is_applied book sender n then Some (verdicts_in office book sender n) else None
+shown_verdicts office book sender n = if is_in_line book sender n then Some (verdicts_in office book sender n) else None
 
--- the acknowledgement of a sender's transmission n: there once n is at most the front (profile)
+-- the acknowledgement of a sender's transmission n: there once n is in the line (profile)
 abbrev pub ack : Office → Book → List ℕ → ℕ → Option (List ℕ)
 ack office book sender n =
-    if is_applied book sender n then Some (acknowledgement office sender (transmission_in (unwrap_or (body_at book sender n) [])) (verdicts_in office book sender n)) else None
+    if is_in_line book sender n then Some (acknowledgement office sender (transmission_in (unwrap_or (body_at book sender n) [])) (verdicts_in office book sender n)) else None
 
 -- the numbers of a sender's transmissions, ascending
 abbrev pub numbers_of : Book → List ℕ → List ℕ
 numbers_of book sender = map (λ key. key.number) (filter (λ key. bytes_eq key.sender sender) (finite.keys book.transmissions))
 
--- the numbers of a sender's held transmissions: those above its front, ascending (profile)
+-- the numbers of a sender's held transmissions: those that are not in its line, ascending (profile)
 abbrev pub held : Book → List ℕ → List ℕ
-held book sender = filter (nat_lt (front book sender)) (numbers_of book sender)
+held book sender = filter (λ n. not (is_in_line book sender n)) (numbers_of book sender)
 
 -- the version of a sender's work at a cut, by its transmissions up to the cut alone
 abbrev pub version_in : Office → Book → List ℕ → List ℕ → ℕ → Option WorkVersion
@@ -153,10 +167,10 @@ version_in office book sender work cut = work_at (line_of office (transmissions_
 abbrev pub transaction_at : Book → List ℕ → ℕ → ℕ → Option Transaction
 transaction_at book sender n place = slice_get (transactions_of (transmission_in (unwrap_or (body_at book sender n) []))) place
 
--- whether an order may stand in a book: each cut is at most its sender's front, and each return that it names is there (profile)
+-- whether an order may stand in a book: each number of its cut is in its sender's line, and each return that it names is there (profile)
 abbrev pub is_pool_entry : Book → ℕ → Order → Bool
 is_pool_entry book pool order =
-    is_pool_number pool && list_all (λ key. nat_le key.number (front book key.sender)) order.cut && list_all (λ key. is_some (return_at book key)) order.returns
+    is_pool_number pool && list_all (is_applied book) order.cut && list_all (λ key. is_some (return_at book key)) order.returns
 
 -- each entry of the book may stand in it, and no return is named by two pools (profile)
 pub record IsSound (book : Book) : Type 0 where

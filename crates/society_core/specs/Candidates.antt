@@ -1,5 +1,5 @@
 -- Candidates for the recordings of a pool, and the works that they stand for.
-use Rattle.std.specs.Prelude.{ℕ, ◌≡◌, ◌++◌, ◌∷◌, Bool, false, if◌then◌else◌, List, [], Result, Ok, Err, map, is_some, bytes_eq, nat_le, true, unwrap_or}
+use Rattle.std.specs.Prelude.{ℕ, ◌≡◌, ◌++◌, ◌∷◌, Bool, false, if◌then◌else◌, List, [], Result, Ok, Err, map, is_some, bytes_eq, true, unwrap_or}
 use Rattle.std.specs.List.{filter, list_all, list_any}
 use Rattle.cwr_files.specs.Contents.{transactions_of, transmission_in}
 use Rattle.cwr_files.specs.declared.transmission.Transaction.{Transaction}
@@ -7,7 +7,7 @@ use Rattle.perf_returns.specs.Returns.{performances_in}
 use Rattle.perf_returns.specs.declared.performance.Performance.{Performance}
 use Rattle.society_core.specs.declared.return_key.ReturnKey.{ReturnKey}
 use Rattle.share_rules.specs.declared.holder.Holder.{Holder}
-use Rattle.society_core.specs.Book.{Book, body_at, front, return_at}
+use Rattle.society_core.specs.Book.{Book, body_at, is_applied, return_at}
 use Rattle.society_core.specs.Claims.{is_candidate_for}
 use Rattle.society_core.specs.Orders.{IsOrder, Order}
 use Rattle.society_core.specs.Owners.{CutWork, cut_work, is_at, names_recording}
@@ -44,9 +44,9 @@ candidate_with sender work holders isrc = record { isrc = isrc; sender = sender;
 abbrev pub transactions_sent : Book → List ℕ → ℕ → List Transaction
 transactions_sent book sender n = transactions_of (transmission_in (unwrap_or (body_at book sender n) []))
 
--- each cut of an order is at most its sender's front (profile)
+-- each number of an order's cut is in its sender's line (profile)
 abbrev pub ReachesCut : Book → Order → Type 0
-ReachesCut book order = list_all (λ key. nat_le key.number (front book key.sender)) order.cut ≡ true
+ReachesCut book order = list_all (is_applied book) order.cut ≡ true
 
 -- whether a transaction is the version that its work has at a cut of a line
 abbrev pub is_version_by : List JudgedTransmission → ℕ → ℕ → ℕ → Result (List ℕ) IdFault → Bool

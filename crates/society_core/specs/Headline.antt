@@ -1,11 +1,11 @@
 -- What the book holds after any list of requests, whatever was lost, repeated or reordered.
-use Rattle.std.specs.Prelude.{ℕ, List, [], ◌∷◌, ◌++◌, ◌≡◌, ◌≢◌, ◌≤◌, ◌⊎◌, ◌↔◌, Some, None, map, true}
+use Rattle.std.specs.Prelude.{ℕ, List, [], ◌∷◌, ◌++◌, ◌≡◌, ◌≢◌, ◌⊎◌, ◌↔◌, Some, None, map, true}
 use Rattle.std.specs.List.{AllByRecursion}
 use Rattle.cwr_files.specs.FileFault.{file_fault}
 use Rattle.perf_returns.specs.Returns.{return_fault}
 use Rattle.work_ids.specs.Numbers.{is_pool_number, is_return_number, is_transmission_number}
 use Rattle.work_ids.specs.SenderKey.{is_sender_key}
-use Rattle.society_core.specs.Book.{Book, body_at, front, is_reporter}
+use Rattle.society_core.specs.Book.{Book, body_at, is_in_line, is_reporter, line}
 use Rattle.society_core.specs.Entries.{Accepts, BookOf, Entry, Transmission, Return, Pool, Holds, IsIn, entry_of}
 use Rattle.society_core.specs.Orders.{IsOrder}
 use Rattle.society_core.specs.Requests.{Query, Reply, Refused, query_of, reply_of}
@@ -55,10 +55,10 @@ abbrev pub TellsWhatCame : Book → Book → List Request → List Answer → Li
 TellsWhatCame before after requests old new =
     (more : List Answer) → new ≡ old ++ more → OneContent before (map query_of requests) (map reply_of more) → HoldsWhatCame before (map query_of requests) (map reply_of more) after
 
--- two books have the same transmissions of a sender up to its first gap
+-- two books have the same transmissions of a sender up to its first gap: the same line, and the same bodies in it
 pub record AlikeToTheGap (a b : Book) (sender : List ℕ) : Type 0 where
-  pub same_front : front a sender ≡ front b sender
-  pub same_bodies : (n : ℕ) → 1 ≤ n → n ≤ front a sender → body_at a sender n ≡ body_at b sender n
+  pub same_line : line a sender ≡ line b sender
+  pub same_bodies : (n : ℕ) → is_in_line a sender n ≡ true → body_at a sender n ≡ body_at b sender n
 
 -- two books are alike to the gaps: of each sender the same transmissions up to its first gap, and the same returns and pools
 pub record AlikeToTheGaps (a b : Book) : Type 0 where

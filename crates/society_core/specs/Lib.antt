@@ -16,6 +16,7 @@ pub mod State
 pub mod Entries
 pub mod Faults
 pub mod Headline
+pub mod Growth
 pub use Rattle.ack_files.specs.Acknowledgement
 pub use Rattle.cwr_files.specs.Contents
 pub use Rattle.cwr_files.specs.FileFault

@@ -1,8 +1,8 @@
 //! The candidates for the recordings of a pool: the works of its cut, each by the version that it has there.
-ghost use Rattle.std.specs.Prelude.{◌≡◌, ◌≤◌, ◌&&◌, ◌++◌, ◌∷◌, [], IfOk, OnOk, map, not, true};
+ghost use Rattle.std.specs.Prelude.{◌≡◌, ◌&&◌, ◌++◌, ◌∷◌, [], IfOk, OnOk, map, not, true};
 ghost use Rattle.std.specs.BTreeSet.{contains};
 ghost use Rattle.cwr_files.specs.Transaction.{number_of_work};
-ghost use Rattle.society_core.specs.Book.{IsSound, front, is_there, transmissions_to};
+ghost use Rattle.society_core.specs.Book.{IsSound, is_applied, is_one_of, is_there, numbers_to, transmissions_to};
 ghost use Rattle.society_core.specs.Candidates.{Adds, ListsOnce, ReachesCut, StandFor, candidate_with, is_version_by, transactions_sent, work_where};
 ghost use Rattle.society_core.specs.Keys.{bytes_cmp};
 ghost use Rattle.society_core.specs.Owners.{cut_work, is_at, versions_at_cut, versions_of_transmission, works_of_cut};
@@ -13,6 +13,7 @@ ghost use Rattle.works_core.specs.Recordings.{isrcs_of};
 ghost use Rattle.works_core.specs.Versions.{work_at};
 
 use crate::claim_list::Candidate;
+use crate::line::numbers_up_to;
 use crate::order::PoolOrder;
 use crate::plain_book::PlainBook;
 use crate::plain_lines::{line_to, transmission_of};
@@ -161,12 +162,11 @@ fn add_versions(
 ) -> Result<(), AllocError>
     requires sound { IsSound book.now }
     requires line { line.now.transmissions ≡ line_of office.now (transmissions_to book.now key.now.sender key.now.number) }
-    requires within { number ≤ key.now.number }
+    requires within { is_one_of (numbers_to key.now.number) number ≡ true }
     requires there { is_there book.now key.now.sender number ≡ true }
     ensures { OnOk result (Adds (holders_of kind office.now) (is_tallied tally.now) (versions_of_transmission office.now book.now key.now number (transactions_sent book.now key.now.sender number)) candidates.old.items candidates.new.items) }
 {
     let transmission = transmission_of(alloc, book, &key.sender, number)?;
-    prove!(number.value() >= 1);
     let Some(verdicts) = line.verdicts(number) else {
         unreachable!();
     };
@@ -201,16 +201,14 @@ fn add_sender(
     candidates: &mut Vec<Candidate>,
 ) -> Result<(), AllocError>
     requires sound { IsSound book.now }
-    requires reached { key.now.number ≤ front book.now key.now.sender }
+    requires applied { is_applied book.now key.now ≡ true }
     ensures { OnOk result (Adds (holders_of kind office.now) (is_tallied tally.now) (versions_at_cut office.now book.now key.now) candidates.old.items candidates.new.items) }
 {
     let line = line_to(alloc, office, book, &key.sender, key.number.value())?;
-    for sent in 0..key.number.value() {
-        let Some(number) = TransmissionNumber::from_u32(sent + 1) else {
-            unreachable!();
-        };
+    let numbers = numbers_up_to(alloc, key.number.value())?;
+    for number in &numbers {
         add_versions(
-            alloc, kind, office, tally, book, key, &line, number, candidates,
+            alloc, kind, office, tally, book, key, &line, *number, candidates,
         )?;
     }
     Ok(())

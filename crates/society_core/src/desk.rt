@@ -7,6 +7,7 @@ ghost use Rattle.society_core.specs.Runs.{Inquires, Proceeds, RefusesBy};
 ghost use Rattle.society_core.specs.State.{Asks};
 
 use crate::answers::{Arrival, Receipt, SenderStatus, Standing, Work};
+use crate::line::is_up_to;
 use crate::order::PoolOrder;
 use crate::refusal::Refusal;
 use crate::return_key::ReturnKey;
@@ -41,7 +42,7 @@ fn arrival(known: bool, number: TransmissionNumber, front: u32) -> Arrival
     Arrival {
         known,
         front,
-        standing: if number.value() <= front {
+        standing: if is_up_to(number, front) {
             Standing::Applied
         } else {
             Standing::Held
@@ -152,14 +153,14 @@ impl<S: Store> Desk<S> {
         }
     }
 
-    /// Refuses the first sender of a cut whose front is below it.
+    /// Refuses the first key of a cut that is not in its sender's line.
     fn check_cut(&mut self, cut: &[TransmissionKey]) -> Result<(), Refusal>
         ensures asks { Asks (S.state self.old) (S.state self.new) }
         ensures refusal { IsTrue (S.state self.new).is_clean → RefusesBy (first_refusal (cut_refusal (S.state self.old).book) cut.now) result }
     {
         for key in cut {
             let front = self.store.front(&key.sender)?;
-            if key.number.value() > front {
+            if !is_up_to(key.number, front) {
                 return Err(Refusal::Cut {
                     sender: key.sender,
                     front,
@@ -184,9 +185,9 @@ impl<S: Store> Desk<S> {
         Ok(())
     }
 
-    /// Closes a pool by an order: closed or a repeat; `Reused` where the pool has another order, `Cut` for the first sender
-    /// of the cut whose front is below it, `ReturnUnknown` or `ReturnPaid` for the first return that is unknown or paid,
-    /// `Unavailable` for want of memory or where the store refuses. A refusal leaves the book as it was.
+    /// Closes a pool by an order: closed or a repeat; `Reused` where the pool has another order, `Cut` for the first number
+    /// of the cut that is not in its sender's line, `ReturnUnknown` or `ReturnPaid` for the first return that is unknown or
+    /// paid, `Unavailable` for want of memory or where the store refuses. A refusal leaves the book as it was.
     pub fn close_pool(
         &mut self,
         alloc: Global,
@@ -208,7 +209,7 @@ impl<S: Store> Desk<S> {
     }
 
     /// The acknowledgement of a sender's transmission (the office's profile of CISAC CWR 2.2): `Unknown` where
-    /// its number is above the front, `Unavailable` for want of memory or where the store refuses.
+    /// its number is not in the sender's line, `Unavailable` for want of memory or where the store refuses.
     pub fn ack(
         &mut self,
         alloc: Global,
@@ -232,7 +233,8 @@ impl<S: Store> Desk<S> {
     }
 
     /// The verdicts of a sender's transmission, one for each NWR and REV transaction in the order of the file:
-    /// `Unknown` where its number is above the front, `Unavailable` for want of memory or where the store refuses.
+    /// `Unknown` where its number is not in the sender's line, `Unavailable` for want of memory or where the store
+    /// refuses.
     pub fn verdicts(
         &mut self,
         alloc: Global,

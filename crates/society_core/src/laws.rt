@@ -1,12 +1,11 @@
-ghost use Rattle.std.specs.Prelude.{◌≡◌, ◌≢◌, ◌≤◌, ◌+◌, ◌==◌, ◌&&◌, ℕ, List, Some, true, false, map, nat_lt, sum};
-ghost use Rattle.std.specs.List.{list_any};
+ghost use Rattle.std.specs.Prelude.{◌≡◌, ◌≢◌, ◌≤◌, ◌+◌, ◌&&◌, ℕ, List, Some, true, false, map, nat_le, not, sum};
 ghost use Rattle.std.specs.List.Sorted.{IsStrictlySortedBy};
 ghost use Rattle.std.specs.Ordering.{nat_cmp};
 ghost use Rattle.std.specs.FinMap.{values};
 ghost use Rattle.pool_split.specs.Credits.{units_of};
 ghost use Rattle.share_rules.specs.declared.office.Office.{Office};
 ghost use Rattle.society_core.specs.Answers.{answer};
-ghost use Rattle.society_core.specs.Book.{Book, IsSound, body_at, front, held, is_there, order_at};
+ghost use Rattle.society_core.specs.Book.{Book, IsSound, body_at, front, held, is_in_line, is_one_of, is_there, order_at};
 ghost use Rattle.society_core.specs.Entries.{BookOf, Entry, Holds, IsIn};
 ghost use Rattle.society_core.specs.Headline.{AcceptedAlike, AlikeToTheGap, AlikeToTheGaps, AllAskRightly, Came, OneContent, HoldsWhatCame, BroughtAlike};
 ghost use Rattle.society_core.specs.Keys.{ascending, return_cmp};
@@ -39,9 +38,10 @@ pub fn what_is_accepted_stays()
     ensures reused { (office : Office) (book : Book) (sender : List ℕ) (n : ℕ) (body other : List ℕ) → body_at book sender n ≡ Some body → other ≢ body → answer office book (Puts sender n other) ≡ Refused Reused }
 {}
 
-/// A sender's front is where its first gap begins: 1 to the front are there, and the next number is not.
+/// A sender's front is where its first gap begins: 1 to the front are there and are its line, and the next number is not.
 pub fn front_is_the_first_gap()
     ensures reached { (book : Book) (sender : List ℕ) (n : ℕ) → 1 ≤ n → n ≤ front book sender → is_there book sender n ≡ true }
+    ensures line { (book : Book) (sender : List ℕ) (n : ℕ) → is_in_line book sender n ≡ (nat_le 1 n && nat_le n (front book sender)) }
     ensures gap { (book : Book) (sender : List ℕ) → is_there book sender (front book sender + 1) ≡ false }
 {}
 
@@ -68,9 +68,9 @@ pub fn closed_pools_stay()
     ensures { (office : Office) (before : Book) (queries : List Query) (replies : List Reply) (after : Book) → Run office before queries replies after → IsSound before → (pool : ℕ) (order : Order) → order_at before pool ≡ Some order → answer office after (AsksCredits pool) ≡ answer office before (AsksCredits pool) }
 {}
 
-/// The held numbers of a sender are those above its front under which something is there, ascending.
+/// The held numbers of a sender are those under which something is there that is not in its line, ascending.
 pub fn held_numbers_wait()
-    ensures waits { (book : Book) (sender : List ℕ) (n : ℕ) → list_any (λ m. m == n) (held book sender) ≡ (nat_lt (front book sender) n && is_there book sender n) }
+    ensures waits { (book : Book) (sender : List ℕ) (n : ℕ) → is_one_of (held book sender) n ≡ (not (is_in_line book sender n) && is_there book sender n) }
     ensures ascending { (book : Book) (sender : List ℕ) → IsStrictlySortedBy nat_cmp (held book sender) }
 {}
 

@@ -6,6 +6,7 @@ mod candidates;
 mod claim_list;
 mod desk;
 mod laws;
+mod line;
 mod order;
 mod plain_book;
 mod plain_lines;

@@ -1,5 +1,5 @@
 //! The book in memory.
-ghost use Rattle.std.specs.Prelude.{◌≡◌, ◌≤◌, ◌&&◌, IfOk, None, OnOk, OnErr, bytes_eq, false, is_some, map, nat_lt, option_map, true, unwrap_or, ℕ, List};
+ghost use Rattle.std.specs.Prelude.{◌≡◌, ◌≤◌, ◌&&◌, IfOk, None, OnOk, OnErr, bytes_eq, false, is_some, map, not, option_map, true, unwrap_or, ℕ, List};
 ghost use Rattle.std.specs.FinMap as finite;
 ghost use Rattle.std.specs.BTreeMap as tree;
 ghost use Rattle.std.specs.BTreeMap.{IsOrdered, keys, values};
@@ -7,11 +7,12 @@ ghost use Rattle.std.specs.List.{filter, find};
 ghost use Rattle.std.specs.Ordering.{nat_cmp};
 ghost use Rattle.std.specs.List.Sorted.{IsStrictlySortedBy};
 ghost use Rattle.society_core.specs.Answers.{payer, pool_of};
-ghost use Rattle.society_core.specs.Book.{IsSound, body_at, empty_book, front, front_in, has_all_in, held, order_at, return_at, with_pool, with_return, with_transmission};
+ghost use Rattle.society_core.specs.Book.{IsSound, body_at, empty_book, front, front_in, has_all_in, held, is_in_line, is_one_of, numbers_to, order_at, return_at, with_pool, with_return, with_transmission};
 ghost use Rattle.society_core.specs.Keys.{bytes_cmp, transmission_cmp, transmission_key};
 ghost use Rattle.society_core.specs.Orders.{IsOrder, names_return};
 ghost use Rattle.society_core.specs.PlainMaps.{HasFronts, transmissions_of};
 
+use crate::line::is_up_to;
 use crate::order::PoolOrder;
 use crate::return_key::ReturnKey;
 use crate::transmission_key::TransmissionKey;
@@ -44,19 +45,19 @@ impl Model for PlainBook {
     ghost invariant = { λ b. HasFronts b.fronts (finite.from_entries (bodies_of b.transmissions.entries)) };
 }
 
-/// The numbers above a front under which a sender has entries; entries are in the order of their keys.
-fn numbers_above(
+/// The numbers that are in no line up to a front under which a sender has entries; entries are in the order of their keys.
+fn numbers_past(
     alloc: Global,
     entries: &BTreeMap<TransmissionKey, Vec<u8>>,
     sender: &SenderKey,
     front: u32,
 ) -> Result<Vec<TransmissionNumber>, AllocError>
-    ensures numbers { IfOk result (λ numbers. numbers.items ≡ map (λ key. key.number) (filter (λ key. bytes_eq key.sender sender.now && nat_lt front key.number) (keys entries.now))) }
+    ensures numbers { IfOk result (λ numbers. numbers.items ≡ map (λ k. k.number) (filter (λ k. bytes_eq k.sender sender.now && not (is_one_of (numbers_to front) k.number)) (keys entries.now))) }
     ensures ordered { IsStrictlySortedBy transmission_cmp (keys entries.now) }
 {
     entries
         .keys()
-        .filter(|key| key.sender == *sender && key.number.value() > front)
+        .filter(|key| key.sender == *sender && !is_up_to(key.number, front))
         .map(|key| key.number)
         .collect(alloc)
 }
@@ -198,6 +199,13 @@ impl PlainBook {
         self.fronts.get(sender).copied().unwrap_or(0)
     }
 
+    /// Whether a number is in a sender's line.
+    pub fn is_applied(&self, sender: &SenderKey, number: TransmissionNumber) -> bool
+        ensures { result ≡ is_in_line self.now sender.now number }
+    {
+        is_up_to(number, self.front(sender))
+    }
+
     /// The numbers of a sender's held transmissions, ascending.
     pub fn held(
         &self,
@@ -207,7 +215,7 @@ impl PlainBook {
         ensures { IfOk result (λ numbers. numbers.items ≡ held self.now sender.now) }
     {
         let front = self.front(sender);
-        numbers_above(alloc, &self.transmissions, sender, front)
+        numbers_past(alloc, &self.transmissions, sender, front)
     }
 
     /// The pool that names a return.

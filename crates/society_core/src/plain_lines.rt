@@ -3,10 +3,11 @@ ghost use Rattle.std.specs.Prelude.{◌≡◌, ◌≤◌, [], IfOk, option_map, 
 ghost use Rattle.cwr_files.specs.Contents.{transmission_in};
 ghost use Rattle.society_core.specs.Answers.{known_as, known_with_front, shown_in};
 ghost use Rattle.society_core.specs.Requests.{shown_of};
-ghost use Rattle.society_core.specs.Book.{IsSound, ack, body_at, front, is_there, shown_verdicts, transmissions_to, version_in};
+ghost use Rattle.society_core.specs.Book.{IsSound, ack, body_at, front, is_in_line, is_there, shown_verdicts, transmissions_to, version_in};
 ghost use Rattle.works_core.specs.Line.{line_of};
 
 use crate::answers::Work;
+use crate::line::numbers_up_to;
 use crate::plain_book::PlainBook;
 use crate::store::KnownTransmission;
 use crate::work::show;
@@ -48,12 +49,10 @@ pub(crate) fn line_to(
     ensures line { IfOk result (λ line. line.transmissions ≡ line_of office.now (transmissions_to book.now sender.now number)) }
 {
     let mut line = SenderLine::new(alloc, office);
-    for applied in 0..number {
-        let Some(next) = TransmissionNumber::from_u32(applied + 1) else {
-            unreachable!();
-        };
-        let transmission = transmission_of(alloc, book, sender, next)?;
-        line.apply(next, &transmission)?;
+    let numbers = numbers_up_to(alloc, number)?;
+    for next in &numbers {
+        let transmission = transmission_of(alloc, book, sender, *next)?;
+        line.apply(*next, &transmission)?;
     }
     Ok(line)
 }
@@ -79,7 +78,7 @@ pub(crate) fn known_in(
     }
 }
 
-/// The verdicts of a sender's transmission, none where its number is above the front.
+/// The verdicts of a sender's transmission, none where its number is not in the line.
 pub(crate) fn verdicts_of(
     alloc: Global,
     office: &Office,
@@ -90,7 +89,7 @@ pub(crate) fn verdicts_of(
     requires sound { IsSound book.now }
     ensures { IfOk result (λ verdicts. option_map (λ list. list.items) verdicts ≡ shown_verdicts office.now book.now sender.now number) }
 {
-    if number.value() > book.front(sender) {
+    if !book.is_applied(sender, number) {
         return Ok(None);
     }
     let line = line_to(alloc, office, book, sender, number.value())?;
@@ -100,7 +99,7 @@ pub(crate) fn verdicts_of(
     }
 }
 
-/// A sender's line up to a transmission of the book, which is read already.
+/// A sender's line up to a transmission of it, which is read already.
 fn line_with(
     alloc: Global,
     office: &Office,
@@ -110,7 +109,7 @@ fn line_with(
     transmission: &Transmission<'_>,
 ) -> Result<SenderLine, AllocError>
     requires sound { IsSound book.now }
-    requires reached { number ≤ front book.now sender.now }
+    requires applied { is_in_line book.now sender.now number ≡ true }
     requires read { transmission.now ≡ transmission_in (unwrap_or (body_at book.now sender.now number) []) }
     ensures { IfOk result (λ line. line.transmissions ≡ line_of office.now (transmissions_to book.now sender.now number)) }
 {
@@ -119,7 +118,7 @@ fn line_with(
     Ok(line)
 }
 
-/// The acknowledgement of a sender's transmission, none where its number is above the front.
+/// The acknowledgement of a sender's transmission, none where its number is not in the line.
 pub(crate) fn ack_of(
     alloc: Global,
     office: &Office,
@@ -130,7 +129,7 @@ pub(crate) fn ack_of(
     requires sound { IsSound book.now }
     ensures { IfOk result (λ text. option_map (λ bytes. bytes.items) text ≡ ack office.now book.now sender.now number) }
 {
-    if number.value() > book.front(sender) {
+    if !book.is_applied(sender, number) {
         return Ok(None);
     }
     let transmission = transmission_of(alloc, book, sender, number)?;

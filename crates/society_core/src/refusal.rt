@@ -22,7 +22,7 @@ pub enum Refusal {
     /// The body is no order: its fault, 1 to 4.
     #[error("order fault")]
     Order(u8),
-    /// The cut of this sender is above its front, which is told.
+    /// The cut of this sender is not in its line; its front is told.
     #[error("cut above the front")]
     Cut { sender: SenderKey, front: u32 },
     /// The order names a return that is not there.

@@ -102,7 +102,7 @@ pub trait Store {
     ) -> Result<KnownTransmission, StoreFault>
         ensures question { Question (state self.old) (state self.new) result (λ known. known ≡ known_with_front (front (state self.old).book sender.now) (known_as (state self.old).book sender.now number body.now)) };
 
-    /// The acknowledgement of a sender's transmission, none where its number is above the front.
+    /// The acknowledgement of a sender's transmission, none where its number is not in the line.
     fn ack(
         &mut self,
         alloc: Global,
@@ -128,7 +128,7 @@ pub trait Store {
     ) -> Result<Option<Work>, StoreFault>
         ensures { Question (state self.old) (state self.new) result (λ shown. option_map shown_of shown ≡ shown_in (state self.old).office (state self.old).book sender.now work.now) };
 
-    /// The verdicts of a sender's transmission, none where its number is above the front.
+    /// The verdicts of a sender's transmission, none where its number is not in the line.
     fn verdicts(
         &mut self,
         alloc: Global,

@@ -12,21 +12,21 @@ use Rattle.society_core.specs.Candidates.{Adds, is_version_by, transactions_sent
 use Rattle.society_core.specs.Owners.{CutWork, is_version_at, versions_of_transmission}
 use Rattle.works_core.specs.Line.{verdicts_at}
 use Rattle.works_core.specs.Numbered.{JudgedTransmission, has_number}
-use Rattle.society_core.proofs.CandidateLemmas.{adds_then, is_version_same, no_place, verdicts_are_counted, versions_push}
-use Rattle.society_core.proofs.Lines.{line_has}
+use Rattle.society_core.proofs.CandidateLemmas.{adds_then, is_version_same, no_place, verdicts_counted_in, versions_push}
+use Rattle.society_core.proofs.Lines.{line_has_one}
 use Rattle.society_core.proofs.candidates.add_versions.Goals as goal
 use Rattle.society_core.specs.Pools.{holders_of}
 
 pub unreachable-requires : goal.unreachable-requires
 unreachable-requires c =
-    let there = line_has c.args.office.now c.args.book.now c.args.key.now.sender c.args.key.now.number c.args.number c.value.ensures.limits.0 c.requires.within in
+    let there = line_has_one c.args.office.now c.args.book.now c.args.key.now.sender c.args.key.now.number c.args.number c.requires.within in
     false≢true (sym c.in_default.ensures ∙ ap (has_number c.args.number) c.requires.line ∙ there)
 
 pub unreachable-requires-in_default-transaction : goal.unreachable-requires-in_default-transaction
 unreachable-requires-in_default-transaction c =
     let ts = transactions_sent c.args.book.now c.args.key.now.sender c.args.number in
     let told = c.in-Some.ensures.1 ∙ ap (λ (l : List JudgedTransmission). verdicts_at l c.args.number) c.requires.line in
-    let count : length c.in-Some.verdicts.now ≡ length ts = ap (λ vs. length vs) told ∙ verdicts_are_counted c.args.office.now c.args.book.now c.args.key.now.sender c.args.key.now.number c.args.number c.value.ensures.limits.0 c.requires.within in
+    let count : length c.in-Some.verdicts.now ≡ length ts = ap (λ vs. length vs) told ∙ verdicts_counted_in c.args.office.now c.args.book.now c.args.key.now.sender c.args.key.now.number c.args.number c.requires.within in
     let below : c.loop-place.place < length ts = omega (arith, count, c.loop-place-test.true) in
     no_place ts c.loop-place.place below (ap (λ (t : Transmission). slice_get (transactions_of t) c.loop-place.place) (sym c.in_ok-transmission.ensures) ∙ sym c.in_default-transaction.ensures)
 
@@ -56,6 +56,6 @@ pub returns : goal.returns
 returns c =
     let ts = transactions_sent c.args.book.now c.args.key.now.sender c.args.number in
     let told = c.in-Some.ensures.1 ∙ ap (λ (l : List JudgedTransmission). verdicts_at l c.args.number) c.requires.line in
-    let count : length c.in-Some.verdicts.now ≡ length ts = ap (λ vs. length vs) told ∙ verdicts_are_counted c.args.office.now c.args.book.now c.args.key.now.sender c.args.key.now.number c.args.number c.value.ensures.limits.0 c.requires.within in
+    let count : length c.in-Some.verdicts.now ≡ length ts = ap (λ vs. length vs) told ∙ verdicts_counted_in c.args.office.now c.args.book.now c.args.key.now.sender c.args.key.now.number c.args.number c.requires.within in
     let all : take c.loop-place.place ts ≡ ts = take_all c.loop-place.place ts (omega (arith, count, c.loop-place-test.false)) in
     subst (λ (xs : List Transaction). Adds (holders_of c.args.kind c.args.office.now) (is_tallied c.args.tally.now) (versions_of_transmission c.args.office.now c.args.book.now c.args.key.now c.args.number xs) c.args.candidates.now.items c.loop-place.candidates.items) all c.loop-place.invariant

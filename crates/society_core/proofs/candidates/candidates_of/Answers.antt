@@ -8,8 +8,8 @@ use Rattle.society_core.proofs.CandidateLemmas.{reached_at, works_push}
 use Rattle.society_core.proofs.candidates.candidates_of.Goals as goal
 use Rattle.society_core.specs.Pools.{holders_of}
 
-pub add_sender-requires-clause-reached : goal.add_sender-requires-clause-reached
-add_sender-requires-clause-reached c = reached_at c.args.book.now c.args.order.now c.cut-key-items.result.now c.loop-key.key-index c.key-item.result c.requires.reached c.cut-key-items.ensures.value c.key-item.is c.loop-key-test.true
+pub add_sender-requires-clause-applied : goal.add_sender-requires-clause-applied
+add_sender-requires-clause-applied c = reached_at c.args.book.now c.args.order.now c.cut-key-items.result.now c.loop-key.key-index c.key-item.result c.requires.reached c.cut-key-items.ensures.value c.key-item.is c.loop-key-test.true
 
 pub loop-key-preserved : goal.loop-key-preserved
 loop-key-preserved c =

@@ -3,8 +3,8 @@ use Rattle.society_core.specs.Book.{transmissions_to}
 use Rattle.works_core.specs.Line.{line_of}
 use Rattle.society_core.proofs.plain_lines.line_to.Given as goal
 
-abbrev pub invariant-loop-applied : goal.invariant-loop-applied
-invariant-loop-applied l = record {
+abbrev pub invariant-loop-next : goal.invariant-loop-next
+invariant-loop-next l = record {
   office : l.line.office ≡ l.office;
-  line : l.line.transmissions ≡ line_of l.office (transmissions_to l.book l.sender l.applied);
+  line : l.line.transmissions ≡ line_of l.office (transmissions_to l.book l.sender l.next-index);
 }

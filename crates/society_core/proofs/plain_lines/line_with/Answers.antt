@@ -3,8 +3,15 @@ use Rattle.cwr_files.specs.declared.transmission.Transmission.{Transmission}
 use Rattle.share_rules.specs.declared.office.Office.{Office}
 use Rattle.works_core.specs.Line.{judged_in}
 use Rattle.works_core.specs.Numbered.{JudgedTransmission, last_number}
+use Rattle.society_core.specs.Book.{front}
+use Rattle.society_core.proofs.LineNumbers.{one_of_within}
 use Rattle.society_core.proofs.Lines.{judged_under, line_ends, line_next, line_to}
 use Rattle.society_core.proofs.plain_lines.line_with.Goals as goal
+
+pub line_to-requires-clause-reached : goal.line_to-requires-clause-reached
+line_to-requires-clause-reached c =
+    let within = one_of_within (front c.args.book.now c.args.sender.now) c.args.number c.requires.applied in
+    omega (arith, within, c.value.ensures.value)
 
 pub apply-requires : goal.apply-requires
 apply-requires c =
