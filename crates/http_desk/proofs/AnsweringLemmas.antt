@@ -20,7 +20,7 @@ use Rattle.http_desk.specs.BodyLength.{is_put}
 use Rattle.http_desk.specs.Path.{query_for}
 use Rattle.http_desk.specs.Reads.{Awaits}
 use Rattle.http_desk.specs.Serves.{Steps}
-use Rattle.http_desk.specs.Told.{told_reply}
+use Rattle.http_desk.specs.Told.{Tells, told_reply}
 use Rattle.http_desk.specs.Upcoming.{HasPart, IsUpcoming, StopsBy}
 use Rattle.http_desk.specs.declared.answering.Next.{Next}
 use Rattle.http_desk.specs.declared.counted.Counted.{Counted}
@@ -32,11 +32,12 @@ use Rattle.http_desk.specs.declared.told.Told.{Told}
 use Rattle.http_desk.specs.declared.upcoming.Upcoming.TheVariants.{Request}
 use Rattle.http_desk.specs.Wanted.{AsksFor, PartAsks}
 use Rattle.http_desk.specs.declared.requests.Wanted.{Wanted}
-use Rattle.http_desk.specs.declared.requests.Wanted.TheVariants.{Transmission}
+use Rattle.http_desk.specs.declared.requests.Wanted.TheVariants as wanted
 use Rattle.http_desk.proofs.CuttingLemmas.{begins_of, none_while_awaited}
 use Rattle.http_desk.proofs.FeedingLemmas.{fed_is_part, fed_whole_part}
 use Rattle.http_desk.proofs.HeadLemmas.{Begins-append, Begins-unique}
 use Rattle.http_desk.proofs.Known.{Appends-is}
+use Rattle.http_desk.proofs.StepLemmas.{tells_call}
 use Rattle.http_desk.proofs.UpcomingLemmas.{ReadsOn-join}
 
 -- ---- heads
@@ -71,18 +72,17 @@ takes_part state desk new_desk bytes rest told close kept has front is step = re
 
 -- a request whose body was fed was answered
 pub takes_fed : {S : Type 0} (state : S → State) (desk new_desk : S) (before rest : List ℕ) (turns spare : ℕ) (known now : Option (List ℕ)) (reads now_reads : ℕ) (kept : Head) (sink : Fed) (left : ℕ) (told : Told) (key : TransmissionKey) (reply : Reply)
-    → (so : HasFed before rest turns spare known now reads now_reads kept sink left) → HasHead before kept → left ≡ 0 → AsksFor before kept (Transmission key)
-    → told_reply told ≡ reply → ((bytes : List ℕ) → WasFed sink bytes → Proceeds (state desk) (state new_desk) (Puts key.sender key.number bytes) reply)
+    → (so : HasFed before rest turns spare known now reads now_reads kept sink left) → HasHead before kept → left ≡ 0 → AsksFor before kept (wanted.Fed key)
+    → Tells reply (told_reply told) → ((bytes : List ℕ) → WasFed sink bytes → Proceeds (state desk) (state new_desk) (Puts key.sender key.number bytes) reply)
     → Takes state desk new_desk (pending before kept so.fed rest) rest told kept.closes
-takes_fed state desk new_desk before rest turns spare known now reads now_reads kept sink left told key reply so h none asks same proceeds = record {
+takes_fed state desk new_desk before rest turns spare known now reads now_reads kept sink left told key reply so h none asks tells proceeds = record {
   part = record { head = h.0; body = so.fed };
   is_part = fed_is_part before turns known reads kept rest spare now now_reads sink left so h none;
   whole = fed_whole_part before turns known reads kept rest spare now now_reads sink left so h;
   is_last = h.3.last;
   step =
       let P : Query → Type 0 = λ q. Proceeds (state desk) (state new_desk) q (told_reply told) in
-      let Q : Reply → Type 0 = λ r. Proceeds (state desk) (state new_desk) (Puts key.sender key.number so.fed) r in
-      subst P (asks h so.fed) (subst Q (sym same) (proceeds so.fed so.was_fed));
+      subst P (asks h so.fed) (tells_call _ _ _ reply (told_reply told) tells (proceeds so.fed so.was_fed));
 }
 
 -- ---- what was read

@@ -2,6 +2,7 @@
 #![tactic(auto)]
 
 mod answering;
+mod asked;
 mod body_length;
 mod connection;
 mod connection_end;

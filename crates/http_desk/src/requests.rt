@@ -4,7 +4,7 @@ ghost use Rattle.matchit.specs.Params.{AllText};
 ghost use Rattle.society_core.specs.Requests.{query_of};
 ghost use Rattle.http_desk.specs.declared.routes.Route.TheVariants as route;
 ghost use Rattle.http_desk.specs.Parameters.{parts_of};
-ghost use Rattle.http_desk.specs.Wanted.{asked_with};
+ghost use Rattle.http_desk.specs.Wanted.{asked_whole, asked_with};
 ghost use Rattle.http_desk.specs.Path.{office_routes, is_path_byte, is_path, asked_by_put, asked_by_get, query_for};
 
 use crate::order_text::close_by;
@@ -19,17 +19,31 @@ use std::alloc::{AllocError, Global};
 use std::str;
 use work_ids::PoolNumber;
 
-/// What is asked, as far as a method and a target tell it.
+/// What is asked, as far as a method and a target tell it, by how its body comes to the desk.
 #[derive(Drop)]
 pub(crate) enum Wanted {
-    /// To put this transmission.
-    Transmission(TransmissionKey),
+    /// To put this transmission, whose body is fed while it comes.
+    Fed(TransmissionKey),
+    /// This, with a body that is read whole first.
+    Whole(WithBody),
+}
+
+/// What is asked with a body that is read whole.
+#[derive(Drop)]
+pub(crate) enum WithBody {
     /// To put this performance return.
     Return(ReturnKey),
     /// To close this pool.
     Pool(PoolNumber),
     /// This, whatever the body.
     Anyway(Request<'static>),
+}
+
+// What is asked where a target stands for nothing that the office has.
+fn elsewhere() -> Wanted
+    ensures { result ≡ Wanted.Whole (WithBody.Anyway Request.Elsewhere) }
+{
+    Wanted::Whole(WithBody::Anyway(Request::Elsewhere))
 }
 
 fn is_path_byte(byte: u8) -> bool
@@ -54,12 +68,12 @@ fn put_of_transmission(scratch: &mut Vec<u8>, params: &Params<'_, '_>) -> Wanted
     ensures room { vec_capacity scratch.old ≤ vec_capacity scratch.new }
 {
     let Some(sender) = sender_in_path(scratch, params) else {
-        return Wanted::Anyway(Request::Elsewhere);
+        return elsewhere();
     };
     let Some(number) = number_in_path(scratch, params) else {
-        return Wanted::Anyway(Request::Elsewhere);
+        return elsewhere();
     };
-    Wanted::Transmission(TransmissionKey { sender, number })
+    Wanted::Fed(TransmissionKey { sender, number })
 }
 
 // The put of a performance return.
@@ -71,12 +85,12 @@ fn put_of_return(scratch: &mut Vec<u8>, params: &Params<'_, '_>) -> Wanted
     ensures room { vec_capacity scratch.old ≤ vec_capacity scratch.new }
 {
     let Some(reporter) = reporter_in_path(scratch, params) else {
-        return Wanted::Anyway(Request::Elsewhere);
+        return elsewhere();
     };
     let Some(number) = return_number_in_path(scratch, params) else {
-        return Wanted::Anyway(Request::Elsewhere);
+        return elsewhere();
     };
-    Wanted::Return(ReturnKey { reporter, number })
+    Wanted::Whole(WithBody::Return(ReturnKey { reporter, number }))
 }
 
 // The close of a pool.
@@ -88,8 +102,8 @@ fn put_of_pool(scratch: &mut Vec<u8>, params: &Params<'_, '_>) -> Wanted
     ensures room { vec_capacity scratch.old ≤ vec_capacity scratch.new }
 {
     match pool_in_path(scratch, params) {
-        Some(pool) => Wanted::Pool(pool),
-        None => Wanted::Anyway(Request::Elsewhere),
+        Some(pool) => Wanted::Whole(WithBody::Pool(pool)),
+        None => elsewhere(),
     }
 }
 
@@ -106,7 +120,7 @@ fn put_of(route: Route, scratch: &mut Vec<u8>, params: &Params<'_, '_>) -> Wante
         Route::Return => put_of_return(scratch, params),
         Route::Pool => put_of_pool(scratch, params),
         Route::Acknowledgement | Route::Sender | Route::Verdicts | Route::Work | Route::Account =>
-            Wanted::Anyway(Request::Elsewhere),
+            elsewhere(),
     }
 }
 
@@ -228,37 +242,33 @@ pub(crate) fn wanted_for(
     ensures room { vec_capacity scratch.old ≤ vec_capacity scratch.new }
 {
     if !is_path(target) {
-        return Wanted::Anyway(Request::Elsewhere);
+        return elsewhere();
     }
     let Ok(path) = str::from_utf8(target) else {
-        return Wanted::Anyway(Request::Elsewhere);
+        return elsewhere();
     };
     let Ok(found) = router.at(path) else {
-        return Wanted::Anyway(Request::Elsewhere);
+        return elsewhere();
     };
     if put {
         put_of(*found.value, scratch, &found.params)
     } else {
-        Wanted::Anyway(get_of(*found.value, scratch, &found.params))
+        let request = get_of(*found.value, scratch, &found.params);
+        Wanted::Whole(WithBody::Anyway(request))
     }
 }
 
-/// What is asked with a body. `AllocError` where memory is refused while an order is read.
+/// What is asked with a body that was read whole. `AllocError` where memory is refused while an order is read.
 pub(crate) fn request_with<'b>(
     alloc: Global,
-    wanted: Wanted,
+    wanted: WithBody,
     body: &'b [u8],
 ) -> Result<Request<'b>, AllocError>
-    ensures { IfOk result (λ request. query_of request ≡ asked_with wanted body.now) }
+    ensures { IfOk result (λ request. query_of request ≡ asked_whole wanted body.now) }
 {
     match wanted {
-        Wanted::Transmission(key) => Ok(Request::PutTransmission {
-            sender: key.sender,
-            number: key.number,
-            body,
-        }),
-        Wanted::Return(key) => Ok(Request::PutReturn { key, body }),
-        Wanted::Pool(pool) => close_by(alloc, pool, body),
-        Wanted::Anyway(request) => Ok(request),
+        WithBody::Return(key) => Ok(Request::PutReturn { key, body }),
+        WithBody::Pool(pool) => close_by(alloc, pool, body),
+        WithBody::Anyway(request) => Ok(request),
     }
 }

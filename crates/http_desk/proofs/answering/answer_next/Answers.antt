@@ -1,5 +1,6 @@
 use Rattle.std.proofs.Common.{List, ℕ, subst, sym}
 use Rattle.society_core.specs.Requests.{reply_of}
+use Rattle.http_desk.specs.declared.requests.Wanted.TheVariants.{Whole}
 use Rattle.http_desk.specs.Told.{told_reply}
 use Rattle.http_desk.specs.Wanted.{PartAsks}
 use Rattle.http_desk.proofs.StepLemmas.{tells_call}
@@ -12,5 +13,5 @@ returns-clause-step g c =
 
 pub answer_front-answer-requires-clause-asks : goal.answer_front-answer-requires-clause-asks
 answer_front-answer-requires-clause-asks g c =
-    let P : List ℕ → Type 0 = λ v. PartAsks v c.args.head.now c.args.wanted in
+    let P : List ℕ → Type 0 = λ v. PartAsks v c.args.head.now (Whole c.args.wanted) in
     subst P (sym c.unread-bytes.ensures) c.requires.asks

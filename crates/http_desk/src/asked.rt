@@ -1,0 +1,42 @@
+//! The one door to the desk: what is asked, with its body as it came.
+ghost use Rattle.std.specs.Prelude.{◌≡◌};
+ghost use Rattle.society_core.specs.Requests.{Query, reply_of};
+ghost use Rattle.society_core.specs.Runs.{Proceeds};
+ghost use Rattle.http_desk.specs.Wanted.{StandsFor};
+
+use cwr_files::FileReader;
+use society_core::{Answer, Desk, Request, Store, TransmissionKey, answer};
+use std::alloc::Global;
+
+/// The put of a transmission, whose body was fed to a reader of its sender.
+#[derive(Drop)]
+pub(crate) struct FedPut {
+    pub key: TransmissionKey,
+    pub reader: FileReader,
+    ghost same: { reader.sender ≡ key.sender },
+}
+
+/// What is asked of the desk, with its body.
+#[derive(Drop)]
+pub(crate) enum Asked<'b> {
+    /// To put a transmission that was fed while it came.
+    Fed(FedPut),
+    /// Anything else; its body was read whole.
+    Whole(Request<'b>),
+}
+
+/// Asks it at the desk.
+pub(crate) fn ask<S: Store>(alloc: Global, desk: &mut Desk<S>, asked: Asked<'_>) -> Answer
+    ensures { (query : Query) → StandsFor asked query
+        → Proceeds (S.state desk.old) (S.state desk.new) query (reply_of result) }
+{
+    match asked {
+        Asked::Fed(FedPut { key, reader }) => {
+            match desk.put_fed(alloc, &key.sender, key.number, reader) {
+                Ok(arrival) => Answer::Arrived(arrival),
+                Err(refusal) => Answer::Refused(refusal),
+            }
+        }
+        Asked::Whole(request) => answer(alloc, desk, &request),
+    }
+}
