@@ -1,7 +1,9 @@
 -- Lemmas on reading on: what was read so far, and what stands at the front of it.
-use Rattle.std.proofs.Common.{◌≡◌, ◌≢◌, inl, inr, ℕ, ◌+◌, ◌<◌, ◌≤◌, List, [], ◌∷◌, ◌++◌, length, take, drop, Option, Some, None, refl, sym, ◌∙◌, ap, subst, arith, append_assoc, length-append}
+use Rattle.std.proofs.Common.{◌≡◌, ◌≢◌, inl, inr, ℕ, ◌+◌, ◌-◌, ◌<◌, ◌≤◌, List, [], ◌∷◌, ◌++◌, length, take, drop, Option, Some, None, refl, sym, ◌∙◌, ap, subst, arith, append_assoc, length-append}
 use Rattle.std.specs.Prelude.{unwrap_or, ◌^◌}
-use Rattle.std.proofs.lemmas.List.{append-nil, take-append-drop, length-take-le}
+use Rattle.std.proofs.lemmas.List.{append-nil, take-append-drop, length-take-le, length-drop, take_all}
+use Rattle.std.proofs.lemmas.List.Edits.{take-paste}
+use Rattle.std.proofs.Math.Seq.{paste}
 use Rattle.std.specs.Io.KnownBytes.{Consumes, IsAtEnd}
 use Rattle.std.specs.List.{AllByRecursion}
 use Rattle.std.proofs.lemmas.Grind.{flat_map-append}
@@ -21,6 +23,18 @@ use Rattle.http_desk.specs.Reads.{Awaits, AwaitsHead, Ends, IsBad, IsTooLarge, s
 use Rattle.http_desk.specs.Counted.{counted_on}
 use Rattle.http_desk.proofs.Known.{Consumes-none, Consumes-join, counted_none, counted_join}
 use Rattle.http_desk.proofs.HeadLemmas.{Begins-append, none_partial}
+
+-- ---- bytes that are moved to the front
+
+-- those behind a place, which stand over the others then, and as many as they were
+pub moved_front : (items : List ℕ) (start rest count : ℕ) → start ≤ length items → rest ≡ length items - start → count ≡ rest
+    → take rest (paste items 0 (drop start items) count) ≡ drop start items
+moved_front items start rest count fits size same =
+    let left : length (drop start items) ≡ rest = omega (arith, length-drop start items, size) in
+    let none : 0 + rest ≡ rest = omega arith in
+    ap (λ (n : ℕ). take rest (paste items 0 (drop start items) n)) same
+    ∙ ap (λ (n : ℕ). take n (paste items 0 (drop start items) rest)) (sym none)
+    ∙ take-paste items 0 (drop start items) rest (omega arith) (omega (arith, left)) ∙ take_all rest (drop start items) (omega (arith, left))
 
 -- ---- before each piece
 
