@@ -6,7 +6,6 @@ use Rattle.std.proofs.lemmas.List.{append-nil, drop_at}
 use Rattle.cwr_files.specs.Fed.{Fed, WasFed}
 use Rattle.httparse.specs.Grammar.{RequestHead, print_request}
 use Rattle.society_core.specs.Requests.{Puts, Query, Reply}
-use Rattle.society_core.specs.Runs.{Proceeds}
 use Rattle.society_core.specs.State.{State}
 use Rattle.society_core.specs.declared.transmission_key.TransmissionKey.{TransmissionKey}
 use Rattle.http_desk.specs.Answering.{ComesNext, IsLeft, Takes}
@@ -19,7 +18,7 @@ use Rattle.http_desk.specs.Part.{Begins, print_part}
 use Rattle.http_desk.specs.BodyLength.{is_put}
 use Rattle.http_desk.specs.Path.{query_for}
 use Rattle.http_desk.specs.Reads.{Awaits}
-use Rattle.http_desk.specs.Serves.{Steps}
+use Rattle.http_desk.specs.Serves.{Calls, Steps}
 use Rattle.http_desk.specs.Told.{Tells, told_reply}
 use Rattle.http_desk.specs.Upcoming.{HasPart, IsUpcoming, StopsBy}
 use Rattle.http_desk.specs.declared.answering.Next.{Next}
@@ -73,16 +72,16 @@ takes_part state desk new_desk bytes rest told close kept has front is step = re
 -- a request whose body was fed was answered
 pub takes_fed : {S : Type 0} (state : S → State) (desk new_desk : S) (before rest : List ℕ) (turns spare : ℕ) (known now : Option (List ℕ)) (reads now_reads : ℕ) (kept : Head) (sink : Fed) (left : ℕ) (told : Told) (key : TransmissionKey) (reply : Reply)
     → (so : HasFed before rest turns spare known now reads now_reads kept sink left) → HasHead before kept → left ≡ 0 → AsksFor before kept (wanted.Fed key)
-    → Tells reply (told_reply told) → ((bytes : List ℕ) → WasFed sink bytes → Proceeds (state desk) (state new_desk) (Puts key.sender key.number bytes) reply)
+    → Tells reply (told_reply told) → ((bytes : List ℕ) → WasFed sink bytes → Calls state desk new_desk (Puts key.sender key.number bytes) reply)
     → Takes state desk new_desk (pending before kept so.fed rest) rest told kept.closes
-takes_fed state desk new_desk before rest turns spare known now reads now_reads kept sink left told key reply so h none asks tells proceeds = record {
+takes_fed state desk new_desk before rest turns spare known now reads now_reads kept sink left told key reply so h none asks tells calls = record {
   part = record { head = h.0; body = so.fed };
   is_part = fed_is_part before turns known reads kept rest spare now now_reads sink left so h none;
   whole = fed_whole_part before turns known reads kept rest spare now now_reads sink left so h;
   is_last = h.3.last;
   step =
-      let P : Query → Type 0 = λ q. Proceeds (state desk) (state new_desk) q (told_reply told) in
-      subst P (asks h so.fed) (tells_call _ _ _ reply (told_reply told) tells (proceeds so.fed so.was_fed));
+      let P : Query → Type 0 = λ q. Calls state desk new_desk q (told_reply told) in
+      subst P (asks h so.fed) (tells_call state desk new_desk _ reply (told_reply told) tells (calls so.fed so.was_fed));
 }
 
 -- ---- what was read

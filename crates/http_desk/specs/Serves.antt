@@ -1,13 +1,14 @@
 -- What a connection comes to: the requests that were read, their answers, the book after them, and why it was given up.
-use Rattle.std.specs.Prelude.{◌≡◌, ◌⊎◌, ℕ, ◌+◌, ◌*◌, ◌≤◌, IsTrue, IfSome, List, [], ◌∷◌, ◌++◌, length, map, Option}
+use Rattle.std.specs.Prelude.{◌≡◌, ◌⊎◌, ℕ, ◌+◌, ◌*◌, ◌≤◌, Bool, true, false, IsTrue, IfSome, List, [], ◌∷◌, ◌++◌, length, map, Option}
 use Rattle.std.specs.Io.KnownBytes.{Appends, Consumes}
 use Rattle.std.specs.List.{flat_map, AllByRecursion}
 use Rattle.society_core.specs.Book.{Book}
 use Rattle.society_core.specs.Entries.{Entry, IsIn}
 use Rattle.society_core.specs.Headline.{OneContent, HoldsWhatCame}
-use Rattle.society_core.specs.Requests.{Query, Reply}
+use Rattle.society_core.specs.Requests.{Query, Puts, PutsReturn, Closes, ClosesFaulty, AsksAck, AsksSender, AsksWork, AsksVerdicts, AsksCredits, AsksBalance, AsksElsewhere, Reply, Refused}
 use Rattle.society_core.specs.Runs.{Proceeds, Run}
 use Rattle.society_core.specs.State.{State, Rises}
+use Rattle.society_core.specs.declared.refusal.Refusal.TheVariants.{Unknown}
 use Rattle.http_desk.specs.declared.connection.Served.{Served}
 use Rattle.http_desk.specs.declared.connection_end.End.{End}
 use Rattle.http_desk.specs.declared.counted.Counted.{Counted}
@@ -23,9 +24,30 @@ use Rattle.http_desk.specs.Text.{texts, ending}
 use Rattle.http_desk.specs.Upcoming.{HasPart}
 use Rattle.http_desk.specs.declared.head.Head.{Head}
 
--- a request was answered by a call that led the store on
+-- whether a request asks the store: one for nothing that the office has does not, nor does an order at fault
+abbrev pub asks_store : Query → Bool
+asks_store (Puts sender number body) = true
+asks_store (PutsReturn key body) = true
+asks_store (Closes pool order) = true
+asks_store (ClosesFaulty fault) = false
+asks_store (AsksAck sender number) = true
+asks_store (AsksSender sender) = true
+asks_store (AsksWork sender work) = true
+asks_store (AsksVerdicts sender number) = true
+asks_store (AsksCredits pool) = true
+asks_store (AsksBalance account) = true
+asks_store AsksElsewhere = false
+
+-- A request was answered by a call that led the store on. One that asks nothing of the store leaves it untouched; one for nothing that
+-- the office has asks no memory either, so it is told that this is unknown, and never that the office is unavailable.
+pub record Calls {S : Type 0} (state : S → State) (desk new_desk : S) (query : Query) (reply : Reply) : Type 0 where
+  pub proceeds : Proceeds (state desk) (state new_desk) query reply
+  pub untouched : asks_store query ≡ false → new_desk ≡ desk
+  pub unknown : query ≡ AsksElsewhere → reply ≡ Refused Unknown
+
+-- a request of a connection was answered so
 abbrev pub Steps : {S : Type 0} → (S → State) → S → S → Part → Reply → Type 0
-Steps state desk new_desk part reply = Proceeds (state desk) (state new_desk) (request_of part) reply
+Steps state desk new_desk part reply = Calls state desk new_desk (request_of part) reply
 
 -- the request at the front of the bytes, of whose head this is kept, was answered by such a call
 abbrev pub IsAnswered : {S : Type 0} → (S → State) → S → S → List ℕ → Head → Reply → Type 0
@@ -35,7 +57,7 @@ IsAnswered state desk new_desk bytes head reply = (has : HasPart bytes head) →
 abbrev pub Answered : {S : Type 0} → (S → State) → List Query → List Reply → S → S → Type 0
 Answered state [] [] desk new_desk = new_desk ≡ desk
 Answered {S} state (query ∷ queries) (reply ∷ replies) desk new_desk =
-    (middle : S) × Proceeds (state desk) (state middle) query reply × Answered state queries replies middle new_desk
+    (middle : S) × Calls state desk middle query reply × Answered state queries replies middle new_desk
 Answered state [] (reply ∷ replies) desk new_desk = ⊥
 Answered state (query ∷ queries) [] desk new_desk = ⊥
 

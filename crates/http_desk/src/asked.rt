@@ -1,11 +1,11 @@
 //! The one door to the desk: what is asked, with its body as it came.
 ghost use Rattle.std.specs.Prelude.{◌≡◌};
-ghost use Rattle.society_core.specs.Requests.{Query, reply_of};
-ghost use Rattle.society_core.specs.Runs.{Proceeds};
+ghost use Rattle.society_core.specs.Requests.{Query, query_of, reply_of};
+ghost use Rattle.http_desk.specs.Serves.{Calls};
 ghost use Rattle.http_desk.specs.Wanted.{StandsFor};
 
 use cwr_files::FileReader;
-use society_core::{Answer, Desk, Request, Store, TransmissionKey, answer};
+use society_core::{Answer, Desk, Refusal, Request, Store, TransmissionKey, answer};
 use std::alloc::Global;
 
 /// The put of a transmission, whose body was fed to a reader of its sender.
@@ -25,10 +25,21 @@ pub(crate) enum Asked<'b> {
     Whole(Request<'b>),
 }
 
+// Asks what needs the store; what needs none is told as it is.
+fn ask_whole<S: Store>(alloc: Global, desk: &mut Desk<S>, request: &Request<'_>) -> Answer
+    ensures { Calls S.state desk.old desk.new (query_of request.now) (reply_of result) }
+{
+    match request {
+        Request::Elsewhere => Answer::Refused(Refusal::Unknown),
+        Request::FaultyOrder { fault } => Answer::Refused(Refusal::Order(*fault)),
+        _ => answer(alloc, desk, request),
+    }
+}
+
 /// Asks it at the desk.
 pub(crate) fn ask<S: Store>(alloc: Global, desk: &mut Desk<S>, asked: Asked<'_>) -> Answer
     ensures { (query : Query) → StandsFor asked query
-        → Proceeds (S.state desk.old) (S.state desk.new) query (reply_of result) }
+        → Calls S.state desk.old desk.new query (reply_of result) }
 {
     match asked {
         Asked::Fed(FedPut { key, reader }) => {
@@ -37,6 +48,6 @@ pub(crate) fn ask<S: Store>(alloc: Global, desk: &mut Desk<S>, asked: Asked<'_>)
                 Err(refusal) => Answer::Refused(refusal),
             }
         }
-        Asked::Whole(request) => answer(alloc, desk, &request),
+        Asked::Whole(request) => ask_whole(alloc, desk, &request),
     }
 }

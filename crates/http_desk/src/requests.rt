@@ -1,7 +1,7 @@
 //! The requests of the office, by method, target and body.
-ghost use Rattle.std.specs.Prelude.{◌≡◌, ◌≤◌, ℕ, List, length, vec_capacity, IfOk};
+ghost use Rattle.std.specs.Prelude.{◌≡◌, ◌≢◌, ◌≤◌, ℕ, List, length, vec_capacity, IfOk, OnErr};
 ghost use Rattle.matchit.specs.Params.{AllText};
-ghost use Rattle.society_core.specs.Requests.{query_of};
+ghost use Rattle.society_core.specs.Requests.{AsksElsewhere, query_of};
 ghost use Rattle.http_desk.specs.declared.routes.Route.TheVariants as route;
 ghost use Rattle.http_desk.specs.Parameters.{parts_of};
 ghost use Rattle.http_desk.specs.Wanted.{asked_whole, asked_with};
@@ -264,7 +264,8 @@ pub(crate) fn request_with<'b>(
     wanted: WithBody,
     body: &'b [u8],
 ) -> Result<Request<'b>, AllocError>
-    ensures { IfOk result (λ request. query_of request ≡ asked_whole wanted body.now) }
+    ensures asks { IfOk result (λ request. query_of request ≡ asked_whole wanted body.now) }
+    ensures refused { OnErr result (asked_whole wanted body.now ≢ AsksElsewhere) }
 {
     match wanted {
         WithBody::Return(key) => Ok(Request::PutReturn { key, body }),
