@@ -20,6 +20,7 @@ mod reply;
 mod requests;
 mod room;
 mod routes;
+mod short_body;
 mod status;
 mod table;
 mod text;

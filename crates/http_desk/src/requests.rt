@@ -1,15 +1,15 @@
 //! The requests of the office, by method, target and body.
-ghost use Rattle.std.specs.Prelude.{◌≡◌, ◌≢◌, ◌≤◌, ℕ, List, length, vec_capacity, IfOk, OnErr};
-ghost use Rattle.matchit.specs.Params.{AllText};
+ghost use Rattle.std.specs.Prelude.{◌≡◌, ◌≢◌, ◌≤◌, ℕ, List, length, IfOk, OnErr};
 ghost use Rattle.society_core.specs.Requests.{AsksElsewhere, query_of};
 ghost use Rattle.http_desk.specs.declared.routes.Route.TheVariants as route;
-ghost use Rattle.http_desk.specs.Parameters.{parts_of};
+ghost use Rattle.http_desk.specs.Parameters.{IsTaken, parts_of};
+ghost use Rattle.http_desk.specs.Part.{max_head};
 ghost use Rattle.http_desk.specs.Wanted.{asked_whole, asked_with};
 ghost use Rattle.http_desk.specs.Path.{office_routes, is_path_byte, is_path, asked_by_put, asked_by_get, query_for};
 
 use crate::order_text::close_by;
 use crate::parameters::{
-    account_in_path, number_in_path, pool_in_path, reporter_in_path, return_number_in_path,
+    Scratch, account_in_path, number_in_path, pool_in_path, reporter_in_path, return_number_in_path,
     sender_in_path, work_in_path,
 };
 use crate::routes::Route;
@@ -60,12 +60,10 @@ fn is_path(target: &[u8]) -> bool
 }
 
 // The put of a transmission.
-fn put_of_transmission(scratch: &mut Vec<u8>, params: &Params<'_, '_>) -> Wanted
-    requires text { AllText (parts_of params.now) }
-    requires room { length params.now.path.now ≤ vec_capacity scratch.old }
+fn put_of_transmission(scratch: &mut Scratch, params: &Params<'_, '_>) -> Wanted
+    requires { IsTaken params.now }
     ensures asks { (body : List ℕ)
         → asked_with result body ≡ asked_by_put route.Transmission (parts_of params.now) body }
-    ensures room { vec_capacity scratch.old ≤ vec_capacity scratch.new }
 {
     let Some(sender) = sender_in_path(scratch, params) else {
         return elsewhere();
@@ -77,12 +75,10 @@ fn put_of_transmission(scratch: &mut Vec<u8>, params: &Params<'_, '_>) -> Wanted
 }
 
 // The put of a performance return.
-fn put_of_return(scratch: &mut Vec<u8>, params: &Params<'_, '_>) -> Wanted
-    requires text { AllText (parts_of params.now) }
-    requires room { length params.now.path.now ≤ vec_capacity scratch.old }
+fn put_of_return(scratch: &mut Scratch, params: &Params<'_, '_>) -> Wanted
+    requires { IsTaken params.now }
     ensures asks { (body : List ℕ)
         → asked_with result body ≡ asked_by_put route.Return (parts_of params.now) body }
-    ensures room { vec_capacity scratch.old ≤ vec_capacity scratch.new }
 {
     let Some(reporter) = reporter_in_path(scratch, params) else {
         return elsewhere();
@@ -94,12 +90,10 @@ fn put_of_return(scratch: &mut Vec<u8>, params: &Params<'_, '_>) -> Wanted
 }
 
 // The close of a pool.
-fn put_of_pool(scratch: &mut Vec<u8>, params: &Params<'_, '_>) -> Wanted
-    requires text { AllText (parts_of params.now) }
-    requires room { length params.now.path.now ≤ vec_capacity scratch.old }
+fn put_of_pool(scratch: &mut Scratch, params: &Params<'_, '_>) -> Wanted
+    requires { IsTaken params.now }
     ensures asks { (body : List ℕ)
         → asked_with result body ≡ asked_by_put route.Pool (parts_of params.now) body }
-    ensures room { vec_capacity scratch.old ≤ vec_capacity scratch.new }
 {
     match pool_in_path(scratch, params) {
         Some(pool) => Wanted::Whole(WithBody::Pool(pool)),
@@ -108,12 +102,10 @@ fn put_of_pool(scratch: &mut Vec<u8>, params: &Params<'_, '_>) -> Wanted
 }
 
 // What a put asks of a route.
-fn put_of(route: Route, scratch: &mut Vec<u8>, params: &Params<'_, '_>) -> Wanted
-    requires text { AllText (parts_of params.now) }
-    requires room { length params.now.path.now ≤ vec_capacity scratch.old }
+fn put_of(route: Route, scratch: &mut Scratch, params: &Params<'_, '_>) -> Wanted
+    requires { IsTaken params.now }
     ensures asks { (body : List ℕ)
         → asked_with result body ≡ asked_by_put route (parts_of params.now) body }
-    ensures room { vec_capacity scratch.old ≤ vec_capacity scratch.new }
 {
     match route {
         Route::Transmission => put_of_transmission(scratch, params),
@@ -125,11 +117,9 @@ fn put_of(route: Route, scratch: &mut Vec<u8>, params: &Params<'_, '_>) -> Wante
 }
 
 // The request of an acknowledgement.
-fn get_of_acknowledgement<'b>(scratch: &mut Vec<u8>, params: &Params<'_, '_>) -> Request<'b>
-    requires text { AllText (parts_of params.now) }
-    requires room { length params.now.path.now ≤ vec_capacity scratch.old }
+fn get_of_acknowledgement<'b>(scratch: &mut Scratch, params: &Params<'_, '_>) -> Request<'b>
+    requires { IsTaken params.now }
     ensures asks { query_of result ≡ asked_by_get route.Acknowledgement (parts_of params.now) }
-    ensures room { vec_capacity scratch.old ≤ vec_capacity scratch.new }
 {
     let Some(sender) = sender_in_path(scratch, params) else {
         return Request::Elsewhere;
@@ -141,11 +131,9 @@ fn get_of_acknowledgement<'b>(scratch: &mut Vec<u8>, params: &Params<'_, '_>) ->
 }
 
 // The request of how a sender stands.
-fn get_of_sender<'b>(scratch: &mut Vec<u8>, params: &Params<'_, '_>) -> Request<'b>
-    requires text { AllText (parts_of params.now) }
-    requires room { length params.now.path.now ≤ vec_capacity scratch.old }
+fn get_of_sender<'b>(scratch: &mut Scratch, params: &Params<'_, '_>) -> Request<'b>
+    requires { IsTaken params.now }
     ensures asks { query_of result ≡ asked_by_get route.Sender (parts_of params.now) }
-    ensures room { vec_capacity scratch.old ≤ vec_capacity scratch.new }
 {
     let Some(sender) = sender_in_path(scratch, params) else {
         return Request::Elsewhere;
@@ -154,11 +142,9 @@ fn get_of_sender<'b>(scratch: &mut Vec<u8>, params: &Params<'_, '_>) -> Request<
 }
 
 // The request of the verdicts of a transmission.
-fn get_of_verdicts<'b>(scratch: &mut Vec<u8>, params: &Params<'_, '_>) -> Request<'b>
-    requires text { AllText (parts_of params.now) }
-    requires room { length params.now.path.now ≤ vec_capacity scratch.old }
+fn get_of_verdicts<'b>(scratch: &mut Scratch, params: &Params<'_, '_>) -> Request<'b>
+    requires { IsTaken params.now }
     ensures asks { query_of result ≡ asked_by_get route.Verdicts (parts_of params.now) }
-    ensures room { vec_capacity scratch.old ≤ vec_capacity scratch.new }
 {
     let Some(sender) = sender_in_path(scratch, params) else {
         return Request::Elsewhere;
@@ -170,11 +156,9 @@ fn get_of_verdicts<'b>(scratch: &mut Vec<u8>, params: &Params<'_, '_>) -> Reques
 }
 
 // The request of a sender's work.
-fn get_of_work<'b>(scratch: &mut Vec<u8>, params: &Params<'_, '_>) -> Request<'b>
-    requires text { AllText (parts_of params.now) }
-    requires room { length params.now.path.now ≤ vec_capacity scratch.old }
+fn get_of_work<'b>(scratch: &mut Scratch, params: &Params<'_, '_>) -> Request<'b>
+    requires { IsTaken params.now }
     ensures asks { query_of result ≡ asked_by_get route.Work (parts_of params.now) }
-    ensures room { vec_capacity scratch.old ≤ vec_capacity scratch.new }
 {
     let Some(sender) = sender_in_path(scratch, params) else {
         return Request::Elsewhere;
@@ -186,11 +170,9 @@ fn get_of_work<'b>(scratch: &mut Vec<u8>, params: &Params<'_, '_>) -> Request<'b
 }
 
 // The request of an account's balance.
-fn get_of_balance<'b>(scratch: &mut Vec<u8>, params: &Params<'_, '_>) -> Request<'b>
-    requires text { AllText (parts_of params.now) }
-    requires room { length params.now.path.now ≤ vec_capacity scratch.old }
+fn get_of_balance<'b>(scratch: &mut Scratch, params: &Params<'_, '_>) -> Request<'b>
+    requires { IsTaken params.now }
     ensures asks { query_of result ≡ asked_by_get route.Account (parts_of params.now) }
-    ensures room { vec_capacity scratch.old ≤ vec_capacity scratch.new }
 {
     let Some(account) = account_in_path(scratch, params) else {
         return Request::Elsewhere;
@@ -199,11 +181,9 @@ fn get_of_balance<'b>(scratch: &mut Vec<u8>, params: &Params<'_, '_>) -> Request
 }
 
 // The request of a pool's table.
-fn get_of_table<'b>(scratch: &mut Vec<u8>, params: &Params<'_, '_>) -> Request<'b>
-    requires text { AllText (parts_of params.now) }
-    requires room { length params.now.path.now ≤ vec_capacity scratch.old }
+fn get_of_table<'b>(scratch: &mut Scratch, params: &Params<'_, '_>) -> Request<'b>
+    requires { IsTaken params.now }
     ensures asks { query_of result ≡ asked_by_get route.Pool (parts_of params.now) }
-    ensures room { vec_capacity scratch.old ≤ vec_capacity scratch.new }
 {
     let Some(pool) = pool_in_path(scratch, params) else {
         return Request::Elsewhere;
@@ -212,11 +192,9 @@ fn get_of_table<'b>(scratch: &mut Vec<u8>, params: &Params<'_, '_>) -> Request<'
 }
 
 // What a get asks of a route.
-fn get_of<'b>(route: Route, scratch: &mut Vec<u8>, params: &Params<'_, '_>) -> Request<'b>
-    requires text { AllText (parts_of params.now) }
-    requires room { length params.now.path.now ≤ vec_capacity scratch.old }
+fn get_of<'b>(route: Route, scratch: &mut Scratch, params: &Params<'_, '_>) -> Request<'b>
+    requires { IsTaken params.now }
     ensures asks { query_of result ≡ asked_by_get route (parts_of params.now) }
-    ensures room { vec_capacity scratch.old ≤ vec_capacity scratch.new }
 {
     match route {
         Route::Acknowledgement => get_of_acknowledgement(scratch, params),
@@ -232,14 +210,13 @@ fn get_of<'b>(route: Route, scratch: &mut Vec<u8>, params: &Params<'_, '_>) -> R
 /// What is asked by a method and a target, whatever body comes with them; a parameter is decoded in the scratch.
 pub(crate) fn wanted_for(
     router: &Router<Route>,
-    scratch: &mut Vec<u8>,
+    scratch: &mut Scratch,
     put: bool,
     target: &[u8],
 ) -> Wanted
     requires routes { router.now ≡ office_routes }
-    requires room { length target.now ≤ vec_capacity scratch.old }
+    requires short { length target.now ≤ max_head }
     ensures asks { (body : List ℕ) → asked_with result body ≡ query_for put target.now body }
-    ensures room { vec_capacity scratch.old ≤ vec_capacity scratch.new }
 {
     if !is_path(target) {
         return elsewhere();
