@@ -11,6 +11,7 @@ use std::test::Fail;
 use test_bodies::REGISTERED;
 
 /// Bytes of answers that a peer has got, and that it had got when it was last asked for more than it sends.
+#[derive(Drop)]
 struct Peer {
     got: Cell<usize>,
     waited: Cell<usize>,
@@ -68,7 +69,7 @@ struct Exchange {
 }
 
 /// A question, a put whose body is fed, and a put whose body is read whole: the first so many of them.
-fn exchange(alloc: Global, count: usize) -> Result<Exchange, AllocError> {
+fn first_exchanges(alloc: Global, count: usize) -> Result<Exchange, AllocError> {
     let mut requests = Vec::new(alloc);
     let mut answers = Vec::new(alloc);
     if count > 0 {
@@ -98,8 +99,8 @@ fn check_waiting(
     more: usize,
 ) -> Result<(), Fail> {
     let row = format!(in alloc; "{more} bytes behind {count} requests")?;
-    let before = exchange(alloc, count)?;
-    let all = exchange(alloc, 3)?;
+    let before = first_exchanges(alloc, count)?;
+    let all = first_exchanges(alloc, 3)?;
     let cut = before.requests.len().saturating_add(more);
     let parts = [
         (0, all.requests.get(..cut).ok_or("a front")?),
