@@ -1,8 +1,9 @@
 -- Lemmas on the next request: what was read for it, and what is told.
-use Rattle.std.proofs.Common.{◌≡◌, inl, inr, ℕ, ◌+◌, Bool, List, [], ◌++◌, length, drop, Option, Result, Ok, Err, sym, ◌∙◌, ap, subst, arith, append_assoc, length-append}
+use Rattle.std.proofs.Common.{◌≡◌, inl, inr, ℕ, ◌+◌, ◌-◌, Bool, List, [], ◌++◌, length, take, drop, Option, Result, Ok, Err, sym, ◌∙◌, ap, subst, arith, append_assoc, length-append}
 use Rattle.std.specs.Prelude.{◌⊎◌, IfErr, IfOk}
 use Rattle.std.specs.Io.KnownBytes.{Appends}
 use Rattle.std.proofs.lemmas.List.{append-nil, drop_at}
+use Rattle.std.proofs.Math.Seq.{take-append_seam}
 use Rattle.cwr_files.specs.Fed.{Fed, WasFed}
 use Rattle.httparse.specs.Grammar.{RequestHead, print_request}
 use Rattle.society_core.specs.Requests.{Puts, Query, Reply}
@@ -50,6 +51,17 @@ part_asks bytes later more kept other wanted h grown asks = λ has.
     asks h has.part.body ∙ ap (λ (r : RequestHead). query_for (is_put r.method) r.target has.part.body) same.0
 
 -- ---- one request
+
+-- its body lies behind its head
+pub body_at : (bytes : List ℕ) (kept : Head) → (has : HasPart bytes kept) → has.part.body ≡ take ((kept.length + kept.body) - kept.length) (drop kept.length bytes)
+body_at bytes kept has =
+    let text = print_request has.part.head in
+    let whole : bytes ≡ text ++ (has.part.body ++ has.rest) = has.whole ∙ append_assoc text has.part.body has.rest in
+    let behind : drop kept.length bytes ≡ has.part.body ++ has.rest =
+        ap (λ (v : List ℕ). drop kept.length v) whole ∙ drop_at text (has.part.body ++ has.rest) kept.length (sym has.is_kept.size) in
+    let count : (kept.length + kept.body) - kept.length ≡ length has.part.body = omega (arith, has.size) in
+    sym (ap (λ (v : List ℕ). take ((kept.length + kept.body) - kept.length) v) behind
+    ∙ ap (λ (n : ℕ). take n (has.part.body ++ has.rest)) count ∙ take-append_seam has.part.body has.rest)
 
 -- a whole request was answered, and taken
 pub takes_part : {S : Type 0} (state : S → State) (desk new_desk : S) (bytes rest : List ℕ) (told : Told) (close : Bool) (kept : Head) → (has : HasPart bytes kept)

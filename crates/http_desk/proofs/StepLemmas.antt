@@ -1,5 +1,6 @@
 -- Lemmas on steps: a reply that shows something is to a question, which leaves the book as it was; and calls that leave the store untouched.
 use Rattle.std.proofs.Common.{◌≡◌, ◌≢◌, ℕ, Bool, true, false, List, Option, Some, None, inl, inr, refl, sym, ◌∙◌, ap, arith, subst}
+use Rattle.cwr_files.specs.Fed.{WasFed}
 use Rattle.cwr_files.specs.FileFault.{file_fault}
 use Rattle.cwr_files.specs.declared.fault.FileFault.{FileFault}
 use Rattle.perf_returns.specs.Returns.{return_fault}
@@ -18,6 +19,10 @@ use Rattle.society_core.specs.declared.store.Known.{Known}
 use Rattle.society_core.specs.declared.store.Known.TheVariants.{Absent, Same, Other}
 use Rattle.http_desk.specs.Serves.{Calls, asks_store}
 use Rattle.http_desk.specs.Told.{IsShown, Tells}
+use Rattle.http_desk.specs.Wanted.{StandsFor}
+use Rattle.http_desk.specs.declared.asked.Asked.{Asked}
+use Rattle.http_desk.specs.declared.asked.Asked.TheVariants as asked_so
+use Rattle.http_desk.specs.declared.fed_put.FedPut.{FedPut}
 
 added_stays : (book : Book) (sender : List ℕ) (number : ℕ) (body : List ℕ) (fault : Option FileFault)
     → IsShown (added_answer book sender number body fault) → added_book book sender number body fault ≡ book
@@ -145,3 +150,13 @@ store_call state desk new_desk query reply asks proceeds = record {
   untouched = λ none. absurd (let clash : true ≡ false = sym asks ∙ none in cc);
   unknown = λ e. absurd (asks_something query asks e);
 }
+
+-- what asks to put what a reader was fed is answered by that put
+pub fed_call : {S : Type 0} (state : S → State) (desk new_desk : S) (asked : Asked) (put : FedPut) (reply : Reply) → asked ≡ asked_so.Fed put
+    → ((bytes : List ℕ) → WasFed put.reader bytes → Proceeds (state desk) (state new_desk) (Puts put.key.sender put.key.number bytes) reply)
+    → (query : Query) → StandsFor asked query → Calls state desk new_desk query reply
+fed_call state desk new_desk asked put reply is proceeds query stands =
+    let P : Asked → Type 0 = λ a. StandsFor a query in
+    let so : StandsFor (asked_so.Fed put) query = subst P is stands in
+    let Q : Query → Type 0 = λ q. Calls state desk new_desk q reply in
+    subst Q (sym so.2) (store_call state desk new_desk (Puts put.key.sender put.key.number so.0) reply refl (proceeds so.0 so.1))

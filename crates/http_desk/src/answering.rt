@@ -12,10 +12,11 @@ ghost use Rattle.http_desk.specs.Told.{IsReadyToSend, told_reply};
 ghost use Rattle.http_desk.specs.Upcoming.{HasPart};
 ghost use Rattle.http_desk.specs.Wanted.{AsksFor, PartAsks};
 
-use crate::asked::{Asked, FedPut, ask};
+use crate::asked::{Asked, ask};
 use crate::connection_end::End;
 use crate::counted::Counted;
 use crate::fault::FaultKind;
+use crate::fed_put::FedPut;
 use crate::feeding::{Feeding, feed_request};
 use crate::head::Head;
 use crate::requests::{Wanted, WithBody, request_with, wanted_for};

@@ -1,20 +1,11 @@
 //! The one door to the desk: what is asked, with its body as it came.
-ghost use Rattle.std.specs.Prelude.{◌≡◌};
 ghost use Rattle.society_core.specs.Requests.{Query, query_of, reply_of};
 ghost use Rattle.http_desk.specs.Serves.{Calls};
 ghost use Rattle.http_desk.specs.Wanted.{StandsFor};
 
-use cwr_files::FileReader;
-use society_core::{Answer, Desk, Refusal, Request, Store, TransmissionKey, answer};
+use crate::fed_put::FedPut;
+use society_core::{Answer, Desk, Refusal, Request, Store, answer};
 use std::alloc::Global;
-
-/// The put of a transmission, whose body was fed to a reader of its sender.
-#[derive(Drop)]
-pub(crate) struct FedPut {
-    pub key: TransmissionKey,
-    pub reader: FileReader,
-    ghost same: { reader.sender ≡ key.sender },
-}
 
 /// What is asked of the desk, with its body.
 #[derive(Drop)]
@@ -38,7 +29,7 @@ fn ask_whole<S: Store>(alloc: Global, desk: &mut Desk<S>, request: &Request<'_>)
 
 /// Asks it at the desk.
 pub(crate) fn ask<S: Store>(alloc: Global, desk: &mut Desk<S>, asked: Asked<'_>) -> Answer
-    ensures { (query : Query) → StandsFor asked query
+    ensures { (query : Query) → StandsFor asked.entry query
         → Calls S.state desk.old desk.new query (reply_of result) }
 {
     match asked {

@@ -8,6 +8,7 @@ mod connection;
 mod connection_end;
 mod counted;
 mod fault;
+mod fed_put;
 mod feeding;
 mod head;
 mod input;

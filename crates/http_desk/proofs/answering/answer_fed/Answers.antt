@@ -19,11 +19,11 @@ returns-in-Ok-Whole-clause-comes g c =
 
 pub returns-in-Ok-Whole-clause-office : goal.returns-in-Ok-Whole-clause-office
 returns-in-Ok-Whole-clause-office g c =
-    let f = c.feed_request.ensures.feeds.so_far in (c.ask-answer.ensures (Puts c.args.key.sender c.args.key.number f.fed) (f.fed, f.was_fed, refl)).goes.office
+    let f = c.feed_request.ensures.feeds.so_far in (c.ask-answer.ensures (Puts c.args.key.sender c.args.key.number f.fed) (f.fed, f.was_fed, refl)).proceeds.goes.office
 
 pub returns-in-Ok-Whole-clause-clean : goal.returns-in-Ok-Whole-clause-clean
 returns-in-Ok-Whole-clause-clean g c =
-    let f = c.feed_request.ensures.feeds.so_far in (c.ask-answer.ensures (Puts c.args.key.sender c.args.key.number f.fed) (f.fed, f.was_fed, refl)).goes.clean
+    let f = c.feed_request.ensures.feeds.so_far in (c.ask-answer.ensures (Puts c.args.key.sender c.args.key.number f.fed) (f.fed, f.was_fed, refl)).proceeds.goes.clean
 
 pub returns-in-Ok-Refused-clause-comes : goal.returns-in-Ok-Refused-clause-comes
 returns-in-Ok-Refused-clause-comes g c =
