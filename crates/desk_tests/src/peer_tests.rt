@@ -21,15 +21,16 @@ struct Peer {
 #[derive(Drop)]
 struct Sending<'a> {
     parts: &'a [(usize, &'a [u8])],
+    sent: usize,
     peer: &'a Peer,
 }
 
 impl Read for Sending<'_> {
     fn read(&mut self, buf: &mut [u8]) -> std::io::Result<usize> {
         let got = self.peer.got.get();
-        match self.parts.split_first() {
-            Some(((due, part), rest)) if got >= *due => {
-                self.parts = rest;
+        match self.parts.get(self.sent) {
+            Some((due, part)) if got >= *due => {
+                self.sent = self.sent.saturating_add(1);
                 let mut part: &[u8] = part;
                 part.read(buf)
             }
@@ -92,19 +93,17 @@ fn first_exchanges(alloc: Global, count: usize) -> Result<Exchange, AllocError> 
 }
 
 /// A peer that sends the first so many requests and so many bytes more, and the rest once those are answered.
-fn check_waiting(
-    rt: &impl Abort,
-    alloc: Global,
-    count: usize,
-    more: usize,
-) -> Result<(), Fail> {
+fn check_waiting(rt: &impl Abort, alloc: Global, count: usize, more: usize) -> Result<(), Fail> {
     let row = format!(in alloc; "{more} bytes behind {count} requests")?;
     let before = first_exchanges(alloc, count)?;
     let all = first_exchanges(alloc, 3)?;
     let cut = before.requests.len().saturating_add(more);
     let parts = [
         (0, all.requests.get(..cut).ok_or("a front")?),
-        (before.answers.len(), all.requests.get(cut..).ok_or("a rest")?),
+        (
+            before.answers.len(),
+            all.requests.get(cut..).ok_or("a rest")?,
+        ),
     ];
     let peer = Peer {
         got: Cell::new(0),
@@ -112,6 +111,7 @@ fn check_waiting(
     };
     let mut reader = Counted::new(Sending {
         parts: parts.as_slice(),
+        sent: 0,
         peer: &peer,
     });
     let mut writer = Counted::new(Receiving {

@@ -58,7 +58,7 @@ body_at bytes kept has =
     let text = print_request has.part.head in
     let whole : bytes ≡ text ++ (has.part.body ++ has.rest) = has.whole ∙ append_assoc text has.part.body has.rest in
     let behind : drop kept.length bytes ≡ has.part.body ++ has.rest =
-        ap (λ (v : List ℕ). drop kept.length v) whole ∙ drop_at text (has.part.body ++ has.rest) kept.length (sym has.is_kept.size) in
+    ap (λ (v : List ℕ). drop kept.length v) whole ∙ drop_at text (has.part.body ++ has.rest) kept.length (sym has.is_kept.size) in
     let count : (kept.length + kept.body) - kept.length ≡ length has.part.body = omega (arith, has.size) in
     sym (ap (λ (v : List ℕ). take ((kept.length + kept.body) - kept.length) v) behind
     ∙ ap (λ (n : ℕ). take n (has.part.body ++ has.rest)) count ∙ take-append_seam has.part.body has.rest)

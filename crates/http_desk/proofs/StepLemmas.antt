@@ -1,5 +1,5 @@
 -- Lemmas on steps: a reply that shows something is to a question, which leaves the book as it was; and calls that leave the store untouched.
-use Rattle.std.proofs.Common.{◌≡◌, ◌≢◌, ℕ, Bool, true, false, List, Option, Some, None, inl, inr, refl, sym, ◌∙◌, ap, arith, subst}
+use Rattle.std.proofs.Common.{◌≡◌, ◌≢◌, ℕ, true, false, List, Option, Some, None, inl, inr, refl, sym, ◌∙◌, ap, arith, subst}
 use Rattle.cwr_files.specs.Fed.{WasFed}
 use Rattle.cwr_files.specs.FileFault.{file_fault}
 use Rattle.cwr_files.specs.declared.fault.FileFault.{FileFault}

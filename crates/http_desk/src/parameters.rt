@@ -20,8 +20,12 @@ pub(crate) struct Scratch {
 }
 
 impl Scratch {
+    ghost use Rattle.std.specs.Prelude.{◌≡◌, [], IfOk};
+
     /// With nothing in it yet.
-    pub(crate) fn new(alloc: Global) -> Result<Scratch, AllocError> {
+    pub(crate) fn new(alloc: Global) -> Result<Scratch, AllocError>
+        ensures { IfOk result (λ scratch. scratch.bytes.items ≡ []) }
+    {
         let bytes = Vec::with_capacity(alloc, MAX_HEAD)?;
         Ok(Scratch { bytes })
     }

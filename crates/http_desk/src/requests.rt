@@ -9,8 +9,8 @@ ghost use Rattle.http_desk.specs.Path.{office_routes, is_path_byte, is_path, ask
 
 use crate::order_text::close_by;
 use crate::parameters::{
-    Scratch, account_in_path, number_in_path, pool_in_path, reporter_in_path, return_number_in_path,
-    sender_in_path, work_in_path,
+    Scratch, account_in_path, number_in_path, pool_in_path, reporter_in_path,
+    return_number_in_path, sender_in_path, work_in_path,
 };
 use crate::routes::Route;
 use matchit::{Params, Router};

@@ -39,11 +39,13 @@ fn reporter_text(reporter: &Reporter) -> &[u8]
 }
 
 impl ShortBody {
-    ghost use Rattle.std.specs.Prelude.{◌≡◌, ◌≤◌, ◌+◌, ◌++◌, length, decimal, vec_len};
+    ghost use Rattle.std.specs.Prelude.{◌≡◌, ◌≤◌, ◌+◌, [], ◌++◌, length, decimal, vec_len, IfOk};
     ghost use Rattle.http_desk.specs.Text.{arrival_text, closed_text, cut_text, paid_text, refusal_text, return_text, stored_text};
 
     /// With nothing in it yet.
-    pub(crate) fn new(alloc: Global) -> Result<ShortBody, AllocError> {
+    pub(crate) fn new(alloc: Global) -> Result<ShortBody, AllocError>
+        ensures { IfOk result (λ body. body.bytes.items ≡ []) }
+    {
         let bytes = Vec::with_capacity(alloc, BODY_ROOM)?;
         Ok(ShortBody { bytes })
     }
