@@ -62,21 +62,6 @@ fn arrived(known: bool, front: u32, standing: Standing) -> Result<Arrival, Refus
     })
 }
 
-/// Checks what became of a transmission that was put.
-fn check_put<S: Store>(
-    rt: &impl Abort,
-    alloc: Global,
-    desk: &mut Desk<S>,
-    row: &str,
-    put: (u32, &[u8]),
-    wanted: Result<Arrival, Refusal>,
-) -> Result<(), Fail> {
-    let (n, body) = put;
-    let seen = desk.put_transmission(alloc, &sender()?, number(n)?, body);
-    told(rt, row, seen, wanted);
-    Ok(())
-}
-
 /// Puts what a reader was fed in two pieces.
 fn put_fed<S: Store>(
     alloc: Global,
@@ -92,6 +77,16 @@ fn put_fed<S: Store>(
     let _ = reader.feed(&bytes[..second]);
     let _ = reader.feed(&bytes[second..]);
     Ok(desk.put_fed(alloc, &sender, number(n)?, reader))
+}
+
+/// Puts what a reader was fed in one piece.
+pub fn put_whole<S: Store>(
+    alloc: Global,
+    desk: &mut Desk<S>,
+    n: u32,
+    body: &[u8],
+) -> Result<Result<Arrival, Refusal>, Fail> {
+    put_fed(alloc, desk, n, body, body.len())
 }
 
 /// Checks how the sender stands.
@@ -186,7 +181,11 @@ fn check<S: Store>(
     row: &Row<'_>,
 ) -> Result<(), Fail> {
     match row {
-        Row::Put(n, body, wanted) => check_put(rt, alloc, desk, name, (*n, body), *wanted),
+        Row::Put(n, body, wanted) => {
+            let seen = put_whole(alloc, desk, *n, body)?;
+            told(rt, name, seen, *wanted);
+            Ok(())
+        }
         Row::Fed(n, bytes, second, wanted) => {
             let seen = put_fed(alloc, desk, *n, bytes, *second)?;
             told(rt, name, seen, *wanted);
@@ -488,20 +487,13 @@ fn held_number_reused_in_a_run(rt: HostRuntime) -> Result<(), Fail> {
 #[test]
 fn three_hundred_versions(rt: HostRuntime) -> Result<(), Fail> {
     let alloc = rt.alloc();
-    let sender = sender()?;
     let mut desk = new_desk(alloc)?;
-    let mut answers = Vec::new(alloc);
     for n in 1..301 {
         let body = if n == 1 { REGISTERED } else { REVISED };
-        let requests = [Request::PutTransmission {
-            sender,
-            number: number(n)?,
-            body,
-        }];
-        run(alloc, &mut desk, &requests, &mut answers)?;
+        let seen = put_whole(alloc, &mut desk, n, body)?;
+        told(&rt, "put", seen, applied(n));
     }
-    told(&rt, "answers", answers.len(), 300);
-    let shown = desk.work(alloc, &sender, &work(b"W1")?);
+    let shown = desk.work(alloc, &sender()?, &work(b"W1")?);
     let shown = shown.ok().ok_or("a work")?;
     told(&rt, "revision", shown.version.revision, 299);
     Ok(())

@@ -1,7 +1,7 @@
 //! Files that are cut, streams that fail at each of their bytes, and connections without an end in sight: what is answered,
 //! how it is given up, and what the book is then.
 use crate::checks::told;
-use crate::desk_rows::{applied, new_desk};
+use crate::desk_rows::{applied, new_desk, put_whole};
 use crate::streams::{Ended, Source, Stream, answer, first_stream, outcome};
 use cwr_files::FileFault;
 use http_desk::{Counted, DeskFault, FaultKind, Served, serve};
@@ -71,7 +71,7 @@ fn prefixes_of_a_file(rt: HostRuntime) -> Result<(), Fail> {
     for length in 0..REGISTERED.len() + 1 {
         let row = format!(in alloc; "{length} bytes")?;
         let body = REGISTERED.get(..length).ok_or("a front")?;
-        let arrival = new_desk(alloc)?.put_transmission(alloc, &sender()?, number(1)?, body);
+        let arrival = put_whole(alloc, &mut new_desk(alloc)?, 1, body)?;
         let faulty = matches!(&arrival, Err(Refusal::File(_)));
         let whole = length >= 1_046;
         told(&rt, &row, (arrival.is_ok(), faulty), (whole, !whole));
@@ -104,7 +104,7 @@ fn one_byte_over_the_greatest_body(rt: HostRuntime) -> Result<(), Fail> {
         ("greatest", &greatest, applied(1)),
         ("over again", &over, Err(Refusal::Reused)),
     ] {
-        let seen = desk.put_transmission(alloc, &sender()?, number(1)?, body);
+        let seen = put_whole(alloc, &mut desk, 1, body)?;
         told(&rt, row, seen, wanted);
     }
     Ok(())

@@ -1,5 +1,5 @@
 -- Lemmas on requests that were answered in turn: one after another, what follows for the book, and what no later failure takes away.
-use Rattle.std.proofs.Common.{◌≡◌, ◌⊎◌, ⊎_elim, inl, ℕ, suc, List, [], ◌∷◌, ◌++◌, length, map, refl, sym, ◌∙◌, ap, subst}
+use Rattle.std.proofs.Common.{◌≡◌, ⊎_elim, inl, ℕ, suc, List, [], ◌∷◌, ◌++◌, length, map, refl, sym, ◌∙◌, ap, subst}
 use Rattle.std.specs.Prelude.{IsTrue}
 use Rattle.std.proofs.lemmas.List.{length-map, map-append}
 use Rattle.share_rules.specs.declared.office.Office.{Office}
@@ -34,7 +34,7 @@ answered_each state (q ∷ qs) [] a b first = absurd first
 -- the office stays
 answered_office : {S : Type 0} (state : S → State) (qs : List Query) (rs : List Reply) (a b : S) → Answered state qs rs a b → (state b).office ≡ (state a).office
 answered_office {S} state [] [] a b same = ap (λ (d : S). (state d).office) same
-answered_office state (q ∷ qs) (r ∷ rs) a b first = answered_office state qs rs first.0 b first.2 ∙ first.1.goes.office
+answered_office state (q ∷ qs) (r ∷ rs) a b first = answered_office state qs rs first.0 b first.2 ∙ first.1.proceeds.goes.office
 answered_office state [] (r ∷ rs) a b first = absurd first
 answered_office state (q ∷ qs) [] a b first = absurd first
 
@@ -42,7 +42,7 @@ answered_office state (q ∷ qs) [] a b first = absurd first
 pub answered_clean : {S : Type 0} (state : S → State) (qs : List Query) (rs : List Reply) (a b : S) → Answered state qs rs a b
     → IsTrue (state b).is_clean → IsTrue (state a).is_clean
 answered_clean {S} state [] [] a b same clean = subst (λ (d : S). IsTrue (state d).is_clean) same clean
-answered_clean state (q ∷ qs) (r ∷ rs) a b first clean = first.1.goes.clean (answered_clean state qs rs first.0 b first.2 clean)
+answered_clean state (q ∷ qs) (r ∷ rs) a b first clean = first.1.proceeds.goes.clean (answered_clean state qs rs first.0 b first.2 clean)
 answered_clean state [] (r ∷ rs) a b first clean = absurd first
 answered_clean state (q ∷ qs) [] a b first clean = absurd first
 
@@ -52,8 +52,8 @@ answered_run : {S : Type 0} (state : S → State) (qs : List Query) (rs : List R
 answered_run {S} state [] [] a b same clean = ap (λ (d : S). (state d).book) same
 answered_run state (q ∷ qs) (r ∷ rs) a b first clean = (
   (state first.0).book,
-  first.1.step (answered_clean state qs rs first.0 b first.2 clean),
-  subst (λ (o : Office). Run o (state first.0).book qs rs (state b).book) first.1.goes.office (answered_run state qs rs first.0 b first.2 clean),
+  first.1.proceeds.step (answered_clean state qs rs first.0 b first.2 clean),
+  subst (λ (o : Office). Run o (state first.0).book qs rs (state b).book) first.1.proceeds.goes.office (answered_run state qs rs first.0 b first.2 clean),
 )
 answered_run state [] (r ∷ rs) a b first clean = absurd first
 answered_run state (q ∷ qs) [] a b first clean = absurd first
@@ -120,7 +120,7 @@ answered_keeps : {S : Type 0} (state : S → State) (qs : List Query) (rs : List
     → Keeps (state a) Entries → Keeps (state b) Entries
 answered_keeps {S} state [] [] a b Entries same kept = subst (λ (d : S). Keeps (state d) Entries) (sym same) kept
 answered_keeps state (q ∷ qs) (r ∷ rs) a b Entries first kept =
-    answered_keeps state qs rs first.0 b Entries first.2 (call_keeps (state a) (state first.0) q r Entries first.1 kept)
+    answered_keeps state qs rs first.0 b Entries first.2 (call_keeps (state a) (state first.0) q r Entries first.1.proceeds kept)
 answered_keeps state [] (r ∷ rs) a b Entries first kept = absurd first
 answered_keeps state (q ∷ qs) [] a b Entries first kept = absurd first
 

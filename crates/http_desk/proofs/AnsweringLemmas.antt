@@ -1,12 +1,12 @@
 -- Lemmas on the next request: what was read for it, and what is told.
-use Rattle.std.proofs.Common.{◌≡◌, inl, inr, ℕ, ◌+◌, Bool, List, [], ◌++◌, length, drop, Option, Result, Ok, Err, sym, ◌∙◌, ap, subst, arith, append_assoc, length-append}
+use Rattle.std.proofs.Common.{◌≡◌, inl, inr, ℕ, ◌+◌, ◌-◌, Bool, List, [], ◌++◌, length, take, drop, Option, Result, Ok, Err, sym, ◌∙◌, ap, subst, arith, append_assoc, length-append}
 use Rattle.std.specs.Prelude.{◌⊎◌, IfErr, IfOk}
 use Rattle.std.specs.Io.KnownBytes.{Appends}
 use Rattle.std.proofs.lemmas.List.{append-nil, drop_at}
+use Rattle.std.proofs.Math.Seq.{take-append_seam}
 use Rattle.cwr_files.specs.Fed.{Fed, WasFed}
 use Rattle.httparse.specs.Grammar.{RequestHead, print_request}
 use Rattle.society_core.specs.Requests.{Puts, Query, Reply}
-use Rattle.society_core.specs.Runs.{Proceeds}
 use Rattle.society_core.specs.State.{State}
 use Rattle.society_core.specs.declared.transmission_key.TransmissionKey.{TransmissionKey}
 use Rattle.http_desk.specs.Answering.{ComesNext, IsLeft, Takes}
@@ -19,8 +19,8 @@ use Rattle.http_desk.specs.Part.{Begins, print_part}
 use Rattle.http_desk.specs.BodyLength.{is_put}
 use Rattle.http_desk.specs.Path.{query_for}
 use Rattle.http_desk.specs.Reads.{Awaits}
-use Rattle.http_desk.specs.Serves.{Steps}
-use Rattle.http_desk.specs.Told.{told_reply}
+use Rattle.http_desk.specs.Serves.{Calls, Steps}
+use Rattle.http_desk.specs.Told.{Tells, told_reply}
 use Rattle.http_desk.specs.Upcoming.{HasPart, IsUpcoming, StopsBy}
 use Rattle.http_desk.specs.declared.answering.Next.{Next}
 use Rattle.http_desk.specs.declared.counted.Counted.{Counted}
@@ -32,11 +32,12 @@ use Rattle.http_desk.specs.declared.told.Told.{Told}
 use Rattle.http_desk.specs.declared.upcoming.Upcoming.TheVariants.{Request}
 use Rattle.http_desk.specs.Wanted.{AsksFor, PartAsks}
 use Rattle.http_desk.specs.declared.requests.Wanted.{Wanted}
-use Rattle.http_desk.specs.declared.requests.Wanted.TheVariants.{Transmission}
+use Rattle.http_desk.specs.declared.requests.Wanted.TheVariants as wanted
 use Rattle.http_desk.proofs.CuttingLemmas.{begins_of, none_while_awaited}
 use Rattle.http_desk.proofs.FeedingLemmas.{fed_is_part, fed_whole_part}
 use Rattle.http_desk.proofs.HeadLemmas.{Begins-append, Begins-unique}
 use Rattle.http_desk.proofs.Known.{Appends-is}
+use Rattle.http_desk.proofs.StepLemmas.{tells_call}
 use Rattle.http_desk.proofs.UpcomingLemmas.{ReadsOn-join}
 
 -- ---- heads
@@ -50,6 +51,17 @@ part_asks bytes later more kept other wanted h grown asks = λ has.
     asks h has.part.body ∙ ap (λ (r : RequestHead). query_for (is_put r.method) r.target has.part.body) same.0
 
 -- ---- one request
+
+-- its body lies behind its head
+pub body_at : (bytes : List ℕ) (kept : Head) → (has : HasPart bytes kept) → has.part.body ≡ take ((kept.length + kept.body) - kept.length) (drop kept.length bytes)
+body_at bytes kept has =
+    let text = print_request has.part.head in
+    let whole : bytes ≡ text ++ (has.part.body ++ has.rest) = has.whole ∙ append_assoc text has.part.body has.rest in
+    let behind : drop kept.length bytes ≡ has.part.body ++ has.rest =
+    ap (λ (v : List ℕ). drop kept.length v) whole ∙ drop_at text (has.part.body ++ has.rest) kept.length (sym has.is_kept.size) in
+    let count : (kept.length + kept.body) - kept.length ≡ length has.part.body = omega (arith, has.size) in
+    sym (ap (λ (v : List ℕ). take ((kept.length + kept.body) - kept.length) v) behind
+    ∙ ap (λ (n : ℕ). take n (has.part.body ++ has.rest)) count ∙ take-append_seam has.part.body has.rest)
 
 -- a whole request was answered, and taken
 pub takes_part : {S : Type 0} (state : S → State) (desk new_desk : S) (bytes rest : List ℕ) (told : Told) (close : Bool) (kept : Head) → (has : HasPart bytes kept)
@@ -71,18 +83,17 @@ takes_part state desk new_desk bytes rest told close kept has front is step = re
 
 -- a request whose body was fed was answered
 pub takes_fed : {S : Type 0} (state : S → State) (desk new_desk : S) (before rest : List ℕ) (turns spare : ℕ) (known now : Option (List ℕ)) (reads now_reads : ℕ) (kept : Head) (sink : Fed) (left : ℕ) (told : Told) (key : TransmissionKey) (reply : Reply)
-    → (so : HasFed before rest turns spare known now reads now_reads kept sink left) → HasHead before kept → left ≡ 0 → AsksFor before kept (Transmission key)
-    → told_reply told ≡ reply → ((bytes : List ℕ) → WasFed sink bytes → Proceeds (state desk) (state new_desk) (Puts key.sender key.number bytes) reply)
+    → (so : HasFed before rest turns spare known now reads now_reads kept sink left) → HasHead before kept → left ≡ 0 → AsksFor before kept (wanted.Fed key)
+    → Tells reply (told_reply told) → ((bytes : List ℕ) → WasFed sink bytes → Calls state desk new_desk (Puts key.sender key.number bytes) reply)
     → Takes state desk new_desk (pending before kept so.fed rest) rest told kept.closes
-takes_fed state desk new_desk before rest turns spare known now reads now_reads kept sink left told key reply so h none asks same proceeds = record {
+takes_fed state desk new_desk before rest turns spare known now reads now_reads kept sink left told key reply so h none asks tells calls = record {
   part = record { head = h.0; body = so.fed };
   is_part = fed_is_part before turns known reads kept rest spare now now_reads sink left so h none;
   whole = fed_whole_part before turns known reads kept rest spare now now_reads sink left so h;
   is_last = h.3.last;
   step =
-      let P : Query → Type 0 = λ q. Proceeds (state desk) (state new_desk) q (told_reply told) in
-      let Q : Reply → Type 0 = λ r. Proceeds (state desk) (state new_desk) (Puts key.sender key.number so.fed) r in
-      subst P (asks h so.fed) (subst Q (sym same) (proceeds so.fed so.was_fed));
+      let P : Query → Type 0 = λ q. Calls state desk new_desk q (told_reply told) in
+      subst P (asks h so.fed) (tells_call state desk new_desk _ reply (told_reply told) tells (calls so.fed so.was_fed));
 }
 
 -- ---- what was read

@@ -1,5 +1,6 @@
 -- Lemmas on the JSON of orders.
-use Rattle.std.proofs.Common.{◌≡◌, ℕ, ◌+◌, Bool, true, false, List, [], ◌∷◌, ◌++◌, drop, Option, Some, None, option_map, refl, sym, ◌∙◌, ap, append_assoc}
+use Rattle.std.proofs.Common.{◌≡◌, ◌≢◌, ℕ, ◌+◌, Bool, true, false, List, [], ◌∷◌, ◌++◌, drop, Option, Some, None, option_map, refl, sym, ◌∙◌, ap, append_assoc}
+use Rattle.std.specs.Prelude.{option_and_then}
 use Rattle.std.specs.Str.{is_utf8, IsUtf8}
 use Rattle.std.proofs.lemmas.Str.{IsUtf8-from_is_utf8, is_utf8-from_IsUtf8}
 use Rattle.serde_json.specs.Data.{Data}
@@ -7,8 +8,8 @@ use Rattle.serde_json.specs.Read.{read}
 use Rattle.serde_json.specs.View.{items_view, view}
 use Rattle.serde_json.specs.declared.value.Value.{Value}
 use Rattle.society_core.specs.Orders.{Order, order_fault, order_of}
-use Rattle.society_core.specs.Requests.{Closes, ClosesFaulty}
-use Rattle.http_desk.specs.OrderText.{OrderNumbers, before, close_asked, json_of, named_number, named_numbers}
+use Rattle.society_core.specs.Requests.{AsksElsewhere, Closes, ClosesFaulty}
+use Rattle.http_desk.specs.OrderText.{OrderNumbers, before, close_asked, close_query, closes_by, json_of, numbers_in, named_number, named_numbers}
 
 -- ---- the value of a body
 
@@ -31,6 +32,20 @@ closes_ordered pool numbers order none is = rw none (ap (Closes pool) is)
 pub closes_faulty : (pool : ℕ) (numbers : OrderNumbers) (fault : ℕ) → order_fault numbers.amount numbers.cut numbers.returns ≡ Some fault
     → ClosesFaulty fault ≡ close_asked pool (Some numbers)
 closes_faulty pool numbers fault is = rw is refl
+
+-- ---- the put of a pool asks something
+
+closed_some : (pool : ℕ) (numbers : OrderNumbers) (fault : Option ℕ) → closes_by pool numbers fault ≢ AsksElsewhere
+closed_some pool numbers None = λ e. cc
+closed_some pool numbers (Some fault) = λ e. cc
+
+asked_some : (pool : ℕ) (numbers : Option OrderNumbers) → close_asked pool numbers ≢ AsksElsewhere
+asked_some pool (Some numbers) = closed_some pool numbers (order_fault numbers.amount numbers.cut numbers.returns)
+asked_some pool None = λ e. cc
+
+pub close_some : (pool : ℕ) (body : List ℕ) → close_query pool body ≢ AsksElsewhere
+unfolding close_query
+close_some pool body = asked_some pool (option_and_then numbers_in (json_of body))
 
 -- ---- lists of names with numbers
 

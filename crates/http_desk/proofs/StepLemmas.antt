@@ -1,5 +1,6 @@
--- Lemmas on steps: a reply that shows something is to a question, which leaves the book as it was.
-use Rattle.std.proofs.Common.{◌≡◌, ℕ, List, Option, Some, None, inl, inr, refl, sym, ◌∙◌, subst}
+-- Lemmas on steps: a reply that shows something is to a question, which leaves the book as it was; and calls that leave the store untouched.
+use Rattle.std.proofs.Common.{◌≡◌, ◌≢◌, ℕ, true, false, List, Option, Some, None, inl, inr, refl, sym, ◌∙◌, ap, arith, subst}
+use Rattle.cwr_files.specs.Fed.{WasFed}
 use Rattle.cwr_files.specs.FileFault.{file_fault}
 use Rattle.cwr_files.specs.declared.fault.FileFault.{FileFault}
 use Rattle.perf_returns.specs.Returns.{return_fault}
@@ -8,14 +9,20 @@ use Rattle.share_rules.specs.declared.office.Office.{Office}
 use Rattle.society_core.specs.Answers.{added_answer, added_book, answer, close_answer, close_book, close_refusal, closed_answer, closed_book, known_as, next, pool_known_as, put_answer, put_book, return_answer, return_book, return_known_as, stored_answer, stored_book}
 use Rattle.society_core.specs.Book.{Book}
 use Rattle.society_core.specs.Orders.{Order}
-use Rattle.society_core.specs.Requests.{Query, Puts, PutsReturn, Closes, ClosesFaulty, AsksAck, AsksSender, AsksWork, AsksVerdicts, AsksCredits, AsksBalance, AsksElsewhere, Reply}
+use Rattle.society_core.specs.Requests.{Query, Puts, PutsReturn, Closes, ClosesFaulty, AsksAck, AsksSender, AsksWork, AsksVerdicts, AsksCredits, AsksBalance, AsksElsewhere, Reply, Refused}
 use Rattle.society_core.specs.Runs.{Proceeds, Step}
-use Rattle.society_core.specs.State.{State}
+use Rattle.society_core.specs.State.{Goes, State}
 use Rattle.society_core.specs.declared.refusal.Refusal.{Refusal}
+use Rattle.society_core.specs.declared.refusal.Refusal.TheVariants.{Order as OrderFault, Unavailable, Unknown}
 use Rattle.society_core.specs.declared.return_key.ReturnKey.{ReturnKey}
 use Rattle.society_core.specs.declared.store.Known.{Known}
 use Rattle.society_core.specs.declared.store.Known.TheVariants.{Absent, Same, Other}
+use Rattle.http_desk.specs.Serves.{Calls, asks_store}
 use Rattle.http_desk.specs.Told.{IsShown, Tells}
+use Rattle.http_desk.specs.Wanted.{StandsFor}
+use Rattle.http_desk.specs.declared.asked.Asked.{Asked}
+use Rattle.http_desk.specs.declared.asked.Asked.TheVariants as asked_so
+use Rattle.http_desk.specs.declared.fed_put.FedPut.{FedPut}
 
 added_stays : (book : Book) (sender : List ℕ) (number : ℕ) (body : List ℕ) (fault : Option FileFault)
     → IsShown (added_answer book sender number body fault) → added_book book sender number body fault ≡ book
@@ -72,9 +79,84 @@ tells_step office book query reply told after (inr (shown, busy)) (inl (is, gone
     inr (busy, gone ∙ shown_stays office book query (subst IsShown is shown))
 tells_step office book query reply told after (inr (shown, busy)) (inr (is, stays)) = inr (busy, stays)
 
--- what is told of a call's reply is a call's reply
-pub tells_call : (old new : State) (query : Query) (reply told : Reply) → Tells reply told → Proceeds old new query reply → Proceeds old new query told
-tells_call old new query reply told tells call = record {
+proceeds_told : (old new : State) (query : Query) (reply told : Reply) → Tells reply told → Proceeds old new query reply → Proceeds old new query told
+proceeds_told old new query reply told tells call = record {
   step = λ clean. tells_step old.office old.book query reply told new.book tells (call.step clean);
   goes = call.goes;
 }
+
+-- a refusal is told as it is
+tells_refused : (reply told : Reply) (refusal : Refusal) → Tells reply told → reply ≡ Refused refusal → told ≡ Refused refusal
+tells_refused reply told refusal (inl same) is = same ∙ is
+tells_refused reply told refusal (inr (shown, busy)) is = absurd (subst IsShown is shown)
+
+-- what is told of a call's reply is a call's reply
+pub tells_call : {S : Type 0} (state : S → State) (desk new_desk : S) (query : Query) (reply told : Reply)
+    → Tells reply told → Calls state desk new_desk query reply → Calls state desk new_desk query told
+tells_call state desk new_desk query reply told tells call = record {
+  proceeds = proceeds_told (state desk) (state new_desk) query reply told tells call.proceeds;
+  untouched = call.untouched;
+  unknown = λ e. tells_refused reply told Unknown tells (call.unknown e);
+}
+
+-- ---- requests that leave the store as it is
+
+stays : (store : State) (query : Query) → Goes store store (λ book. book ≡ next store.book query)
+stays store query = record {
+  office = refl;
+  clean = λ is. is;
+  honest = λ is. is;
+  failures = omega arith;
+  crash = λ honest book left. inl left;
+}
+
+-- what asks for something is told that the office is unavailable where memory is refused for it
+pub busy_call : {S : Type 0} (state : S → State) (desk : S) (query : Query) → query ≢ AsksElsewhere → Calls state desk desk query (Refused Unavailable)
+busy_call state desk query some = record {
+  proceeds = record { step = λ clean. inr (refl, refl); goes = stays (state desk) query };
+  untouched = λ _. refl;
+  unknown = λ e. absurd (some e);
+}
+
+-- nothing that the office has is unknown
+pub unknown_call : {S : Type 0} (state : S → State) (desk : S) → Calls state desk desk AsksElsewhere (Refused Unknown)
+unknown_call state desk = record {
+  proceeds = record { step = λ clean. inl (refl, refl); goes = stays (state desk) AsksElsewhere };
+  untouched = λ _. refl;
+  unknown = λ _. refl;
+}
+
+-- an order at fault is refused
+pub faulty_call : {S : Type 0} (state : S → State) (desk : S) (fault : ℕ) → Calls state desk desk (ClosesFaulty fault) (Refused (OrderFault fault))
+faulty_call state desk fault = record {
+  proceeds = record { step = λ clean. inl (refl, refl); goes = stays (state desk) (ClosesFaulty fault) };
+  untouched = λ _. refl;
+  unknown = λ e. absurd (faulty_some fault e);
+}
+  where
+    faulty_some : (n : ℕ) → ClosesFaulty n ≢ AsksElsewhere
+    faulty_some n = λ e. cc
+
+-- ---- requests that ask the store
+
+asks_something : (query : Query) → asks_store query ≡ true → query ≢ AsksElsewhere
+asks_something query asks = λ e. let none : asks_store query ≡ false = ap asks_store e in cc
+
+-- a call of one
+pub store_call : {S : Type 0} (state : S → State) (desk new_desk : S) (query : Query) (reply : Reply) → asks_store query ≡ true
+    → Proceeds (state desk) (state new_desk) query reply → Calls state desk new_desk query reply
+store_call state desk new_desk query reply asks proceeds = record {
+  proceeds = proceeds;
+  untouched = λ none. absurd (let clash : true ≡ false = sym asks ∙ none in cc);
+  unknown = λ e. absurd (asks_something query asks e);
+}
+
+-- what asks to put what a reader was fed is answered by that put
+pub fed_call : {S : Type 0} (state : S → State) (desk new_desk : S) (asked : Asked) (put : FedPut) (reply : Reply) → asked ≡ asked_so.Fed put
+    → ((bytes : List ℕ) → WasFed put.reader bytes → Proceeds (state desk) (state new_desk) (Puts put.key.sender put.key.number bytes) reply)
+    → (query : Query) → StandsFor asked query → Calls state desk new_desk query reply
+fed_call state desk new_desk asked put reply is proceeds query stands =
+    let P : Asked → Type 0 = λ a. StandsFor a query in
+    let so : StandsFor (asked_so.Fed put) query = subst P is stands in
+    let Q : Query → Type 0 = λ q. Calls state desk new_desk q reply in
+    subst Q (sym so.2) (store_call state desk new_desk (Puts put.key.sender put.key.number so.0) reply refl (proceeds so.0 so.1))

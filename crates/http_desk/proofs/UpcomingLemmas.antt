@@ -1,8 +1,8 @@
 -- Lemmas on reading on: what was read so far, and what stands at the front of it.
 use Rattle.std.proofs.Common.{◌≡◌, ◌≢◌, inl, inr, ℕ, ◌+◌, ◌<◌, ◌≤◌, List, [], ◌∷◌, ◌++◌, length, take, drop, Option, Some, None, refl, sym, ◌∙◌, ap, subst, arith, append_assoc, length-append}
 use Rattle.std.specs.Prelude.{unwrap_or, ◌^◌}
-use Rattle.std.proofs.lemmas.List.{append-nil, take-append-drop, length-take-le}
-use Rattle.std.specs.Io.KnownBytes.{Consumes, IsAtEnd}
+use Rattle.std.proofs.lemmas.List.{append-nil, take-append-drop, length-take-le, drop-append-le}
+use Rattle.std.specs.Io.KnownBytes.{Consumes, IsAtEnd, Keeps}
 use Rattle.std.specs.List.{AllByRecursion}
 use Rattle.std.proofs.lemmas.Grind.{flat_map-append}
 use Rattle.httparse.specs.Grammar.{RequestHead, print_request}
@@ -19,8 +19,15 @@ use Rattle.http_desk.specs.Part.{Begins}
 use Rattle.http_desk.specs.Path.{PutsTransmission}
 use Rattle.http_desk.specs.Reads.{Awaits, AwaitsHead, Ends, IsBad, IsTooLarge, small_request}
 use Rattle.http_desk.specs.Counted.{counted_on}
-use Rattle.http_desk.proofs.Known.{Consumes-none, Consumes-join, counted_none, counted_join}
+use Rattle.http_desk.proofs.Known.{Consumes-none, Consumes-join, Keeps-consumes, counted_none, counted_join}
 use Rattle.http_desk.proofs.HeadLemmas.{Begins-append, none_partial}
+
+-- ---- bytes behind others
+
+-- what stands behind a place grows by what is put at the end
+pub grown_behind : (old new piece given : List ℕ) (start : ℕ) → start ≤ length old → new ≡ old ++ piece → drop start old ≡ given → drop start new ≡ given ++ piece
+grown_behind old new piece given start within grown is =
+    ap (λ (v : List ℕ). drop start v) grown ∙ drop-append-le start old piece within ∙ ap (λ (v : List ℕ). v ++ piece) is
 
 -- ---- before each piece
 
@@ -65,6 +72,25 @@ ReadsOn-same P old new turns new_turns known reads same kept fits = record {
   consumed = Consumes-none known;
   turned = omega (arith, kept);
   counts = counted_none reads fits;
+  most = omega arith;
+  least = omega arith;
+  pieces = [];
+  joined = refl;
+  number = refl;
+  each = tt;
+  needed = tt;
+}
+
+-- a read that failed gave nothing
+pub ReadsOn-failed : (P : List ℕ → Type 0) (old new : List ℕ) (turns new_turns : ℕ) (known now : Option (List ℕ)) (reads now_reads : ℕ) → new ≡ old → new_turns ≡ turns
+    → Keeps known now → now_reads ≡ reads → reads < 2 ^ 64 → ReadsOn P old new turns new_turns known now reads now_reads
+ReadsOn-failed P old new turns new_turns known now reads now_reads same kept keeps counts fits = record {
+  more = [];
+  spent = 0;
+  grown = same ∙ sym (append-nil old);
+  consumed = Keeps-consumes known now keeps;
+  turned = omega (arith, kept);
+  counts = counts ∙ counted_none reads fits;
   most = omega arith;
   least = omega arith;
   pieces = [];

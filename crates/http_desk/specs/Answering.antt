@@ -2,14 +2,14 @@
 use Rattle.std.specs.Prelude.{◌≡◌, ℕ, Bool, true, false, List, ◌++◌, Option, Result, Ok, Err, ⊤}
 use Rattle.society_core.specs.State.{State}
 use Rattle.http_desk.specs.BodyLength.{closes}
-use Rattle.http_desk.specs.Counted.{failures_of, inner_of, reads_of}
+use Rattle.http_desk.specs.Counted.{Known, failures_between, known_of}
 use Rattle.http_desk.specs.declared.answering.Next.{Next}
 use Rattle.http_desk.specs.declared.answering.Next.TheVariants.{Request, Ended}
 use Rattle.http_desk.specs.declared.counted.Counted.{Counted}
 use Rattle.http_desk.specs.declared.fault.FaultKind.{FaultKind}
 use Rattle.http_desk.specs.declared.input.Input.{Input}
 use Rattle.http_desk.specs.declared.told.Told.{Told}
-use Rattle.http_desk.specs.Input.{unread, ReadsOn}
+use Rattle.http_desk.specs.Input.{unread, ReadsBy}
 use Rattle.http_desk.specs.Part.{Part, print_part, IsPart}
 use Rattle.http_desk.specs.Reads.{Awaits}
 use Rattle.http_desk.specs.Serves.{Steps}
@@ -41,15 +41,15 @@ Comes state desk new_desk bytes rest known (Ok (Ended end)) = EndsSo bytes known
 Comes state desk new_desk bytes rest known (Err kind) = Awaits bytes × (new_desk ≡ desk)
 
 -- what came next, and the bytes that were read for it and not answered before; each read was needed
-pub record ComesNext {S R : Type 0} (state : S → State) (remaining : R → Option (List ℕ)) (desk new_desk : S) (reader new_reader : Counted R) (input new_input : Input) (result : Result Next FaultKind) : Type 0 where
+pub record ComesNext {S R : Type 0} (state : S → State) (remaining : Known R) (desk new_desk : S) (reader new_reader : Counted R) (input new_input : Input) (result : Result Next FaultKind) : Type 0 where
   pub bytes : List ℕ
-  pub reads : ReadsOn Awaits (unread input) bytes input.turns new_input.turns (remaining (inner_of reader)) (remaining (inner_of new_reader)) (reads_of reader) (reads_of new_reader)
-  pub comes : Comes state desk new_desk bytes (unread new_input) (remaining (inner_of new_reader)) result
+  pub reads : ReadsBy Awaits remaining reader new_reader (unread input) bytes input.turns new_input.turns
+  pub comes : Comes state desk new_desk bytes (unread new_input) (known_of remaining new_reader) result
 
 -- why no request came, while these texts waited
-pub record IsLeft {S R W : Type 0} (state : S → State) (remaining : R → Option (List ℕ)) (contents : W → Option (List ℕ)) (desk new_desk : S) (reader new_reader : Counted R) (writer new_writer : Counted W) (input new_input : Input) (waiting : List ℕ) (kind : FaultKind) : Type 0 where
+pub record IsLeft {S R W : Type 0} (state : S → State) (remaining : Known R) (contents : Known W) (desk new_desk : S) (reader new_reader : Counted R) (writer new_writer : Counted W) (input new_input : Input) (waiting : List ℕ) (kind : FaultKind) : Type 0 where
   pub bytes : List ℕ
-  pub reads : ReadsOn Awaits (unread input) bytes input.turns new_input.turns (remaining (inner_of reader)) (remaining (inner_of new_reader)) (reads_of reader) (reads_of new_reader)
+  pub reads : ReadsBy Awaits remaining reader new_reader (unread input) bytes input.turns new_input.turns
   pub same : new_desk ≡ desk
-  pub stops : StopsBy kind bytes new_input.turns (failures_of reader, failures_of new_reader) (failures_of writer, failures_of new_writer)
-      (contents (inner_of writer)) (contents (inner_of new_writer)) waiting
+  pub stops : StopsBy kind bytes new_input.turns (failures_between reader new_reader) (failures_between writer new_writer)
+      (known_of contents writer) (known_of contents new_writer) waiting

@@ -7,9 +7,21 @@ use Rattle.http_desk.specs.declared.counted.Counted.{Counted}
 abbrev pub inner_of : {T : Type 0} → Counted T → T
 inner_of counted = counted.inner
 
+-- what is known of the bytes of a reader or a writer: those that it has left, or holds
+abbrev pub Known : Type 0 → Type 0
+Known T = T → Option (List ℕ)
+
+-- what is known of the bytes of one that is counted
+abbrev pub known_of : {T : Type 0} → Known T → Counted T → Option (List ℕ)
+known_of known counted = known (inner_of counted)
+
 -- how often it failed
 abbrev pub failures_of : {T : Type 0} → Counted T → ℕ
 failures_of counted = counted.failures
+
+-- how often before and after
+abbrev pub failures_between : {T : Type 0} → Counted T → Counted T → ℕ × ℕ
+failures_between counted new_counted = (failures_of counted, failures_of new_counted)
 
 -- how many of its reads gave bytes
 abbrev pub reads_of : {T : Type 0} → Counted T → ℕ

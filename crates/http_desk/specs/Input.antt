@@ -2,7 +2,7 @@
 use Rattle.std.specs.Prelude.{◌≡◌, ℕ, ◌+◌, ◌*◌, ◌≤◌, List, [], ◌∷◌, ◌++◌, length, drop, Option}
 use Rattle.std.specs.Io.KnownBytes.{Consumes}
 use Rattle.std.specs.List.{flat_map, AllByRecursion}
-use Rattle.http_desk.specs.Counted.{counted_on, inner_of, reads_of}
+use Rattle.http_desk.specs.Counted.{Known, counted_on, known_of, reads_of}
 use Rattle.http_desk.specs.declared.counted.Counted.{Counted}
 use Rattle.http_desk.specs.declared.fault.FaultKind.{FaultKind}
 use Rattle.http_desk.specs.declared.fault.FaultKind.TheVariants.{Read, Write, Turns, Memory}
@@ -48,17 +48,22 @@ pub record ReadsOn (Holds : List ℕ → Type 0) (old new : List ℕ) (turns new
   pub each : AllByRecursion IsPiece pieces
   pub needed : BeforeEach Holds old pieces
 
--- the same of a reader and an input that keeps all that it gives, from one state to another
-abbrev pub ReadsWhere : {R : Type 0} → (List ℕ → Type 0) → (R → Option (List ℕ)) → Counted R → Counted R → Input → Input → Type 0
+-- the same of a reader
+abbrev pub ReadsBy : {R : Type 0} → (List ℕ → Type 0) → Known R → Counted R → Counted R → List ℕ → List ℕ → ℕ → ℕ → Type 0
+ReadsBy Holds remaining reader new_reader old new turns new_turns =
+    ReadsOn Holds old new turns new_turns (known_of remaining reader) (known_of remaining new_reader) (reads_of reader) (reads_of new_reader)
+
+-- the same of an input too, which keeps all that the reader gives
+abbrev pub ReadsWhere : {R : Type 0} → (List ℕ → Type 0) → Known R → Counted R → Counted R → Input → Input → Type 0
 ReadsWhere Holds remaining reader new_reader input new_input =
-    ReadsOn Holds (unread input) (unread new_input) input.turns new_input.turns (remaining (inner_of reader)) (remaining (inner_of new_reader)) (reads_of reader) (reads_of new_reader)
+    ReadsBy Holds remaining reader new_reader (unread input) (unread new_input) input.turns new_input.turns
 
 -- the same for a reason that is the caller's
-abbrev pub ReadsFrom : {R : Type 0} → (R → Option (List ℕ)) → Counted R → Counted R → Input → Input → Type 0
+abbrev pub ReadsFrom : {R : Type 0} → Known R → Counted R → Counted R → Input → Input → Type 0
 ReadsFrom remaining reader new_reader input new_input = ReadsWhere (λ bytes. Unit {0}) remaining reader new_reader input new_input
 
 -- the same, where each read was needed: more bytes were awaited before it
-abbrev pub ReadsAwaited : {R : Type 0} → (R → Option (List ℕ)) → Counted R → Counted R → Input → Input → Type 0
+abbrev pub ReadsAwaited : {R : Type 0} → Known R → Counted R → Counted R → Input → Input → Type 0
 ReadsAwaited remaining reader new_reader input new_input = ReadsWhere Awaits remaining reader new_reader input new_input
 
 -- why reading failed: the reader did, or no turn was left

@@ -77,13 +77,23 @@ abbrev pub are_three : Option Members → Bool
 are_three (Some members) = members_len members == 3
 are_three None = false
 
+-- the amount that an object spells
+abbrev pub amount_in : Data → Option ℕ
+amount_in value = option_and_then whole_in (get (codes "amount") value)
+
+-- the cut that it spells
+abbrev pub cut_in : Data → Option (List (List ℕ × ℕ))
+cut_in value = option_and_then (named_numbers_in sender_of) (get (codes "cut") value)
+
+-- the returns that it spells
+abbrev pub returns_in : Data → Option (List (List ℕ × ℕ))
+returns_in value = option_and_then (named_numbers_in reporter_named) (get (codes "returns") value)
+
 -- what an object spells: its members are the amount, the cut and the returns, and no others
 abbrev pub numbers_in : Data → Option OrderNumbers
 numbers_in value =
     if are_three (as_object value)
-    then numbers_by (option_and_then whole_in (get (codes "amount") value))
-    (option_and_then (named_numbers_in sender_of) (get (codes "cut") value))
-    (option_and_then (named_numbers_in reporter_named) (get (codes "returns") value))
+    then numbers_by (amount_in value) (cut_in value) (returns_in value)
     else None
 
 -- the value that a body is, where it is JSON in UTF-8 (RFC 8259)

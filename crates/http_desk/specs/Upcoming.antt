@@ -1,7 +1,7 @@
 -- Representation, not meaning: what was found at the front of the bytes that were read, and why nothing was.
 use Rattle.std.specs.Prelude.{◌≡◌, ℕ, Bool, true, false, List, [], ◌∷◌, ◌++◌, length, unwrap_or, Option}
 use Rattle.std.specs.Io.KnownBytes.{Appends}
-use Rattle.http_desk.specs.Counted.{AppendsFront, failures_of, inner_of}
+use Rattle.http_desk.specs.Counted.{AppendsFront, Known, failures_between, known_of}
 use Rattle.http_desk.specs.declared.connection_end.End.{End}
 use Rattle.http_desk.specs.declared.connection_end.End.TheVariants.{Quiet, Bad}
 use Rattle.http_desk.specs.declared.counted.Counted.{Counted}
@@ -61,7 +61,7 @@ StopsBy Write bytes turns reader writer holds new_holds waiting =
 StopsBy Memory bytes turns reader writer holds new_holds waiting = ⊥
 
 -- the same of a reader, a writer and the bytes that were read, while these texts waited
-abbrev pub IsStopped : {R W : Type 0} → (W → Option (List ℕ)) → Counted R → Counted R → Counted W → Counted W → Input → List ℕ → FaultKind → Type 0
+abbrev pub IsStopped : {R W : Type 0} → Known W → Counted R → Counted R → Counted W → Counted W → Input → List ℕ → FaultKind → Type 0
 IsStopped contents reader new_reader writer new_writer input waiting kind =
-    StopsBy kind (unread input) input.turns (failures_of reader, failures_of new_reader) (failures_of writer, failures_of new_writer)
-    (contents (inner_of writer)) (contents (inner_of new_writer)) waiting
+    StopsBy kind (unread input) input.turns (failures_between reader new_reader) (failures_between writer new_writer)
+    (known_of contents writer) (known_of contents new_writer) waiting

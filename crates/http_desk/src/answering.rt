@@ -12,17 +12,19 @@ ghost use Rattle.http_desk.specs.Told.{IsReadyToSend, told_reply};
 ghost use Rattle.http_desk.specs.Upcoming.{HasPart};
 ghost use Rattle.http_desk.specs.Wanted.{AsksFor, PartAsks};
 
+use crate::asked::{Asked, ask};
 use crate::connection_end::End;
 use crate::counted::Counted;
 use crate::fault::FaultKind;
+use crate::fed_put::FedPut;
 use crate::feeding::{Feeding, feed_request};
 use crate::head::Head;
-use crate::requests::{Wanted, request_with, wanted_for};
+use crate::requests::{Wanted, WithBody, request_with, wanted_for};
 use crate::room::Room;
-use crate::told::{Told, tell, tell_arrival};
+use crate::told::{Told, tell};
 use crate::upcoming::{Upcoming, next_answered, whole_request};
 use cwr_files::FileReader;
-use society_core::{Answer, Desk, Refusal, Store, TransmissionKey, answer};
+use society_core::{Answer, Desk, Refusal, Store, TransmissionKey};
 use std::alloc::Global;
 use std::io::{Read, Write};
 
@@ -50,10 +52,10 @@ fn answer_front<S: Store>(
     desk: &mut Desk<S>,
     bytes: &[u8],
     head: &Head,
-    wanted: Wanted,
+    wanted: WithBody,
 ) -> Answer
     requires part { HasPart bytes.now head.now }
-    requires asks { PartAsks bytes.now head.now wanted }
+    requires asks { PartAsks bytes.now head.now (Wanted.Whole wanted) }
     ensures step { IsAnswered S.state desk.old desk.new bytes.now head.now (reply_of result) }
     ensures office { (S.state desk.new).office ≡ (S.state desk.old).office }
     ensures clean { IsTrue (S.state desk.new).is_clean → IsTrue (S.state desk.old).is_clean }
@@ -62,7 +64,7 @@ fn answer_front<S: Store>(
     let Ok(request) = request_with(alloc, wanted, body) else {
         return Answer::Refused(Refusal::Unavailable);
     };
-    answer(alloc, desk, &request)
+    ask(alloc, desk, Asked::Whole(request))
 }
 
 // Answers the request at the front of the bytes and takes it.
@@ -71,11 +73,11 @@ fn answer_next<S: Store>(
     desk: &mut Desk<S>,
     room: &mut Room,
     head: &Head,
-    wanted: Wanted,
+    wanted: WithBody,
 ) -> Told
     requires ready { IsReady room.old }
     requires part { HasPart (unread room.old.input) head.now }
-    requires asks { PartAsks (unread room.old.input) head.now wanted }
+    requires asks { PartAsks (unread room.old.input) head.now (Wanted.Whole wanted) }
     ensures step { IsAnswered S.state desk.old desk.new (unread room.old.input) head.now
         (told_reply result) }
     ensures told { IsReadyToSend result }
@@ -100,11 +102,11 @@ fn answer_whole<S: Store, R: Read>(
     reader: &mut Counted<R>,
     room: &mut Room,
     head: Head,
-    wanted: Wanted,
+    wanted: WithBody,
 ) -> Result<Next, FaultKind>
     requires ready { IsReady room.old }
     requires head { HasHead (unread room.old.input) head }
-    requires asks { AsksFor (unread room.old.input) head wanted }
+    requires asks { AsksFor (unread room.old.input) head (Wanted.Whole wanted) }
     ensures comes { ComesNext S.state R.remaining desk.old desk.new reader.old reader.new
         room.old.input room.new.input result }
     ensures told { IfOk result IsReadyNext }
@@ -138,11 +140,11 @@ fn answer_fed<S: Store, R: Read>(
     reader: &mut Counted<R>,
     room: &mut Room,
     head: &Head,
-    key: &TransmissionKey,
+    key: TransmissionKey,
 ) -> Result<Next, FaultKind>
     requires ready { IsReady room.old }
     requires head { HasHead (unread room.old.input) head.now }
-    requires asks { AsksFor (unread room.old.input) head.now (Wanted.Transmission key.now) }
+    requires asks { AsksFor (unread room.old.input) head.now (Wanted.Fed key) }
     ensures comes { ComesNext S.state R.remaining desk.old desk.new reader.old reader.new
         room.old.input room.new.input result }
     ensures told { IfOk result IsReadyNext }
@@ -159,9 +161,10 @@ fn answer_fed<S: Store, R: Read>(
     let mut sink = FileReader::new(alloc, &key.sender);
     match feed_request(reader, &mut room.input, head, &mut sink) {
         Ok(Feeding::Whole) => {
-            let arrival = desk.put_fed(alloc, &key.sender, key.number, sink);
+            let put = FedPut { key, reader: sink };
+            let answer = ask(alloc, desk, Asked::Fed(put));
             Ok(Next::Request(Answered {
-                told: tell_arrival(alloc, arrival),
+                told: tell(alloc, answer),
                 closes: head.closes,
             }))
         }
@@ -208,8 +211,8 @@ fn answer_head<S: Store, R: Read>(
     ensures ready { IsReady room.new }
 {
     match wanted_at_front(room, &head) {
-        Wanted::Transmission(key) => answer_fed(alloc, desk, reader, room, &head, &key),
-        wanted => answer_whole(alloc, desk, reader, room, head, wanted),
+        Wanted::Fed(key) => answer_fed(alloc, desk, reader, room, &head, key),
+        Wanted::Whole(wanted) => answer_whole(alloc, desk, reader, room, head, wanted),
     }
 }
 

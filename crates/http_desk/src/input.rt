@@ -23,7 +23,7 @@ pub(crate) struct Input {
 }
 
 impl Input {
-    ghost use Rattle.std.specs.Prelude.{◌≡◌, ◌<◌, ◌≤◌, ◌+◌, ◌^◌, [], true, false, not, length, drop, vec_capacity, IfOk, IfErr, OnOk, OnErr};
+    ghost use Rattle.std.specs.Prelude.{◌≡◌, ◌<◌, ◌≤◌, ◌+◌, ◌^◌, [], true, false, not, length, drop, vec_len, vec_capacity, IfOk, IfErr, OnOk, OnErr};
     ghost use Rattle.std.specs.Io.KnownBytes.{IsAtEnd};
     ghost use Rattle.http_desk.specs.Counted.{inner_of, ends_of, failures_of, MeetsEnd};
     ghost use Rattle.http_desk.specs.Input.{unread, ReadsFrom, ReadsWhere, FailsBy, max_piece};
@@ -58,7 +58,7 @@ impl Input {
         self.start += count;
     }
 
-    // Drops the bytes that were taken.
+    // Moves the bytes to the front, over those that were taken.
     fn compact(&mut self)
         ensures bytes { self.new.bytes.items ≡ unread self.old }
         ensures start { self.new.start ≡ 0 }
@@ -66,13 +66,23 @@ impl Input {
         ensures turns { self.new.turns ≡ self.old.turns }
     {
         let start = self.start;
-        if start == 0 {
-            return;
-        }
         let rest = self.bytes.len() - start;
         self.start = 0;
-        self.bytes.as_mut_slice().rotate_left(start);
+        self.bytes.copy_within(start.., 0);
         self.bytes.truncate(rest);
+    }
+
+    // Sees to room for a further piece behind the bytes, which are moved only where there is none.
+    fn make_room(&mut self)
+        requires { length (unread self.old) + max_piece ≤ vec_capacity self.old.bytes }
+        ensures bytes { unread self.new ≡ unread self.old }
+        ensures room { vec_len self.new.bytes + max_piece ≤ vec_capacity self.new.bytes }
+        ensures capacity { vec_capacity self.new.bytes ≡ vec_capacity self.old.bytes }
+        ensures turns { self.new.turns ≡ self.old.turns }
+    {
+        if self.bytes.capacity() - self.bytes.len() < PIECE {
+            self.compact();
+        }
     }
 
     /// Makes room for so many bytes and a further piece; refused only where the first room is too small.
@@ -83,12 +93,12 @@ impl Input {
         ensures ok { OnOk result (size + max_piece ≤ vec_capacity self.new.bytes) }
         ensures full { OnErr result (small_request < size) }
     {
-        self.compact();
         let room = size + PIECE;
-        if room > self.bytes.len() {
-            self.bytes.reserve(room - self.bytes.len())?;
+        if room <= self.bytes.capacity() {
+            return Ok(());
         }
-        Ok(())
+        self.compact();
+        self.bytes.reserve(room - self.bytes.len())
     }
 
     /// Reads where no byte is left here: whether there is one now. An error changes none of the bytes.
@@ -130,7 +140,7 @@ impl Input {
         if self.turns == 0 {
             return Err(FaultKind::Turns);
         }
-        self.compact();
+        self.make_room();
         let mut piece = [0; PIECE];
         match reader.read(&mut piece) {
             Ok(0) => Ok(false),

@@ -2,11 +2,13 @@
 #![tactic(auto)]
 
 mod answering;
+mod asked;
 mod body_length;
 mod connection;
 mod connection_end;
 mod counted;
 mod fault;
+mod fed_put;
 mod feeding;
 mod head;
 mod input;
@@ -19,6 +21,7 @@ mod reply;
 mod requests;
 mod room;
 mod routes;
+mod short_body;
 mod status;
 mod table;
 mod text;

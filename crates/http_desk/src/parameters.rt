@@ -1,17 +1,37 @@
 //! The parameters that a route takes of a path, each decoded once.
 ghost use Rattle.std.specs.Prelude.{◌≡◌, ◌≤◌, length, vec_capacity};
-ghost use Rattle.matchit.specs.Params.{AllText};
 ghost use Rattle.percent_encoding.specs.Percent.{percent_decode};
-ghost use Rattle.http_desk.specs.Parameters.{IsDecoded, parts_of};
+ghost use Rattle.http_desk.specs.Parameters.{IsDecoded, IsTaken, parts_of};
 ghost use Rattle.http_desk.specs.Path.{parameter, sender_in, transmission_number_in, reporter_in, return_number_in, pool_number_in, work_number_in, account_in};
 
+use crate::head::MAX_HEAD;
 use matchit::Params;
 use percent_encoding::percent_decode;
+use std::alloc::{AllocError, Global};
 use work_ids::{
     Account, PoolNumber, Reporter, ReturnNumber, SenderKey, TransmissionNumber, WorkNumber,
 };
 
-// Decodes a parameter into the scratch.
+/// Room in which one parameter of a path is decoded at a time: a path is no longer than a head.
+#[derive(Drop)]
+pub(crate) struct Scratch {
+    bytes: Vec<u8>,
+    ghost roomy: { 8192 ≤ vec_capacity bytes },
+}
+
+impl Scratch {
+    ghost use Rattle.std.specs.Prelude.{◌≡◌, [], IfOk};
+
+    /// With nothing in it yet.
+    pub(crate) fn new(alloc: Global) -> Result<Scratch, AllocError>
+        ensures { IfOk result (λ scratch. scratch.bytes.items ≡ []) }
+    {
+        let bytes = Vec::with_capacity(alloc, MAX_HEAD)?;
+        Ok(Scratch { bytes })
+    }
+}
+
+// Decodes a parameter.
 fn decode(scratch: &mut Vec<u8>, raw: &[u8])
     requires { length raw.now ≤ vec_capacity scratch.old }
     ensures value { scratch.new.items ≡ percent_decode raw.now }
@@ -24,15 +44,13 @@ fn decode(scratch: &mut Vec<u8>, raw: &[u8])
 }
 
 // Decodes the parameter of this name into the scratch; whether there is one.
-fn take_parameter(scratch: &mut Vec<u8>, params: &Params<'_, '_>, name: &str) -> bool
-    requires text { AllText (parts_of params.now) }
-    requires room { length params.now.path.now ≤ vec_capacity scratch.old }
-    ensures value { IsDecoded result scratch.new.items (parameter name.now (parts_of params.now)) }
-    ensures room { vec_capacity scratch.old ≤ vec_capacity scratch.new }
+fn take_parameter(scratch: &mut Scratch, params: &Params<'_, '_>, name: &str) -> bool
+    requires { IsTaken params.now }
+    ensures value { IsDecoded result scratch.new.bytes.items (parameter name.now (parts_of params.now)) }
 {
     match params.get(name) {
         Some(raw) => {
-            decode(scratch, raw.as_bytes());
+            decode(&mut scratch.bytes, raw.as_bytes());
             true
         }
         None => false,
@@ -40,98 +58,84 @@ fn take_parameter(scratch: &mut Vec<u8>, params: &Params<'_, '_>, name: &str) ->
 }
 
 /// The sender in the parameters.
-pub(crate) fn sender_in_path(scratch: &mut Vec<u8>, params: &Params<'_, '_>) -> Option<SenderKey>
-    requires text { AllText (parts_of params.now) }
-    requires room { length params.now.path.now ≤ vec_capacity scratch.old }
+pub(crate) fn sender_in_path(scratch: &mut Scratch, params: &Params<'_, '_>) -> Option<SenderKey>
+    requires { IsTaken params.now }
     ensures value { result ≡ sender_in (parts_of params.now) }
-    ensures room { vec_capacity scratch.old ≤ vec_capacity scratch.new }
 {
     if !take_parameter(scratch, params, "sender") {
         return None;
     }
-    SenderKey::from_bytes(scratch).ok()
+    SenderKey::from_bytes(&scratch.bytes).ok()
 }
 
 /// The number of a transmission in the parameters.
 pub(crate) fn number_in_path(
-    scratch: &mut Vec<u8>,
+    scratch: &mut Scratch,
     params: &Params<'_, '_>,
 ) -> Option<TransmissionNumber>
-    requires text { AllText (parts_of params.now) }
-    requires room { length params.now.path.now ≤ vec_capacity scratch.old }
+    requires { IsTaken params.now }
     ensures value { result ≡ transmission_number_in (parts_of params.now) }
-    ensures room { vec_capacity scratch.old ≤ vec_capacity scratch.new }
 {
     if !take_parameter(scratch, params, "n") {
         return None;
     }
-    TransmissionNumber::from_text(scratch)
+    TransmissionNumber::from_text(&scratch.bytes)
 }
 
 /// The reporter in the parameters.
-pub(crate) fn reporter_in_path(scratch: &mut Vec<u8>, params: &Params<'_, '_>) -> Option<Reporter>
-    requires text { AllText (parts_of params.now) }
-    requires room { length params.now.path.now ≤ vec_capacity scratch.old }
+pub(crate) fn reporter_in_path(scratch: &mut Scratch, params: &Params<'_, '_>) -> Option<Reporter>
+    requires { IsTaken params.now }
     ensures value { result ≡ reporter_in (parts_of params.now) }
-    ensures room { vec_capacity scratch.old ≤ vec_capacity scratch.new }
 {
     if !take_parameter(scratch, params, "reporter") {
         return None;
     }
-    Reporter::from_bytes(scratch).ok()
+    Reporter::from_bytes(&scratch.bytes).ok()
 }
 
 /// The number of a return in the parameters.
 pub(crate) fn return_number_in_path(
-    scratch: &mut Vec<u8>,
+    scratch: &mut Scratch,
     params: &Params<'_, '_>,
 ) -> Option<ReturnNumber>
-    requires text { AllText (parts_of params.now) }
-    requires room { length params.now.path.now ≤ vec_capacity scratch.old }
+    requires { IsTaken params.now }
     ensures value { result ≡ return_number_in (parts_of params.now) }
-    ensures room { vec_capacity scratch.old ≤ vec_capacity scratch.new }
 {
     if !take_parameter(scratch, params, "n") {
         return None;
     }
-    ReturnNumber::from_text(scratch)
+    ReturnNumber::from_text(&scratch.bytes)
 }
 
 /// The number of a pool in the parameters.
-pub(crate) fn pool_in_path(scratch: &mut Vec<u8>, params: &Params<'_, '_>) -> Option<PoolNumber>
-    requires text { AllText (parts_of params.now) }
-    requires room { length params.now.path.now ≤ vec_capacity scratch.old }
+pub(crate) fn pool_in_path(scratch: &mut Scratch, params: &Params<'_, '_>) -> Option<PoolNumber>
+    requires { IsTaken params.now }
     ensures value { result ≡ pool_number_in (parts_of params.now) }
-    ensures room { vec_capacity scratch.old ≤ vec_capacity scratch.new }
 {
     if !take_parameter(scratch, params, "pool") {
         return None;
     }
-    PoolNumber::from_text(scratch)
+    PoolNumber::from_text(&scratch.bytes)
 }
 
 /// The work number in the parameters.
-pub(crate) fn work_in_path(scratch: &mut Vec<u8>, params: &Params<'_, '_>) -> Option<WorkNumber>
-    requires text { AllText (parts_of params.now) }
-    requires room { length params.now.path.now ≤ vec_capacity scratch.old }
+pub(crate) fn work_in_path(scratch: &mut Scratch, params: &Params<'_, '_>) -> Option<WorkNumber>
+    requires { IsTaken params.now }
     ensures value { result ≡ work_number_in (parts_of params.now) }
-    ensures room { vec_capacity scratch.old ≤ vec_capacity scratch.new }
 {
     if !take_parameter(scratch, params, "work") {
         return None;
     }
-    WorkNumber::from_bytes(scratch).ok()
+    WorkNumber::from_bytes(&scratch.bytes).ok()
 }
 
 /// The account in the parameters.
-pub(crate) fn account_in_path(scratch: &mut Vec<u8>, params: &Params<'_, '_>) -> Option<Account>
-    requires text { AllText (parts_of params.now) }
-    requires room { length params.now.path.now ≤ vec_capacity scratch.old }
+pub(crate) fn account_in_path(scratch: &mut Scratch, params: &Params<'_, '_>) -> Option<Account>
+    requires { IsTaken params.now }
     ensures value { result ≡ account_in (parts_of params.now) }
-    ensures room { vec_capacity scratch.old ≤ vec_capacity scratch.new }
 {
     if !take_parameter(scratch, params, "account") {
         return None;
     }
-    Account::from_bytes(scratch).ok()
+    Account::from_bytes(&scratch.bytes).ok()
 }

@@ -1,5 +1,5 @@
 //! Answers and endings, put among the texts that are written together.
-ghost use Rattle.std.specs.Prelude.{◌≡◌, ◌≤◌, ◌++◌, OnOk, OnErr, vec_capacity};
+ghost use Rattle.std.specs.Prelude.{◌≡◌, ◌++◌, OnOk, OnErr};
 ghost use Rattle.http_desk.specs.Counted.{failures_of};
 ghost use Rattle.http_desk.specs.Outbox.{waiting, Emits, Puts};
 ghost use Rattle.society_core.specs.State.{Rises};
@@ -9,8 +9,8 @@ ghost use Rattle.http_desk.specs.Text.{arrival_status, receipt_status, refusal_s
 use crate::connection_end::End;
 use crate::counted::{Counted, NotWritten};
 use crate::outbox::Outbox;
+use crate::short_body::ShortBody;
 use crate::status::{ContentType, Status};
-use crate::text::{set_arrival, set_closed, set_refusal, set_stored};
 use crate::told::Told;
 use society_core::{Answer, Arrival, Receipt, Refusal, Standing};
 use std::io::Write;
@@ -56,56 +56,52 @@ fn refusal_status(refusal: &Refusal) -> Status
 fn put_refusal<W: Write>(
     writer: &mut Counted<W>,
     outbox: &mut Outbox,
-    body: &mut Vec<u8>,
+    body: &mut ShortBody,
     refusal: &Refusal,
     close: bool,
 ) -> Result<(), NotWritten>
-    requires { 512 ≤ vec_capacity body.old }
     ensures gathers { Puts W.contents result writer.old writer.new outbox.old outbox.new
         (refused_text refusal.now close) }
     ensures kept { OnOk result (failures_of writer.new ≡ failures_of writer.old) }
     ensures failed { OnErr result (Rises (failures_of writer.old) (failures_of writer.new)) }
-    ensures room { vec_capacity body.old ≤ vec_capacity body.new }
 {
-    set_refusal(body, refusal);
+    body.set_refusal(refusal);
     let status = refusal_status(refusal);
-    outbox.put_answer(writer, status, ContentType::Json, body, close)
+    outbox.put_answer(writer, status, ContentType::Json, body.bytes(), close)
 }
 
 /// Puts the answer to one request behind the texts that wait. A short body is made in the room that is given.
 pub(crate) fn put_reply<W: Write>(
     writer: &mut Counted<W>,
     outbox: &mut Outbox,
-    body: &mut Vec<u8>,
+    body: &mut ShortBody,
     told: &Told,
     close: bool,
 ) -> Result<(), NotWritten>
     requires ready { IsReadyToSend told.now }
-    requires room { 512 ≤ vec_capacity body.old }
     ensures gathers { Puts W.contents result writer.old writer.new outbox.old outbox.new
         (text (told_reply told.now) close) }
     ensures kept { OnOk result (failures_of writer.new ≡ failures_of writer.old) }
     ensures failed { OnErr result (Rises (failures_of writer.old) (failures_of writer.new)) }
-    ensures room { vec_capacity body.old ≤ vec_capacity body.new }
 {
     match &told.answer {
         Answer::Arrived(arrival) => {
-            set_arrival(body, *arrival);
+            body.set_arrival(*arrival);
             let status = arrival_status(*arrival);
-            outbox.put_answer(writer, status, ContentType::Json, body, close)
+            outbox.put_answer(writer, status, ContentType::Json, body.bytes(), close)
         }
         Answer::Acknowledgement(bytes) => {
             outbox.put_answer(writer, Status::Done, ContentType::File, bytes, close)
         }
         Answer::Stored(receipt) => {
-            set_stored(body);
+            body.set_stored();
             let status = receipt_status(*receipt);
-            outbox.put_answer(writer, status, ContentType::Json, body, close)
+            outbox.put_answer(writer, status, ContentType::Json, body.bytes(), close)
         }
         Answer::Closed(receipt, pool) => {
-            set_closed(body, *pool);
+            body.set_closed(*pool);
             let status = receipt_status(*receipt);
-            outbox.put_answer(writer, status, ContentType::Json, body, close)
+            outbox.put_answer(writer, status, ContentType::Json, body.bytes(), close)
         }
         Answer::Sender(_) | Answer::Work(_) | Answer::Verdicts(_) | Answer::Balance(_, _) => {
             outbox.put_answer(writer, Status::Done, ContentType::Json, &told.body, close)

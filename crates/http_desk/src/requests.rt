@@ -1,16 +1,16 @@
 //! The requests of the office, by method, target and body.
-ghost use Rattle.std.specs.Prelude.{◌≡◌, ◌≤◌, ℕ, List, length, vec_capacity, IfOk};
-ghost use Rattle.matchit.specs.Params.{AllText};
-ghost use Rattle.society_core.specs.Requests.{query_of};
+ghost use Rattle.std.specs.Prelude.{◌≡◌, ◌≢◌, ◌≤◌, ℕ, List, length, IfOk, OnErr};
+ghost use Rattle.society_core.specs.Requests.{AsksElsewhere, query_of};
 ghost use Rattle.http_desk.specs.declared.routes.Route.TheVariants as route;
-ghost use Rattle.http_desk.specs.Parameters.{parts_of};
-ghost use Rattle.http_desk.specs.Wanted.{asked_with};
+ghost use Rattle.http_desk.specs.Parameters.{IsTaken, parts_of};
+ghost use Rattle.http_desk.specs.Part.{max_head};
+ghost use Rattle.http_desk.specs.Wanted.{asked_whole, asked_with};
 ghost use Rattle.http_desk.specs.Path.{office_routes, is_path_byte, is_path, asked_by_put, asked_by_get, query_for};
 
 use crate::order_text::close_by;
 use crate::parameters::{
-    account_in_path, number_in_path, pool_in_path, reporter_in_path, return_number_in_path,
-    sender_in_path, work_in_path,
+    Scratch, account_in_path, number_in_path, pool_in_path, reporter_in_path,
+    return_number_in_path, sender_in_path, work_in_path,
 };
 use crate::routes::Route;
 use matchit::{Params, Router};
@@ -19,17 +19,31 @@ use std::alloc::{AllocError, Global};
 use std::str;
 use work_ids::PoolNumber;
 
-/// What is asked, as far as a method and a target tell it.
+/// What is asked, as far as a method and a target tell it, by how its body comes to the desk.
 #[derive(Drop)]
 pub(crate) enum Wanted {
-    /// To put this transmission.
-    Transmission(TransmissionKey),
+    /// To put this transmission, whose body is fed while it comes.
+    Fed(TransmissionKey),
+    /// This, with a body that is read whole first.
+    Whole(WithBody),
+}
+
+/// What is asked with a body that is read whole.
+#[derive(Drop)]
+pub(crate) enum WithBody {
     /// To put this performance return.
     Return(ReturnKey),
     /// To close this pool.
     Pool(PoolNumber),
     /// This, whatever the body.
     Anyway(Request<'static>),
+}
+
+// What is asked where a target stands for nothing that the office has.
+fn elsewhere() -> Wanted
+    ensures { result ≡ Wanted.Whole (WithBody.Anyway Request.Elsewhere) }
+{
+    Wanted::Whole(WithBody::Anyway(Request::Elsewhere))
 }
 
 fn is_path_byte(byte: u8) -> bool
@@ -46,76 +60,66 @@ fn is_path(target: &[u8]) -> bool
 }
 
 // The put of a transmission.
-fn put_of_transmission(scratch: &mut Vec<u8>, params: &Params<'_, '_>) -> Wanted
-    requires text { AllText (parts_of params.now) }
-    requires room { length params.now.path.now ≤ vec_capacity scratch.old }
+fn put_of_transmission(scratch: &mut Scratch, params: &Params<'_, '_>) -> Wanted
+    requires { IsTaken params.now }
     ensures asks { (body : List ℕ)
         → asked_with result body ≡ asked_by_put route.Transmission (parts_of params.now) body }
-    ensures room { vec_capacity scratch.old ≤ vec_capacity scratch.new }
 {
     let Some(sender) = sender_in_path(scratch, params) else {
-        return Wanted::Anyway(Request::Elsewhere);
+        return elsewhere();
     };
     let Some(number) = number_in_path(scratch, params) else {
-        return Wanted::Anyway(Request::Elsewhere);
+        return elsewhere();
     };
-    Wanted::Transmission(TransmissionKey { sender, number })
+    Wanted::Fed(TransmissionKey { sender, number })
 }
 
 // The put of a performance return.
-fn put_of_return(scratch: &mut Vec<u8>, params: &Params<'_, '_>) -> Wanted
-    requires text { AllText (parts_of params.now) }
-    requires room { length params.now.path.now ≤ vec_capacity scratch.old }
+fn put_of_return(scratch: &mut Scratch, params: &Params<'_, '_>) -> Wanted
+    requires { IsTaken params.now }
     ensures asks { (body : List ℕ)
         → asked_with result body ≡ asked_by_put route.Return (parts_of params.now) body }
-    ensures room { vec_capacity scratch.old ≤ vec_capacity scratch.new }
 {
     let Some(reporter) = reporter_in_path(scratch, params) else {
-        return Wanted::Anyway(Request::Elsewhere);
+        return elsewhere();
     };
     let Some(number) = return_number_in_path(scratch, params) else {
-        return Wanted::Anyway(Request::Elsewhere);
+        return elsewhere();
     };
-    Wanted::Return(ReturnKey { reporter, number })
+    Wanted::Whole(WithBody::Return(ReturnKey { reporter, number }))
 }
 
 // The close of a pool.
-fn put_of_pool(scratch: &mut Vec<u8>, params: &Params<'_, '_>) -> Wanted
-    requires text { AllText (parts_of params.now) }
-    requires room { length params.now.path.now ≤ vec_capacity scratch.old }
+fn put_of_pool(scratch: &mut Scratch, params: &Params<'_, '_>) -> Wanted
+    requires { IsTaken params.now }
     ensures asks { (body : List ℕ)
         → asked_with result body ≡ asked_by_put route.Pool (parts_of params.now) body }
-    ensures room { vec_capacity scratch.old ≤ vec_capacity scratch.new }
 {
     match pool_in_path(scratch, params) {
-        Some(pool) => Wanted::Pool(pool),
-        None => Wanted::Anyway(Request::Elsewhere),
+        Some(pool) => Wanted::Whole(WithBody::Pool(pool)),
+        None => elsewhere(),
     }
 }
 
 // What a put asks of a route.
-fn put_of(route: Route, scratch: &mut Vec<u8>, params: &Params<'_, '_>) -> Wanted
-    requires text { AllText (parts_of params.now) }
-    requires room { length params.now.path.now ≤ vec_capacity scratch.old }
+fn put_of(route: Route, scratch: &mut Scratch, params: &Params<'_, '_>) -> Wanted
+    requires { IsTaken params.now }
     ensures asks { (body : List ℕ)
         → asked_with result body ≡ asked_by_put route (parts_of params.now) body }
-    ensures room { vec_capacity scratch.old ≤ vec_capacity scratch.new }
 {
     match route {
         Route::Transmission => put_of_transmission(scratch, params),
         Route::Return => put_of_return(scratch, params),
         Route::Pool => put_of_pool(scratch, params),
         Route::Acknowledgement | Route::Sender | Route::Verdicts | Route::Work | Route::Account =>
-            Wanted::Anyway(Request::Elsewhere),
+            elsewhere(),
     }
 }
 
 // The request of an acknowledgement.
-fn get_of_acknowledgement<'b>(scratch: &mut Vec<u8>, params: &Params<'_, '_>) -> Request<'b>
-    requires text { AllText (parts_of params.now) }
-    requires room { length params.now.path.now ≤ vec_capacity scratch.old }
+fn get_of_acknowledgement<'b>(scratch: &mut Scratch, params: &Params<'_, '_>) -> Request<'b>
+    requires { IsTaken params.now }
     ensures asks { query_of result ≡ asked_by_get route.Acknowledgement (parts_of params.now) }
-    ensures room { vec_capacity scratch.old ≤ vec_capacity scratch.new }
 {
     let Some(sender) = sender_in_path(scratch, params) else {
         return Request::Elsewhere;
@@ -127,11 +131,9 @@ fn get_of_acknowledgement<'b>(scratch: &mut Vec<u8>, params: &Params<'_, '_>) ->
 }
 
 // The request of how a sender stands.
-fn get_of_sender<'b>(scratch: &mut Vec<u8>, params: &Params<'_, '_>) -> Request<'b>
-    requires text { AllText (parts_of params.now) }
-    requires room { length params.now.path.now ≤ vec_capacity scratch.old }
+fn get_of_sender<'b>(scratch: &mut Scratch, params: &Params<'_, '_>) -> Request<'b>
+    requires { IsTaken params.now }
     ensures asks { query_of result ≡ asked_by_get route.Sender (parts_of params.now) }
-    ensures room { vec_capacity scratch.old ≤ vec_capacity scratch.new }
 {
     let Some(sender) = sender_in_path(scratch, params) else {
         return Request::Elsewhere;
@@ -140,11 +142,9 @@ fn get_of_sender<'b>(scratch: &mut Vec<u8>, params: &Params<'_, '_>) -> Request<
 }
 
 // The request of the verdicts of a transmission.
-fn get_of_verdicts<'b>(scratch: &mut Vec<u8>, params: &Params<'_, '_>) -> Request<'b>
-    requires text { AllText (parts_of params.now) }
-    requires room { length params.now.path.now ≤ vec_capacity scratch.old }
+fn get_of_verdicts<'b>(scratch: &mut Scratch, params: &Params<'_, '_>) -> Request<'b>
+    requires { IsTaken params.now }
     ensures asks { query_of result ≡ asked_by_get route.Verdicts (parts_of params.now) }
-    ensures room { vec_capacity scratch.old ≤ vec_capacity scratch.new }
 {
     let Some(sender) = sender_in_path(scratch, params) else {
         return Request::Elsewhere;
@@ -156,11 +156,9 @@ fn get_of_verdicts<'b>(scratch: &mut Vec<u8>, params: &Params<'_, '_>) -> Reques
 }
 
 // The request of a sender's work.
-fn get_of_work<'b>(scratch: &mut Vec<u8>, params: &Params<'_, '_>) -> Request<'b>
-    requires text { AllText (parts_of params.now) }
-    requires room { length params.now.path.now ≤ vec_capacity scratch.old }
+fn get_of_work<'b>(scratch: &mut Scratch, params: &Params<'_, '_>) -> Request<'b>
+    requires { IsTaken params.now }
     ensures asks { query_of result ≡ asked_by_get route.Work (parts_of params.now) }
-    ensures room { vec_capacity scratch.old ≤ vec_capacity scratch.new }
 {
     let Some(sender) = sender_in_path(scratch, params) else {
         return Request::Elsewhere;
@@ -172,11 +170,9 @@ fn get_of_work<'b>(scratch: &mut Vec<u8>, params: &Params<'_, '_>) -> Request<'b
 }
 
 // The request of an account's balance.
-fn get_of_balance<'b>(scratch: &mut Vec<u8>, params: &Params<'_, '_>) -> Request<'b>
-    requires text { AllText (parts_of params.now) }
-    requires room { length params.now.path.now ≤ vec_capacity scratch.old }
+fn get_of_balance<'b>(scratch: &mut Scratch, params: &Params<'_, '_>) -> Request<'b>
+    requires { IsTaken params.now }
     ensures asks { query_of result ≡ asked_by_get route.Account (parts_of params.now) }
-    ensures room { vec_capacity scratch.old ≤ vec_capacity scratch.new }
 {
     let Some(account) = account_in_path(scratch, params) else {
         return Request::Elsewhere;
@@ -185,11 +181,9 @@ fn get_of_balance<'b>(scratch: &mut Vec<u8>, params: &Params<'_, '_>) -> Request
 }
 
 // The request of a pool's table.
-fn get_of_table<'b>(scratch: &mut Vec<u8>, params: &Params<'_, '_>) -> Request<'b>
-    requires text { AllText (parts_of params.now) }
-    requires room { length params.now.path.now ≤ vec_capacity scratch.old }
+fn get_of_table<'b>(scratch: &mut Scratch, params: &Params<'_, '_>) -> Request<'b>
+    requires { IsTaken params.now }
     ensures asks { query_of result ≡ asked_by_get route.Pool (parts_of params.now) }
-    ensures room { vec_capacity scratch.old ≤ vec_capacity scratch.new }
 {
     let Some(pool) = pool_in_path(scratch, params) else {
         return Request::Elsewhere;
@@ -198,11 +192,9 @@ fn get_of_table<'b>(scratch: &mut Vec<u8>, params: &Params<'_, '_>) -> Request<'
 }
 
 // What a get asks of a route.
-fn get_of<'b>(route: Route, scratch: &mut Vec<u8>, params: &Params<'_, '_>) -> Request<'b>
-    requires text { AllText (parts_of params.now) }
-    requires room { length params.now.path.now ≤ vec_capacity scratch.old }
+fn get_of<'b>(route: Route, scratch: &mut Scratch, params: &Params<'_, '_>) -> Request<'b>
+    requires { IsTaken params.now }
     ensures asks { query_of result ≡ asked_by_get route (parts_of params.now) }
-    ensures room { vec_capacity scratch.old ≤ vec_capacity scratch.new }
 {
     match route {
         Route::Acknowledgement => get_of_acknowledgement(scratch, params),
@@ -218,47 +210,43 @@ fn get_of<'b>(route: Route, scratch: &mut Vec<u8>, params: &Params<'_, '_>) -> R
 /// What is asked by a method and a target, whatever body comes with them; a parameter is decoded in the scratch.
 pub(crate) fn wanted_for(
     router: &Router<Route>,
-    scratch: &mut Vec<u8>,
+    scratch: &mut Scratch,
     put: bool,
     target: &[u8],
 ) -> Wanted
     requires routes { router.now ≡ office_routes }
-    requires room { length target.now ≤ vec_capacity scratch.old }
+    requires short { length target.now ≤ max_head }
     ensures asks { (body : List ℕ) → asked_with result body ≡ query_for put target.now body }
-    ensures room { vec_capacity scratch.old ≤ vec_capacity scratch.new }
 {
     if !is_path(target) {
-        return Wanted::Anyway(Request::Elsewhere);
+        return elsewhere();
     }
     let Ok(path) = str::from_utf8(target) else {
-        return Wanted::Anyway(Request::Elsewhere);
+        return elsewhere();
     };
     let Ok(found) = router.at(path) else {
-        return Wanted::Anyway(Request::Elsewhere);
+        return elsewhere();
     };
     if put {
         put_of(*found.value, scratch, &found.params)
     } else {
-        Wanted::Anyway(get_of(*found.value, scratch, &found.params))
+        let request = get_of(*found.value, scratch, &found.params);
+        Wanted::Whole(WithBody::Anyway(request))
     }
 }
 
-/// What is asked with a body. `AllocError` where memory is refused while an order is read.
+/// What is asked with a body that was read whole. `AllocError` where memory is refused while an order is read.
 pub(crate) fn request_with<'b>(
     alloc: Global,
-    wanted: Wanted,
+    wanted: WithBody,
     body: &'b [u8],
 ) -> Result<Request<'b>, AllocError>
-    ensures { IfOk result (λ request. query_of request ≡ asked_with wanted body.now) }
+    ensures asks { IfOk result (λ request. query_of request ≡ asked_whole wanted body.now) }
+    ensures refused { OnErr result (asked_whole wanted body.now ≢ AsksElsewhere) }
 {
     match wanted {
-        Wanted::Transmission(key) => Ok(Request::PutTransmission {
-            sender: key.sender,
-            number: key.number,
-            body,
-        }),
-        Wanted::Return(key) => Ok(Request::PutReturn { key, body }),
-        Wanted::Pool(pool) => close_by(alloc, pool, body),
-        Wanted::Anyway(request) => Ok(request),
+        WithBody::Return(key) => Ok(Request::PutReturn { key, body }),
+        WithBody::Pool(pool) => close_by(alloc, pool, body),
+        WithBody::Anyway(request) => Ok(request),
     }
 }

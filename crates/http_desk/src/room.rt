@@ -4,23 +4,21 @@ ghost use Rattle.http_desk.specs.Input.{unread};
 ghost use Rattle.http_desk.specs.Outbox.{waiting};
 ghost use Rattle.http_desk.specs.Room.{IsReady};
 
-use crate::head::MAX_HEAD;
 use crate::input::Input;
 use crate::outbox::Outbox;
+use crate::parameters::Scratch;
 use crate::routes::{Route, routes};
+use crate::short_body::ShortBody;
 use matchit::Router;
 use std::alloc::{AllocError, Global};
-
-/// Room for the body of an answer that is made here, in bytes.
-const BODY_ROOM: usize = 512;
 
 /// What a connection takes before its first read, and no more after but for bodies.
 #[derive(Drop)]
 pub(crate) struct Room {
     pub router: Router<Route>,
     pub input: Input,
-    pub parameter: Vec<u8>,
-    pub body: Vec<u8>,
+    pub parameter: Scratch,
+    pub body: ShortBody,
     pub outbox: Outbox,
 }
 
@@ -34,8 +32,8 @@ pub(crate) fn make_room(alloc: Global, turns: u64) -> Result<Room, AllocError>
     Ok(Room {
         router: routes(alloc)?,
         input: Input::new(alloc, turns)?,
-        parameter: Vec::with_capacity(alloc, MAX_HEAD)?,
-        body: Vec::with_capacity(alloc, BODY_ROOM)?,
+        parameter: Scratch::new(alloc)?,
+        body: ShortBody::new(alloc)?,
         outbox: Outbox::new(alloc)?,
     })
 }

@@ -1,11 +1,11 @@
 //! Answers with the bodies that are made before they are sent.
 ghost use Rattle.std.specs.Prelude.{◌≡◌, IfOk, OnErr};
-ghost use Rattle.society_core.specs.Requests.{reply_of, told, Arrived};
+ghost use Rattle.society_core.specs.Requests.{reply_of};
 ghost use Rattle.http_desk.specs.Told.{HasBody, IsReadyToSend, IsShown, Tells, told_reply};
 
 use crate::json::{balance_text, sender_text, verdicts_text, work_text};
 use crate::table::table_text;
-use society_core::{Answer, Arrival, Refusal};
+use society_core::{Answer, Refusal};
 use std::alloc::{AllocError, Global};
 
 /// An answer, and its body where it answers a question whose text asks memory: that can be refused, and then the office is
@@ -47,20 +47,5 @@ pub(crate) fn tell(alloc: Global, answer: Answer) -> Told
             answer: Answer::Refused(Refusal::Unavailable),
             body: Vec::new(alloc),
         },
-    }
-}
-
-/// What is told of a put that was fed: nothing is made for it before it is sent.
-pub(crate) fn tell_arrival(alloc: Global, arrival: Result<Arrival, Refusal>) -> Told
-    ensures ready { IsReadyToSend result }
-    ensures tells { told_reply result ≡ told Arrived arrival }
-{
-    let answer = match arrival {
-        Ok(arrival) => Answer::Arrived(arrival),
-        Err(refusal) => Answer::Refused(refusal),
-    };
-    Told {
-        answer,
-        body: Vec::new(alloc),
     }
 }

@@ -1,4 +1,5 @@
 use Rattle.std.proofs.Common.{refl, sym}
+use Rattle.society_core.specs.Requests.{Puts}
 use Rattle.http_desk.specs.Feeding.{pending}
 use Rattle.http_desk.specs.Input.{unread}
 use Rattle.http_desk.proofs.AnsweringLemmas.{takes_fed}
@@ -12,17 +13,17 @@ returns-in-Ok-Whole-clause-comes g c =
       bytes = pending (unread c.args.room.now.input) c.args.head.now f.so_far.fed (unread c.feed_request.new.input);
       reads = f.so_far.read_on;
       comes =
-          takes_fed g.S.Store.state c.args.desk.now c.put_fed-arrival.new.self (unread c.args.room.now.input) (unread c.feed_request.new.input) _ _ _ _ _ _ c.args.head.now c.feed_request.new.sink f.left c.tell_arrival.result c.args.key.now _
-          f.so_far c.requires.head f.ends c.requires.asks c.tell_arrival.ensures.tells c.put_fed-arrival.ensures;
+          takes_fed g.S.Store.state c.args.desk.now c.ask-answer.new.desk (unread c.args.room.now.input) (unread c.feed_request.new.input) _ _ _ _ _ _ c.args.head.now c.feed_request.new.sink f.left c.tell.result c.args.key _
+          f.so_far c.requires.head f.ends c.requires.asks c.tell.ensures.tells (λ bytes was. c.ask-answer.ensures (Puts c.args.key.sender c.args.key.number bytes) (bytes, was, refl));
     }
 
 pub returns-in-Ok-Whole-clause-office : goal.returns-in-Ok-Whole-clause-office
 returns-in-Ok-Whole-clause-office g c =
-    let f = c.feed_request.ensures.feeds.so_far in (c.put_fed-arrival.ensures f.fed f.was_fed).goes.office
+    let f = c.feed_request.ensures.feeds.so_far in (c.ask-answer.ensures (Puts c.args.key.sender c.args.key.number f.fed) (f.fed, f.was_fed, refl)).proceeds.goes.office
 
 pub returns-in-Ok-Whole-clause-clean : goal.returns-in-Ok-Whole-clause-clean
 returns-in-Ok-Whole-clause-clean g c =
-    let f = c.feed_request.ensures.feeds.so_far in (c.put_fed-arrival.ensures f.fed f.was_fed).goes.clean
+    let f = c.feed_request.ensures.feeds.so_far in (c.ask-answer.ensures (Puts c.args.key.sender c.args.key.number f.fed) (f.fed, f.was_fed, refl)).proceeds.goes.clean
 
 pub returns-in-Ok-Refused-clause-comes : goal.returns-in-Ok-Refused-clause-comes
 returns-in-Ok-Refused-clause-comes g c =
@@ -32,7 +33,7 @@ returns-in-Ok-Refused-clause-comes g c =
       reads = f.so_far.read_on;
       comes = (
         fed_refused (unread c.args.room.now.input) _ _ _ c.args.head.now (unread c.feed_request.new.input) _ _ _ c.feed_request.new.sink f.left f.so_far c.requires.head f.ends
-            (c.args.key.now.sender, c.args.key.now.number, λ body. sym (c.requires.asks c.requires.head body)),
+            (c.args.key.sender, c.args.key.number, λ body. sym (c.requires.asks c.requires.head body)),
         refl,
       );
     }

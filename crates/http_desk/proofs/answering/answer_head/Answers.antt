@@ -1,6 +1,6 @@
 use Rattle.std.proofs.Common.{subst, sym}
 use Rattle.http_desk.specs.declared.input.Input.{Input}
-use Rattle.http_desk.specs.declared.requests.Wanted.TheVariants.{Transmission}
+use Rattle.http_desk.specs.declared.requests.Wanted.TheVariants.{Fed, Whole}
 use Rattle.http_desk.specs.Head.{HasHead}
 use Rattle.http_desk.specs.Input.{unread}
 use Rattle.http_desk.specs.Wanted.{AsksFor}
@@ -8,12 +8,12 @@ use Rattle.http_desk.proofs.answering.answer_head.Goals as goal
 
 pub answer_fed-requires-clause-asks : goal.answer_fed-requires-clause-asks
 answer_fed-requires-clause-asks g c =
-    let P : Input → Type 0 = λ i. AsksFor (unread i) c.args.head (Transmission c.in-Transmission.key) in
-    subst P (sym c.wanted_at_front.ensures.input) c.in-Transmission.ensures.asks
+    let P : Input → Type 0 = λ i. AsksFor (unread i) c.args.head (Fed c.in-Fed.key) in
+    subst P (sym c.wanted_at_front.ensures.input) c.in-Fed.ensures.asks
 
 pub answer_whole-requires : goal.answer_whole-requires
 answer_whole-requires g c =
     let P : Input → Type 0 = λ i. HasHead (unread i) c.args.head in
-    let Q : Input → Type 0 = λ i. AsksFor (unread i) c.args.head c.wanted_at_front.result in
+    let Q : Input → Type 0 = λ i. AsksFor (unread i) c.args.head (Whole c.in-Whole.wanted) in
     let same = sym c.wanted_at_front.ensures.input in
-    record { ready = c.wanted_at_front.ensures.ready; head = subst P same c.requires.head; asks = subst Q same c.wanted_at_front.ensures.asks }
+    record { ready = c.wanted_at_front.ensures.ready; head = subst P same c.requires.head; asks = subst Q same c.in-Whole.ensures.asks }

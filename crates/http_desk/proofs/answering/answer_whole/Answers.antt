@@ -1,6 +1,7 @@
 use Rattle.std.proofs.Common.{refl}
 use Rattle.http_desk.specs.Input.{unread}
 use Rattle.http_desk.specs.Reads.{Awaits}
+use Rattle.http_desk.specs.declared.requests.Wanted.TheVariants.{Whole}
 use Rattle.http_desk.proofs.AnsweringLemmas.{part_asks, takes_part}
 use Rattle.http_desk.proofs.UpcomingLemmas.{ReadsOn-spare}
 use Rattle.http_desk.proofs.answering.answer_whole.Goals as goal
@@ -20,4 +21,4 @@ returns-in-Ok-Request-clause-comes g c =
 pub answer_next-told-requires-clause-asks : goal.answer_next-told-requires-clause-asks
 answer_next-told-requires-clause-asks g c =
     let reads = c.whole_request.ensures.reads in
-    part_asks (unread c.args.room.now.input) _ reads.more c.args.head c.in-Ok-Request.whole c.args.wanted c.requires.head reads.grown c.requires.asks
+    part_asks (unread c.args.room.now.input) _ reads.more c.args.head c.in-Ok-Request.whole (Whole c.args.wanted) c.requires.head reads.grown c.requires.asks

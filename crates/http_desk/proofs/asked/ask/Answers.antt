@@ -1,0 +1,8 @@
+use Rattle.http_desk.proofs.StepLemmas.{fed_call}
+use Rattle.http_desk.proofs.asked.ask.Goals as goal
+
+pub returns-in-Ok : goal.returns-in-Ok
+returns-in-Ok g c = fed_call g.S.Store.state c.args.desk.now c.put_fed.new.self c.args.asked c.in-Fed.field-0 _ c.in-Fed.is c.in-Ok.ensures
+
+pub returns-in-Err : goal.returns-in-Err
+returns-in-Err g c = fed_call g.S.Store.state c.args.desk.now c.put_fed.new.self c.args.asked c.in-Fed.field-0 _ c.in-Fed.is c.in-Err.ensures

@@ -1,0 +1,44 @@
+//! The one door to the desk: what is asked, with its body as it came.
+ghost use Rattle.society_core.specs.Requests.{Query, query_of, reply_of};
+ghost use Rattle.http_desk.specs.Serves.{Calls};
+ghost use Rattle.http_desk.specs.Wanted.{StandsFor};
+
+use crate::fed_put::FedPut;
+use society_core::{Answer, Desk, Refusal, Request, Store, answer};
+use std::alloc::Global;
+
+/// What is asked of the desk, with its body.
+#[derive(Drop)]
+pub(crate) enum Asked<'b> {
+    /// To put a transmission that was fed while it came.
+    Fed(FedPut),
+    /// Anything else; its body was read whole.
+    Whole(Request<'b>),
+}
+
+// Asks what needs the store; what needs none is told as it is.
+fn ask_whole<S: Store>(alloc: Global, desk: &mut Desk<S>, request: &Request<'_>) -> Answer
+    ensures { Calls S.state desk.old desk.new (query_of request.now) (reply_of result) }
+{
+    match request {
+        Request::Elsewhere => Answer::Refused(Refusal::Unknown),
+        Request::FaultyOrder { fault } => Answer::Refused(Refusal::Order(*fault)),
+        _ => answer(alloc, desk, request),
+    }
+}
+
+/// Asks it at the desk.
+pub(crate) fn ask<S: Store>(alloc: Global, desk: &mut Desk<S>, asked: Asked<'_>) -> Answer
+    ensures { (query : Query) → StandsFor asked.entry query
+        → Calls S.state desk.old desk.new query (reply_of result) }
+{
+    match asked {
+        Asked::Fed(FedPut { key, reader }) => {
+            match desk.put_fed(alloc, &key.sender, key.number, reader) {
+                Ok(arrival) => Answer::Arrived(arrival),
+                Err(refusal) => Answer::Refused(refusal),
+            }
+        }
+        Asked::Whole(request) => ask_whole(alloc, desk, &request),
+    }
+}
