@@ -1,5 +1,5 @@
 -- The texts of accounts that a book credits, and the units under a text.
-use Rattle.std.proofs.Common.{◌≡◌, ◌∙◌, ◌++◌, ◌-◌, ◌≤◌, ◌&&◌, ℕ, zero, suc, Bool, true, false, cond, List, [], ◌∷◌, length, take, drop, replicate, map, filter, nat_le, Option, Some, None, option_map, Result, Ok, Err, refl, ap, ap₂, sym, subst, arith, bytes_eq, length-append, eqb, eqb-true}
+use Rattle.std.proofs.Common.{◌≡◌, ◌∙◌, ◌++◌, ◌-◌, ◌≤◌, ◌&&◌, ℕ, Bool, true, false, cond, List, [], ◌∷◌, length, take, drop, replicate, map, filter, nat_le, Option, Some, None, option_map, Result, Ok, Err, refl, ap, ap₂, sym, arith, bytes_eq, length-append, eqb, eqb-true}
 use Rattle.std.specs.List.{AllByRecursion, enumerate_from, flat_map, list_all, sum_by, zip}
 use Rattle.std.proofs.lemmas.Bool.Decides.{nat_tests}
 use Rattle.std.proofs.lemmas.List.{drop_at, length-replicate, take_at}
@@ -19,10 +19,11 @@ use Rattle.share_rules.specs.declared.office.Office.{Office}
 use Rattle.sqlite_trees.proofs.ListLemmas.{filter_same}
 use Rattle.society_core.proofs.Books.{some_body, there_to_front}
 use Rattle.society_core.proofs.CreditLemmas.{order_reaches_cut}
+use Rattle.society_core.proofs.LineNumbers.{one_of_first, one_of_within}
 use Rattle.society_core.proofs.Fronts.{first_holds, second_holds}
 use Rattle.society_core.proofs.PoolLemmas.{IsPool, each_pool}
 use Rattle.society_core.specs.Accounts.{same_account}
-use Rattle.society_core.specs.Book.{Book, IsSound, body_at, front, order_at, transmissions_to}
+use Rattle.society_core.specs.Book.{Book, IsSound, body_at, front, is_applied, order_at, transmissions_to}
 use Rattle.society_core.specs.Orders.{Order}
 use Rattle.society_core.specs.Owners.{CutWork, cut_work, is_version_at, names_recording, sole, versions_at_cut, versions_of_transmission, works_of_cut}
 use Rattle.society_core.specs.Points.{points_by_recording, rows_named}
@@ -184,16 +185,18 @@ front_has_key b sound s some =
     let key : is_sender_key s ≡ true = first_holds (is_sender_key s) (is_transmission_number 1) (first_holds (is_sender_key s && is_transmission_number 1) (is_none (file_fault s found.0)) entry) in
     eqb-true (length s) 11 (first_holds (eqb (length s) 11) (list_all is_capital_or_digit s) key)
 
-reached : (o : Office) (b : Book) → IsSound b → (key : TransmissionKey) (n : ℕ) → key.number ≡ n → nat_le n (front b key.sender) ≡ true → AllByRecursion HasSender (versions_at_cut o b key)
-reached o b sound key zero is within = subst (λ (n : ℕ). AllByRecursion HasSender (flat_map (λ (sent : NumberedTransmission). versions_of_transmission o b key sent.0 (transactions_of sent.1)) (transmissions_to b key.sender n))) (sym is) tt
-reached o b sound key (suc n) is within = sent_by o b key (front_has_key b sound key.sender (grind (arith, nat_tests)))
+reached : (o : Office) (b : Book) → IsSound b → (key : TransmissionKey) → is_applied b key ≡ true → AllByRecursion HasSender (versions_at_cut o b key)
+reached o b sound key applied =
+    let first = one_of_first (front b key.sender) key.number applied in
+    let within = one_of_within (front b key.sender) key.number applied in
+    sent_by o b key (front_has_key b sound key.sender (omega (arith, first, within)))
 
-cut_sent : (o : Office) (b : Book) → IsSound b → (keys : List TransmissionKey) → list_all (λ (key : TransmissionKey). nat_le key.number (front b key.sender)) keys ≡ true → AllByRecursion HasSender (flat_map (versions_at_cut o b) keys)
+cut_sent : (o : Office) (b : Book) → IsSound b → (keys : List TransmissionKey) → list_all (is_applied b) keys ≡ true → AllByRecursion HasSender (flat_map (versions_at_cut o b) keys)
 cut_sent o b sound [] h = tt
 cut_sent o b sound (key ∷ keys) h =
     all_append HasSender (versions_at_cut o b key) (flat_map (versions_at_cut o b) keys)
-    (reached o b sound key key.number refl (first_holds (nat_le key.number (front b key.sender)) (list_all (λ (k : TransmissionKey). nat_le k.number (front b k.sender)) keys) h))
-    (cut_sent o b sound keys (second_holds (nat_le key.number (front b key.sender)) (list_all (λ (k : TransmissionKey). nat_le k.number (front b k.sender)) keys) h))
+    (reached o b sound key (first_holds (is_applied b key) (list_all (is_applied b) keys) h))
+    (cut_sent o b sound keys (second_holds (is_applied b key) (list_all (is_applied b) keys) h))
 
 -- the holders of a claim, where there are some
 abbrev OwnersFilled : Option (List Holder) → Type 0

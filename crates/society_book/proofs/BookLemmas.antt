@@ -1,5 +1,5 @@
 -- Tables that have the rows of a book stand for that book.
-use Rattle.std.proofs.Common.{◌≡◌, ℕ, Bool, true, false, cond, ◌&&◌, ◌||◌, ◌==◌, List, [], ◌∷◌, Option, Some, None, refl, ap, ap₂, subst, sym, ◌∙◌, map, filter, is_some, nat_le, IsPermutation, arith}
+use Rattle.std.proofs.Common.{◌≡◌, ℕ, Bool, true, false, cond, ◌&&◌, ◌||◌, ◌==◌, List, [], ◌∷◌, Option, Some, None, refl, ap, ap₂, subst, sym, ◌∙◌, map, filter, is_some, IsPermutation, arith}
 use Rattle.std.specs.FinMap.{find, from_entries, get-from_entries, same_map}
 use Rattle.std.specs.FinMap as finite
 use Rattle.std.specs.Cmp.{IsTotalOrder}
@@ -18,7 +18,7 @@ use Rattle.std.proofs.lemmas.List.Sorted.{IsPermutation-map, list_any-IsPermutat
 use Rattle.std.proofs.lemmas.Map.Text.{is_eq-slice_cmp}
 use Rattle.sqlite_trees.specs.Tree.{Trees}
 use Rattle.sqlite_value.specs.Order.{Row}
-use Rattle.society_core.specs.Book.{Book, IsSound, front, return_at, order_at}
+use Rattle.society_core.specs.Book.{Book, IsSound, is_applied, return_at, order_at}
 use Rattle.society_core.specs.Keys.{ascending, bytes_cmp, return_cmp, transmission_cmp}
 use Rattle.society_core.specs.Orders.{IsOrder, Order, same_return_key, same_transmission_key}
 use Rattle.society_core.specs.declared.return_key.ReturnKey.{ReturnKey}
@@ -117,7 +117,7 @@ order_back pool order o is kept refills cuts paid of_cut of_paid =
 
 -- the reporters of the returns that a pool pays are read back from their texts
 pub named_refilled : (book : Book) (rows : List Row) → HasRows is_return_row (return_rows book) rows → IsSound book → (pool : ℕ) (order : Order) → order_at book pool ≡ Some order → AllByRecursion IsRefilled order.returns
-named_refilled book rows has sound pool order there = all_refilled book rows has order.returns (third_holds (is_pool_number pool) (list_all (λ key. nat_le key.number (front book key.sender)) order.cut) (list_all (λ key. is_some (return_at book key)) order.returns) (sound.pools pool order there))
+named_refilled book rows has sound pool order there = all_refilled book rows has order.returns (third_holds (is_pool_number pool) (list_all (is_applied book) order.cut) (list_all (λ key. is_some (return_at book key)) order.returns) (sound.pools pool order there))
 
 -- tables that have the rows of a sound book stand for it
 pub the_book : (book : Book) (db : Trees) → IsSound book → AreOfBook book db → book_of db ≡ book
@@ -131,4 +131,4 @@ the_book book db sound rows =
     λ i. record { transmissions = transmissions i; returns = returns i; pools = pools i }
   where
     named : (q : ℕ) (x : Order) → order_at book q ≡ Some x → AllByRecursion IsRefilled x.returns
-    named q x there = all_refilled book (rows_in layout.returns db) rows.returns x.returns (third_holds (is_pool_number q) (list_all (λ key. nat_le key.number (front book key.sender)) x.cut) (list_all (λ key. is_some (return_at book key)) x.returns) (sound.pools q x there))
+    named q x there = all_refilled book (rows_in layout.returns db) rows.returns x.returns (third_holds (is_pool_number q) (list_all (is_applied book) x.cut) (list_all (λ key. is_some (return_at book key)) x.returns) (sound.pools q x there))

@@ -13,8 +13,9 @@ use Rattle.share_rules.specs.declared.office.Office.{Office}
 use Rattle.society_core.proofs.Ascending.{ascending_has}
 use Rattle.society_core.proofs.CandidateLemmas.{both}
 use Rattle.society_core.proofs.Gaps.{version_within}
+use Rattle.society_core.proofs.LineNumbers.{one_of_within}
 use Rattle.society_core.proofs.Lines.{line_rises, line_to}
-use Rattle.society_core.specs.Book.{Book, front, verdicts_in, version_in}
+use Rattle.society_core.specs.Book.{Book, front, is_in_line, verdicts_in, version_in}
 use Rattle.society_core.specs.Candidates.{transactions_sent}
 use Rattle.society_core.specs.Keys.{ascending, bytes_cmp}
 use Rattle.society_core.specs.Owners.{cut_work, is_at, is_version_at, names_recording}
@@ -185,7 +186,7 @@ module _ (o : Office) (b : Book) (db : Trees) (holds : HoldsWorks o b db) (s : L
       all-permutation P rows told (IsPermutation-sym told rows (holds.derived.recordings s)) (all-filter P (is_named s) (rows_in layout.recordings db) all)
 
   -- a work whose version at the cut names a recording is noted with the recording
-  pub noted_at_cut : (named : NamedWorks) (isrc : List ℕ) → NotesRecording db isrc named → notes_of_sender named s ≡ true → (cut : ℕ) → cut ≤ front b s → (number place : ℕ) (t : Transaction) (w : List ℕ) → slice_get (transactions_sent b s number) place ≡ Some t → number_of_work t ≡ Ok w → is_at number place (version_in o b s w cut) ≡ true → names_recording isrc (cut_work s t) ≡ true →
+  pub noted_at_cut : (named : NamedWorks) (isrc : List ℕ) → NotesRecording db isrc named → notes_of_sender named s ≡ true → (cut : ℕ) → is_in_line b s cut ≡ true → (number place : ℕ) (t : Transaction) (w : List ℕ) → slice_get (transactions_sent b s number) place ≡ Some t → number_of_work t ≡ Ok w → is_at number place (version_in o b s w cut) ≡ true → names_recording isrc (cut_work s t) ≡ true →
       is_noted named s w ≡ true
   noted_at_cut named isrc notes asked cut within number place t w there spelt e named_by = by_version (version_in o b s w cut) refl e
     where
@@ -198,7 +199,8 @@ module _ (o : Office) (b : Book) (db : Trees) (holds : HoldsWorks o b db) (s : L
           let limits = version_within (line_to o b s cut) w cut v (line_rises o b s cut) is in
           let told = version_told_at o b s w cut v is in
           let P : Row → Type 0 = λ row. has_at 3 (Text isrc) row ≡ true → IsNoted named row in
-          let all = all_in_range P (told_by tells_recordings o b s) 1 (front b s) v.transmission (all_told_front P notes) limits.0 (omega (arith, limits.1, within)) in
+          let up_to = one_of_within (front b s) cut within in
+          let all = all_in_range P (told_by tells_recordings o b s) 1 (front b s) v.transmission (all_told_front P notes) limits.0 (omega (arith, limits.1, up_to)) in
           let same : told.transaction ≡ t = some_is told.transaction t (sym told.there ∙ ap (λ (n : ℕ). slice_get (transactions_sent b s n) v.place) numbered ∙ ap (slice_get (transactions_sent b s number)) placed ∙ there) in
           let its = all_at_place P s v.transmission 0 (transactions_sent b s v.transmission) (verdicts_in o b s v.transmission) v.place told.transaction told.ordinal told.revision all told.there told.verdict in
           let of_t : AllByRecursion P (map (λ i. Text s ∷ Text (work_text t) ∷ Int (pos told.revision) ∷ Text i ∷ []) (ascending bytes_cmp (isrcs_of t))) = subst (λ (x : Transaction). AllByRecursion P (map (λ i. Text s ∷ Text (work_text x) ∷ Int (pos told.revision) ∷ Text i ∷ []) (ascending bytes_cmp (isrcs_of x)))) same its in
@@ -209,7 +211,7 @@ module _ (o : Office) (b : Book) (db : Trees) (holds : HoldsWorks o b db) (s : L
           ap (is_noted named s) (sym number_is) ∙ noted
 
   -- so what is chosen of the works that are noted is what is a version at the cut, where it names one of these recordings
-  pub chosen_right : (of_these : List ℕ → Bool) (named : NamedWorks) (known : List ℕ → Bool) (chosen : Chosen) (cut : ℕ) → NotesRecordings db of_these named → notes_of_sender named s ≡ true → cut ≤ front b s → ((w : List ℕ) → known w ≡ is_noted named s w) →
+  pub chosen_right : (of_these : List ℕ → Bool) (named : NamedWorks) (known : List ℕ → Bool) (chosen : Chosen) (cut : ℕ) → NotesRecordings db of_these named → notes_of_sender named s ≡ true → is_in_line b s cut ≡ true → ((w : List ℕ) → known w ≡ is_noted named s w) →
       Chooses o b (record { sender = s; number = cut }) known chosen → ChoosesNaming o b (record { sender = s; number = cut }) of_these chosen
   chosen_right of_these named known chosen cut notes asked within same chooses = record { right = λ number place t isrc up there is names. by_number number place t isrc there is names (number_of_work t) refl; transmissions = chooses.transmissions; within = chooses.within }
     where

@@ -7,7 +7,8 @@ use Rattle.std.proofs.lemmas.List.Sorted.{IsPermutation-trans}
 use Rattle.std.proofs.lemmas.Slice.Eq.{bytes_eq-Decides}
 use Rattle.std.specs.List.{AllByRecursion}
 use Rattle.share_rules.specs.declared.office.Office.{Office}
-use Rattle.society_core.specs.Book.{Book, front, version_in}
+use Rattle.society_core.proofs.LineNumbers.{one_of_within}
+use Rattle.society_core.specs.Book.{Book, front, is_in_line, version_in}
 use Rattle.society_core.proofs.Lines.{line_rises, line_to, line_up_to}
 use Rattle.society_rows.specs.Layout as layout
 use Rattle.society_rows.specs.Reads.{Lists, has_key}
@@ -137,11 +138,11 @@ rows_found o b db holds s w back found lists =
     lists.sorted
 
 -- the last of them up to a cut shows the version there
-pub version_found : (o : Office) (b : Book) (db : Trees) → HoldsWorks o b db → (s w : List ℕ) (cut : ℕ) → IsBack w → cut ≤ front b s → (found : List Row) → Lists layout.versions (has_key (Text s ∷ Text (without_trailing_blanks w) ∷ [])) 3 db found →
+pub version_found : (o : Office) (b : Book) (db : Trees) → HoldsWorks o b db → (s w : List ℕ) (cut : ℕ) → IsBack w → is_in_line b s cut ≡ true → (found : List Row) → Lists layout.versions (has_key (Text s ∷ Text (without_trailing_blanks w) ∷ [])) 3 db found →
     option_map version_shown (row_up_to cut found) ≡ version_in o b s w cut
 version_found o b db holds s w cut back within found lists =
     let line = placed_line (line_to o b s (front b s)) in
     ap (λ (rows : List Row). option_map version_shown (row_up_to cut rows)) (rows_found o b db holds s w back found lists)
     ∙ ap (option_map version_shown) (row_last s w cut line)
     ∙ shown_back s w (last_upto cut w line)
-    ∙ cut_version o b s w cut within
+    ∙ cut_version o b s w cut (one_of_within (front b s) cut within)

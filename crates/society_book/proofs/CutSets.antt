@@ -1,7 +1,6 @@
 -- Of the transmissions up to a cut only those add candidates that have a version that is chosen.
-use Rattle.std.proofs.Common.{◌≡◌, ◌∙◌, ◌<◌, ◌≤◌, ◌+◌, ◌++◌, ◌||◌, ◌==◌, ◌⊎◌, ℕ, suc, zero, Bool, true, false, cond, List, [], ◌∷◌, Less, Equal, Greater, ap, ap₂, arith, flat_map, get_or, length, nat_lt, refl, subst, sym, ⊎_elim}
+use Rattle.std.proofs.Common.{◌≡◌, ◌∙◌, ◌<◌, ◌≤◌, ◌+◌, ◌++◌, ◌||◌, ℕ, suc, zero, Bool, true, false, List, [], ◌∷◌, Less, ap, ap₂, arith, flat_map, get_or, length, refl, subst, sym, ⊎_elim}
 use Rattle.std.proofs.lemmas.Bool.{cases_lt}
-use Rattle.std.proofs.lemmas.Bool.Decides.{nat_tests}
 use Rattle.std.proofs.lemmas.Grind.{flat_map-append}
 use Rattle.std.proofs.lemmas.List.{append-nil}
 use Rattle.std.proofs.lemmas.List.Elements.{filter-append}
@@ -11,6 +10,7 @@ use Rattle.std.specs.List.Sorted.{IsStrictlySortedBy}
 use Rattle.std.specs.Ordering.{eq_by_cmp, nat_cmp}
 use Rattle.share_rules.specs.declared.office.Office.{Office}
 use Rattle.society_core.proofs.CandidateLemmas.{versions_to, versions_to_next}
+use Rattle.society_core.proofs.PoolLemmas.{less_than}
 use Rattle.society_core.specs.Book.{Book}
 use Rattle.society_core.specs.Candidates.{Adds, transactions_sent}
 use Rattle.society_core.specs.Owners.{CutWork, names_recording, versions_at_cut, versions_of_transmission}
@@ -28,17 +28,6 @@ use Rattle.share_rules.specs.declared.holder.Holder.{Holder}
 -- whether a number stands in a list
 abbrev pub is_in : ℕ → List ℕ → Bool
 is_in n ks = list_any (λ k. eq_by_cmp nat_cmp n k) ks
-
-less_than : (k j : ℕ) → nat_cmp k j ≡ Less → k < j
-less_than k j e = by_case (nat_lt k j) refl e
-  where
-    by_equal : (b : Bool) → cond b Equal Greater ≡ Less → ⊥
-    by_equal true h = cc
-    by_equal false h = cc
-
-    by_case : (b : Bool) → nat_lt k j ≡ b → cond b Less (cond (k == j) Equal Greater) ≡ Less → k < j
-    by_case true is h = grind (arith, nat_tests)
-    by_case false is h = absurd (by_equal (k == j) h)
 
 -- a number that is not in a longer list is not in the shorter one
 apart_from : (n k : ℕ) (ks : List ℕ) → (n ≡ k → ⊥) → is_in n ks ≡ false → is_in n (k ∷ ks) ≡ false

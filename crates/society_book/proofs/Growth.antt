@@ -1,53 +1,44 @@
--- What the derived rows of a sender are once a transmission has come.
-use Rattle.std.proofs.Common.{◌≡◌, ◌≤◌, ◌<◌, ◌+◌, ℕ, zero, suc, List, [], ◌∷◌, ◌++◌, Option, refl, ap, ap₂, ◌∙◌, unwrap_or, arith}
+-- What the derived rows of a sender are in another book.
+use Rattle.std.proofs.Common.{◌≡◌, ℕ, true, List, [], ◌∷◌, ◌++◌, Option, refl, ap, ap₂, sym, ◌∙◌, unwrap_or}
 use Rattle.std.specs.List.{flat_map, range_with_len}
 use Rattle.std.proofs.lemmas.Grind.{flat_map-append}
 use Rattle.cwr_files.specs.Contents.{transactions_of, transmission_in}
 use Rattle.share_rules.specs.declared.office.Office.{Office}
-use Rattle.society_core.specs.Book.{Book, body_at, front, verdicts_in}
-use Rattle.society_core.proofs.Gaps.{transmissions_alike}
+use Rattle.society_core.specs.Book.{Book, body_at, is_one_of, line, transmissions_to, verdicts_in}
+use Rattle.society_core.specs.Growth.{GoesOn}
+use Rattle.society_core.specs.Headline.{AlikeToTheGap}
+use Rattle.society_core.proofs.Gaps.{alike_to}
+use Rattle.society_core.proofs.GrowthLemmas.{sent_stays}
+use Rattle.society_core.proofs.LineNumbers.{is_first, is_later}
 use Rattle.society_book.specs.DerivedRows.{Telling, told_by, told_from, told_to_front}
 use Rattle.sqlite_value.specs.Order.{Row}
 use Rattle.works_core.specs.Line.{NumberedTransmission, line_of, verdicts_at}
 use Rattle.works_core.specs.declared.verdict.Verdict.{Verdict}
 
--- two books have the same transmissions of a sender from 1 to n
-abbrev pub AlikeTo : Book → Book → List ℕ → ℕ → Type 0
-AlikeTo a b sender n = (k : ℕ) → 1 ≤ k → k ≤ n → body_at a sender k ≡ body_at b sender k
-
--- what a transmission tells rests on the transmissions up to it
-pub told_alike : (tells : Telling) (o : Office) (a b : Book) (s : List ℕ) (n : ℕ) → 1 ≤ n → AlikeTo a b s n → told_by tells o a s n ≡ told_by tells o b s n
-told_alike tells o a b s n some same =
-    let body : body_at a s n ≡ body_at b s n = same n some (omega arith) in
-    let verdicts : verdicts_in o a s n ≡ verdicts_in o b s n = ap (λ (ts : List NumberedTransmission). verdicts_at (line_of o ts) n) (transmissions_alike a b s n same) in
+-- what a transmission tells rests on it and on the transmissions up to it
+told_alike : (tells : Telling) (o : Office) (a b : Book) (s : List ℕ) (n : ℕ) → transmissions_to a s n ≡ transmissions_to b s n → body_at a s n ≡ body_at b s n → told_by tells o a s n ≡ told_by tells o b s n
+told_alike tells o a b s n sent body =
+    let verdicts : verdicts_in o a s n ≡ verdicts_in o b s n = ap (λ (ts : List NumberedTransmission). verdicts_at (line_of o ts) n) sent in
     ap₂ (λ (x : Option (List ℕ)) (y : List Verdict). told_from tells s n 0 (transactions_of (transmission_in (unwrap_or x []))) y) body verdicts
 
-each_alike : (f g : ℕ → List Row) (from len : ℕ) → ((k : ℕ) → from ≤ k → k < from + len → f k ≡ g k) → flat_map f (range_with_len from len) ≡ flat_map g (range_with_len from len)
-each_alike f g from zero same = refl
-each_alike f g from (suc len) same =
-    ap₂ ◌++◌ (same from (omega arith) (omega arith)) (each_alike f g (from + 1) len (λ k above below. same k (omega arith) (omega arith)))
-
--- numbers from one on, cut in two
-pub range_split : (from a b : ℕ) → range_with_len from (a + b) ≡ range_with_len from a ++ range_with_len (from + a) b
-range_split from zero b = ap₂ range_with_len (let e : from ≡ from + 0 = omega arith in e) (let e : 0 + b ≡ b = omega arith in e)
-range_split from (suc a) b =
-    ap (range_with_len from) (let e : suc a + b ≡ suc (a + b) = omega arith in e)
-    ∙ ap (λ l. from ∷ l) (range_split (from + 1) a b ∙ ap (λ n. range_with_len (from + 1) a ++ range_with_len n b) (let e : (from + 1) + a ≡ from + suc a = omega arith in e))
+each_alike : (f g : ℕ → List Row) (ns : List ℕ) → ((k : ℕ) → is_one_of ns k ≡ true → f k ≡ g k) → flat_map f ns ≡ flat_map g ns
+each_alike f g [] same = refl
+each_alike f g (n ∷ ns) same = ap₂ ◌++◌ (same n (is_first n ns)) (each_alike f g ns (λ k one. same k (is_later n k ns one)))
 
 -- what the transmissions from one to another tell
 abbrev pub told_of : Telling → Office → Book → List ℕ → ℕ → ℕ → List Row
 told_of tells office book sender from count = flat_map (told_by tells office book sender) (range_with_len from count)
 
--- a sender whose transmissions up to the front are as before, and whose front is as before, has the rows it had
-pub told_stays : (tells : Telling) (o : Office) (a b : Book) (s : List ℕ) → front b s ≡ front a s → AlikeTo b a s (front a s) → told_to_front tells o b s ≡ told_to_front tells o a s
-told_stays tells o a b s same alike =
-    ap (λ n. told_of tells o b s 1 n) same
-    ∙ each_alike (told_by tells o b s) (told_by tells o a s) 1 (front a s) (λ k some within. told_alike tells o b a s k some (λ j one below. alike j one (omega arith)))
+-- a sender of whom two books are alike to the gap has the same rows in both
+pub told_stays : (tells : Telling) (o : Office) (a b : Book) (s : List ℕ) → AlikeToTheGap a b s → told_to_front tells o b s ≡ told_to_front tells o a s
+told_stays tells o a b s alike =
+    ap (flat_map (told_by tells o b s)) (sym alike.same_line)
+    ∙ sym (each_alike (told_by tells o a s) (told_by tells o b s) (line a s) (λ k one. told_alike tells o a b s k (alike_to a b s k alike one) (alike.same_bodies k one)))
 
--- a sender whose front goes on has the rows it had, and those of the transmissions that came to it
-pub told_grows : (tells : Telling) (o : Office) (a b : Book) (s : List ℕ) (more : ℕ) → front b s ≡ front a s + more → AlikeTo b a s (front a s) → told_to_front tells o b s ≡ told_to_front tells o a s ++ told_of tells o b s (front a s + 1) more
-told_grows tells o a b s more grown alike =
-    ap (λ n. told_of tells o b s 1 n) grown
-    ∙ ap (flat_map (told_by tells o b s)) (range_split 1 (front a s) more)
-    ∙ flat_map-append (told_by tells o b s) (range_with_len 1 (front a s)) (range_with_len (1 + front a s) more)
-    ∙ ap₂ ◌++◌ (each_alike (told_by tells o b s) (told_by tells o a s) 1 (front a s) (λ k some within. told_alike tells o b a s k some (λ j one below. alike j one (omega arith)))) (ap (λ n. told_of tells o b s n more) (let e : 1 + front a s ≡ front a s + 1 = omega arith in e))
+-- a sender whose line goes on has the rows it had, and those of the transmissions that came to it
+pub told_grows : (tells : Telling) (o : Office) (a b : Book) (s : List ℕ) (more : List ℕ) → GoesOn a b s more → told_to_front tells o b s ≡ told_to_front tells o a s ++ flat_map (told_by tells o b s) more
+told_grows tells o a b s more goes =
+    ap (flat_map (told_by tells o b s)) goes.grown
+    ∙ flat_map-append (told_by tells o b s) (line a s) more
+    ∙ ap (λ (rows : List Row). rows ++ flat_map (told_by tells o b s) more)
+    (each_alike (told_by tells o b s) (told_by tells o a s) (line a s) (λ k one. told_alike tells o b a s k (sent_stays a b s more goes s k one) (goes.bodies k one)))

@@ -1,29 +1,23 @@
--- The tables once a transmission has come that is held.
+-- A book to which a transmission has come, and the front of its sender where it is held.
 use Rattle.std.proofs.Common.{◌≡◌, ◌∙◌, ◌≤◌, ◌+◌, ◌||◌, ◌==◌, ℕ, Bool, true, false, cond, List, [], ◌∷◌, Some, None, is_some, refl, ap, ap₂, sym, subst, arith, bytes_eq, ◌⊎◌, ⊎_elim, inl, inr}
 use Rattle.std.specs.FinMap as finite
 use Rattle.std.specs.List.{list_any}
 use Rattle.std.specs.Ordering.{eq_by_cmp}
 use Rattle.std.proofs.lemmas.Bool.{false≢true}
 use Rattle.std.proofs.lemmas.Slice.Eq.{bytes_eq-Decides}
-use Rattle.share_rules.specs.declared.office.Office.{Office}
-use Rattle.society_core.proofs.Books.{added_keeps, some_body, there_to_front}
-use Rattle.society_core.proofs.ClosedPools.{PaysAlike}
+use Rattle.society_core.proofs.Books.{added_keeps, some_body}
 use Rattle.society_core.proofs.Fronts.{all_stay, all_there, front_gap, front_only}
-use Rattle.society_core.proofs.Gaps.{transmissions_alike}
 use Rattle.society_core.proofs.KeyOrders.{transmissions_total}
 use Rattle.society_core.proofs.Fronts.{first_holds, second_holds}
 use Rattle.std.proofs.lemmas.Bool.Decides.{Decides-eqb}
-use Rattle.society_core.specs.Book.{Book, body_at, front, is_there, transmissions_to, with_transmission}
+use Rattle.society_core.specs.Book.{Book, body_at, front, is_there, with_transmission}
 use Rattle.society_core.specs.Keys.{transmission_cmp, transmission_key}
 use Rattle.society_core.specs.Orders.{same_transmission_key}
 use Rattle.society_core.specs.declared.transmission_key.TransmissionKey.{TransmissionKey}
-use Rattle.society_book.specs.DerivedRows.{has_sent, works_to}
+use Rattle.society_book.specs.DerivedRows.{has_sent}
 use Rattle.society_book.proofs.BookLemmas.{transmissions_tie}
 use Rattle.society_book.proofs.FrontRows.{none_so}
 use Rattle.society_book.proofs.KeyRows.{both_same, same_truth}
-use Rattle.works_core.specs.Line.{NumberedTransmission, line_of}
-use Rattle.works_core.specs.Verdicts.{works_in}
-use Rattle.works_core.specs.Versions.{judged_of, placed_line}
 
 -- keys of transmissions that are the same are one
 pub same_key_is : (a b : TransmissionKey) → same_transmission_key a b ≡ true → a ≡ b
@@ -92,12 +86,6 @@ module _ (b : Book) (s : List ℕ) (n : ℕ) (body : List ℕ) (free : body_at b
   pub came : is_there after s n ≡ true
   came = ap is_some (told_after s n ∙ ap (λ x. cond x (Some body) (body_at b s n)) (both_same s n))
 
-  -- up to a front that was reached the transmissions are the same
-  pub alike_after : (t : List ℕ) (k : ℕ) → 1 ≤ k → k ≤ front b t → body_at after t k ≡ body_at b t k
-  alike_after t k some within =
-      let found = some_body (body_at b t k) (there_to_front b t k (omega arith) within) in
-      added_keeps b s n body free t k found.0 found.1 ∙ sym found.1
-
   pub sent_after : (t : List ℕ) → has_sent after t ≡ (bytes_eq s t || has_sent b t)
   sent_after t =
       same_truth (has_sent after t) (bytes_eq s t || has_sent b t)
@@ -113,30 +101,14 @@ module _ (b : Book) (s : List ℕ) (n : ℕ) (body : List ℕ) (free : body_at b
       by_case true is h = subst (λ (q : List ℕ). has_sent after q ≡ true) ((bytes_eq-Decides s t).0 is) (there_sent after s n came)
       by_case false is h = let found = sent_there b t h in there_sent after t found.0 (still_there t found.0 found.1)
 
-  module _ (apart : n ≡ front b s + 1 → ⊥) where
-    gap_after : (t : List ℕ) → is_there after t (front b t + 1) ≡ false
-    gap_after t = by_case (is_there after t (front b t + 1)) refl
-      where
-        by_case : (x : Bool) → is_there after t (front b t + 1) ≡ x → x ≡ false
-        by_case false is = refl
-        by_case true is =
-            absurd (⊎_elim
-            (λ (same : transmission_key t (front b t + 1) ≡ transmission_key s n).
-            apart (sym (ap (λ (key : TransmissionKey). key.number) same) ∙ ap (λ (q : List ℕ). front b q + 1) (ap (λ (key : TransmissionKey). key.sender) same)))
-            (λ (before : is_there b t (front b t + 1) ≡ true). false≢true (sym (front_gap b t) ∙ before))
-            (there_from t (front b t + 1) is))
-
-    -- no front goes on
-    pub front_after : (t : List ℕ) → front after t ≡ front b t
-    front_after t = sym (front_only after t (front b t) (all_stay b after t (front b t) (λ k there. still_there t k there) (all_there b t)) (gap_after t))
-
-    pub works_after : (o : Office) (t : List ℕ) → works_to o after t ≡ works_to o b t
-    works_after o t =
-        ap (λ (k : ℕ). works_in (judged_of (placed_line (line_of o (transmissions_to after t k))))) (front_after t)
-        ∙ ap (λ (ts : List NumberedTransmission). works_in (judged_of (placed_line (line_of o ts)))) (transmissions_alike after b t (front b t) (λ k some within. alike_after t k some within))
-
-  pub pays_after : PaysAlike b after
-  pays_after = record {
-    sent = λ t k within. transmissions_alike b after t k (λ j some le. sym (alike_after t j some (omega arith)));
-    returned = λ key there. refl;
-  }
+  -- where it is not the next one, its sender's front does not go on
+  pub front_after : (n ≡ front b s + 1 → ⊥) → front after s ≡ front b s
+  front_after apart = sym (front_only after s (front b s) (all_stay b after s (front b s) (λ k there. still_there s k there) (all_there b s)) (gap (is_there after s (front b s + 1)) refl))
+    where
+      gap : (x : Bool) → is_there after s (front b s + 1) ≡ x → is_there after s (front b s + 1) ≡ false
+      gap false is = is
+      gap true is =
+          absurd (⊎_elim
+          (λ (same : transmission_key s (front b s + 1) ≡ transmission_key s n). apart (sym (ap (λ (key : TransmissionKey). key.number) same)))
+          (λ (before : is_there b s (front b s + 1) ≡ true). false≢true (sym (front_gap b s) ∙ before))
+          (there_from s (front b s + 1) is))

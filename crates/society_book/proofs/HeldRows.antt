@@ -24,7 +24,7 @@ use Rattle.sqlite_value.specs.Order.{Row, column, value_cmp}
 use Rattle.sqlite_value.specs.declared.keys.Collation.TheVariants.{Binary}
 use Rattle.sqlite_value.specs.declared.value.Value.TheVariants.{Int, Text}
 use Rattle.society_core.proofs.Ascending.{ascending_in_order, same_ascending}
-use Rattle.society_core.proofs.HeldLemmas.{held_ascend, held_waits}
+use Rattle.society_core.proofs.HeldLemmas.{held_ascend, held_past}
 use Rattle.society_core.proofs.KeyOrders.{exact_numbers}
 use Rattle.society_core.specs.Book.{Book, body_at, front, held, is_there}
 use Rattle.society_core.specs.Keys.{transmission_key}
@@ -278,7 +278,7 @@ module _ (o : Office) (b : Book) (db : Trees) (holds : HoldsBook o b db) (s : Li
       ∙ any_same (λ row. is_mine row && is_numbered q row) (λ row. nat_lt (front b s) q && is_transmission_row (transmission_key s q) row) rows (all_either q rows)
       ∙ any_and (nat_lt (front b s) q) (is_transmission_row (transmission_key s q)) rows
       ∙ ap (λ t. nat_lt (front b s) q && t) (there_is q)
-      ∙ sym (held_waits b s q)
+      ∙ sym (held_past b holds.sound s q)
       ∙ sym (any_equal q (held b s))
 
   -- what is found above the front has the numbers that are held

@@ -55,7 +55,8 @@ use Rattle.society_core.proofs.Lines.{judged_under, line_ends, line_push, line_r
 use Rattle.sqlite_value.specs.declared.value.Value.TheVariants.{Int, Text}
 use Rattle.sqlite_value.specs.Order.{Row, column}
 use Rattle.society_book.specs.DerivedRows.{is_named, tells_version, told_by, told_from, told_to_front}
-use Rattle.society_book.proofs.Growth.{range_split, told_of}
+use Rattle.society_book.proofs.Growth.{told_of}
+use Rattle.society_core.proofs.LineNumbers.{range_split}
 use Rattle.work_ids.specs.Blanks.{fill, is_blank_byte, without_trailing_blanks}
 use Rattle.works_core.proofs.EndLemmas.{IsTaken, refused, taken}
 use Rattle.works_core.proofs.KeptLemmas.{placed_push}

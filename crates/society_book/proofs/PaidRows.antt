@@ -1,5 +1,5 @@
 -- What the rows of the returns that pools pay show.
-use Rattle.std.proofs.Common.{◌≡◌, ◌∙◌, ◌&&◌, ◌||◌, ◌==◌, inl, inr, ℕ, pos, Bool, true, false, cond, List, [], ◌∷◌, Option, Some, None, is_some, refl, ap, sym, subst, arith, map, filter, nat_le, IsPermutation}
+use Rattle.std.proofs.Common.{◌≡◌, ◌∙◌, ◌&&◌, ◌||◌, ◌==◌, inl, inr, ℕ, pos, Bool, true, false, cond, List, [], ◌∷◌, Option, Some, None, is_some, refl, ap, sym, subst, arith, map, filter, IsPermutation}
 use Rattle.std.specs.FinMap as finite
 use Rattle.std.specs.FinMap.Entries.{find}
 use Rattle.std.specs.List as lists
@@ -17,10 +17,9 @@ use Rattle.society_core.proofs.PoolLemmas.{IsPool, each_pool}
 use Rattle.society_core.proofs.SameOrders.{same_return_is}
 use Rattle.society_core.specs.Answers.{paid_by, payer, payment_by, pool_of}
 use Rattle.society_core.specs.declared.store.Payment.TheVariants.{Unknown}
-use Rattle.society_core.specs.Book.{Book, IsSound, front, order_at, return_at}
+use Rattle.society_core.specs.Book.{Book, IsSound, is_applied, order_at, return_at}
 use Rattle.society_core.specs.Orders.{Order, names_return, same_return_key}
 use Rattle.society_core.specs.declared.return_key.ReturnKey.{ReturnKey}
-use Rattle.society_core.specs.declared.transmission_key.TransmissionKey.{TransmissionKey}
 use Rattle.society_rows.specs.Layout as layout
 use Rattle.society_rows.specs.Reads.{Lists, has_key}
 use Rattle.society_rows.specs.Stored.{rows_in}
@@ -113,7 +112,7 @@ module _ (o : Office) (b : Book) (db : Trees) (holds : HoldsBook o b db) (key : 
   )
 
   returns_of : (pool : ℕ) (order : Order) → order_at b pool ≡ Some order → AllByRecursion IsRefilled order.returns
-  returns_of pool order there = all_refilled b (rows_in layout.returns db) holds.kept.returns order.returns (third_holds (is_pool_number pool) (list_all (λ (k : TransmissionKey). nat_le k.number (front b k.sender)) order.cut) (list_all (λ (k : ReturnKey). is_some (return_at b k)) order.returns) (holds.sound.pools pool order there))
+  returns_of pool order there = all_refilled b (rows_in layout.returns db) holds.kept.returns order.returns (third_holds (is_pool_number pool) (list_all (is_applied b) order.cut) (list_all (λ (k : ReturnKey). is_some (return_at b k)) order.returns) (holds.sound.pools pool order there))
 
   of_pool : (pool : ℕ) (x : Option Order) → order_at b pool ≡ x → AllByRecursion (Tells b key) (rows_of_order (paid_row pool) (λ order. order.returns) x)
   of_pool pool None is = tt

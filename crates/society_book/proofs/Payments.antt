@@ -1,15 +1,14 @@
 -- What the returns of an order come to, and that it is paid in the tables as in the book.
-use Rattle.std.proofs.Common.{◌≡◌, ◌∙◌, ◌&&◌, is_some, nat_le, ◌≤◌, ◌<◌, ◌+◌, ◌++◌, ◌∷◌, [], List, ℕ, IfOk, OnOk, Result, Ok, Err, true, ap, flat_map, get_or, length, take, append-nil}
+use Rattle.std.proofs.Common.{◌≡◌, ◌∙◌, ◌&&◌, is_some, ◌≤◌, ◌<◌, ◌+◌, ◌++◌, ◌∷◌, [], List, ℕ, IfOk, OnOk, Result, Ok, Err, true, ap, flat_map, get_or, length, take, append-nil}
 use Rattle.std.proofs.lemmas.Grind.{flat_map-append}
 use Rattle.share_rules.specs.declared.office.Office.{Office}
 use Rattle.perf_returns.specs.declared.performance.Performance.{Performance}
-use Rattle.society_core.specs.Book.{Book, front, is_pool_entry, return_at}
+use Rattle.society_core.specs.Book.{Book, is_applied, is_pool_entry, return_at}
 use Rattle.society_core.specs.Candidates.{ReachesCut, rows_of_return}
 use Rattle.society_core.specs.Orders.{Order}
 use Rattle.society_core.specs.Points.{Tallies}
 use Rattle.society_core.specs.declared.points.Tally.{Tally}
 use Rattle.society_core.specs.declared.return_key.ReturnKey.{ReturnKey}
-use Rattle.society_core.specs.declared.transmission_key.TransmissionKey.{TransmissionKey}
 use Rattle.society_core.proofs.Fronts.{first_holds, second_holds}
 use Rattle.std.specs.List.{list_all}
 use Rattle.work_ids.specs.Numbers.{is_pool_number}
@@ -42,6 +41,6 @@ by_each (Err e) P Q h = tt
 -- an order that nothing refuses has a cut that is reached
 pub cut_reached : (b : Book) (pool : ℕ) (order : Order) → is_pool_entry b pool order ≡ true → ReachesCut b order
 cut_reached b pool order entry =
-    let cuts = list_all (λ (key : TransmissionKey). nat_le key.number (front b key.sender)) order.cut in
+    let cuts = list_all (is_applied b) order.cut in
     let returns = list_all (λ (key : ReturnKey). is_some (return_at b key)) order.returns in
     second_holds (is_pool_number pool) cuts (first_holds (is_pool_number pool && cuts) returns entry)

@@ -3,13 +3,15 @@ use Rattle.std.proofs.Common.{◌≡◌, ◌∙◌, ◌<◌, ◌+◌, ◌++◌, 
 use Rattle.std.proofs.lemmas.Bool.Decides.{Decides-eqb}
 use Rattle.std.proofs.lemmas.List.{append-nil, length-map}
 use Rattle.std.proofs.lemmas.List.Concat.{flat_map_single}
+use Rattle.std.proofs.lemmas.List.FromFn.{length-range_with_len}
+use Rattle.std.specs.List.{range_with_len}
 use Rattle.share_rules.specs.declared.office.Office.{Office}
 use Rattle.sqlite_trees.specs.Tree.{Trees}
 use Rattle.sqlite_value.specs.declared.value.Value.TheVariants.{Blob, Int, Text}
 use Rattle.sqlite_value.specs.Order.{Row}
 use Rattle.society_core.proofs.Books.{added_keeps, some_body}
 use Rattle.society_core.proofs.Fronts.{all_stay, all_there, all_to_next, front_only, second_holds}
-use Rattle.society_core.proofs.Gaps.{transmissions_alike}
+use Rattle.society_core.proofs.GrowthLemmas.{comes_in, front_grown, line_stays}
 use Rattle.society_core.specs.Book.{Book, body_at, front, has_all, is_entry, is_there, with_transmission}
 use Rattle.society_core.specs.Keys.{transmission_key}
 use Rattle.society_core.specs.Orders.{same_transmission_key}
@@ -22,7 +24,7 @@ use Rattle.society_book.specs.Kept.{HoldsBook}
 use Rattle.society_book.specs.Runs.{AreNoted, GoesOnBy, Notes, RunValue, behind_run, line_at_front, notes_in, settled_recordings, settled_run, settled_verdict, settled_version, take_row}
 use Rattle.society_book.specs.Shown.{Runs, ShowBody}
 use Rattle.society_book.specs.Steps.{HasReached}
-use Rattle.society_book.proofs.HeldAdds.{alike_after, front_after, told_after}
+use Rattle.society_book.proofs.HeldAdds.{front_after, told_after}
 use Rattle.society_book.proofs.KeyRows.{both_same, transmission_shows}
 use Rattle.society_core.proofs.Lines.{line_to}
 use Rattle.society_book.proofs.RunLines.{run_behind, run_settled, sees_recordings, sees_verdict, sees_version}
@@ -49,14 +51,30 @@ runs_as row front front_too a d b e c f old new x y z w runs =
     (subst (λ (l : List Row). Runs row front_too l b c old new) y
     (subst (λ (r : Row). Runs row r a b c old new) x runs)))
 
+module _ (o : Office) (a b : Book) (s : List ℕ) (notes : List Notes) (goes : GoesOnBy o a b s notes) where
+  -- the front is further by as many transmissions
+  reaches : front b s ≡ front a s + length notes
+  reaches = front_grown a b s _ goes.goes ∙ ap (λ (k : ℕ). front a s + k) (length-range_with_len (front a s + 1) (length notes))
+
+  -- up to the front that was reached the line is the same
+  same_line : line_at_front o a s ≡ placed_line (line_to o b s (front a s))
+  same_line = ap (λ (ts : List _). placed_line (line_of o ts)) (sym (line_stays a b s _ goes.goes s))
+
+  -- behind the run stands the line up to the front that is then reached
+  new_line : behind_run (line_at_front o a s) (front a s + 1) notes ≡ line_at_front o b s
+  new_line =
+      ap (λ (p : List Placed). behind_run p (front a s + 1) notes) same_line
+      ∙ run_behind o b s (front a s) notes goes.each
+      ∙ ap (λ (k : ℕ). placed_line (line_to o b s k)) (sym reaches)
+
 module _ (o : Office) (b : Book) (s : List ℕ) (n : ℕ) (body : List ℕ) (free : body_at b s n ≡ None) where
   abbrev next : Book
   next = with_transmission b s n body
 
   -- a transmission that is not the next one is held
-  pub held_goes : (n ≡ front b s + 1 → ⊥) → GoesOnBy o b s n body []
+  pub held_goes : (n ≡ front b s + 1 → ⊥) → GoesOnBy o b next s []
   held_goes apart = record {
-    reaches = front_after b s n body free apart s ∙ (let e : front b s ≡ front b s + 0 = omega arith in e);
+    goes = comes_in b s n body free 0 (front_after b s n body free apart ∙ (let e : front b s ≡ front b s + 0 = omega arith in e));
     each = tt;
   }
 
@@ -115,8 +133,8 @@ module _ (o : Office) (b : Book) (s : List ℕ) (n : ℕ) (body : List ℕ) (fre
         by_case true is = absurd (let same : k ≡ n = (Decides-eqb k n).0 (second_holds (bytes_eq s s) (k == n) is) in omega (arith, same, past))
 
     -- with the next one the front goes on by it and by the run behind it
-    pub run_goes : n ≡ front b s + 1 → (rows : List Row) → IsRun s (n + 1) db rows → GoesOnBy o b s n body (notes_in o body ∷ map (λ row. notes_in o (blob_at 2 row)) rows)
-    run_goes is rows run = record { reaches = sym (front_only next s (front b s + suc (length notes)) all gap); each = noted }
+    pub run_goes : n ≡ front b s + 1 → (rows : List Row) → IsRun s (n + 1) db rows → GoesOnBy o b next s (notes_in o body ∷ map (λ row. notes_in o (blob_at 2 row)) rows)
+    run_goes is rows run = record { goes = comes_in b s n body free (suc (length notes)) (sym (front_only next s (front b s + suc (length notes)) all gap)); each = noted }
       where
         notes : List Notes
         notes = map (λ row. notes_in o (blob_at 2 row)) rows
@@ -143,18 +161,7 @@ module _ (o : Office) (b : Book) (s : List ℕ) (n : ℕ) (body : List ℕ) (fre
             subst (λ (k : ℕ). AreNoted o next s k (notes_in o body ∷ notes)) is
             (ap (λ (x : Option (List ℕ)). notes_in o (unwrap_or x [])) (sym its_body), rows_noted (n + 1) rows run.each)
 
-  module _ (notes : List Notes) (goes : GoesOnBy o b s n body notes) where
-    -- up to the front that was reached the line is the same
-    same_line : line_at_front o b s ≡ placed_line (line_to o next s (front b s))
-    same_line = ap (λ (ts : List _). placed_line (line_of o ts)) (sym (transmissions_alike next b s (front b s) (λ k some within. alike_after b s n body free s k some within)))
-
-    -- behind the run stands the line up to the front that is then reached
-    new_line : behind_run (line_at_front o b s) (front b s + 1) notes ≡ line_at_front o next s
-    new_line =
-        ap (λ (p : List Placed). behind_run p (front b s + 1) notes) same_line
-        ∙ run_behind o next s (front b s) notes goes.each
-        ∙ ap (λ (k : ℕ). placed_line (line_to o next s k)) (sym goes.reaches)
-
+  module _ (notes : List Notes) (goes : GoesOnBy o b next s notes) where
     -- with the rows of a run the tables hold the book with its first transmission
     pub run_holds : (reached works then total : ℕ) (outcomes : List Outcome) (row front_row : Row) (q : List ℕ) (old new : Trees) →
         HoldsBook o b old → is_entry s n body ≡ true → HasReached o b s reached works → then ≡ reached + length notes
@@ -164,16 +171,16 @@ module _ (o : Office) (b : Book) (s : List ℕ) (n : ℕ) (body : List ℕ) (fre
         → Runs row front_row (map (λ x. settled_verdict q (settled x)) outcomes) (flat_map (λ x. settled_version q (settled x)) outcomes) (flat_map (λ x. settled_recordings q (settled x)) outcomes) old new
         → HoldsBook o next new × (then ≡ front next s)
     run_holds reached works then total outcomes row front_row q old new holds entry at counts is are row_is front_is name_is runs =
-        let reach : then ≡ front next s = counts ∙ ap (λ (k : ℕ). k + length notes) at.0 ∙ sym goes.reaches in
+        let reach : then ≡ front next s = counts ∙ ap (λ (k : ℕ). k + length notes) at.0 ∙ sym (reaches o b next s notes goes) in
         let behind : behind_run (line_at_front o b s) (reached + 1) notes ≡ line_at_front o next s =
-        ap (λ (k : ℕ). behind_run (line_at_front o b s) (k + 1) notes) at.0 ∙ new_line in
+        ap (λ (k : ℕ). behind_run (line_at_front o b s) (k + 1) notes) at.0 ∙ new_line o b next s notes goes in
         let works_then : total ≡ works_to o next s = is ∙ ap (λ (p : List Placed). works_in (judged_of p)) behind in
         let line = placed_line (line_to o next s (front b s)) in
         let their : map settled outcomes ≡ settled_run line (front b s + 1) notes =
-        are ∙ ap₂ (λ (p : List Placed) (k : ℕ). settled_run p (k + 1) notes) same_line at.0 in
+        are ∙ ap₂ (λ (p : List Placed) (k : ℕ). settled_run p (k + 1) notes) (same_line o b next s notes goes) at.0 in
         let named = subst (λ (z : List ℕ). Runs row front_row (map (λ x. settled_verdict z (settled x)) outcomes) (flat_map (λ x. settled_version z (settled x)) outcomes) (flat_map (λ x. settled_recordings z (settled x)) outcomes) old new) name_is runs in
         let placed = subst (λ (r : Row). Runs r front_row (map (λ x. settled_verdict s (settled x)) outcomes) (flat_map (λ x. settled_version s (settled x)) outcomes) (flat_map (λ x. settled_recordings s (settled x)) outcomes) old new) row_is named in (
-          run_added o b s n body free (length notes) goes.reaches old new holds entry
+          run_added o b s n body free (range_with_len (front b s + 1) (length notes)) goes.goes old new holds entry
               (runs_as _ _ _ _ _ _ _ _ _ old new
               (front_is ∙ ap₂ (λ (f w : ℕ). Text s ∷ Int (pos f) ∷ Int (pos w) ∷ []) reach works_then)
               (sym (map-map (settled_verdict s) settled outcomes) ∙ ap (map (settled_verdict s)) their ∙ sym (flat_map_single (settled_verdict s) (settled_run line (front b s + 1) notes))

@@ -1,6 +1,6 @@
 -- The tables once a transmission has come with which its sender's front goes on, or stays: they hold the book with it.
-use Rattle.std.proofs.Common.{◌≡◌, ◌∙◌, ◌+◌, ◌||◌, ◌++◌, ℕ, pos, Bool, true, false, cond, List, [], ◌∷◌, Option, Some, None, refl, ap, ap₂, sym, subst, arith, filter, bytes_eq, map, unwrap_or, IsPermutation, ⊎_elim}
-use Rattle.std.specs.List.{AllByRecursion, flat_map, range_with_len}
+use Rattle.std.proofs.Common.{◌≡◌, ◌≢◌, ◌∙◌, ◌+◌, ◌||◌, ◌++◌, ℕ, pos, Bool, true, false, cond, List, [], ◌∷◌, Option, Some, None, refl, ap, ap₂, sym, subst, arith, filter, bytes_eq, map, unwrap_or, IsPermutation, ⊎_elim}
+use Rattle.std.specs.List.{AllByRecursion, flat_map}
 use Rattle.std.proofs.lemmas.Bool.{false≢true}
 use Rattle.std.proofs.lemmas.List.Sorted.{IsPermutation-append_comm, IsPermutation-refl, IsPermutation-trans}
 use Rattle.std.proofs.lemmas.Slice.Eq.{bytes_eq-Decides}
@@ -14,9 +14,9 @@ use Rattle.sqlite_trees.specs.View.{is_int}
 use Rattle.sqlite_value.specs.declared.value.Value.TheVariants.{Int, Text}
 use Rattle.sqlite_value.specs.Order.{Row}
 use Rattle.society_core.proofs.Books.{sound_with}
-use Rattle.society_core.proofs.Fronts.{all_stay, all_there, front_gap, front_only}
-use Rattle.society_core.proofs.Gaps.{transmissions_alike}
-use Rattle.society_core.specs.Book.{Book, body_at, front, is_entry, is_there, transmissions_to, verdicts_in, with_transmission}
+use Rattle.society_core.proofs.GrowthLemmas.{front_stays, growth_pays, line_stays}
+use Rattle.society_core.specs.Book.{Book, body_at, front, is_entry, transmissions_to, verdicts_in, with_transmission}
+use Rattle.society_core.specs.Growth.{GoesOn}
 use Rattle.society_core.specs.Keys.{ascending, bytes_cmp, transmission_key}
 use Rattle.society_core.specs.Orders.{same_transmission_key}
 use Rattle.society_core.specs.declared.transmission_key.TransmissionKey.{TransmissionKey}
@@ -29,8 +29,8 @@ use Rattle.society_book.specs.DerivedRows.{Telling, balance_rows, credit_rows, f
 use Rattle.society_book.specs.Kept.{HoldsBook}
 use Rattle.society_book.specs.Shown.{KeepsRest, Runs}
 use Rattle.society_book.proofs.FrontRows.{fronts_named}
-use Rattle.society_book.proofs.Growth.{told_grows, told_of, told_stays}
-use Rattle.society_book.proofs.HeldAdds.{alike_after, pays_after, same_key_is, sent_after, still_there, there_from, told_after}
+use Rattle.society_book.proofs.Growth.{told_grows, told_stays}
+use Rattle.society_book.proofs.HeldAdds.{same_key_is, sent_after, told_after}
 use Rattle.society_book.proofs.NamedRows.{HasName}
 use Rattle.society_book.proofs.PoolsAlike.{balances_still, credits_still}
 use Rattle.society_book.proofs.PutRows.{others_left}
@@ -129,6 +129,59 @@ pub names_recordings : Names tells_recordings
 names_recordings s n p x (Rejected fault) = tt
 names_recordings s n p x (Accepted ordinal revision) = recordings_named s x revision (ascending bytes_cmp (isrcs_of x))
 
+module _ (o : Office) (a b : Book) (s : List ℕ) (more : List ℕ) (goes : GoesOn a b s more) where
+  apart : (t : List ℕ) → bytes_eq s t ≡ false → t ≢ s
+  apart t other = λ same. false≢true (sym other ∙ (bytes_eq-Decides s t).1 (sym same))
+
+  works_stay : (t : List ℕ) → bytes_eq s t ≡ false → works_to o b t ≡ works_to o a t
+  works_stay t other =
+      ap (λ (k : ℕ). works_in (judged_of (placed_line (line_of o (transmissions_to b t k))))) (front_stays a b s more goes t (apart t other))
+      ∙ ap (λ (ts : List NumberedTransmission). works_in (judged_of (placed_line (line_of o ts)))) (line_stays a b s more goes t)
+
+  module _ (sent : (t : List ℕ) → has_sent b t ≡ (bytes_eq s t || has_sent a t)) where
+    fronts_run : (t : List ℕ) → front_rows o b t ≡ cond (bytes_eq s t) (front_row o b s ∷ []) (front_rows o a t)
+    fronts_run t = ap (λ x. cond x (front_row o b t ∷ []) []) (sent t) ∙ by_case (bytes_eq s t) refl
+      where
+        by_case : (x : Bool) → bytes_eq s t ≡ x → cond (x || has_sent a t) (front_row o b t ∷ []) [] ≡ cond x (front_row o b s ∷ []) (front_rows o a t)
+        by_case true is = ap (λ (q : List ℕ). front_row o b q ∷ []) (sym ((bytes_eq-Decides s t).0 is))
+        by_case false is = ap₂ (λ (f w : ℕ). cond (has_sent a t) ((Text t ∷ Int (pos f) ∷ Int (pos w) ∷ []) ∷ []) []) (front_stays a b s more goes t (apart t is)) (works_stay t is)
+
+    fronts_hold : (old new : List Row) → HasRows is_named (front_rows o a) old → IsPermutation (put_over (front_row o b s) old) new → HasRows is_named (front_rows o b) new
+    fronts_hold old new has put t =
+        let named = all_rows is_named (text_at 0) (λ r. (bytes_eq-Decides (text_at 0 r) (text_at 0 r)).1 refl) HasName (front_rows o a) old has (λ q. fronts_named o a q) in
+        IsPermutation-trans (front_rows o b t) (filter (is_named t) (put_over (front_row o b s) old)) (filter (is_named t) new)
+        (by_case (bytes_eq s t) refl (others_left s (Int (pos (front b s)) ∷ Int (pos (works_to o b s)) ∷ []) old named t))
+        (IsPermutation-filter (is_named t) (put_over (front_row o b s) old) new put)
+      where
+        by_case : (x : Bool) → bytes_eq s t ≡ x → filter (is_named t) (put_over (front_row o b s) old) ≡ cond (bytes_eq s t) (front_row o b s ∷ []) (filter (is_named t) old) → IsPermutation (front_rows o b t) (filter (is_named t) (put_over (front_row o b s) old))
+        by_case true is left = same_permutation (fronts_run t ∙ ap (λ x. cond x (front_row o b s ∷ []) (front_rows o a t)) is ∙ sym (left ∙ ap (λ x. cond x (front_row o b s ∷ []) (filter (is_named t) old)) is))
+        by_case false is left =
+            IsPermutation-trans (front_rows o b t) (front_rows o a t) (filter (is_named t) (put_over (front_row o b s) old))
+            (same_permutation (fronts_run t ∙ ap (λ x. cond x (front_row o b s ∷ []) (front_rows o a t)) is))
+            (IsPermutation-trans (front_rows o a t) (filter (is_named t) old) (filter (is_named t) (put_over (front_row o b s) old)) (has t)
+            (same_permutation (sym (left ∙ ap (λ x. cond x (front_row o b s ∷ []) (filter (is_named t) old)) is))))
+
+  -- what is told more of the sender's line
+  abbrev pub told_more : Telling → List Row
+  told_more tells = flat_map (told_by tells o b s) more
+
+  told_run : (tells : Telling) → Names tells → (t : List ℕ) → IsPermutation (told_to_front tells o b t) (filter (is_named t) (told_more tells) ++ told_to_front tells o a t)
+  told_run tells names t = by_case (bytes_eq s t) refl (of_one s (told_more tells) (told_named tells names o b s more) t)
+    where
+      by_case : (x : Bool) → bytes_eq s t ≡ x → filter (is_named t) (told_more tells) ≡ cond (bytes_eq s t) (told_more tells) [] → IsPermutation (told_to_front tells o b t) (filter (is_named t) (told_more tells) ++ told_to_front tells o a t)
+      by_case true is left =
+          let its : filter (is_named t) (told_more tells) ≡ told_more tells = left ∙ ap (λ x. cond x (told_more tells) []) is in
+          subst (λ (l : List Row). IsPermutation (told_to_front tells o b t) (l ++ told_to_front tells o a t)) (sym its)
+          (subst (λ (q : List ℕ). IsPermutation (told_to_front tells o b q) (told_more tells ++ told_to_front tells o a q)) ((bytes_eq-Decides s t).0 is)
+          (subst (λ (l : List Row). IsPermutation l (told_more tells ++ told_to_front tells o a s)) (sym (told_grows tells o a b s more goes))
+          (IsPermutation-append_comm (told_to_front tells o a s) (told_more tells))))
+      by_case false is left =
+          same_permutation (told_stays tells o a b t (goes.others t (apart t is))
+          ∙ sym (ap (λ l. l ++ told_to_front tells o a t) (left ∙ ap (λ x. cond x (told_more tells) []) is)))
+
+  told_hold : (tells : Telling) → Names tells → (old new : List Row) → HasRows is_named (told_to_front tells o a) old → IsPermutation (told_more tells ++ old) new → HasRows is_named (told_to_front tells o b) new
+  told_hold tells names old new has came = more_rows is_named (told_to_front tells o a) (told_to_front tells o b) (told_more tells) old new has (told_run tells names) came
+
 module _ (o : Office) (b : Book) (s : List ℕ) (n : ℕ) (body : List ℕ) (free : body_at b s n ≡ None) where
   abbrev next : Book
   next = with_transmission b s n body
@@ -148,75 +201,12 @@ module _ (o : Office) (b : Book) (s : List ℕ) (n : ℕ) (body : List ℕ) (fre
           ap (row_of_some (transmission_row q)) (told_after b s n body free q.sender q.number ∙ ap (λ x. cond x (Some body) (body_at b q.sender q.number)) is)
           ∙ sym (ap (λ x. cond x (transmission_row (transmission_key s n) body ∷ []) [] ++ transmission_rows b q) is)
 
-  -- of another sender no front goes on
-  gap_stays : (t : List ℕ) → bytes_eq s t ≡ false → is_there next t (front b t + 1) ≡ false
-  gap_stays t other = by_case (is_there next t (front b t + 1)) refl
-    where
-      by_case : (x : Bool) → is_there next t (front b t + 1) ≡ x → x ≡ false
-      by_case false is = refl
-      by_case true is =
-          absurd (⊎_elim
-          (λ (same : transmission_key t (front b t + 1) ≡ transmission_key s n). false≢true (sym other ∙ (bytes_eq-Decides s t).1 (sym (ap (λ (key : TransmissionKey). key.sender) same))))
-          (λ (before : is_there b t (front b t + 1) ≡ true). false≢true (sym (front_gap b t) ∙ before))
-          (there_from b s n body free t (front b t + 1) is))
-
-  front_stays : (t : List ℕ) → bytes_eq s t ≡ false → front next t ≡ front b t
-  front_stays t other = sym (front_only next t (front b t) (all_stay b next t (front b t) (λ k there. still_there b s n body free t k there) (all_there b t)) (gap_stays t other))
-
-  works_stay : (t : List ℕ) → bytes_eq s t ≡ false → works_to o next t ≡ works_to o b t
-  works_stay t other =
-      ap (λ (k : ℕ). works_in (judged_of (placed_line (line_of o (transmissions_to next t k))))) (front_stays t other)
-      ∙ ap (λ (ts : List NumberedTransmission). works_in (judged_of (placed_line (line_of o ts)))) (transmissions_alike next b t (front b t) (λ k some within. alike_after b s n body free t k some within))
-
-  fronts_run : (t : List ℕ) → front_rows o next t ≡ cond (bytes_eq s t) (front_row o next s ∷ []) (front_rows o b t)
-  fronts_run t = ap (λ x. cond x (front_row o next t ∷ []) []) (sent_after b s n body free t) ∙ by_case (bytes_eq s t) refl
-    where
-      by_case : (x : Bool) → bytes_eq s t ≡ x → cond (x || has_sent b t) (front_row o next t ∷ []) [] ≡ cond x (front_row o next s ∷ []) (front_rows o b t)
-      by_case true is = ap (λ (q : List ℕ). front_row o next q ∷ []) (sym ((bytes_eq-Decides s t).0 is))
-      by_case false is = ap₂ (λ (f w : ℕ). cond (has_sent b t) ((Text t ∷ Int (pos f) ∷ Int (pos w) ∷ []) ∷ []) []) (front_stays t is) (works_stay t is)
-
-  fronts_hold : (old new : List Row) → HasRows is_named (front_rows o b) old → IsPermutation (put_over (front_row o next s) old) new → HasRows is_named (front_rows o next) new
-  fronts_hold old new has put t =
-      let named = all_rows is_named (text_at 0) (λ r. (bytes_eq-Decides (text_at 0 r) (text_at 0 r)).1 refl) HasName (front_rows o b) old has (λ q. fronts_named o b q) in
-      IsPermutation-trans (front_rows o next t) (filter (is_named t) (put_over (front_row o next s) old)) (filter (is_named t) new)
-      (by_case (bytes_eq s t) refl (others_left s (Int (pos (front next s)) ∷ Int (pos (works_to o next s)) ∷ []) old named t))
-      (IsPermutation-filter (is_named t) (put_over (front_row o next s) old) new put)
-    where
-      by_case : (x : Bool) → bytes_eq s t ≡ x → filter (is_named t) (put_over (front_row o next s) old) ≡ cond (bytes_eq s t) (front_row o next s ∷ []) (filter (is_named t) old) → IsPermutation (front_rows o next t) (filter (is_named t) (put_over (front_row o next s) old))
-      by_case true is left = same_permutation (fronts_run t ∙ ap (λ x. cond x (front_row o next s ∷ []) (front_rows o b t)) is ∙ sym (left ∙ ap (λ x. cond x (front_row o next s ∷ []) (filter (is_named t) old)) is))
-      by_case false is left =
-          IsPermutation-trans (front_rows o next t) (front_rows o b t) (filter (is_named t) (put_over (front_row o next s) old))
-          (same_permutation (fronts_run t ∙ ap (λ x. cond x (front_row o next s ∷ []) (front_rows o b t)) is))
-          (IsPermutation-trans (front_rows o b t) (filter (is_named t) old) (filter (is_named t) (put_over (front_row o next s) old)) (has t)
-          (same_permutation (sym (left ∙ ap (λ x. cond x (front_row o next s ∷ []) (filter (is_named t) old)) is))))
-
-  module _ (more : ℕ) (grown : front next s ≡ front b s + more) where
-    -- what is told more of the sender's line
-    abbrev pub told_more : Telling → List Row
-    told_more tells = told_of tells o next s (front b s + 1) more
-
-    told_run : (tells : Telling) → Names tells → (t : List ℕ) → IsPermutation (told_to_front tells o next t) (filter (is_named t) (told_more tells) ++ told_to_front tells o b t)
-    told_run tells names t = by_case (bytes_eq s t) refl (of_one s (told_more tells) (told_named tells names o next s (range_with_len (front b s + 1) more)) t)
-      where
-        by_case : (x : Bool) → bytes_eq s t ≡ x → filter (is_named t) (told_more tells) ≡ cond (bytes_eq s t) (told_more tells) [] → IsPermutation (told_to_front tells o next t) (filter (is_named t) (told_more tells) ++ told_to_front tells o b t)
-        by_case true is left =
-            let its : filter (is_named t) (told_more tells) ≡ told_more tells = left ∙ ap (λ x. cond x (told_more tells) []) is in
-            subst (λ (l : List Row). IsPermutation (told_to_front tells o next t) (l ++ told_to_front tells o b t)) (sym its)
-            (subst (λ (q : List ℕ). IsPermutation (told_to_front tells o next q) (told_more tells ++ told_to_front tells o b q)) ((bytes_eq-Decides s t).0 is)
-            (subst (λ (l : List Row). IsPermutation l (told_more tells ++ told_to_front tells o b s)) (sym (told_grows tells o b next s more grown (λ k some within. alike_after b s n body free s k some within)))
-            (IsPermutation-append_comm (told_to_front tells o b s) (told_more tells))))
-        by_case false is left =
-            same_permutation (told_stays tells o b next t (front_stays t is) (λ k some within. alike_after b s n body free t k some within)
-            ∙ sym (ap (λ l. l ++ told_to_front tells o b t) (left ∙ ap (λ x. cond x (told_more tells) []) is)))
-
-    told_hold : (tells : Telling) → Names tells → (old new : List Row) → HasRows is_named (told_to_front tells o b) old → IsPermutation (told_more tells ++ old) new → HasRows is_named (told_to_front tells o next) new
-    told_hold tells names old new has came = more_rows is_named (told_to_front tells o b) (told_to_front tells o next) (told_more tells) old new has (told_run tells names) came
-
+  module _ (more : List ℕ) (goes : GoesOn b next s more) where
     -- with one transmission more, its sender's front as it then is, and what is told of the transmissions that came to it, the tables hold the book with that transmission
-    pub run_added : (old new : Trees) → HoldsBook o b old → is_entry s n body ≡ true → Runs (transmission_row (transmission_key s n) body) (front_row o next s) (told_more tells_verdict) (told_more tells_version) (told_more tells_recordings) old new → HoldsBook o next new
+    pub run_added : (old new : Trees) → HoldsBook o b old → is_entry s n body ≡ true → Runs (transmission_row (transmission_key s n) body) (front_row o next s) (told_more o b next s more goes tells_verdict) (told_more o b next s more goes tells_version) (told_more o b next s more goes tells_recordings) old new → HoldsBook o next new
     run_added old new holds entry runs =
         let keeps = kept_rest old new runs.others in
-        let pays = pays_after b s n body free in
+        let pays = growth_pays b next s more goes in
         record {
           registered = rows_kept layout.office old new keeps.office ∙ holds.registered;
           sound = sound_with b s n body holds.sound free entry;
@@ -228,10 +218,10 @@ module _ (o : Office) (b : Book) (s : List ℕ) (n : ℕ) (body : List ℕ) (fre
             paid = subst (HasRows _ _) (sym (rows_kept layout.pool_returns old new keeps.pool_returns)) holds.kept.paid;
           };
           derived = record {
-            fronts = fronts_hold (rows_in layout.fronts old) (rows_in layout.fronts new) holds.derived.fronts (runs.put holds.numbered.0);
-            verdicts = told_hold tells_verdict names_verdict (rows_in layout.verdicts old) (rows_in layout.verdicts new) holds.derived.verdicts runs.verdicts;
-            versions = told_hold tells_version names_version (rows_in layout.versions old) (rows_in layout.versions new) holds.derived.versions runs.versions;
-            recordings = told_hold tells_recordings names_recordings (rows_in layout.recordings old) (rows_in layout.recordings new) holds.derived.recordings runs.recordings;
+            fronts = fronts_hold o b next s more goes (sent_after b s n body free) (rows_in layout.fronts old) (rows_in layout.fronts new) holds.derived.fronts (runs.put holds.numbered.0);
+            verdicts = told_hold o b next s more goes tells_verdict names_verdict (rows_in layout.verdicts old) (rows_in layout.verdicts new) holds.derived.verdicts runs.verdicts;
+            versions = told_hold o b next s more goes tells_version names_version (rows_in layout.versions old) (rows_in layout.versions new) holds.derived.versions runs.versions;
+            recordings = told_hold o b next s more goes tells_recordings names_recordings (rows_in layout.recordings old) (rows_in layout.recordings new) holds.derived.recordings runs.recordings;
             credits = same_rows _ (credit_rows o b) (credit_rows o next) (rows_in layout.credits old) (rows_in layout.credits new) holds.derived.credits (credits_still o b next holds.sound pays refl) (rows_kept layout.credits old new keeps.credits);
             balances = same_rows _ (balance_rows o b) (balance_rows o next) (rows_in layout.balances old) (rows_in layout.balances new) holds.derived.balances (balances_still o b next holds.sound pays refl) (rows_kept layout.balances old new keeps.balances);
           };

@@ -19,7 +19,8 @@ use Rattle.sqlite_value.specs.Keys.{rising}
 use Rattle.sqlite_value.specs.declared.value.Value.TheVariants.{Int, Text}
 use Rattle.sqlite_value.specs.Order.{Row, column}
 use Rattle.society_core.proofs.CandidateLemmas.{verdicts_are_counted}
-use Rattle.society_core.specs.Book.{Book, body_at, front, is_applied, shown_verdicts, verdicts_in}
+use Rattle.society_core.proofs.LineNumbers.{in_line_is}
+use Rattle.society_core.specs.Book.{Book, body_at, front, is_in_line, is_one_of, numbers_to, shown_verdicts, verdicts_in}
 use Rattle.society_rows.specs.Layout as layout
 use Rattle.society_rows.specs.Reads.{Lists, has_key}
 use Rattle.society_rows.specs.Stored.{rows_in}
@@ -122,23 +123,23 @@ module _ (o : Office) (b : Book) (db : Trees) (holds : HoldsBook o b db) (s : Li
   not_within h = grind (arith, nat_tests)
 
   -- what is found of a transmission's verdicts shows them
-  pub verdicts_found : (found : List Row) → Lists layout.verdicts (has_key (Text s ∷ Int (pos n) ∷ [])) 3 db found → ShowVerdicts (cond (is_applied b s n) (verdicts_in o b s n) []) found
+  pub verdicts_found : (found : List Row) → Lists layout.verdicts (has_key (Text s ∷ Int (pos n) ∷ [])) 3 db found → ShowVerdicts (cond (is_in_line b s n) (verdicts_in o b s n) []) found
   verdicts_found found lists = by_case (nat_le 1 n) refl (nat_le n (front b s)) refl
     where
       none : (x : Bool) → x ≡ false → filter (is_numbered n) (told_to_front tells_verdict o b s) ≡ [] → ShowVerdicts (cond x (verdicts_in o b s n) []) found
       none true e empty = absurd (false≢true (sym e))
       none false e empty = (s, n, none_else found (subst (λ l. IsPermutation l found) empty (found_numbered found lists)))
 
-      by_case : (x : Bool) → nat_le 1 n ≡ x → (y : Bool) → nat_le n (front b s) ≡ y → ShowVerdicts (cond (nat_le 1 n && nat_le n (front b s)) (verdicts_in o b s n) []) found
-      by_case false low y high = none (nat_le 1 n && nat_le n (front b s)) (ap (λ t. t && nat_le n (front b s)) low) (none_below (told_by tells_verdict o b s) told_numbered n 1 (front b s) (grind (arith, nat_tests)))
-      by_case true low false high = none (nat_le 1 n && nat_le n (front b s)) (ap₂ (λ t u. t && u) low high) (none_past (told_by tells_verdict o b s) told_numbered n 1 (front b s) (omega (arith, not_within high)))
+      by_case : (x : Bool) → nat_le 1 n ≡ x → (y : Bool) → nat_le n (front b s) ≡ y → ShowVerdicts (cond (is_in_line b s n) (verdicts_in o b s n) []) found
+      by_case false low y high = none (is_in_line b s n) (in_line_is b s n ∙ ap (λ t. t && nat_le n (front b s)) low) (none_below (told_by tells_verdict o b s) told_numbered n 1 (front b s) (grind (arith, nat_tests)))
+      by_case true low false high = none (is_in_line b s n) (in_line_is b s n ∙ ap₂ (λ t u. t && u) low high) (none_past (told_by tells_verdict o b s) told_numbered n 1 (front b s) (omega (arith, not_within high)))
       by_case true low true high =
           let some = at_least_one low in
           let low_enough = within high in
           let rows : filter (is_numbered n) (told_to_front tells_verdict o b s) ≡ map (λ l. verdict_row s n l.0 l.1) (enumerate_from 0 (verdicts_in o b s n)) =
           those_of (told_by tells_verdict o b s) told_numbered n 1 (front b s) some (omega (arith, low_enough))
           ∙ told_lines s n 0 (transactions_of (transmission_in (unwrap_or (body_at b s n) []))) (verdicts_in o b s n) (verdicts_are_counted o b s n n some (omega arith)) in
-          subst (λ t. ShowVerdicts (cond t (verdicts_in o b s n) []) found) (sym (ap₂ (λ t u. t && u) low high))
+          subst (λ t. ShowVerdicts (cond t (verdicts_in o b s n) []) found) (sym (in_line_is b s n ∙ ap₂ (λ t u. t && u) low high))
           (s, n, one_order 3 (map (λ l. verdict_row s n l.0 l.1) (enumerate_from 0 (verdicts_in o b s n))) found (verdicts_rise s n 0 (verdicts_in o b s n)) (subst (λ l. IsPermutation l found) rows (found_numbered found lists)) lists.sorted)
 
 one_or_more : (n : ℕ) → (suc n == 0) ≡ false
@@ -170,7 +171,7 @@ shown_once true vs = refl
 shown_once false vs = refl
 
 -- what is shown up to the front is shown
-pub shown_up_to : (o : Office) (b : Book) (s : List ℕ) (n reached : ℕ) (r : Result (Option (Vec Verdict Global)) RowFault) → IfOk r (λ shown. option_map (λ list. list.items) shown ≡ cond (nat_le 1 n && nat_le n reached) (Some (cond (is_applied b s n) (verdicts_in o b s n) [])) None) → IfOk r (λ shown. reached ≡ front b s → option_map (λ list. list.items) shown ≡ shown_verdicts o b s n)
+pub shown_up_to : (o : Office) (b : Book) (s : List ℕ) (n reached : ℕ) (r : Result (Option (Vec Verdict Global)) RowFault) → IfOk r (λ shown. option_map (λ list. list.items) shown ≡ cond (is_one_of (numbers_to reached) n) (Some (cond (is_in_line b s n) (verdicts_in o b s n) [])) None) → IfOk r (λ shown. reached ≡ front b s → option_map (λ list. list.items) shown ≡ shown_verdicts o b s n)
 shown_up_to o b s n reached (Err fault) h = tt
 shown_up_to o b s n reached (Ok shown) h =
-    λ at. h ∙ ap (λ (k : ℕ). cond (nat_le 1 n && nat_le n k) (Some (cond (is_applied b s n) (verdicts_in o b s n) [])) None) at ∙ shown_once (is_applied b s n) (verdicts_in o b s n)
+    λ at. h ∙ ap (λ (k : ℕ). cond (is_one_of (numbers_to k) n) (Some (cond (is_in_line b s n) (verdicts_in o b s n) [])) None) at ∙ shown_once (is_in_line b s n) (verdicts_in o b s n)

@@ -1,10 +1,11 @@
 -- A run: the transmissions with which a sender's front goes on, what is noted of them, and what their transactions tell.
 use Rattle.std.specs.Prelude.{ℕ, pos, ◌+◌, ◌≡◌, Bool, List, [], ◌∷◌, ◌++◌, Some, length, map, unwrap_or, bytes_eq}
-use Rattle.std.specs.List.{AllByRecursion, list_any, slice_get}
+use Rattle.std.specs.List.{AllByRecursion, list_any, range_with_len, slice_get}
 use Rattle.cwr_files.specs.Contents.{transactions_of, transmission_in}
 use Rattle.cwr_files.specs.declared.transmission.Transmission.{Transmission}
 use Rattle.share_rules.specs.declared.office.Office.{Office}
-use Rattle.society_core.specs.Book.{Book, body_at, front, transmissions_to, with_transmission}
+use Rattle.society_core.specs.Book.{Book, body_at, front, transmissions_to}
+use Rattle.society_core.specs.Growth.{GoesOn}
 use Rattle.society_core.specs.Keys.{ascending, bytes_cmp}
 use Rattle.sqlite_value.specs.declared.value.Value.TheVariants.{Int, Text}
 use Rattle.sqlite_value.specs.Order.{Row}
@@ -50,10 +51,10 @@ abbrev pub AreNoted : Office → Book → List ℕ → ℕ → List Notes → Ty
 AreNoted office book sender from [] = Unit {0}
 AreNoted office book sender from (x ∷ xs) = (x ≡ notes_in office (unwrap_or (body_at book sender from) [])) × AreNoted office book sender (from + 1) xs
 
--- with one transmission more in the book its sender's front goes on by these transmissions
-pub record GoesOnBy (office : Office) (book : Book) (sender : List ℕ) (number : ℕ) (body : List ℕ) (notes : List Notes) : Type 0 where
-  pub reaches : front (with_transmission book sender number body) sender ≡ front book sender + length notes
-  pub each : AreNoted office (with_transmission book sender number body) sender (front book sender + 1) notes
+-- from one book to another a sender's line goes on by these transmissions
+pub record GoesOnBy (office : Office) (a b : Book) (sender : List ℕ) (notes : List Notes) : Type 0 where
+  pub goes : GoesOn a b sender (range_with_len (front a sender + 1) (length notes))
+  pub each : AreNoted office b sender (front a sender + 1) notes
 
 -- a transaction of a run: its transmission's number, its place there, its work number as text, its ISRCs and its verdict
 pub record Settled : Type 0 where

@@ -77,7 +77,7 @@ fn run_from<S: Alter>(
     ensures same_reference { tx.new.conn.ghost_name ≡ tx.old.conn.ghost_name }
     ensures looks { Looks (state S.Store tx.old.conn.now) (state S.Store tx.new.conn.now) result
         (λ db run. (book : Book) → HoldsBook office.now book db → reached ≡ front book sender.now → body_at book sender.now number ≡ None
-        → GoesOnBy office.now book sender.now number body.now run.notes) }
+        → GoesOnBy office.now book (with_transmission book sender.now number body.now) sender.now run.notes) }
 {
     if number.value() - 1 != reached {
         return Ok(Run::new(alloc, office, sender));
@@ -242,7 +242,7 @@ fn apply_run<S: Alter>(
     ensures same_reference { tx.new.conn.ghost_name ≡ tx.old.conn.ghost_name }
     ensures does { Does (state S.Store tx.old.conn.now) (state S.Store tx.new.conn.now) result
         (λ before after then. (office : OfficeValue) (book : Book) → HoldsBook office book before.trees → HasReached office book sender.now reached.front reached.works
-        → body_at book sender.now number ≡ None → is_entry sender.now number body.now ≡ true → GoesOnBy office book sender.now number body.now run.now
+        → body_at book sender.now number ≡ None → is_entry sender.now number body.now ≡ true → GoesOnBy office book (with_transmission book sender.now number body.now) sender.now run.now
         → HoldsBook office (with_transmission book sender.now number body.now) after.trees × (then ≡ front (with_transmission book sender.now number body.now) sender.now)) }
 {
     let mut end = end_at_front(alloc, tx, sender, reached.works, run)?;

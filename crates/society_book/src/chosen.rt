@@ -1,12 +1,12 @@
 //! The versions that works have at a sender's cut.
-ghost use Rattle.std.specs.Prelude.{◌==◌, ◌≡◌, ◌≤◌, ◌||◌, Bool, List, Some, ℕ, false, IfOk, OnOk, bytes_eq, find, if◌then◌else◌, nat_le, option_map, reverse};
+ghost use Rattle.std.specs.Prelude.{◌==◌, ◌≡◌, ◌||◌, Bool, List, Some, ℕ, false, IfOk, OnOk, bytes_eq, find, if◌then◌else◌, nat_le, option_map, reverse, true};
 ghost use Rattle.std.specs.BTreeSet.{contains};
 ghost use Rattle.std.specs.List.{list_any};
 ghost use Rattle.std.specs.List.Sorted.{IsStrictlySortedBy};
 ghost use Rattle.std.specs.Ordering.{nat_cmp};
 ghost use Rattle.share_rules.specs.declared.office.Office.{Office as OfficeValue};
 ghost use Rattle.sqlite.specs.Held.{state};
-ghost use Rattle.society_core.specs.Book.{Book, front, version_in};
+ghost use Rattle.society_core.specs.Book.{Book, is_applied, version_in};
 ghost use Rattle.society_core.specs.Owners.{is_at};
 ghost use Rattle.society_core.specs.declared.transmission_key.TransmissionKey.{TransmissionKey as KeyValue};
 ghost use Rattle.society_book.specs.Columns.{number_at};
@@ -47,7 +47,7 @@ fn version_at<S: Alter>(
 ) -> Result<Option<WorkVersion>, RowFault>
     ensures same_reference { tx.new.conn.ghost_name ≡ tx.old.conn.ghost_name }
     ensures looks { Looks (state S.Store tx.old.conn.now) (state S.Store tx.new.conn.now) result
-        (λ db version. (office : OfficeValue) (book : Book) → HoldsWorks office book db → key.now.number ≤ front book key.now.sender
+        (λ db version. (office : OfficeValue) (book : Book) → HoldsWorks office book db → is_applied book key.now ≡ true
         → version ≡ version_in office book key.now.sender work.now key.now.number) }
 {
     let rows = answer(
@@ -125,7 +125,7 @@ fn choose_work<S: Alter>(
 ) -> Result<(), RowFault>
     ensures same_reference { tx.new.conn.ghost_name ≡ tx.old.conn.ghost_name }
     ensures looks { Looks (state S.Store tx.old.conn.now) (state S.Store tx.new.conn.now) result
-        (λ db _. (office : OfficeValue) (book : Book) (known : List ℕ → Bool) → HoldsWorks office book db → key.now.number ≤ front book key.now.sender
+        (λ db _. (office : OfficeValue) (book : Book) (known : List ℕ → Bool) → HoldsWorks office book db → is_applied book key.now ≡ true
         → Chooses office book key.now known chosen.old → Chooses office book key.now (λ other. known other || bytes_eq work.now other) chosen.new) }
 {
     let version = version_at(tx, key, work)?;
@@ -142,7 +142,7 @@ pub(crate) fn chosen_of<S: Alter>(
 ) -> Result<Chosen, RowFault>
     ensures same_reference { tx.new.conn.ghost_name ≡ tx.old.conn.ghost_name }
     ensures looks { Looks (state S.Store tx.old.conn.now) (state S.Store tx.new.conn.now) result
-        (λ db chosen. (office : OfficeValue) (book : Book) → HoldsWorks office book db → key.now.number ≤ front book key.now.sender
+        (λ db chosen. (office : OfficeValue) (book : Book) → HoldsWorks office book db → is_applied book key.now ≡ true
         → Chooses office book key.now (λ work. list_any (bytes_eq work) works.now) chosen) }
 {
     let mut chosen = Chosen::new(alloc);

@@ -1,10 +1,10 @@
 //! The candidates for the recordings of a pool, out of the tables: the works of its cut, each by the version that it has there.
-ghost use Rattle.std.specs.Prelude.{◌≡◌, ◌≤◌, ◌+◌, List, ℕ, [], Option, true, IfOk, OnOk, flat_map, nat_le, unwrap_or};
+ghost use Rattle.std.specs.Prelude.{◌≡◌, ◌≤◌, ◌+◌, List, ℕ, [], Option, true, IfOk, OnOk, flat_map, unwrap_or};
 ghost use Rattle.std.specs.List.{list_all};
 ghost use Rattle.cwr_files.specs.Contents.{transactions_of, transmission_in};
 ghost use Rattle.cwr_files.specs.Transaction.{number_of_work};
 ghost use Rattle.sqlite.specs.Held.{state};
-ghost use Rattle.society_core.specs.Book.{Book, front};
+ghost use Rattle.society_core.specs.Book.{Book, is_applied};
 ghost use Rattle.society_core.specs.Candidates.{Adds, ReachesCut, StandFor, transactions_sent, work_where};
 ghost use Rattle.society_core.specs.Owners.{versions_at_cut, versions_of_transmission, works_of_cut};
 ghost use Rattle.society_core.specs.Points.{is_tallied};
@@ -242,7 +242,7 @@ fn add_sender<S: Alter>(
 ) -> Result<(), RowFault>
     ensures same_reference { tx.new.conn.ghost_name ≡ tx.old.conn.ghost_name }
     ensures looks { Looks (state S.Store tx.old.conn.now) (state S.Store tx.new.conn.now) result
-        (λ db _. (book : Book) → HoldsWorks office.now book db → NotesRecordings db (is_tallied tally.now) named.now → notes_of_sender named.now key.now.sender ≡ true → key.now.number ≤ front book key.now.sender
+        (λ db _. (book : Book) → HoldsWorks office.now book db → NotesRecordings db (is_tallied tally.now) named.now → notes_of_sender named.now key.now.sender ≡ true → is_applied book key.now ≡ true
         → Adds (holders_of kind office.now) (is_tallied tally.now) (versions_at_cut office.now book key.now) candidates.old.items candidates.new.items) }
 {
     let works = named.works_of(alloc, &key.sender)?;
@@ -263,7 +263,7 @@ fn candidates_of<S: Alter>(
     ensures same_reference { tx.new.conn.ghost_name ≡ tx.old.conn.ghost_name }
     ensures looks { Looks (state S.Store tx.old.conn.now) (state S.Store tx.new.conn.now) result
         (λ db candidates. (book : Book) → HoldsWorks office.now book db → NotesRecordings db (is_tallied tally.now) named.now
-        → list_all (λ key. notes_of_sender named.now key.sender) cut.now ≡ true → list_all (λ key. nat_le key.number (front book key.sender)) cut.now ≡ true
+        → list_all (λ key. notes_of_sender named.now key.sender) cut.now ≡ true → list_all (is_applied book) cut.now ≡ true
         → StandFor (holders_of kind office.now) (is_tallied tally.now) (flat_map (versions_at_cut office.now book) cut.now) candidates.items) }
 {
     let mut candidates = Vec::new(alloc);

@@ -1,8 +1,8 @@
 //! What is asked of a sender.
-ghost use Rattle.std.specs.Prelude.{◌≡◌, ◌&&◌, List, ℕ, None, Option, Some, false, if◌then◌else◌, map, nat_le, option_map, IfOk};
+ghost use Rattle.std.specs.Prelude.{◌≡◌, List, ℕ, None, Option, Some, false, if◌then◌else◌, map, option_map, IfOk};
 ghost use Rattle.sqlite.specs.Held.{state};
 ghost use Rattle.society_core.specs.Answers.{known_as, known_by, known_with_front};
-ghost use Rattle.society_core.specs.Book.{front, held, shown_verdicts};
+ghost use Rattle.society_core.specs.Book.{front, held, is_one_of, numbers_to, shown_verdicts};
 ghost use Rattle.society_rows.specs.Questions.{Asks};
 ghost use Rattle.society_book.specs.Columns.{number_at};
 ghost use Rattle.society_book.specs.Shown.{ByBook, ShowBody, ShowFront, ShowVerdicts, verdict_in};
@@ -139,9 +139,9 @@ fn verdicts_in(alloc: Global, rows: &[Row]) -> Result<Vec<Verdict>, RowFault>
     Ok(list)
 }
 
-/// Whether a number is 1 to a front.
+/// Whether a number is in a line up to a front.
 fn is_up_to(number: u32, front: u32) -> bool
-    ensures { result ≡ (nat_le 1 number && nat_le number front) }
+    ensures { result ≡ is_one_of (numbers_to front) number }
 {
     1 <= number && number <= front
 }
@@ -178,7 +178,7 @@ fn judged_to<S: Alter>(
     shown_where(alloc, rows.as_slice(), is_up_to(number, reached))
 }
 
-/// The verdicts of a transmission, none where its number is above its sender's front.
+/// The verdicts of a transmission, none where its number is not in its sender's line.
 pub fn verdicts_of<S: Alter>(
     alloc: Global,
     conn: &mut Connection<S>,

@@ -23,14 +23,14 @@ returns-clause-does g c =
     let later = state g.S.Store c.run_from.new.tx.conn.now in
     let new = state g.S.Store c.apply_run.new.tx.conn.now in
     let entry = transmission_entry s n body c.as_bytes.ensures.key c.value-number.ensures.limits.0 c.value-number.ensures.limits.1 c.requires.right in
-    let RunSays : Trees → Type 0 = λ db. (b : Book) → HoldsBook o b db → reached.front ≡ front b s → body_at b s n ≡ None → GoesOnBy o b s n body c.noted.result.now in
+    let RunSays : Trees → Type 0 = λ db. (b : Book) → HoldsBook o b db → reached.front ≡ front b s → body_at b s n ≡ None → GoesOnBy o b (with_transmission b s n body) s c.noted.result.now in
     let ApplySays : Database → Database → ℕ → Type 0 = λ before after then. (p : Office) (b : Book) → HoldsBook p b before.trees → HasReached p b s reached.front reached.works
-    → body_at b s n ≡ None → is_entry s n body ≡ true → GoesOnBy p b s n body c.noted.result.now
+    → body_at b s n ≡ None → is_entry s n body ≡ true → GoesOnBy p b (with_transmission b s n body) s c.noted.result.now
     → HoldsBook p (with_transmission b s n body) after.trees × (then ≡ front (with_transmission b s n body) s) in
     does_open_then old mid new reached c.apply_run.result _ (λ before after then. RunSays before.trees × ApplySays before after then) _ c.in_ok-reached.ensures.looks
     (does_then mid later new c.in_ok-run.run' c.apply_run.result _ ApplySays (λ before after then. RunSays before.trees × ApplySays before after then) c.in_ok-run.ensures.looks c.apply_run.ensures.does
     (λ then two three. (
-      (λ b holds at free. subst (λ (notes : List Notes). GoesOnBy o b s n body notes) (sym c.noted.ensures) (two.1 b holds at free)),
+      (λ b holds at free. subst (λ (notes : List Notes). GoesOnBy o b (with_transmission b s n body) s notes) (sym c.noted.ensures) (two.1 b holds at free)),
       (λ p b holds. three p b (subst (λ (db : Database). HoldsBook p b db.trees) (sym two.0) holds)),
     )))
     (λ then one both.

@@ -1,6 +1,6 @@
 use Rattle.std.proofs.Common.{◌≡◌, ◌∙◌, ◌+◌, ◌∷◌, [], Ok, ap, arith, fold, map, subst, sym}
 use Rattle.sqlite.specs.Held.{state}
-use Rattle.society_core.specs.Book.{front}
+use Rattle.society_core.specs.Book.{front, with_transmission}
 use Rattle.society_book.specs.Columns.{blob_at}
 use Rattle.society_book.specs.Runs.{GoesOnBy, RunValue, notes_in, take_row}
 use Rattle.society_book.proofs.RunBooks.{held_goes, run_goes, taken_rows}
@@ -14,7 +14,7 @@ returns-then-value-reached-clause-looks g c =
     let n = c.args.number in
     let body = c.args.body.now in
     nothing (state g.S.Store c.args.tx.now.conn.now) (Ok c.new.result) _
-    (λ book holds at free. subst (λ (r : RunValue). GoesOnBy o book s n body r.notes) (sym c.new.ensures)
+    (λ book holds at free. subst (λ (r : RunValue). GoesOnBy o book (with_transmission book s n body) s r.notes) (sym c.new.ensures)
     (held_goes o book s n body free (λ is. c.if-value-reached.true (omega (arith, is, at, c.value.ensures.value, c.value.ensures.limits.0)))))
 
 pub returns-clause-looks : goal.returns-clause-looks
@@ -30,4 +30,4 @@ returns-clause-looks g c =
     let is : n ≡ front book s + 1 = omega (arith, at, c.value.ensures.value, c.value.ensures.limits.0, c.if-value-reached.false) in
     let noted : c.fold_run.new.into ≡ record { office = o; notes = notes_in o body ∷ map (λ row. notes_in o (blob_at 2 row)) taken.rows } =
     taken.folded ∙ ap (λ (r : RunValue). fold take_row r taken.rows) c.in_ok-run.ensures ∙ taken_rows taken.rows (record { office = o; notes = notes_in o body ∷ [] }) in
-    subst (λ (r : RunValue). GoesOnBy o book s n body r.notes) (sym noted) (run_goes o book s n body free old.now.trees holds is taken.rows taken.these))
+    subst (λ (r : RunValue). GoesOnBy o book (with_transmission book s n body) s r.notes) (sym noted) (run_goes o book s n body free old.now.trees holds is taken.rows taken.these))

@@ -1,8 +1,8 @@
-use Rattle.std.proofs.Common.{◌≡◌, ◌≤◌, Ok, bytes_eq, take}
+use Rattle.std.proofs.Common.{◌≡◌, Ok, bytes_eq, take, true}
 use Rattle.std.specs.List.{list_any}
 use Rattle.share_rules.specs.declared.office.Office.{Office}
 use Rattle.sqlite.specs.Held.{state}
-use Rattle.society_core.specs.Book.{Book, front}
+use Rattle.society_core.specs.Book.{Book, is_applied}
 use Rattle.society_book.specs.CutWorks.{Chooses}
 use Rattle.society_book.specs.Sources.{HoldsWorks}
 use Rattle.society_book.specs.Steps.{Looks}
@@ -13,6 +13,6 @@ abbrev pub invariant-loop-work : goal.invariant-loop-work
 invariant-loop-work g l = record {
   same_reference : l.tx.conn.ghost_name ≡ l.initial.tx.conn.ghost_name;
   looks : Looks {X = Unit {0}} (state g.S.Store l.initial.tx.conn.now) (state g.S.Store l.tx.conn.now) (Ok tt)
-      (λ db _. (office : Office) (book : Book) → HoldsWorks office book db → l.key.number ≤ front book l.key.sender
+      (λ db _. (office : Office) (book : Book) → HoldsWorks office book db → is_applied book l.key ≡ true
       → Chooses office book l.key (λ work. list_any (bytes_eq work) (take l.work-index l.works)) l.chosen);
 }

@@ -1,8 +1,8 @@
-use Rattle.std.proofs.Common.{◌≡◌, ◌∙◌, ◌+◌, ◌++◌, ◌∷◌, [], List, Ok, ap, flat_map, nat_le, subst, sym, take, true}
+use Rattle.std.proofs.Common.{◌≡◌, ◌∙◌, ◌+◌, ◌++◌, ◌∷◌, [], List, Ok, ap, flat_map, subst, sym, take, true}
 use Rattle.std.proofs.lemmas.List.{take_all, take_more}
 use Rattle.sqlite.specs.Held.{state}
-use Rattle.society_core.proofs.CandidateLemmas.{all_at, at_most, works_push}
-use Rattle.society_core.specs.Book.{front}
+use Rattle.society_core.proofs.CandidateLemmas.{all_at, works_push}
+use Rattle.society_core.specs.Book.{is_applied}
 use Rattle.society_core.specs.Candidates.{StandFor}
 use Rattle.society_core.specs.Owners.{CutWork, versions_at_cut}
 use Rattle.society_core.specs.Points.{is_tallied}
@@ -27,10 +27,10 @@ loop-key-preserved g c =
       looks = looks_then (state g.S.Store c.args.tx.now.conn.now) (state g.S.Store c.loop-key.tx.conn.now) (state g.S.Store c.add_sender.new.tx.conn.now) tt (Ok tt) _ _ _ c.loop-key.invariant.looks c.in_ok-add_sender.ensures.looks
           (λ y first second b holds notes asked reached.
           let is_asked : notes_of_sender named key.sender ≡ true = ap (λ (k : TransmissionKey). notes_of_sender named k.sender) c.key-item.is ∙ all_at (λ (k : TransmissionKey). notes_of_sender named k.sender) cut i key asked c.loop-key-test.true in
-          let is_reached : nat_le key.number (front b key.sender) ≡ true = ap (λ (k : TransmissionKey). nat_le k.number (front b k.sender)) c.key-item.is ∙ all_at (λ (k : TransmissionKey). nat_le k.number (front b k.sender)) cut i key reached c.loop-key-test.true in
+          let applied : is_applied b key ≡ true = ap (is_applied b) c.key-item.is ∙ all_at (is_applied b) cut i key reached c.loop-key-test.true in
           subst (λ (ws : List CutWork). StandFor (holders_of c.args.kind o) of_these ws c.add_sender.new.candidates.items)
           (sym (ap (flat_map (versions_at_cut o b)) next ∙ works_push o b so_far key))
-          (second b holds notes is_asked (at_most key.number (front b key.sender) is_reached) (flat_map (versions_at_cut o b) so_far) (first b holds notes asked reached)));
+          (second b holds notes is_asked applied (flat_map (versions_at_cut o b) so_far) (first b holds notes asked reached)));
     }
 
 pub returns-clause-looks : goal.returns-clause-looks
