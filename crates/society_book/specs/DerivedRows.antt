@@ -1,7 +1,7 @@
 -- The rows that are derived from a book.
 use Rattle.std.specs.Prelude.{ℕ, pos, ◌+◌, Bool, List, [], ◌∷◌, ◌++◌, ◌==◌, Option, Some, None, filter, if◌then◌else◌, map, unwrap_or, bytes_eq}
 use Rattle.std.specs.FinMap as finite
-use Rattle.std.specs.List.{enumerate_from, flat_map, list_any, range_with_len, sum_by}
+use Rattle.std.specs.List.{enumerate_from, flat_map, list_any, sum_by}
 use Rattle.cwr_files.specs.Contents.{transactions_of, transmission_in}
 use Rattle.cwr_files.specs.declared.transmission.Transaction.{Transaction}
 use Rattle.pool_split.specs.Credits.{units_of}
@@ -10,7 +10,7 @@ use Rattle.share_rules.specs.declared.office.Office.{Office}
 use Rattle.sqlite_value.specs.declared.value.Value.TheVariants.{Int, Text}
 use Rattle.sqlite_value.specs.Order.{Row}
 use Rattle.sqlite_trees.specs.Tree.{Trees}
-use Rattle.society_core.specs.Book.{Book, body_at, front, order_at, transmissions_to, verdicts_in}
+use Rattle.society_core.specs.Book.{Book, body_at, front, line, order_at, transmissions_to, verdicts_in}
 use Rattle.society_core.specs.Keys.{ascending, bytes_cmp}
 use Rattle.society_core.specs.Orders.{Order}
 use Rattle.society_core.specs.Pools.{all_credits, credits_of}
@@ -85,9 +85,9 @@ abbrev pub told_by : Telling → Office → Book → List ℕ → ℕ → List R
 told_by tells office book sender number =
     told_from tells sender number 0 (transactions_of (transmission_in (unwrap_or (body_at book sender number) []))) (verdicts_in office book sender number)
 
--- what a sender's transmissions up to its front add to a table (profile)
+-- what the transmissions of a sender's line add to a table (profile)
 abbrev pub told_to_front : Telling → Office → Book → List ℕ → List Row
-told_to_front tells office book sender = flat_map (told_by tells office book sender) (range_with_len 1 (front book sender))
+told_to_front tells office book sender = flat_map (told_by tells office book sender) (line book sender)
 
 -- a line of a pool's credits: pool, line from 0, ISRC or -, account, units (profile)
 abbrev pub credit_row : ℕ → ℕ → Credit → Row
