@@ -44,7 +44,7 @@ use Rattle.std.specs.Prelude.{◌&&◌, nat_le, is_some, false}
 use Rattle.std.proofs.lemmas.Bool.{false≢true}
 use Rattle.society_core.proofs.Fronts.{both_hold}
 use Rattle.society_core.proofs.SameOrders.{same_return_is}
-use Rattle.society_core.specs.Book.{is_pool_entry, return_at, with_pool}
+use Rattle.society_core.specs.Book.{is_applied, is_pool_entry, return_at, with_pool}
 use Rattle.society_core.specs.Orders.{IsOrder, same_return_key}
 use Rattle.society_rows.specs.Reads.{ListsKeys}
 use Rattle.society_rows.specs.declared.tables.TableName.TheVariants as name
@@ -263,14 +263,14 @@ some_pays pool e = cc
 
 -- with an order whose cut is reached, and whose returns are open, they hold the book with its pool
 pub closed_mixed : (o : Office) (bodies : Trees) (pool : ℕ) (order : Order) (credits : List Credit) (old new : Database) → Holds o (mixed bodies old.trees) → is_pool_number pool ≡ true → IsOrder order
-    → order_at (book_of (mixed bodies old.trees)) pool ≡ None → list_all (λ key. nat_le key.number (front (book_of (mixed bodies old.trees)) key.sender)) order.cut ≡ true
+    → order_at (book_of (mixed bodies old.trees)) pool ≡ None → list_all (is_applied (book_of (mixed bodies old.trees))) order.cut ≡ true
     → AllByRecursion (IsOpenReturn (book_of (mixed bodies old.trees))) order.returns → IsPermutation (rows_in layout.versions old.trees) (rows_in layout.versions bodies) → IsPermutation (rows_in layout.recordings old.trees) (rows_in layout.recordings bodies)
     → PaysBy o order bodies credits → ClosesWith pool order credits old new → Holds o (mixed bodies new.trees)
 closed_mixed o bodies pool order credits old new holds number is free reached are versions recordings pays closes =
     let b = book_of (mixed bodies old.trees) in
     let entry : is_pool_entry b pool order ≡ true =
-    both_hold (is_pool_number pool && list_all (λ key. nat_le key.number (front b key.sender)) order.cut) (list_all (λ key. is_some (return_at b key)) order.returns)
-    (both_hold (is_pool_number pool) (list_all (λ key. nat_le key.number (front b key.sender)) order.cut) number reached) (all_returned b order.returns are) in
+    both_hold (is_pool_number pool && list_all (is_applied b) order.cut) (list_all (λ key. is_some (return_at b key)) order.returns)
+    (both_hold (is_pool_number pool) (list_all (is_applied b) order.cut) number reached) (all_returned b order.returns are) in
     let same : credits ≡ credits_of o b order = pays b (works_mixed o b bodies old.trees holds versions recordings) (cut_reached b pool order entry) in
     holds_own o (with_pool b pool order) (mixed bodies new.trees)
     (pool_holds o b pool order free entry (mix bodies old) (mix bodies new) holds is

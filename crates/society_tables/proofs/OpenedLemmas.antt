@@ -1,5 +1,5 @@
 -- What an opening does, by what the database was found to be.
-use Rattle.std.proofs.Common.{◌≡◌, ◌≢◌, ◌∙◌, ◌&&◌, ⊎_elim, inl, inr, Bool, true, false, Result, Ok, Err, IsTrue, OnOk, OnErr, IfErr, length, refl, ap, sym, subst, arith}
+use Rattle.std.proofs.Common.{◌≡◌, ◌≢◌, ◌∙◌, ◌&&◌, ⊎_elim, inl, inr, Bool, true, false, Result, Ok, Err, IsTrue, OnOk, OnErr, IfErr, IfOk, MatchResult, refl, sym, subst, arith}
 use Rattle.std.proofs.lemmas.Bool.{false≢true}
 use Rattle.std.proofs.Math.Logic.{∥∥₁_map}
 use Rattle.share_rules.specs.declared.office.Office.{Office}
@@ -14,9 +14,9 @@ use Rattle.society_rows.specs.Layout.{office as layout_office}
 use Rattle.society_rows.specs.Stored.{HasLayout, rows_in}
 use Rattle.society_book.specs.BookRows.{book_of}
 use Rattle.society_book.specs.Kept.{Holds, IsAtRest, Rests, office_row}
-use Rattle.society_tables.specs.Opening.{HoldsOne, Inspects, IsOutside, Opens, ShowsAs, SurvivesOpening, Tells, TellsOffice}
+use Rattle.society_tables.specs.Opening.{HoldsOne, Inspects, IsOpenable, IsOutside, Opens, ShowsAs, SurvivesOpening, Tells, TellsOffice}
 use Rattle.society_tables.specs.declared.open_fault.OpenFault.{OpenFault}
-use Rattle.society_tables.specs.declared.open_fault.OpenFault.TheVariants.{Damaged}
+use Rattle.society_tables.specs.declared.open_fault.OpenFault.TheVariants.{Damaged, Empty}
 use Rattle.society_book.proofs.AskLemmas.{clean_is, first_true, second_true}
 use Rattle.society_tables.proofs.EmptyTables.{begun_book, begun_rests}
 use Rattle.society_tables.proofs.OpenTold.{not_both, outside_told, told_of_layout}
@@ -145,3 +145,25 @@ pub found_there : (db : Database) (what : Found) → IsFound db what → what �
 found_there db kind.Nothing is other bare = other refl
 found_there db kind.Layout is other bare = not_both db.schema bare is
 found_there db kind.Other is other bare = is.0 bare
+
+-- Where tables are there, what is opened was of layout 2.
+pub audited_there : {X E : Type 0} (o : Office) (old : State) (r : Result X E) (new : X → State) → (IsBare old.now → ⊥) → (IsTrue old.is_open → old.now ≡ old.committed)
+    → IfOk r (λ t. HasCleanDisk (new t) → IsTrue old.is_open → IsOpenable old.committed)
+    → IfOk r (λ t. HasCleanDisk (new t) → IsTrue old.is_open → HasLayout old.committed → HoldsOne o old.committed.trees × ShowsAs old.committed (new t))
+    → IfOk r (λ t. HasCleanDisk (new t) → IsTrue old.is_open → HasLayout old.committed × HoldsOne o old.committed.trees × ShowsAs old.committed (new t))
+audited_there o old (Ok t) new never settled known audited = λ clean is_open. elim (known clean is_open) [
+  | inl bare ↦ absurd (never (subst IsBare (sym (settled is_open)) bare))
+  | inr has ↦ (has, (audited clean is_open has).0, (audited clean is_open has).1)
+]
+audited_there o old (Err e) new never settled known audited = tt
+
+-- what is never told is told with anything
+pub err_empty : {X C : Type 0} (P : C → Type 0) (r : Result X (OpenFault × C)) → IfErr r (λ e. e.0 ≢ Empty) → IfErr r (λ e. e.0 ≡ Empty → P e.1)
+err_empty P (Ok x) never = tt
+err_empty P (Err e) never = λ is. absurd (never is)
+
+-- whatever the opening came to, where tables are there a crash leaves what it left before
+pub survived_there : {X E : Type 0} (o : Office) (old : State) (r : Result X E) (new : X → State) (back : E → State) → (IsBare old.now → ⊥)
+    → MatchResult r (λ t. SurvivesOpening o old (new t)) (λ e. SurvivesOpening o old (back e)) → MatchResult r (λ t. Survives old (new t) (λ _. ⊥)) (λ e. Survives old (back e) (λ _. ⊥))
+survived_there o old (Ok t) new back never s = survives_there o old (new t) never s
+survived_there o old (Err e) new back never s = survives_there o old (back e) never s

@@ -10,7 +10,8 @@ use Rattle.sqlite_keyed.proofs.ListLemmas.{all_both, all_from_test, all_map, all
 use Rattle.sqlite_value.specs.Order.{Row, column}
 use Rattle.sqlite_value.specs.declared.value.Value.{Value}
 use Rattle.sqlite_value.specs.declared.value.Value.TheVariants.{Int}
-use Rattle.society_core.specs.Book.{Book, IsSound, front, is_pool_entry, is_reporter, order_at, return_at}
+use Rattle.society_core.specs.Book.{Book, IsSound, front, is_applied, is_pool_entry, is_reporter, order_at, return_at}
+use Rattle.society_core.proofs.LineNumbers.{one_of_within}
 use Rattle.society_core.specs.Keys.{ascending, return_cmp, return_key, transmission_cmp, transmission_key}
 use Rattle.society_core.specs.Orders.{Order, order_fault, order_of, return_pair, sent_pair}
 use Rattle.society_core.specs.declared.return_key.ReturnKey.{ReturnKey}
@@ -109,22 +110,22 @@ module _ (b : Book) (sound : IsSound b) where
 
     pool_number : is_pool_number pool ≡ true
     pool_number =
-        first_holds (is_pool_number pool) (list_all (λ key. nat_le key.number (front b key.sender)) order.cut)
-        (first_holds (is_pool_number pool && list_all (λ key. nat_le key.number (front b key.sender)) order.cut) (list_all (λ key. is_some (return_at b key)) order.returns) entry)
+        first_holds (is_pool_number pool) (list_all (is_applied b) order.cut)
+        (first_holds (is_pool_number pool && list_all (is_applied b) order.cut) (list_all (λ key. is_some (return_at b key)) order.returns) entry)
 
     small_pool : pool < 2 ^ 32
     small_pool = let high = at_most pool 99999 (second_holds (nat_le 1 pool) (nat_le pool 99999) pool_number) in omega arith
 
-    below : AllByRecursion (λ (key : TransmissionKey). nat_le key.number (front b key.sender) ≡ true) order.cut
+    below : AllByRecursion (λ (key : TransmissionKey). is_applied b key ≡ true) order.cut
     below =
-        all_from_test (λ (key : TransmissionKey). nat_le key.number (front b key.sender)) order.cut
-        (second_holds (is_pool_number pool) (list_all (λ key. nat_le key.number (front b key.sender)) order.cut)
-        (first_holds (is_pool_number pool && list_all (λ key. nat_le key.number (front b key.sender)) order.cut) (list_all (λ key. is_some (return_at b key)) order.returns) entry))
+        all_from_test (is_applied b) order.cut
+        (second_holds (is_pool_number pool) (list_all (is_applied b) order.cut)
+        (first_holds (is_pool_number pool && list_all (is_applied b) order.cut) (list_all (λ key. is_some (return_at b key)) order.returns) entry))
 
     kept : AllByRecursion (λ (key : ReturnKey). is_some (return_at b key) ≡ true) order.returns
     kept =
         all_from_test (λ (key : ReturnKey). is_some (return_at b key)) order.returns
-        (third_holds (is_pool_number pool) (list_all (λ key. nat_le key.number (front b key.sender)) order.cut) (list_all (λ key. is_some (return_at b key)) order.returns) entry)
+        (third_holds (is_pool_number pool) (list_all (is_applied b) order.cut) (list_all (λ key. is_some (return_at b key)) order.returns) entry)
 
     small_return : (key : ReturnKey) → is_some (return_at b key) ≡ true → key.number < 2 ^ 32
     small_return key here =
@@ -136,9 +137,9 @@ module _ (b : Book) (sound : IsSound b) where
     cut_forms : AllByRecursion IsCut (map (cut_row pool) order.cut)
     cut_forms =
         all_map IsCut (cut_row pool) order.cut
-        (all_both (λ (key : TransmissionKey). nat_le key.number (front b key.sender) ≡ true) (λ key. is_sender_key key.sender ≡ true) (λ key. IsCut (cut_row pool key))
+        (all_both (λ (key : TransmissionKey). is_applied b key ≡ true) (λ key. is_sender_key key.sender ≡ true) (λ key. IsCut (cut_row pool key))
         (λ key within sender.
-        let low = at_most key.number (front b key.sender) within in
+        let low = one_of_within (front b key.sender) key.number within in
         let high = front_within b key.sender sound in
         ((refl, ((pool, refl, small_pool), ((key.sender, refl), ((key.number, refl, small key.number (omega arith)), tt)))), sender))
         order.cut below (all_from_test (λ (key : TransmissionKey). is_sender_key key.sender) order.cut (sound.orders pool order there).sender_keys))

@@ -10,7 +10,7 @@ use Rattle.std.specs.List.{AllByRecursion, find, list_all, list_any}
 use Rattle.share_rules.specs.declared.office.Office.{Office}
 use Rattle.sqlite_keyed.proofs.ListLemmas.{all_both, all_from_test, all_weaker}
 use Rattle.society_core.specs.Answers.{close_answer, close_book, close_refusal, closed_answer, closed_book, cut_refusal, first_of, first_refusal, payer, payment_by, payment_refusal, pool_known_by, pool_of, return_refusal}
-use Rattle.society_core.specs.Book.{Book, IsSound, front, front_in, is_pool_entry, order_at, return_at}
+use Rattle.society_core.specs.Book.{Book, IsSound, front_in, is_applied, is_one_of, is_pool_entry, numbers_to, order_at, return_at}
 use Rattle.society_core.specs.Orders.{Order, names_return, same_order, same_return_key, same_transmission_key}
 use Rattle.society_core.specs.Requests.{Closed, Closes, Refused, Reply, told}
 use Rattle.society_core.specs.Runs.{Step}
@@ -106,16 +106,16 @@ module _ (o : Office) (b old : Book) (pool : ℕ) (order : Order) (sound : IsSou
   entry : is_pool_entry b pool order ≡ true
   entry = sound.pools pool order there
 
-  below : list_all (λ key. nat_le key.number (front b key.sender)) order.cut ≡ true
+  below : list_all (is_applied b) order.cut ≡ true
   below =
-      second_holds (is_pool_number pool) (list_all (λ key. nat_le key.number (front b key.sender)) order.cut)
-      (first_holds (is_pool_number pool && list_all (λ key. nat_le key.number (front b key.sender)) order.cut) (list_all (λ key. is_some (return_at b key)) order.returns) entry)
+      second_holds (is_pool_number pool) (list_all (is_applied b) order.cut)
+      (first_holds (is_pool_number pool && list_all (is_applied b) order.cut) (list_all (λ key. is_some (return_at b key)) order.returns) entry)
 
   kept : list_all (λ key. is_some (return_at b key)) order.returns ≡ true
-  kept = third_holds (is_pool_number pool) (list_all (λ key. nat_le key.number (front b key.sender)) order.cut) (list_all (λ key. is_some (return_at b key)) order.returns) entry
+  kept = third_holds (is_pool_number pool) (list_all (is_applied b) order.cut) (list_all (λ key. is_some (return_at b key)) order.returns) entry
 
-  cut_is_free : (key : TransmissionKey) → nat_le key.number (front b key.sender) ≡ true → cut_refusal old key ≡ None
-  cut_is_free key h = cut_free old key (ap (λ m. nat_le key.number (front_in m key.sender)) part.transmissions ∙ h)
+  cut_is_free : (key : TransmissionKey) → is_applied b key ≡ true → cut_refusal old key ≡ None
+  cut_is_free key h = cut_free old key (ap (λ m. is_one_of (numbers_to (front_in m key.sender)) key.number) part.transmissions ∙ h)
 
   unnamed : (key : ReturnKey) → names_return key order ≡ true → order_at old pool ≡ None → (e : ℕ × Order) → IsPool old e → names_return key e.1 ≡ false
   unnamed key names free e is = by_case (names_return key e.1) refl
@@ -142,7 +142,7 @@ module _ (o : Office) (b old : Book) (pool : ℕ) (order : Order) (sound : IsSou
   unrefused free =
       ap (λ (r : Option Refusal). first_of r (first_refusal (return_refusal old) order.returns))
       (none_due (cut_refusal old) order.cut
-      (all_weaker (λ (key : TransmissionKey). nat_le key.number (front b key.sender) ≡ true) (λ key. cut_refusal old key ≡ None) cut_is_free order.cut (all_from_test (λ (key : TransmissionKey). nat_le key.number (front b key.sender)) order.cut below)))
+      (all_weaker (λ (key : TransmissionKey). is_applied b key ≡ true) (λ key. cut_refusal old key ≡ None) cut_is_free order.cut (all_from_test (is_applied b) order.cut below)))
       ∙ none_due (return_refusal old) order.returns
       (all_both (λ (key : ReturnKey). is_some (return_at b key) ≡ true) (λ key. names_return key order ≡ true) (λ key. return_refusal old key ≡ None) (return_is_free free) order.returns
       (all_from_test (λ (key : ReturnKey). is_some (return_at b key)) order.returns kept) (among_itself order.returns))

@@ -7,7 +7,7 @@ use Rattle.std.specs.List.{AllByRecursion, flat_map, list_all}
 use Rattle.share_rules.specs.declared.office.Office.{Office}
 use Rattle.sqlite_trees.specs.Tree.{Trees}
 use Rattle.society_core.specs.Answers.{payer}
-use Rattle.society_core.specs.Book.{Book, front, is_entry, is_return_entry, order_at, return_at}
+use Rattle.society_core.specs.Book.{Book, front, is_applied, is_entry, is_return_entry, order_at, return_at}
 use Rattle.society_core.specs.Orders.{Order}
 use Rattle.society_book.specs.Kept.{Holds}
 use Rattle.society_tables.specs.Opening.{Agree}
@@ -139,10 +139,10 @@ money_names = name.Pools ∷ name.PoolCuts ∷ name.PoolReturns ∷ name.Fronts 
 abbrev pub IsOpenReturn : Book → ReturnKey → Type 0
 IsOpenReturn b key = (is_some (return_at b key) ≡ true) × (payer b key ≡ None)
 
--- a pool can be closed by an order: it is not closed, its cut is reached, and what it names is open
+-- a pool can be closed by an order: it is not closed, each number of its cut is in its sender's line, and what it names is open
 pub record IsClosable (book : Book) (pool : ℕ) (order : Order) : Type 0 where
   pub is_free : order_at book pool ≡ None
-  pub reached : list_all (λ key. nat_le key.number (front book key.sender)) order.cut ≡ true
+  pub reached : list_all (is_applied book) order.cut ≡ true
   pub returns : AllByRecursion (IsOpenReturn book) order.returns
 
 -- tables in memory that hold, beside the bodies of a database, a book of the office, and have its versions and recordings

@@ -14,7 +14,6 @@ use Rattle.society_core.specs.Keys.{coded_return_key, coded_transmission_key}
 use Rattle.society_core.specs.Orders.{IsOrder, Order}
 use Rattle.society_core.specs.PlainMaps.{coded_book}
 use Rattle.society_core.specs.State.{IsState}
-use Rattle.society_rows.specs.Stored.{HasLayout}
 use Rattle.society_book.specs.BookRows.{book_of}
 use Rattle.society_book.specs.Kept.{Holds, Rests, tables_state}
 
@@ -49,10 +48,9 @@ sound_alone book x y = λ i. record {
   paid_once = λ pool other order another key a b c d. Coded-set coded_ℕ _ _ (x.paid_once pool other order another key a b c d) (y.paid_once pool other order another key a b c d) i;
 }
 
--- an open connection shows layout 2 with rows that a crash may leave of another
+-- an open connection shows what a crash may leave of another; the list of the tables is among what is left
 pub record IsLeftBy (s found : connection.State) : Type 0 where
   pub is_open : IsTrue found.is_open
-  pub layout : HasLayout found.committed
   pub left : s.may_leave found.committed.trees
 
 -- What holds of every store holds of one over a connection: a clean one is honest, at rest a crash leaves its book, and that is sound.

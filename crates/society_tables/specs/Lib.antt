@@ -3,3 +3,4 @@ pub mod Laws
 pub mod Opening
 pub mod Rebuilding
 pub mod Auditing
+pub mod Existing

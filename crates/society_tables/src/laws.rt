@@ -1,7 +1,10 @@
 //! What was answered is kept: what an opening finds of a store.
-ghost use Rattle.std.specs.Prelude.{◌≡◌, IfErr, IfOk, IsTrue};
+ghost use Rattle.std.specs.Prelude.{◌≡◌, IfErr, IfOk, IsTrue, false};
 ghost use Rattle.sqlite.specs.Held.{state};
 ghost use Rattle.sqlite.specs.State.{HasCleanDisk};
+ghost use Rattle.society_rows.specs.Stored.{HasLayout};
+ghost use Rattle.society_tables.specs.Existing.{AfterCrash, FindsBook, FindsLeft, HoldsOffice};
+ghost use Rattle.society_tables.specs.Laws.{IsLeftBy};
 ghost use Rattle.society_tables.specs.Opening.{IsOutside};
 
 use crate::{OpenFault, Tables};
@@ -22,4 +25,28 @@ pub fn reopen<S: Alter>(
 {
     let office = *tables.office();
     Tables::open(alloc, tables.into_connection(), &office)
+}
+
+/// Opens the database that a crash leaves of a store, in a connection of its own. Of a clean store that database has layout 2 and
+/// holds a book of the office (`taken`), and the opening finds the store's book, so all that was answered as accepted (`kept`); a
+/// fault is `Memory` or `Store` then (`told`). Of any store, where what is left has layout 2, the opening finds a book that a
+/// crash may leave (`left`).
+pub fn open_after_crash<S: Alter, T: Alter>(
+    alloc: Global,
+    tables: &Tables<S>,
+    found: Connection<T>,
+) -> Result<Tables<T>, (OpenFault, Connection<T>)>
+    requires { found.in_transaction ≡ false }
+    ensures office { IfOk result (λ t. (⟦<Tables<T> as Store>⟧.state t).office ≡ (⟦<Tables<S> as Store>⟧.state tables.now).office) }
+    ensures taken { AfterCrash (state S.Store tables.now.conn) (state T.Store found) (HoldsOffice tables.now.office (state T.Store found).committed) }
+    ensures kept { AfterCrash (state S.Store tables.now.conn) (state T.Store found)
+        (IfOk result (λ t. FindsBook (⟦<Tables<S> as Store>⟧.state tables.now) (⟦<Tables<T> as Store>⟧.state t))) }
+    ensures told { AfterCrash (state S.Store tables.now.conn) (state T.Store found) (IfErr result (λ e. HasCleanDisk (state T.Store e.1) → IsOutside e.0)) }
+    ensures left { IsLeftBy (state S.Store tables.now.conn) (state T.Store found) → HasLayout (state T.Store found).committed
+        → IfOk result (λ t. FindsLeft (⟦<Tables<S> as Store>⟧.state tables.now) (⟦<Tables<T> as Store>⟧.state t)) }
+{
+    // A list of tables is that of one schema at most, and both connections obey theirs.
+    let _kept = tables.schema();
+    let _found = found.schema();
+    Tables::open(alloc, found, tables.office())
 }

@@ -17,6 +17,6 @@ mod tables;
 
 pub use audit_fault::AuditFault;
 pub use confirming::confirm;
-pub use laws::reopen;
+pub use laws::{open_after_crash, reopen};
 pub use open_fault::OpenFault;
 pub use tables::Tables;

@@ -1,12 +1,12 @@
 //! What pools pay by a database, worked out anew and put into tables in memory that have what is derived of its transmissions.
-ghost use Rattle.std.specs.Prelude.{◌≡◌, List, ℕ, None, true, false, is_some, nat_le, IfOk, IsTrue};
+ghost use Rattle.std.specs.Prelude.{◌≡◌, List, ℕ, None, true, false, is_some, IfOk, IsTrue};
 ghost use Rattle.std.specs.List.{AllByRecursion, list_all};
 ghost use Rattle.share_rules.specs.declared.office.Office.{Office as OfficeValue};
 ghost use Rattle.sqlite.specs.Held.{state};
 ghost use Rattle.sqlite.specs.Steps.{over_memory};
 ghost use Rattle.sqlite_trees.specs.Tree.{Trees};
 ghost use Rattle.society_core.specs.Answers.{payer};
-ghost use Rattle.society_core.specs.Book.{Book, front, order_at, return_at};
+ghost use Rattle.society_core.specs.Book.{Book, is_applied, order_at, return_at};
 ghost use Rattle.society_core.specs.Orders.{IsOrder};
 ghost use Rattle.society_rows.specs.Questions.{Answers, Asks};
 ghost use Rattle.society_rows.specs.Stored.{HasLayout};
@@ -58,10 +58,10 @@ fn is_open_pool(memory: &mut Connection<MemStore>, pool: PoolNumber) -> Result<b
     Ok(rows.as_slice().is_empty())
 }
 
-/// Whether a cut is at most its sender's front in tables in memory.
+/// Whether a number of a cut is in its sender's line in tables in memory.
 fn is_reached(memory: &mut Connection<MemStore>, key: &TransmissionKey) -> Result<bool, RowFault>
     requires { memory.old.in_transaction ≡ false }
-    ensures reached { HasLayout (state over_memory memory.old).now → IfOk result (λ reached. IsTrue reached → (office : OfficeValue) (book : Book) (db : Trees) → HoldsBook office book (mixed db (state over_memory memory.old).now.trees) → nat_le key.now.number (front book key.now.sender) ≡ true) }
+    ensures reached { HasLayout (state over_memory memory.old).now → IfOk result (λ reached. IsTrue reached → (office : OfficeValue) (book : Book) (db : Trees) → HoldsBook office book (mixed db (state over_memory memory.old).now.trees) → is_applied book key.now ≡ true) }
     ensures same { (state over_memory memory.new).now ≡ (state over_memory memory.old).now }
     ensures idle { memory.new.in_transaction ≡ false }
 {
@@ -69,10 +69,10 @@ fn is_reached(memory: &mut Connection<MemStore>, key: &TransmissionKey) -> Resul
     Ok(key.number.value() <= shown_front(rows.as_slice())?)
 }
 
-/// Whether each cut is at most its sender's front in tables in memory.
+/// Whether each number of a cut is in its sender's line in tables in memory.
 fn are_reached(memory: &mut Connection<MemStore>, cut: &[TransmissionKey]) -> Result<bool, RowFault>
     requires { memory.old.in_transaction ≡ false }
-    ensures reached { HasLayout (state over_memory memory.old).now → IfOk result (λ reached. IsTrue reached → (office : OfficeValue) (book : Book) (db : Trees) → HoldsBook office book (mixed db (state over_memory memory.old).now.trees) → list_all (λ key. nat_le key.number (front book key.sender)) cut.now ≡ true) }
+    ensures reached { HasLayout (state over_memory memory.old).now → IfOk result (λ reached. IsTrue reached → (office : OfficeValue) (book : Book) (db : Trees) → HoldsBook office book (mixed db (state over_memory memory.old).now.trees) → list_all (is_applied book) cut.now ≡ true) }
     ensures same { (state over_memory memory.new).now ≡ (state over_memory memory.old).now }
     ensures idle { memory.new.in_transaction ≡ false }
 {

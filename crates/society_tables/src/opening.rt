@@ -1,5 +1,6 @@
 //! How a database is opened as an office's tables.
 ghost use Rattle.std.specs.Prelude.{[], ◌∷◌, ◌≡◌, ◌≢◌, ◌↔◌, IsTrue, IfErr, IfOk, MatchResult, OnErr, OnOk, ⊤, false};
+ghost use Rattle.std.specs.Result.{IsErrAnd};
 ghost use Rattle.sqlite.specs.Held.{state};
 ghost use Rattle.sqlite.specs.State.{HasCleanDisk, Survives};
 ghost use Rattle.share_rules.specs.declared.office.Office.{Office as OfficeValue};
@@ -11,6 +12,7 @@ ghost use Rattle.society_rows.specs.Questions.{Asks};
 ghost use Rattle.society_rows.specs.Stored.{AreNumbered, HasLayout, rows_in};
 ghost use Rattle.society_rows.specs.TableNames.{table_called};
 ghost use Rattle.society_book.specs.Kept.{Holds, office_row};
+ghost use Rattle.society_tables.specs.Existing.{FindsOffice, SparesOffice, WhenOpen};
 ghost use Rattle.society_tables.specs.Opening.{HoldsOne, Inspects, IsOpenable, IsOutside, Opens, ShowsAs, SurvivesOpening, Tells, TellsOffice};
 ghost use Rattle.society_tables.specs.Rebuilding.{Passes, ShowsBook};
 ghost use Rattle.society_tables.specs.declared.open_fault.OpenFault.TheVariants.{Damaged, Empty};
@@ -234,6 +236,13 @@ fn prepare<S: Alter>(
     }
 }
 
+/// Whether a database has no table, index or view; no row is read.
+fn is_bare<S: Alter>(conn: &Connection<S>) -> bool
+    ensures { IsTrue result ↔ IsBare (state S.Store conn.now).now }
+{
+    matches!(layout_found(conn), Found::Nothing)
+}
+
 impl<S: Alter> Tables<S> {
     /// The tables of an office in a database, which gets them where it has no table, index or view.
     ///
@@ -267,5 +276,36 @@ impl<S: Alter> Tables<S> {
             Ok(()) => Ok(Tables::over(conn, office)),
             Err(fault) => Err((fault, conn)),
         }
+    }
+
+    /// The tables of an office in a database that has tables already; nothing is made.
+    ///
+    /// `Empty` where the database has no table, index or view, so where `open` would begin a book: then the connection comes back
+    /// as it was. Otherwise the outcome is that of `open`. After any fault the database is as it was committed, and a crash leaves
+    /// what it left before.
+    pub fn open_existing(
+        alloc: Global,
+        connection: Connection<S>,
+        office: &Office,
+    ) -> Result<Tables<S>, (OpenFault, Connection<S>)>
+        requires { connection.in_transaction ≡ false }
+        ensures office { IfOk result (λ t. (⟦<Tables<S> as Store>⟧.state t).office ≡ office.now) }
+        // A store that has counted all failures refuses every call.
+        ensures uncounted { IfOk result (λ t. (⟦<Tables<S> as Store>⟧.state t).failures ≡ 0) }
+        ensures empty { IsTrue (state S.Store connection).is_open → IsBare (state S.Store connection).committed → IsErrAnd result (λ e. (e.0 ≡ Empty) × (e.1 ≡ connection)) }
+        ensures audited { IfOk result (λ t. FindsOffice office.now (state S.Store connection) (state S.Store t.conn)) }
+        ensures told { IfErr result (λ e. WhenOpen (state S.Store connection) (state S.Store e.1) (Tells office.now (state S.Store connection).committed e.0)) }
+        ensures opens { IfErr result (λ e. WhenOpen (state S.Store connection) (state S.Store e.1) (SparesOffice office.now (state S.Store connection).committed e.0)) }
+        ensures untouched { IfErr result (λ e. e.0 ≡ Empty → e.1 ≡ connection) }
+        ensures unchanged { IfErr result (λ e. HasCleanDisk (state S.Store e.1) → ShowsAs (state S.Store connection).committed (state S.Store e.1)) }
+        ensures idle { IfErr result (λ e. e.1.in_transaction ≡ false) }
+        // A crash leaves what it left before.
+        ensures crash { MatchResult result (λ t. Survives (state S.Store connection) (state S.Store t.conn) (λ _. ⊥)) (λ e. Survives (state S.Store connection) (state S.Store e.1) (λ _. ⊥)) }
+    {
+        let _settled = connection.is_autocommit();
+        if is_bare(&connection) {
+            return Err((OpenFault::Empty, connection));
+        }
+        Tables::open(alloc, connection, office)
     }
 }

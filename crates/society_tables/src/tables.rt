@@ -1,7 +1,7 @@
 //! The store over a database.
 ghost use Rattle.std.specs.Prelude.{◌≡◌, ◌<◌, ◌^◌, IfOk, IsTrue, false, true};
 ghost use Rattle.sqlite.specs.Held.{state};
-ghost use Rattle.sqlite.specs.State.{HasCleanDisk};
+ghost use Rattle.sqlite.specs.State.{HasCleanDisk, IsLive};
 ghost use Rattle.society_core.specs.Book.{empty_book};
 ghost use Rattle.society_book.specs.BookRows.{book_of};
 ghost use Rattle.society_book.specs.Kept.{IsAtRest, Rests};
@@ -19,6 +19,7 @@ use society_core::{
 };
 use society_rows::{OfficeRow, ReturnRow, RowFault, create};
 use sqlite::{Alter, Connection, MemStore};
+use sqlite_schema::schema::Schema;
 use std::alloc::Global;
 use work_ids::{Account, PoolNumber, SenderKey, TransmissionNumber, WorkNumber};
 use works_core::Verdict;
@@ -231,6 +232,13 @@ impl<S: Alter> Tables<S> {
 }
 
 impl<S: Alter> Tables<S> {
+    /// The schema of the database, which obeys it.
+    pub(crate) fn schema(&self) -> &Schema
+        ensures live { IsLive (state S.Store self.now.conn) }
+    {
+        self.conn.schema()
+    }
+
     /// The tables of an office that lie behind a connection.
     pub(crate) fn over(conn: Connection<S>, office: &Office) -> Tables<S>
         requires idle { conn.in_transaction ≡ false }

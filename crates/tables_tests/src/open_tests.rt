@@ -2,9 +2,10 @@
 ghost use Rattle.std.specs.Prelude.{◌≡◌, IfOk, false};
 
 use crate::checks::{holds, told};
+use crate::listing::rows_by;
 use share_rules::Office;
 use society_core::{Desk, PoolOrder, ReturnKey, Store};
-use society_tables::{AuditFault, OpenFault, Tables, confirm, reopen};
+use society_tables::{AuditFault, OpenFault, Tables, confirm, open_after_crash, reopen};
 use sqlite::{Connection, MemStore};
 use std::alloc::Global;
 use std::test::Fail;
@@ -142,6 +143,41 @@ fn an_empty_database_becomes_a_new_book(rt: HostRuntime) -> Result<(), Fail> {
 }
 
 #[test]
+fn nothing_is_begun_where_tables_are_to_be_there(rt: HostRuntime) -> Result<(), Fail> {
+    let conn = Connection::open_in_memory(rt.alloc()).ok().ok_or("memory")?;
+    if !conn.is_autocommit() {
+        return Err(Fail::new("no transaction"));
+    }
+    let opened = Tables::open_existing(rt.alloc(), conn, &office(900)?);
+    let Err((OpenFault::Empty, mut conn)) = opened else {
+        return Err(Fail::new("an empty database"));
+    };
+    let names = rows_by(rt.alloc(), &mut conn, &["SELECT name FROM sqlite_master"])?;
+    told(&rt, "its tables", &names.as_str(), &"");
+    Ok(())
+}
+
+#[test]
+fn tables_that_are_there_are_opened(rt: HostRuntime) -> Result<(), Fail> {
+    let opened = Tables::open_existing(rt.alloc(), filled(rt.alloc())?, &office(900)?);
+    let Ok(mut tables) = opened else {
+        return Err(Fail::new("an opening"));
+    };
+    told(&rt, "the front", &tables.front(&sender()?), &Ok(1));
+    Ok(())
+}
+
+#[test]
+fn tables_of_another_office_are_told_as_such(rt: HostRuntime) -> Result<(), Fail> {
+    let opened = Tables::open_existing(rt.alloc(), filled(rt.alloc())?, &office(901)?);
+    let Err((fault, _)) = opened else {
+        return Err(Fail::new("a fault"));
+    };
+    told(&rt, "the fault", &fault, &OpenFault::OtherOffice);
+    Ok(())
+}
+
+#[test]
 fn a_store_is_found_again_by_its_connection(rt: HostRuntime) -> Result<(), Fail> {
     let Ok(tables) = Tables::open(rt.alloc(), filled(rt.alloc())?, &office(900)?) else {
         return Err(Fail::new("an opening"));
@@ -150,6 +186,19 @@ fn a_store_is_found_again_by_its_connection(rt: HostRuntime) -> Result<(), Fail>
         return Err(Fail::new("a second opening"));
     };
     told(&rt, "the front", &again.front(&sender()?), &Ok(1));
+    Ok(())
+}
+
+#[test]
+fn a_database_with_the_rows_of_a_store_is_that_store(rt: HostRuntime) -> Result<(), Fail> {
+    let Ok(tables) = Tables::open(rt.alloc(), filled(rt.alloc())?, &office(900)?) else {
+        return Err(Fail::new("an opening"));
+    };
+    let found = open_after_crash(rt.alloc(), &tables, filled(rt.alloc())?);
+    let Ok(mut found) = found else {
+        return Err(Fail::new("a second opening"));
+    };
+    told(&rt, "the front", &found.front(&sender()?), &Ok(1));
     Ok(())
 }
 

@@ -1,10 +1,10 @@
-use Rattle.std.proofs.Common.{◌≡◌, false, nat_le, take, true}
+use Rattle.std.proofs.Common.{◌≡◌, false, take, true}
 use Rattle.std.specs.List.{list_all}
 use Rattle.share_rules.specs.declared.office.Office.{Office}
 use Rattle.sqlite.specs.Held.{state}
 use Rattle.sqlite.specs.Steps.{over_memory}
 use Rattle.sqlite_trees.specs.Tree.{Trees}
-use Rattle.society_core.specs.Book.{Book, front}
+use Rattle.society_core.specs.Book.{Book, is_applied}
 use Rattle.society_rows.specs.Stored.{HasLayout}
 use Rattle.society_tables.specs.Auditing.{mixed}
 use Rattle.society_book.specs.Kept.{HoldsBook}
@@ -15,5 +15,5 @@ invariant-loop-key l = record {
   same : (state over_memory l.memory).now ≡ (state over_memory l.fn.memory).now;
   idle : l.memory.in_transaction ≡ false;
   reached : HasLayout (state over_memory l.fn.memory).now → (office : Office) (book : Book) (db : Trees) → HoldsBook office book (mixed db (state over_memory l.fn.memory).now.trees)
-      → list_all (λ key. nat_le key.number (front book key.sender)) (take l.key-index l.cut) ≡ true;
+      → list_all (is_applied book) (take l.key-index l.cut) ≡ true;
 }

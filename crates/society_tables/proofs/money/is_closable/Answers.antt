@@ -1,6 +1,6 @@
-use Rattle.std.proofs.Common.{◌≡◌, ◌∙◌, List, Ok, true, nat_le, subst, sym}
+use Rattle.std.proofs.Common.{◌≡◌, ◌∙◌, List, Ok, true, subst, sym}
 use Rattle.std.specs.List.{AllByRecursion, list_all}
-use Rattle.society_core.specs.Book.{front}
+use Rattle.society_core.specs.Book.{is_applied}
 use Rattle.society_core.specs.declared.return_key.ReturnKey.{ReturnKey}
 use Rattle.society_core.specs.declared.transmission_key.TransmissionKey.{TransmissionKey}
 use Rattle.society_tables.specs.Auditing.{IsOpenReturn}
@@ -21,6 +21,6 @@ returns-clause-closable g c =
     let one = c.are_open_returns.ensures.same in
     let two = c.is_open_pool.ensures.same ∙ one in record {
       is_free = c.in_ok-is_open_pool.ensures.free (subst HasLayout (sym one) laid) c.if-not-branch-2.false o b db (subst (λ (m : Database). HoldsBook o b (mixed db m.trees)) (sym one) holds);
-      reached = subst (λ (cut : List TransmissionKey). list_all (λ key. nat_le key.number (front b key.sender)) cut ≡ true) c.cut.ensures.value (c.in_ok-are_reached.ensures.reached (subst HasLayout (sym two) laid) reached o b db (subst (λ (m : Database). HoldsBook o b (mixed db m.trees)) (sym two) holds));
+      reached = subst (λ (cut : List TransmissionKey). list_all (is_applied b) cut ≡ true) c.cut.ensures.value (c.in_ok-are_reached.ensures.reached (subst HasLayout (sym two) laid) reached o b db (subst (λ (m : Database). HoldsBook o b (mixed db m.trees)) (sym two) holds));
       returns = subst (λ (keys : List ReturnKey). AllByRecursion (IsOpenReturn b) keys) c.returns.ensures.value (returns laid c.if-not-branch.false o b holds);
     })

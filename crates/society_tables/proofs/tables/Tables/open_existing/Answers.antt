@@ -1,0 +1,40 @@
+use Rattle.std.proofs.Common.{◌≡◌, ◌∙◌, refl, subst, sym}
+use Rattle.std.proofs.lemmas.Bool.{false≢true}
+use Rattle.sqlite.specs.Held.{state}
+use Rattle.society_rows.specs.NewBook.{IsBare}
+use Rattle.society_tables.proofs.OpenTold.{not_both}
+use Rattle.society_tables.proofs.OpenedLemmas.{audited_there, err_empty, survived_there, survives_same}
+use Rattle.society_tables.proofs.tables.Tables.open_existing.Goals as goal
+
+pub returns-then-is_bare-clause-told : goal.returns-then-is_bare-clause-told
+returns-then-is_bare-clause-told g c clean is_open =
+    subst IsBare (c.is_autocommit-settled.ensures.settled (rw (c.is_autocommit-settled.ensures.value, c.requires) refl) is_open) (c.is_bare.ensures.0 c.if-is_bare.true)
+
+pub returns-then-is_bare-clause-opens : goal.returns-then-is_bare-clause-opens
+returns-then-is_bare-clause-opens g c clean is_open has holds =
+    not_both _ (subst IsBare (c.is_autocommit-settled.ensures.settled (rw (c.is_autocommit-settled.ensures.value, c.requires) refl) is_open) (c.is_bare.ensures.0 c.if-is_bare.true)) has
+
+pub returns-then-is_bare-clause-unchanged : goal.returns-then-is_bare-clause-unchanged
+returns-then-is_bare-clause-unchanged g c clean is_open = (c.is_autocommit-settled.ensures.settled (rw (c.is_autocommit-settled.ensures.value, c.requires) refl) is_open, refl)
+
+pub returns-then-is_bare-clause-crash : goal.returns-then-is_bare-clause-crash
+returns-then-is_bare-clause-crash g c = survives_same _
+
+pub returns-clause-empty : goal.returns-clause-empty
+returns-clause-empty g c is_open bare =
+    let same = c.is_autocommit-settled.ensures.settled (rw (c.is_autocommit-settled.ensures.value, c.requires) refl) is_open in
+    absurd (false≢true (sym c.if-is_bare.false ∙ c.is_bare.ensures.1 (subst IsBare (sym same) bare)))
+
+pub returns-clause-audited : goal.returns-clause-audited
+returns-clause-audited g c =
+    let settled = c.is_autocommit-settled.ensures.settled (rw (c.is_autocommit-settled.ensures.value, c.requires) refl) in
+    audited_there c.args.office.now (state g.S.Store c.args.connection) c.open.result (λ t. state g.S.Store t.conn)
+    (λ bare. false≢true (sym c.if-is_bare.false ∙ c.is_bare.ensures.1 bare)) settled c.open.ensures.known c.open.ensures.audited
+
+pub returns-clause-untouched : goal.returns-clause-untouched
+returns-clause-untouched g c = err_empty (λ back. back ≡ c.args.connection) c.open.result c.open.ensures.begins
+
+pub returns-clause-crash : goal.returns-clause-crash
+returns-clause-crash g c =
+    survived_there c.args.office.now (state g.S.Store c.args.connection) c.open.result (λ t. state g.S.Store t.conn) (λ e. state g.S.Store e.1)
+    (λ bare. false≢true (sym c.if-is_bare.false ∙ c.is_bare.ensures.1 bare)) c.open.ensures.crash

@@ -1,0 +1,38 @@
+-- What an opening of tables that are there already finds, and what it finds of a store that a crash left.
+use Rattle.std.specs.Prelude.{◌≡◌, ◌&&◌, IsTrue}
+use Rattle.share_rules.specs.declared.office.Office.{Office}
+use Rattle.sqlite.specs.Effect.{Database}
+use Rattle.sqlite.specs.State as connection
+use Rattle.society_core.specs.State as store
+use Rattle.society_rows.specs.Stored.{HasLayout}
+use Rattle.society_tables.specs.Laws.{IsLeftBy}
+use Rattle.society_tables.specs.Opening.{HoldsOne, IsOutside, ShowsAs}
+use Rattle.society_tables.specs.declared.open_fault.OpenFault.{OpenFault}
+
+-- said where the disk told the truth and the connection was open when it was handed in
+abbrev pub WhenOpen : connection.State → connection.State → Type 0 → Type 0
+WhenOpen old new P = connection.HasCleanDisk new → IsTrue old.is_open → P
+
+-- the database has layout 2, and holds a sound book of the office with exactly what is derived from it
+abbrev pub HoldsOffice : Office → Database → Type 0
+HoldsOffice office db = HasLayout db × HoldsOne office db.trees
+
+-- what was committed has layout 2 and holds a sound book of the office, and is shown as it was
+abbrev pub FindsOffice : Office → connection.State → connection.State → Type 0
+FindsOffice office old new = WhenOpen old new (HasLayout old.committed × HoldsOne office old.committed.trees × ShowsAs old.committed new)
+
+-- of tables that hold a sound book of the office, this fault says only that memory was refused or the database failed
+abbrev pub SparesOffice : Office → Database → OpenFault → Type 0
+SparesOffice office db fault = HasLayout db → HoldsOne office db.trees → IsOutside fault
+
+-- said of what a crash may leave of a clean store over this connection
+abbrev pub AfterCrash : connection.State → connection.State → Type 0 → Type 0
+AfterCrash s found P = IsTrue (s.is_clean && s.is_open) → IsLeftBy s found → P
+
+-- while it is clean, a store shows the book of another
+abbrev pub FindsBook : store.State → store.State → Type 0
+FindsBook old new = IsTrue new.is_clean → new.book ≡ old.book
+
+-- while it is clean, a store shows a book that a crash may leave of another
+abbrev pub FindsLeft : store.State → store.State → Type 0
+FindsLeft old new = IsTrue new.is_clean → old.left new.book
