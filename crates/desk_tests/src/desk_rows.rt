@@ -484,6 +484,37 @@ fn held_number_reused_in_a_run(rt: HostRuntime) -> Result<(), Fail> {
     Ok(())
 }
 
+/// With ample memory a long run is answered whole: each file is applied, and known when it comes again.
+#[test]
+fn run_of_five_hundred(rt: HostRuntime) -> Result<(), Fail> {
+    let alloc = rt.alloc();
+    let sender = sender()?;
+    let mut requests = Vec::new(alloc);
+    let mut wanted = Vec::new(alloc);
+    for n in 1..251 {
+        for known in [false, true] {
+            requests.push(Request::PutTransmission {
+                sender,
+                number: number(n)?,
+                body: EMPTY,
+            })?;
+            wanted.push(Ok(Arrival {
+                known,
+                front: n,
+                standing: Standing::Applied,
+            }))?;
+        }
+    }
+    let answers = answers_to(alloc, &mut new_desk(alloc)?, requests.as_slice())?;
+    told(
+        &rt,
+        "run",
+        arrivals(alloc, &answers)?.as_slice(),
+        wanted.as_slice(),
+    );
+    Ok(())
+}
+
 #[test]
 fn three_hundred_versions(rt: HostRuntime) -> Result<(), Fail> {
     let alloc = rt.alloc();

@@ -1,10 +1,11 @@
 //! The program: `society replay --society N --territory N --name TEXT` serves standard input to standard output over a book
 //! in memory; `society serve --db PATH --port N --connections N` and the same serves connections on this machine over the database
-//! at a path; `--help` tells both.
+//! at a path; `society audit --db PATH` and the same tells whether that database is sound; `--help` tells of these.
 #![tactic(auto)]
 
 use http_desk::Counted;
-use society_commands::{NoWords, ended, start, why_no_words};
+use society_commands::{Host, NoWords, ended, start, why_no_words};
+use sqlite::Wary;
 use std::env;
 use std::process::ExitCode;
 
@@ -22,8 +23,10 @@ fn main(rt: HostRuntime) -> ExitCode {
     };
     let mut reader = Counted::new(rt.stdin());
     let mut out = Counted::new(rt.stdout());
+    // A torn write may leave any bytes: nothing more is supposed of the files.
+    let host = Host::<Wary>::new(&rt);
     let outcome = start(
-        &rt,
+        &host,
         alloc,
         words.as_slice(),
         &mut reader,

@@ -16,7 +16,7 @@ use Rattle.society_core.specs.Requests.{Reply}
 use Rattle.society_core.specs.State.{Rises, State}
 use Rattle.sqlite.specs.State as connection
 use Rattle.share_rules.specs.declared.office.Office.{Office}
-use Rattle.society_commands.specs.Connections.{Brings, Connection, IsCounted, IsOver, Prints, ServesConnections, ServesDatabase, ServesStore, StopsServingDatabase, StopsServingStore, connection_line, connection_lines, parts_of, replies_of, requests_of}
+use Rattle.society_commands.specs.Connections.{ServesOne, Connection, IsCounted, IsOver, Prints, ServesConnections, ServesDatabase, ServesStore, StopsServingDatabase, StopsServingStore, connection_line, connection_lines, parts_brought, replies_given, requests_of}
 
 -- ---- what is printed
 
@@ -68,11 +68,11 @@ counted_more : (cs : List Connection) (c : Connection) → AllByRecursion IsCoun
 counted_more [] c all is = (is, tt)
 counted_more (d ∷ cs) c all is = (all.0, counted_more cs c all.1 is)
 
-parts_more : (cs : List Connection) (c : Connection) → parts_of (cs ++ c ∷ []) ≡ parts_of cs ++ c.parts
-parts_more cs c = flat_map-append (λ (d : Connection). d.parts) cs (c ∷ []) ∙ ap (λ (v : List Part). parts_of cs ++ v) (append-nil c.parts)
+parts_more : (cs : List Connection) (c : Connection) → parts_brought (cs ++ c ∷ []) ≡ parts_brought cs ++ c.parts
+parts_more cs c = flat_map-append (λ (d : Connection). d.parts) cs (c ∷ []) ∙ ap (λ (v : List Part). parts_brought cs ++ v) (append-nil c.parts)
 
-replies_more : (cs : List Connection) (c : Connection) → replies_of (cs ++ c ∷ []) ≡ replies_of cs ++ c.replies
-replies_more cs c = flat_map-append (λ (d : Connection). d.replies) cs (c ∷ []) ∙ ap (λ (v : List Reply). replies_of cs ++ v) (append-nil c.replies)
+replies_more : (cs : List Connection) (c : Connection) → replies_given (cs ++ c ∷ []) ≡ replies_given cs ++ c.replies
+replies_more cs c = flat_map-append (λ (d : Connection). d.replies) cs (c ∷ []) ∙ ap (λ (v : List Reply). replies_given cs ++ v) (append-nil c.replies)
 
 -- no connection came yet
 pub serves_none : {S W : Type 0} (state : S → State) (desk : S) (contents : W → Option (List ℕ)) (out : Counted W) → ServesConnections state desk desk contents out out 0
@@ -86,7 +86,7 @@ serves_none state desk contents out = record {
 
 -- one more connection came
 pub serves_more : {S W : Type 0} (state : S → State) (old mid new : S) (contents : W → Option (List ℕ)) (first out new_out : Counted W) (count : ℕ) (outcome : Result Served DeskFault)
-    → ServesConnections state old mid contents first out count → Brings state mid new outcome → Prints contents out new_out (connection_line (count + 1) outcome)
+    → ServesConnections state old mid contents first out count → ServesOne state mid new outcome → Prints contents out new_out (connection_line (count + 1) outcome)
     → ServesConnections state old new contents first new_out (count + 1)
 serves_more state old mid new contents first out new_out count outcome so b printed =
     let c : Connection = record { parts = b.parts; replies = b.replies; outcome = outcome } in
@@ -97,9 +97,9 @@ serves_more state old mid new contents first out new_out count outcome so b prin
       number = omega (arith, length-append cs (c ∷ []), so.number);
       counted = counted_more cs c so.counted b.count;
       answers =
-          subst (λ (ps : List Part). AreAnswered state ps (replies_of (cs ++ c ∷ [])) old new) (sym (parts_more cs c))
-          (subst (λ (rs : List Reply). AreAnswered state (parts_of cs ++ b.parts) rs old new) (sym (replies_more cs c))
-          (answered_on state (parts_of cs) b.parts (replies_of cs) b.replies old mid new so.answers b.answers));
+          subst (λ (ps : List Part). AreAnswered state ps (replies_given (cs ++ c ∷ [])) old new) (sym (parts_more cs c))
+          (subst (λ (rs : List Reply). AreAnswered state (parts_brought cs ++ b.parts) rs old new) (sym (replies_more cs c))
+          (answered_on state (parts_brought cs) b.parts (replies_given cs) b.replies old mid new so.answers b.answers));
       printed =
           subst (λ (l : List ℕ). Prints contents first new_out l)
           (sym (lines_more 1 cs c ∙ ap (λ (n : ℕ). connection_lines 1 cs ++ connection_line n outcome) number))
@@ -107,7 +107,7 @@ serves_more state old mid new contents first out new_out count outcome so b prin
     }
 
 -- a connection that is not served brings nothing
-pub brings_nothing : {S : Type 0} (state : S → State) (desk : S) (outcome : Result Served DeskFault) → requests_of outcome ≡ 0 → Brings state desk desk outcome
+pub brings_nothing : {S : Type 0} (state : S → State) (desk : S) (outcome : Result Served DeskFault) → requests_of outcome ≡ 0 → ServesOne state desk desk outcome
 brings_nothing state desk outcome none = record { parts = []; replies = []; count = none; answers = none_answered state desk }
 
 -- a connection that was served, or given up, brought the requests of which that is told
@@ -115,7 +115,7 @@ pub brings : {S R W : Type 0} (state : S → State) (remaining : R → Option (L
     (outcome : Result Served DeskFault)
     → IfOk outcome (IsServed state remaining contents desk new_desk reader writer new_writer)
     → IfErr outcome (IsGivenUp state remaining contents desk new_desk reader new_reader writer new_writer turns)
-    → Brings state desk new_desk outcome
+    → ServesOne state desk new_desk outcome
 brings state remaining contents desk new_desk reader new_reader writer new_writer turns (Ok served) is none = record {
   parts = is.parts;
   replies = is.replies;
@@ -142,9 +142,9 @@ serves_store state desk new_desk contents first out new_out count listening s = 
 }
 
 -- a store over a database was served, from where it was opened to where it is left
-module _ {S W : Type 0} (opened begun ended last : S) (state : S → State) (office : Office) (found : connection.State) (over : IsOver office found (state opened)) (same : begun ≡ opened) (stays : last ≡ ended)
+module _ {S W : Type 0} (opened begun ended last : S) (state : S → State) (office : Office) (existing : Bool) (found : connection.State) (over : IsOver office existing found (state opened)) (same : begun ≡ opened) (stays : last ≡ ended)
     (contents : W → Option (List ℕ)) (out new_out : Counted W) (count : ℕ) where
-  pub serves_database : ServesStore state begun ended contents out new_out count → ServesDatabase state office found last contents out new_out count
+  pub serves_database : ServesStore state begun ended contents out new_out count → ServesDatabase state office existing found last contents out new_out count
   serves_database s = (
     opened,
     over,
@@ -152,7 +152,7 @@ module _ {S W : Type 0} (opened begun ended last : S) (state : S → State) (off
         (subst (λ (d : S). ServesStore state d ended contents out new_out count) same s),
   )
 
-  pub stops_database : StopsServingStore state begun ended contents out new_out count → StopsServingDatabase state office found last contents out new_out count
+  pub stops_database : StopsServingStore state begun ended contents out new_out count → StopsServingDatabase state office existing found last contents out new_out count
   stops_database s = (
     opened,
     over,

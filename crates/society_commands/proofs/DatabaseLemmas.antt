@@ -1,5 +1,6 @@
 -- What a store shows that is opened over a database.
-use Rattle.std.proofs.Common.{◌≡◌, ℕ, IsTrue, ap}
+use Rattle.std.proofs.Common.{◌≡◌, ℕ, IsTrue, Result, Ok, Err, ap, inr, false, true}
+use Rattle.std.specs.Prelude.{IfErr, IfOk, IsErrAnd, MatchResult}
 use Rattle.share_rules.specs.declared.office.Office.{Office}
 use Rattle.sqlite.specs.State as connection
 use Rattle.society_core.specs.Book.{empty_book}
@@ -8,20 +9,73 @@ use Rattle.society_rows.specs.Stored.{HasLayout}
 use Rattle.society_book.proofs.AskLemmas.{clean_is, first_true, second_true}
 use Rattle.society_book.specs.BookRows.{book_of}
 use Rattle.society_book.specs.Kept.{tables_state}
-use Rattle.society_tables.specs.Opening.{HoldsOne, IsOpenable, ShowsAs}
-use Rattle.society_commands.specs.Connections.{IsOver}
+use Rattle.society_tables.specs.Opening.{HoldsOne, IsOpenable, ShowsAs, SurvivesOpening, Tells}
+use Rattle.society_tables.specs.declared.open_fault.OpenFault.{OpenFault}
+use Rattle.society_tables.specs.declared.open_fault.OpenFault.TheVariants.{Empty}
+use Rattle.society_commands.specs.Connections.{IsNotOpened, IsOver}
 
 -- tables that were opened are those of the office, over what the connection was found with
-pub is_over : (office held : Office) (found begun : connection.State) (failures : ℕ) → held ≡ office
+is_over : (office held : Office) (found begun : connection.State) (failures : ℕ) → held ≡ office
     → (connection.HasCleanDisk begun → IsTrue found.is_open → IsOpenable found.committed)
     → (connection.HasCleanDisk begun → IsTrue found.is_open → IsBare found.committed → book_of begun.now.trees ≡ empty_book)
     → (connection.HasCleanDisk begun → IsTrue found.is_open → HasLayout found.committed → HoldsOne office found.committed.trees × ShowsAs found.committed begun)
-    → IsOver office found (tables_state held begun failures)
+    → IsOver office false found (tables_state held begun failures)
 is_over office held found begun failures same known bare kept = record {
   office_is = same;
+  there = λ existing opened clean. absurd existing;
   known = λ opened clean. known (clean_is begun.is_clean (first_true begun.is_clean begun.is_open clean)) opened;
   bare = λ opened clean. bare (clean_is begun.is_clean (first_true begun.is_clean begun.is_open clean)) opened;
   kept = λ opened clean layout.
       let both = kept (clean_is begun.is_clean (first_true begun.is_clean begun.is_open clean)) opened layout in
       (both.0, ap (λ db. book_of db.trees) (both.1 (second_true begun.is_clean begun.is_open clean)).0);
 }
+
+-- and tables that were there already
+is_over_there : (office held : Office) (found begun : connection.State) (failures : ℕ) → held ≡ office
+    → (IsTrue found.is_open → IsBare found.committed → ⊥)
+    → (connection.HasCleanDisk begun → IsTrue found.is_open → HasLayout found.committed × HoldsOne office found.committed.trees × ShowsAs found.committed begun)
+    → IsOver office true found (tables_state held begun failures)
+is_over_there office held found begun failures same empty kept = record {
+  office_is = same;
+  there = λ existing opened clean. (kept (clean_is begun.is_clean (first_true begun.is_clean begun.is_open clean)) opened).0;
+  known = λ opened clean. inr (kept (clean_is begun.is_clean (first_true begun.is_clean begun.is_open clean)) opened).0;
+  bare = λ opened clean none. absurd (empty opened none);
+  kept = λ opened clean layout.
+      let both = (kept (clean_is begun.is_clean (first_true begun.is_clean begun.is_open clean)) opened).1 in
+      (both.0, ap (λ db. book_of db.trees) (both.1 (second_true begun.is_clean begun.is_open clean)).0);
+}
+
+module _ {T C : Type 0} (office : Office) (found : connection.State) (held : T → Office) (shown : T → connection.State) (failures : T → ℕ) (left : C → connection.State) where
+  -- what was opened, where a book may begin
+  pub over_any : (r : Result T (OpenFault × C)) → IfOk r (λ t. held t ≡ office)
+      → IfOk r (λ t. connection.HasCleanDisk (shown t) → IsTrue found.is_open → IsOpenable found.committed)
+      → IfOk r (λ t. connection.HasCleanDisk (shown t) → IsTrue found.is_open → IsBare found.committed → book_of (shown t).now.trees ≡ empty_book)
+      → IfOk r (λ t. connection.HasCleanDisk (shown t) → IsTrue found.is_open → HasLayout found.committed → HoldsOne office found.committed.trees × ShowsAs found.committed (shown t))
+      → IfOk r (λ t. IsOver office false found (tables_state (held t) (shown t) (failures t)))
+  over_any (Ok t) same known bare kept = is_over office (held t) found (shown t) (failures t) same known bare kept
+  over_any (Err e) same known bare kept = tt
+
+  -- and where none may
+  pub over_existing : (P : OpenFault × C → Type 0) (r : Result T (OpenFault × C)) → IfOk r (λ t. held t ≡ office)
+      → (IsTrue found.is_open → IsBare found.committed → IsErrAnd r P)
+      → IfOk r (λ t. connection.HasCleanDisk (shown t) → IsTrue found.is_open → HasLayout found.committed × HoldsOne office found.committed.trees × ShowsAs found.committed (shown t))
+      → IfOk r (λ t. IsOver office true found (tables_state (held t) (shown t) (failures t)))
+  over_existing P (Ok t) same empty kept = is_over_there office (held t) found (shown t) (failures t) same (λ opened none. empty opened none) kept
+  over_existing P (Err e) same empty kept = tt
+
+  -- what was not opened, where a book may begin
+  pub not_any : (r : Result T (OpenFault × C)) → IfErr r (λ e. connection.HasCleanDisk (left e.1) → IsTrue found.is_open → Tells office found.committed e.0)
+      → IfErr r (λ e. connection.HasCleanDisk (left e.1) → ShowsAs found.committed (left e.1))
+      → MatchResult r (λ t. SurvivesOpening office found (shown t)) (λ e. SurvivesOpening office found (left e.1))
+      → IfErr r (λ e. IsNotOpened office false found (left e.1))
+  not_any (Ok t) told unchanged crash = tt
+  not_any (Err e) told unchanged crash = record { fault = e.0; told = told; empty = λ existing. absurd existing; unchanged = unchanged; crash = crash }
+
+  -- and where none may
+  pub not_existing : (X : OpenFault × C → Type 0) (r : Result T (OpenFault × C)) → IfErr r (λ e. connection.HasCleanDisk (left e.1) → IsTrue found.is_open → Tells office found.committed e.0)
+      → (IsTrue found.is_open → IsBare found.committed → IsErrAnd r (λ e. (e.0 ≡ Empty) × X e))
+      → IfErr r (λ e. connection.HasCleanDisk (left e.1) → ShowsAs found.committed (left e.1))
+      → MatchResult r (λ t. connection.Survives found (shown t) (λ db. ⊥)) (λ e. connection.Survives found (left e.1) (λ db. ⊥))
+      → IfErr r (λ e. IsNotOpened office true found (left e.1))
+  not_existing X (Ok t) told empty unchanged crash = tt
+  not_existing X (Err e) told empty unchanged crash = record { fault = e.0; told = told; empty = λ existing opened none. (empty opened none).0; unchanged = unchanged; crash = crash }

@@ -1,3 +1,4 @@
+pub mod ClosingLemmas
 pub mod ConnectionLemmas
 pub mod DatabaseLemmas
 pub mod OptionLemmas

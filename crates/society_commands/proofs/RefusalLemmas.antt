@@ -24,7 +24,7 @@ use Rattle.clap.specs.Simple.{subcommand_of}
 use Rattle.clap.specs.Values.{kind_of}
 use Rattle.clap.specs.declared.error.Error.{Error}
 use Rattle.society_commands.specs.CommandLine.{command_line}
-use Rattle.society_commands.specs.Words.{AsksHelp, HasBadWords, IsRefusedAs, asked, asked_by, is_help}
+use Rattle.society_commands.specs.Words.{AsksHelp, HasBadWords, IsRefusedAs, asked, asked_unless, is_help}
 
 -- where help is among the kinds, there is nothing else among them
 record Clear (kinds : Kinds) : Type 0 where
@@ -239,7 +239,7 @@ asked_by_test : (t : Bool) (x : ErrorKind) (xs : Kinds) (k : ErrorKind) → list
 asked_by_test true x xs k has clear among = inr (inl (clear.only has k among, refl))
 asked_by_test false x xs k has clear among = inr (inr ((λ help. no_help_among (x ∷ xs) k has help among), refl))
 
-asked_by_kind : (kinds : Kinds) (command : Option (Text × List Row)) (k : ErrorKind) → Clear kinds → IsAmong k kinds → IsRefusedAs (asked_by kinds command) k
+asked_by_kind : (kinds : Kinds) (command : Option (Text × List Row)) (k : ErrorKind) → Clear kinds → IsAmong k kinds → IsRefusedAs (asked_unless kinds command) k
 asked_by_kind [] command k clear among = absurd among
 asked_by_kind (x ∷ xs) command k clear among = asked_by_test (list_any is_help (x ∷ xs)) x xs k refl clear among
 

@@ -1,10 +1,10 @@
 -- Worked values of what the program's words ask for, and that `clap`'s words on simple command lines hold of it.
-use Rattle.std.specs.Prelude.{◌≡◌, [], ◌∷◌, refl, codes, true}
+use Rattle.std.specs.Prelude.{◌≡◌, [], ◌∷◌, refl, codes, false, true}
 use Rattle.clap.proofs.OnLiterals.{clap_on_literals}
 use Rattle.clap.specs.Faults.{is_simple_and_free}
 use Rattle.clap.specs.Simple.{is_simple}
 use Rattle.society_commands.specs.CommandLine.{command_line}
-use Rattle.society_commands.specs.Words.{AsksHelp, AsksReplay, AsksServe, HasBadName, HasBadWords, asked}
+use Rattle.society_commands.specs.Words.{AsksAudit, AsksHelp, AsksReplay, AsksServe, HasBadName, HasBadWords, asked}
 
 pub simple : is_simple command_line ≡ true
 unfolding clap_on_literals
@@ -101,11 +101,11 @@ no_help_command : asked (codes "society" ∷ codes "help" ∷ []) ≡ HasBadWord
 unfolding clap_on_literals
 no_help_command = refl
 
-serve : asked (codes "society" ∷ codes "serve" ∷ codes "--db" ∷ codes "office.db" ∷ codes "--port" ∷ codes "8080" ∷ codes "--connections" ∷ codes "1000000" ∷ codes "--society" ∷ codes "900" ∷ codes "--territory" ∷ codes "40" ∷ codes "--name" ∷ codes "X" ∷ []) ≡ AsksServe (codes "office.db") (record { port = 8080; connections = 1000000 }) 900 40 (codes "X")
+serve : asked (codes "society" ∷ codes "serve" ∷ codes "--db" ∷ codes "office.db" ∷ codes "--port" ∷ codes "8080" ∷ codes "--connections" ∷ codes "1000000" ∷ codes "--society" ∷ codes "900" ∷ codes "--territory" ∷ codes "40" ∷ codes "--name" ∷ codes "X" ∷ []) ≡ AsksServe (codes "office.db") false (record { port = 8080; connections = 1000000 }) 900 40 (codes "X")
 unfolding clap_on_literals
 serve = refl
 
-serve_turned : asked (codes "society" ∷ codes "serve" ∷ codes "--name" ∷ codes "X" ∷ codes "--connections" ∷ codes "7" ∷ codes "--society" ∷ codes "900" ∷ codes "--port" ∷ codes "65535" ∷ codes "--db=office.db" ∷ codes "--territory" ∷ codes "40" ∷ []) ≡ AsksServe (codes "office.db") (record { port = 65535; connections = 7 }) 900 40 (codes "X")
+serve_turned : asked (codes "society" ∷ codes "serve" ∷ codes "--name" ∷ codes "X" ∷ codes "--connections" ∷ codes "7" ∷ codes "--society" ∷ codes "900" ∷ codes "--port" ∷ codes "65535" ∷ codes "--db=office.db" ∷ codes "--territory" ∷ codes "40" ∷ []) ≡ AsksServe (codes "office.db") false (record { port = 65535; connections = 7 }) 900 40 (codes "X")
 unfolding clap_on_literals
 serve_turned = refl
 
@@ -140,3 +140,47 @@ serve_without_a_database = refl
 replay_over_a_database : asked (codes "society" ∷ codes "replay" ∷ codes "--db" ∷ codes "office.db" ∷ codes "--society" ∷ codes "900" ∷ codes "--territory" ∷ codes "40" ∷ codes "--name" ∷ codes "X" ∷ []) ≡ HasBadWords
 unfolding clap_on_literals
 replay_over_a_database = refl
+
+serve_existing : asked (codes "society" ∷ codes "serve" ∷ codes "--existing" ∷ codes "--db" ∷ codes "office.db" ∷ codes "--port" ∷ codes "8080" ∷ codes "--connections" ∷ codes "1" ∷ codes "--society" ∷ codes "900" ∷ codes "--territory" ∷ codes "40" ∷ codes "--name" ∷ codes "X" ∷ []) ≡ AsksServe (codes "office.db") true (record { port = 8080; connections = 1 }) 900 40 (codes "X")
+unfolding clap_on_literals
+serve_existing = refl
+
+serve_existing_behind : asked (codes "society" ∷ codes "serve" ∷ codes "--db" ∷ codes "office.db" ∷ codes "--port" ∷ codes "8080" ∷ codes "--connections" ∷ codes "1" ∷ codes "--society" ∷ codes "900" ∷ codes "--territory" ∷ codes "40" ∷ codes "--name" ∷ codes "X" ∷ codes "--existing" ∷ []) ≡ AsksServe (codes "office.db") true (record { port = 8080; connections = 1 }) 900 40 (codes "X")
+unfolding clap_on_literals
+serve_existing_behind = refl
+
+existing_twice : asked (codes "society" ∷ codes "serve" ∷ codes "--existing" ∷ codes "--existing" ∷ codes "--db" ∷ codes "office.db" ∷ codes "--port" ∷ codes "8080" ∷ codes "--connections" ∷ codes "1" ∷ codes "--society" ∷ codes "900" ∷ codes "--territory" ∷ codes "40" ∷ codes "--name" ∷ codes "X" ∷ []) ≡ HasBadWords
+unfolding clap_on_literals
+existing_twice = refl
+
+existing_with_a_value : asked (codes "society" ∷ codes "serve" ∷ codes "--existing=true" ∷ codes "--db" ∷ codes "office.db" ∷ codes "--port" ∷ codes "8080" ∷ codes "--connections" ∷ codes "1" ∷ codes "--society" ∷ codes "900" ∷ codes "--territory" ∷ codes "40" ∷ codes "--name" ∷ codes "X" ∷ []) ≡ HasBadWords
+unfolding clap_on_literals
+existing_with_a_value = refl
+
+replay_existing : asked (codes "society" ∷ codes "replay" ∷ codes "--existing" ∷ codes "--society" ∷ codes "900" ∷ codes "--territory" ∷ codes "40" ∷ codes "--name" ∷ codes "X" ∷ []) ≡ HasBadWords
+unfolding clap_on_literals
+replay_existing = refl
+
+audit : asked (codes "society" ∷ codes "audit" ∷ codes "--db" ∷ codes "office.db" ∷ codes "--society" ∷ codes "900" ∷ codes "--territory" ∷ codes "40" ∷ codes "--name" ∷ codes "X" ∷ []) ≡ AsksAudit (codes "office.db") 900 40 (codes "X")
+unfolding clap_on_literals
+audit = refl
+
+audit_turned : asked (codes "society" ∷ codes "audit" ∷ codes "--society" ∷ codes "900" ∷ codes "--territory" ∷ codes "40" ∷ codes "--name" ∷ codes "X" ∷ codes "--db=office.db" ∷ []) ≡ AsksAudit (codes "office.db") 900 40 (codes "X")
+unfolding clap_on_literals
+audit_turned = refl
+
+audit_without_a_database : asked (codes "society" ∷ codes "audit" ∷ codes "--society" ∷ codes "900" ∷ codes "--territory" ∷ codes "40" ∷ codes "--name" ∷ codes "X" ∷ []) ≡ HasBadWords
+unfolding clap_on_literals
+audit_without_a_database = refl
+
+audit_at_a_port : asked (codes "society" ∷ codes "audit" ∷ codes "--db" ∷ codes "office.db" ∷ codes "--port" ∷ codes "8080" ∷ codes "--society" ∷ codes "900" ∷ codes "--territory" ∷ codes "40" ∷ codes "--name" ∷ codes "X" ∷ []) ≡ HasBadWords
+unfolding clap_on_literals
+audit_at_a_port = refl
+
+audit_existing : asked (codes "society" ∷ codes "audit" ∷ codes "--existing" ∷ codes "--db" ∷ codes "office.db" ∷ codes "--society" ∷ codes "900" ∷ codes "--territory" ∷ codes "40" ∷ codes "--name" ∷ codes "X" ∷ []) ≡ HasBadWords
+unfolding clap_on_literals
+audit_existing = refl
+
+help_of_the_audit : asked (codes "society" ∷ codes "audit" ∷ codes "--help" ∷ []) ≡ AsksHelp
+unfolding clap_on_literals
+help_of_the_audit = refl

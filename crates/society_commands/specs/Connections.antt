@@ -1,5 +1,5 @@
 -- What connections come to that are served one after another, and the lines that are printed of them.
-use Rattle.std.specs.Prelude.{◌≡◌, ◌⊎◌, ℕ, ◌+◌, ◌<◌, IsTrue, List, [], ◌∷◌, ◌++◌, Option, Result, Ok, Err, codes, decimal, length}
+use Rattle.std.specs.Prelude.{◌≡◌, ◌⊎◌, ℕ, ◌+◌, ◌<◌, Bool, true, false, IsTrue, List, [], ◌∷◌, ◌++◌, Option, Result, Ok, Err, codes, decimal, length}
 use Rattle.std.specs.Io.KnownBytes.{Appends}
 use Rattle.std.specs.List.{flat_map, AllByRecursion}
 use Rattle.http_desk.specs.Counted.{failures_of, inner_of}
@@ -9,7 +9,9 @@ use Rattle.http_desk.specs.declared.connection.Served.{Served}
 use Rattle.http_desk.specs.declared.counted.Counted.{Counted}
 use Rattle.http_desk.specs.declared.fault.DeskFault.{DeskFault}
 use Rattle.share_rules.specs.declared.office.Office.{Office}
+use Rattle.sqlite.specs.Start.{FindsIn}
 use Rattle.sqlite.specs.State as connection
+use Rattle.sqlite.specs.Recovery.{Image}
 use Rattle.society_core.specs.Book.{empty_book}
 use Rattle.society_core.specs.Requests.{Reply}
 use Rattle.society_core.specs.State.{Rises, State}
@@ -18,6 +20,7 @@ use Rattle.society_rows.specs.Stored.{HasLayout}
 use Rattle.society_book.specs.BookRows.{book_of}
 use Rattle.society_tables.specs.Opening.{HoldsOne, IsOpenable, ShowsAs, SurvivesOpening, Tells}
 use Rattle.society_tables.specs.declared.open_fault.OpenFault.{OpenFault}
+use Rattle.society_tables.specs.declared.open_fault.OpenFault.TheVariants.{Empty}
 use Rattle.society_commands.specs.Replays.{fault_name}
 
 -- how many requests a connection brought, by what it came to
@@ -26,7 +29,7 @@ requests_of (Ok served) = served.requests
 requests_of (Err fault) = fault.requests
 
 -- a connection brought requests, as many as it tells, and they were answered in turn, each by a call that led the store on
-pub record Brings {S : Type 0} (state : S → State) (desk new_desk : S) (outcome : Result Served DeskFault) : Type 0 where
+pub record ServesOne {S : Type 0} (state : S → State) (desk new_desk : S) (outcome : Result Served DeskFault) : Type 0 where
   pub parts : List Part
   pub replies : List Reply
   pub count : requests_of outcome ≡ length parts
@@ -43,12 +46,12 @@ abbrev pub IsCounted : Connection → Type 0
 IsCounted connection = requests_of connection.outcome ≡ length connection.parts
 
 -- the requests of connections, in order
-abbrev pub parts_of : List Connection → List Part
-parts_of connections = flat_map (λ (c : Connection). c.parts) connections
+abbrev pub parts_brought : List Connection → List Part
+parts_brought connections = flat_map (λ (c : Connection). c.parts) connections
 
 -- their answers
-abbrev pub replies_of : List Connection → List Reply
-replies_of connections = flat_map (λ (c : Connection). c.replies) connections
+abbrev pub replies_given : List Connection → List Reply
+replies_given connections = flat_map (λ (c : Connection). c.replies) connections
 
 -- how a connection ended, and after how many requests (profile)
 abbrev pub outcome_text : Result Served DeskFault → List ℕ
@@ -75,7 +78,7 @@ pub record ServesConnections {S W : Type 0} (state : S → State) (desk new_desk
   pub connections : List Connection
   pub number : length connections ≡ count
   pub counted : AllByRecursion IsCounted connections
-  pub answers : AreAnswered state (parts_of connections) (replies_of connections) desk new_desk
+  pub answers : AreAnswered state (parts_brought connections) (replies_given connections) desk new_desk
   pub printed : Prints contents out new_out (connection_lines 1 connections)
 
 -- so many connections were served over a store, and nothing else was asked of it; `listening` was printed before, and a line for each
@@ -83,7 +86,7 @@ pub record ServesStore {S W : Type 0} (state : S → State) (desk new_desk : S) 
   pub connections : List Connection
   pub number : length connections ≡ count
   pub counted : AllByRecursion IsCounted connections
-  pub answers : AreAnswered state (parts_of connections) (replies_of connections) desk new_desk
+  pub answers : AreAnswered state (parts_brought connections) (replies_given connections) desk new_desk
   pub printed : Prints contents out new_out (codes "listening\n" ++ connection_lines 1 connections)
 
 -- serving over a store ended early: it could not listen, so the store is the same and nothing was printed; or fewer connections came
@@ -93,59 +96,79 @@ StopsServingStore state desk new_desk contents out new_out connections =
     ⊎ ((count : ℕ) × (count < connections) × ServesStore state desk new_desk contents out new_out count)
 
 -- What a store shows that is opened over what a connection was found with: it is the office's; where there was no table its book is
--- empty, and where there were those of layout 2 they held a sound book with what is derived from it, and that is its book.
-pub record IsOver (office : Office) (found : connection.State) (begun : State) : Type 0 where
+-- empty, and where there were those of layout 2 they held a sound book with what is derived from it, and that is its book. Where the
+-- database had to be an office's already, there were.
+pub record IsOver (office : Office) (existing : Bool) (found : connection.State) (begun : State) : Type 0 where
   pub office_is : begun.office ≡ office
+  pub there : IsTrue existing → IsTrue found.is_open → IsTrue begun.is_clean → HasLayout found.committed
   pub known : IsTrue found.is_open → IsTrue begun.is_clean → IsOpenable found.committed
   pub bare : IsTrue found.is_open → IsTrue begun.is_clean → IsBare found.committed → begun.book ≡ empty_book
   pub kept : IsTrue found.is_open → IsTrue begun.is_clean → HasLayout found.committed
       → HoldsOne office found.committed.trees × (begun.book ≡ book_of found.committed.trees)
 
--- what a connection shows of a file that was opened: over a disk that tells the truth it is open, and shows what the files recovered to
-abbrev pub IsFound : connection.State → Type 0
-IsFound s = connection.HasCleanDisk s → connection.Opens s × connection.IsLive s
+-- what a connection shows of a file that was opened and held this: over a disk that tells the truth it is open, and shows the database
+-- that the file and its log recover to
+abbrev pub IsFoundIn : Image → connection.State → Type 0
+IsFoundIn image s = connection.HasCleanDisk s → connection.Opens s × connection.IsLive s × FindsIn image s
+
+-- what a crash leaves in an opening: what it left before, or also the new book of the office, where one may begin and no table was there
+abbrev pub LeavesOpening : Bool → Office → connection.State → connection.State → Type 0
+LeavesOpening true office found left = connection.Survives found left (λ db. ⊥)
+LeavesOpening false office found left = SurvivesOpening office found left
 
 -- A database was not opened as the office's: this is why, its connection shows what was committed, and a crash leaves what it left
--- before or what opening may leave.
-pub record IsNotOpened (office : Office) (found left : connection.State) : Type 0 where
+-- before or what opening may leave. Where it had to be an office's already and has no table, it is told as empty.
+pub record IsNotOpened (office : Office) (existing : Bool) (found left : connection.State) : Type 0 where
   pub fault : OpenFault
   pub told : connection.HasCleanDisk left → IsTrue found.is_open → Tells office found.committed fault
+  pub empty : IsTrue existing → IsTrue found.is_open → IsBare found.committed → fault ≡ Empty
   pub unchanged : connection.HasCleanDisk left → ShowsAs found.committed left
-  pub crash : SurvivesOpening office found left
+  pub crash : LeavesOpening existing office found left
+
+-- a database was found to hold a sound book of the office with what is derived from it; it shows that still, and a crash leaves what it left before
+pub record IsSoundDatabase (office : Office) (found left : connection.State) : Type 0 where
+  pub sound : connection.HasCleanDisk left → IsTrue found.is_open → HasLayout found.committed × HoldsOne office found.committed.trees
+  pub unchanged : connection.HasCleanDisk left → ShowsAs found.committed left
+  pub crash : connection.Survives found left (λ db. ⊥)
+
+-- a database that was opened so was audited and is sound, and `sound` was printed
+abbrev pub FindsSound : {C W : Type 0} → (C → connection.State) → (connection.State → Type 0) → Office → (W → Option (List ℕ)) → Counted W → Counted W → Type 0
+FindsSound {C} show MayOpen office contents out new_out =
+    (conn : C) × MayOpen (show conn) × ((left : C) × IsSoundDatabase office (show conn) (show left)) × Prints contents out new_out (codes "sound\n")
 
 -- so many connections were served over a store that was opened over what a connection was found with, and this is the store behind them
-abbrev pub ServesDatabase : {S W : Type 0} → (S → State) → Office → connection.State → S → (W → Option (List ℕ)) → Counted W → Counted W → ℕ → Type 0
-ServesDatabase {S} state office found ended contents out new_out count =
-    (begun : S) × IsOver office found (state begun) × ServesStore state begun ended contents out new_out count
+abbrev pub ServesDatabase : {S W : Type 0} → (S → State) → Office → Bool → connection.State → S → (W → Option (List ℕ)) → Counted W → Counted W → ℕ → Type 0
+ServesDatabase {S} state office existing found ended contents out new_out count =
+    (begun : S) × IsOver office existing found (state begun) × ServesStore state begun ended contents out new_out count
 
 -- serving so ended early, and this is the store then
-abbrev pub StopsServingDatabase : {S W : Type 0} → (S → State) → Office → connection.State → S → (W → Option (List ℕ)) → Counted W → Counted W → ℕ → Type 0
-StopsServingDatabase {S} state office found ended contents out new_out connections =
-    (begun : S) × IsOver office found (state begun) × StopsServingStore state begun ended contents out new_out connections
+abbrev pub StopsServingDatabase : {S W : Type 0} → (S → State) → Office → Bool → connection.State → S → (W → Option (List ℕ)) → Counted W → Counted W → ℕ → Type 0
+StopsServingDatabase {S} state office existing found ended contents out new_out connections =
+    (begun : S) × IsOver office existing found (state begun) × StopsServingStore state begun ended contents out new_out connections
 
 -- so many connections were served over a database, and its store is left as they left it
-abbrev pub LeavesServed : {C S W : Type 0} → (S → State) → Office → connection.State → Result S C → (W → Option (List ℕ)) → Counted W → Counted W → ℕ → Type 0
-LeavesServed state office found (Ok ended) contents out new_out count = ServesDatabase state office found ended contents out new_out count
-LeavesServed state office found (Err left) contents out new_out count = ⊥
+abbrev pub LeavesServed : {C S W : Type 0} → (S → State) → Office → Bool → connection.State → Result S C → (W → Option (List ℕ)) → Counted W → Counted W → ℕ → Type 0
+LeavesServed state office existing found (Ok ended) contents out new_out count = ServesDatabase state office existing found ended contents out new_out count
+LeavesServed state office existing found (Err left) contents out new_out count = ⊥
 
 -- serving ended early, and its store is left as the connections left it; or the database was not opened, its connection is left as
 -- opening left it, and nothing was printed
-abbrev pub LeavesBroken : {C S W : Type 0} → (C → connection.State) → (S → State) → Office → connection.State → Result S C → (W → Option (List ℕ)) → Counted W → Counted W → ℕ → Type 0
-LeavesBroken show state office found (Ok ended) contents out new_out connections =
-    StopsServingDatabase state office found ended contents out new_out connections
-LeavesBroken show state office found (Err left) contents out new_out connections =
-    IsNotOpened office found (show left) × (new_out ≡ out)
+abbrev pub LeavesBroken : {C S W : Type 0} → (C → connection.State) → (S → State) → Office → Bool → connection.State → Result S C → (W → Option (List ℕ)) → Counted W → Counted W → ℕ → Type 0
+LeavesBroken show state office existing found (Ok ended) contents out new_out connections =
+    StopsServingDatabase state office existing found ended contents out new_out connections
+LeavesBroken show state office existing found (Err left) contents out new_out connections =
+    IsNotOpened office existing found (show left) × (new_out ≡ out)
 
--- so many connections were served over a database that was opened so, and its store is left as they left it
-abbrev pub ServesOpened : {C S W : Type 0} → (C → connection.State) → (connection.State → Type 0) → (S → State) → Office → (W → Option (List ℕ)) → Counted W → Counted W → ℕ → Type 0
-ServesOpened {C} {S} show MayOpen state office contents out new_out count =
-    (conn : C) × MayOpen (show conn) × ((left : Result S C) × LeavesServed state office (show conn) left contents out new_out count)
+-- so many connections were served over a database that was opened so, and its store was closed as they left it
+abbrev pub ServesOpened : {C S W : Type 0} → (C → connection.State) → (connection.State → Type 0) → (S → State) → (Result S C → Type 0) → Office → Bool → (W → Option (List ℕ)) → Counted W → Counted W → ℕ → Type 0
+ServesOpened {C} {S} show MayOpen state IsClosed office existing contents out new_out count =
+    (conn : C) × MayOpen (show conn) × ((left : Result S C) × LeavesServed state office existing (show conn) left contents out new_out count × IsClosed left)
 
--- serving so ended early: no database could be had, and nothing was printed; or this is what is left of it
-abbrev pub StopsServingOpened : {C S W : Type 0} → (C → connection.State) → (connection.State → Type 0) → (S → State) → Office → (W → Option (List ℕ)) → Counted W → Counted W → ℕ → Type 0
-StopsServingOpened {C} {S} show MayOpen state office contents out new_out connections =
+-- serving so ended early: no database could be had, and nothing was printed; or this was left of it, and closed where it is a store
+abbrev pub StopsServingOpened : {C S W : Type 0} → (C → connection.State) → (connection.State → Type 0) → (S → State) → (Result S C → Type 0) → Office → Bool → (W → Option (List ℕ)) → Counted W → Counted W → ℕ → Type 0
+StopsServingOpened {C} {S} show MayOpen state IsClosed office existing contents out new_out connections =
     (new_out ≡ out)
-    ⊎ ((conn : C) × MayOpen (show conn) × ((left : Result S C) × LeavesBroken show state office (show conn) left contents out new_out connections))
+    ⊎ ((conn : C) × MayOpen (show conn) × ((left : Result S C) × LeavesBroken show state office existing (show conn) left contents out new_out connections × IsClosed left))
 
 -- fewer connections than were asked for were served
 abbrev pub StopsEarly : {S W : Type 0} → (S → State) → S → S → (W → Option (List ℕ)) → Counted W → Counted W → ℕ → Type 0

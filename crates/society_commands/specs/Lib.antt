@@ -1,3 +1,4 @@
+pub mod Closing
 pub mod CommandLine
 pub mod Connections
 pub mod Replays

@@ -21,16 +21,16 @@ status_without without.NoText = 2
 status_without without.Memory = 1
 
 -- the exit status by what the program did, or why its arguments could not be had
-abbrev pub ended_with : Result ℕ NoWords → ℕ
-ended_with (Ok status) = status
-ended_with (Err why) = status_without why
+abbrev pub status_after : Result ℕ NoWords → ℕ
+status_after (Ok status) = status
+status_after (Err why) = status_without why
 
 -- why a file is not opened, by SQLite's error: memory was refused, it holds no tables that can be read, it is not as it was written; else the store failed (profile)
-abbrev pub opening_fault : Error → OpenFault
-opening_fault (SqliteFailure OutOfMemory) = fault.Memory
-opening_fault (SqliteFailure NotADatabase) = fault.Schema
-opening_fault (SqliteFailure DatabaseCorrupt) = fault.Damaged
-opening_fault _ = fault.Store
+abbrev pub fault_by_error : Error → OpenFault
+fault_by_error (SqliteFailure OutOfMemory) = fault.Memory
+fault_by_error (SqliteFailure NotADatabase) = fault.Schema
+fault_by_error (SqliteFailure DatabaseCorrupt) = fault.Damaged
+fault_by_error _ = fault.Store
 
 -- what a fault of a database is called on standard error (profile)
 abbrev pub database_fault : OpenFault → List ℕ

@@ -1,5 +1,6 @@
 -- What the program's words ask for.
 use Rattle.std.specs.Prelude.{◌≡◌, ◌≢◌, ◌⊎◌, ◌^◌, ℕ, Bool, ◌&&◌, List, [], ◌∷◌, Option, Some, None, bytes_eq, codes, if◌then◌else◌, nat_lt, option_and_then, true, false}
+use Rattle.std.specs.Option.{option_map_or}
 use Rattle.std.specs.List.{list_any}
 use Rattle.std.specs.Str.Parse.{digits_value, without_leading_plus}
 use Rattle.clap.specs.Faults.{fault_of}
@@ -12,24 +13,30 @@ use Rattle.clap.specs.declared.error.kind.ErrorKind.TheVariants.{DisplayHelp, Ou
 use Rattle.share_rules.specs.Office.{IsOfficeOf, is_office}
 use Rattle.share_rules.specs.declared.office.Office.{Office}
 use Rattle.society_commands.specs.CommandLine.{command_line}
+use Rattle.society_commands.specs.declared.words.Database.{Database}
 use Rattle.society_commands.specs.declared.words.Place.{Place}
 use Rattle.society_commands.specs.declared.words.Words.{Words}
 use Rattle.society_commands.specs.declared.words.Words.TheVariants as words
 
 -- the number of so many bits that a text spells in decimal digits, a plus before them or not
-abbrev pub number_of : ℕ → Text → Option ℕ
-number_of bits text =
+abbrev pub number_spelled : ℕ → Text → Option ℕ
+number_spelled bits text =
     let digits = without_leading_plus text in
     if is_numeral digits && nat_lt (digits_value 10 digits) (2 ^ bits) then Some (digits_value 10 digits) else None
 
 -- the number that an option gives
 abbrev pub number_given : ℕ → Text → List Row → Option ℕ
-number_given bits option rows = option_and_then (number_of bits) (one_of option rows)
+number_given bits option rows = option_and_then (number_spelled bits) (one_of option rows)
 
--- what words ask for: to replay at the office with this society, territory and name, or to serve connections there at a place, over the database of a path; to be told of the words; else the name is none, or the words are none that the program knows
+-- whether an option without a value is given: `clap` has the text `true` for it where it is
+abbrev pub flag_given : Text → List Row → Bool
+flag_given option rows = option_map_or (λ text. bytes_eq text (codes "true")) (first_of option rows) false
+
+-- what words ask for: to replay at the office with this society, territory and name; to serve connections there at a place, over the database of a path, which has to be there already or not; to audit that database as the office's; to be told of the words; else the name is none, or the words are none that the program knows
 pub data Asked : Type 0 where
   AsksReplay : ℕ → ℕ → Text → Asked
-  AsksServe : Text → Place → ℕ → ℕ → Text → Asked
+  AsksServe : Text → Bool → Place → ℕ → ℕ → Text → Asked
+  AsksAudit : Text → ℕ → ℕ → Text → Asked
   AsksHelp : Asked
   HasBadName : Asked
   HasBadWords : Asked
@@ -52,26 +59,38 @@ place_at (Some port) None = None
 place_at None connections = None
 
 -- the place that options name
-abbrev pub place_of : List Row → Option Place
-place_of rows = place_at (number_given 16 (codes "port") rows) (number_given 32 (codes "connections") rows)
+abbrev pub place_given : List Row → Option Place
+place_given rows = place_at (number_given 16 (codes "port") rows) (number_given 32 (codes "connections") rows)
 
--- to serve the database of a path at a place, where the rest asks for a replay
-abbrev pub serving : Option Text → Option Place → Asked → Asked
-serving (Some path) (Some place) (AsksReplay society territory name) = AsksServe path place society territory name
-serving (Some path) (Some place) (AsksServe other there society territory name) = AsksServe other there society territory name
-serving (Some path) (Some place) AsksHelp = AsksHelp
-serving (Some path) (Some place) HasBadName = HasBadName
-serving (Some path) (Some place) HasBadWords = HasBadWords
-serving (Some path) None asked = HasBadWords
-serving None place asked = HasBadWords
+-- where options name an office, what they ask for there; else what is wrong
+abbrev pub at_office : (ℕ → ℕ → Text → Asked) → Asked → Asked
+at_office asks (AsksReplay society territory name) = asks society territory name
+at_office asks asked = asked
+
+-- to serve the database of a path at a place, and whether it has to be there already; the rest names an office
+abbrev pub serving : Option Text → Bool → Option Place → Asked → Asked
+serving (Some path) existing (Some place) asked = at_office (AsksServe path existing place) asked
+serving (Some path) existing None asked = HasBadWords
+serving None existing place asked = HasBadWords
 
 -- what options of `serve` ask for
 abbrev pub asked_serve : List Row → Asked
-asked_serve rows = serving (first_of (codes "db") rows) (place_of rows) (asked_office rows)
+asked_serve rows = serving (first_of (codes "db") rows) (flag_given (codes "existing") rows) (place_given rows) (asked_office rows)
+
+-- to audit the database of a path; the rest names an office
+abbrev pub auditing : Option Text → Asked → Asked
+auditing (Some path) asked = at_office (AsksAudit path) asked
+auditing None asked = HasBadWords
+
+-- what options of `audit` ask for
+abbrev pub asked_audit : List Row → Asked
+asked_audit rows = auditing (first_of (codes "db") rows) (asked_office rows)
 
 -- what a command asks for with its options
 abbrev pub asked_command : Text → List Row → Asked
-asked_command command rows = if bytes_eq command (codes "serve") then asked_serve rows else asked_office rows
+asked_command command rows =
+    if bytes_eq command (codes "serve") then asked_serve rows
+    else (if bytes_eq command (codes "audit") then asked_audit rows else asked_office rows)
 
 -- what words ask for that the command line takes, by the command in them
 abbrev pub asked_in : Option (Text × List Row) → Asked
@@ -84,18 +103,23 @@ is_help DisplayHelp = true
 is_help _ = false
 
 -- what words ask for, by what the command line says against them and the command in them
-abbrev pub asked_by : Kinds → Option (Text × List Row) → Asked
-asked_by [] command = asked_in command
-asked_by (kind ∷ kinds) command = if list_any is_help (kind ∷ kinds) then AsksHelp else HasBadWords
+abbrev pub asked_unless : Kinds → Option (Text × List Row) → Asked
+asked_unless [] command = asked_in command
+asked_unless (kind ∷ kinds) command = if list_any is_help (kind ∷ kinds) then AsksHelp else HasBadWords
 
 -- what the words ask for, the program's name the first of them: what they give to the options of the command line
 abbrev pub asked : List Text → Asked
-asked words = asked_by (fault_of command_line words) (subcommand_of command_line words)
+asked words = asked_unless (fault_of command_line words) (subcommand_of command_line words)
+
+-- the database of this path, which has to be there already or not
+abbrev pub IsDatabaseOf : Text → Bool → Database → Type 0
+IsDatabaseOf path existing database = (database.path.now ≡ path) × (database.existing ≡ existing)
 
 -- the program's reading of the words is what they ask for
 abbrev pub IsReadAs : Asked → Words → Type 0
 IsReadAs (AsksReplay society territory name) (words.Replay office) = IsOfficeOf society territory name office
-IsReadAs (AsksServe path place society territory name) (words.Serve opened read office) = (opened.now ≡ path) × (read ≡ place) × IsOfficeOf society territory name office
+IsReadAs (AsksServe path existing place society territory name) (words.Serve database read office) = IsDatabaseOf path existing database × (read ≡ place) × IsOfficeOf society territory name office
+IsReadAs (AsksAudit path society territory name) (words.Audit opened office) = (opened.now ≡ path) × IsOfficeOf society territory name office
 IsReadAs HasBadName words.BadName = Unit {0}
 IsReadAs HasBadWords words.BadWords = Unit {0}
 IsReadAs _ _ = ⊥
@@ -105,22 +129,31 @@ abbrev pub IsRefusedAs : Asked → ErrorKind → Type 0
 IsRefusedAs asked kind = (kind ≡ OutOfMemory) ⊎ (((kind ≡ DisplayHelp) × (asked ≡ AsksHelp)) ⊎ ((kind ≢ DisplayHelp) × (asked ≡ HasBadWords)))
 
 -- the words ask for a replay at this office
-abbrev pub AsksFor : Asked → Office → Type 0
-AsksFor (AsksReplay society territory name) office = IsOfficeOf society territory name office
-AsksFor _ office = ⊥
+abbrev pub AsksToReplay : Asked → Office → Type 0
+AsksToReplay (AsksReplay society territory name) office = IsOfficeOf society territory name office
+AsksToReplay _ office = ⊥
 
--- the words ask to serve the database of this path at this place and this office
-abbrev pub AsksToServe : Asked → Text → Place → Office → Type 0
-AsksToServe (AsksServe asked there society territory name) path place office = (path ≡ asked) × (place ≡ there) × IsOfficeOf society territory name office
-AsksToServe _ path place office = ⊥
+-- the words ask to serve this database at this place and this office
+abbrev pub AsksToServe : Asked → Database → Place → Office → Type 0
+AsksToServe (AsksServe path existing there society territory name) database place office = IsDatabaseOf path existing database × (place ≡ there) × IsOfficeOf society territory name office
+AsksToServe _ database place office = ⊥
+
+-- the words ask to audit the database of this path as this office's
+abbrev pub AsksToAudit : Asked → Text → Office → Type 0
+AsksToAudit (AsksAudit asked society territory name) path office = (path ≡ asked) × IsOfficeOf society territory name office
+AsksToAudit _ path office = ⊥
 
 -- the words ask for a replay at an office of which this holds
 abbrev pub StartsReplay : Asked → (Office → Type 0) → Type 0
-StartsReplay asked Holds = (office : Office) × AsksFor asked office × Holds office
+StartsReplay asked Holds = (office : Office) × AsksToReplay asked office × Holds office
 
--- the words ask to serve the database of a path at a place and an office of which this holds
-abbrev pub StartsServing : Asked → (Text → Place → Office → Type 0) → Type 0
-StartsServing asked Holds = (path : Text) × (place : Place) × (office : Office) × AsksToServe asked path place office × Holds path place office
+-- the words ask to serve a database at a place and an office of which this holds
+abbrev pub StartsServing : Asked → (Database → Place → Office → Type 0) → Type 0
+StartsServing asked Holds = (database : Database) × (place : Place) × (office : Office) × AsksToServe asked database place office × Holds database place office
+
+-- the words ask to audit the database of a path as an office's, of which this holds
+abbrev pub StartsAudit : Asked → (Text → Office → Type 0) → Type 0
+StartsAudit asked Holds = (path : Text) × (office : Office) × AsksToAudit asked path office × Holds path office
 
 -- the words are wrong, or the name is
 abbrev pub IsWrong : Asked → Type 0

@@ -2,7 +2,7 @@
 ghost use Rattle.std.specs.Prelude.{◌≡◌, IfOk, false};
 ghost use Rattle.clap.specs.Words.{app_of, rule_of};
 ghost use Rattle.clap.specs.declared.builder.command.Command.TheViews.{out-Command as fields_of};
-ghost use Rattle.society_commands.specs.CommandLine.{command_line, number_option, replay_command, required_option, serve_command, with_office};
+ghost use Rattle.society_commands.specs.CommandLine.{audit_command, command_line, flag, number_option, over_database, replay_command, required_option, serve_command, with_office, with_place};
 
 use clap::{Arg, ArgAction, Command, value_parser};
 use std::alloc::{AllocError, Global};
@@ -19,7 +19,7 @@ const MAX_PORT: i64 = 65_535;
 /// Most connections of one run.
 const MAX_CONNECTIONS: i64 = 1_000_000;
 
-/// The command line of the program: `replay` or `serve`, each with its options in any order.
+/// The command line of the program: `replay`, `serve` or `audit`, each with its options in any order.
 pub fn command_line<'a>(alloc: Global) -> Result<Command<'a>, AllocError>
     ensures { IfOk result (λ r. app_of r ≡ command_line) }
 {
@@ -28,7 +28,8 @@ pub fn command_line<'a>(alloc: Global) -> Result<Command<'a>, AllocError>
         .subcommand_required(true)
         .disable_help_subcommand(true)
         .subcommand(replay_command(alloc)?)?
-        .subcommand(serve_command(alloc)?)
+        .subcommand(serve_command(alloc)?)?
+        .subcommand(audit_command(alloc)?)
 }
 
 // Answers on standard output what came on standard input.
@@ -45,21 +46,54 @@ fn replay_command<'a>(alloc: Global) -> Result<Command<'a>, AllocError>
 fn serve_command<'a>(alloc: Global) -> Result<Command<'a>, AllocError>
     ensures { IfOk result (λ r. (app_of r ≡ serve_command) × ((fields_of r).has_globals ≡ false)) }
 {
-    let database = required(alloc, "db", "PATH").help(
+    let command = over_database(
+        alloc,
+        "serve",
+        "Listen on this machine and answer the requests of connections",
         "File of the office's database, made where there is none",
-    );
+    )?;
+    let existing = flag(alloc, "existing").help("Serve only a file that holds an office already");
+    with_office(alloc, with_place(alloc, command.arg(existing)?)?)
+}
+
+// Tells whether a database is sound.
+fn audit_command<'a>(alloc: Global) -> Result<Command<'a>, AllocError>
+    ensures { IfOk result (λ r. (app_of r ≡ audit_command) × ((fields_of r).has_globals ≡ false)) }
+{
+    let command = over_database(
+        alloc,
+        "audit",
+        "Tell whether a file holds the office's book, and write nothing to it",
+        "File of the office's database",
+    )?;
+    with_office(alloc, command)
+}
+
+// A command over the database at a path.
+fn over_database<'a>(
+    alloc: Global,
+    name: &'a str,
+    about: &'a str,
+    help: &'a str,
+) -> Result<Command<'a>, AllocError>
+    ensures { IfOk result (λ r. (app_of r ≡ over_database name.entry.now) × ((fields_of r).has_globals ≡ false)) }
+{
+    let database = required(alloc, "db", "PATH").help(help);
+    Command::new(alloc, name).about(about).arg(database)
+}
+
+// The command with the options that say where to listen, and for how long.
+fn with_place<'a>(alloc: Global, command: Command<'a>) -> Result<Command<'a>, AllocError>
+    ensures { IfOk result (λ r. (app_of r ≡ with_place (app_of command.entry))
+        × ((fields_of r).has_globals ≡ (fields_of command.entry).has_globals)) }
+{
     let port = required(alloc, "port", "N")
         .value_parser(value_parser!(u16).range(1..=MAX_PORT))
         .help("Port of this machine, 1 to 65535");
     let connections = required(alloc, "connections", "N")
         .value_parser(value_parser!(u32).range(1..=MAX_CONNECTIONS))
         .help("Connections to serve, one after another, 1 to 1000000");
-    let command = Command::new(alloc, "serve")
-        .about("Listen on this machine and answer the requests of connections")
-        .arg(database)?
-        .arg(port)?
-        .arg(connections)?;
-    with_office(alloc, command)
+    command.arg(port)?.arg(connections)
 }
 
 // The command with the options that name an office.
@@ -89,4 +123,14 @@ fn required<'a>(alloc: Global, name: &'a str, value: &'a str) -> Arg<'a>
         .value_name(value)
         .action(ArgAction::Set)
         .required(true)
+}
+
+// An option without a value, which may be given once.
+fn flag<'a>(alloc: Global, name: &'a str) -> Arg<'a>
+    ensures rule { rule_of result ≡ flag name.entry.now }
+    ensures local { result.global ≡ false }
+{
+    Arg::new(alloc, name)
+        .long(name)
+        .action(ArgAction::SetTrue)
 }

@@ -1,7 +1,7 @@
 //! Connections are served one after another, and a line is printed for each.
 ghost use Rattle.std.specs.Prelude.{decimal, IfErr, IfOk, OnOk, OnErr};
 ghost use Rattle.http_desk.specs.Serves.{IsGivenUp, IsServed, KeepsTurns, NeitherFails};
-ghost use Rattle.society_commands.specs.Connections.{Brings, Prints, ServesConnections, StopsEarly, connection_line, outcome_text};
+ghost use Rattle.society_commands.specs.Connections.{ServesOne, Prints, ServesConnections, StopsEarly, connection_line, outcome_text};
 ghost use Rattle.society_commands.specs.Replays.{most_turns};
 
 use crate::replaying::{TURNS, fault_name};
@@ -59,7 +59,7 @@ fn serve_stream<S: Store>(
     desk: &mut Desk<S>,
     stream: &TcpStream,
 ) -> Result<Served, DeskFault>
-    ensures { Brings S.state desk.old desk.new result }
+    ensures { ServesOne S.state desk.old desk.new result }
 {
     bound_waits(stream);
     let mut reader = Counted::new(stream);
@@ -74,7 +74,7 @@ fn serve_between<S: Store, R: Read, W: Write>(
     reader: &mut Counted<R>,
     writer: &mut Counted<W>,
 ) -> Result<Served, DeskFault>
-    ensures brings { Brings S.state desk.old desk.new result }
+    ensures brings { ServesOne S.state desk.old desk.new result }
     // All that `serve` says, with as many turns as `replay` has.
     ensures kept { OnOk result (NeitherFails reader.old reader.new writer.old writer.new) }
     ensures served { IfOk result

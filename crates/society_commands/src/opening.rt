@@ -1,64 +1,28 @@
 //! The office over a database: how one is opened, and what is said where it is not.
-ghost use Rattle.std.specs.Prelude.{◌≡◌, ◌⊎◌, IfOk, List, ℕ, false};
+ghost use Rattle.std.specs.Prelude.{◌≡◌, ◌⊎◌, IfErr, IfOk, false};
+ghost use Rattle.sqlite.specs.Files.{file_state};
 ghost use Rattle.sqlite.specs.Held.{state};
-ghost use Rattle.sqlite.specs.State as connection;
-ghost use Rattle.society_commands.specs.Connections.{IsFound, LeavesBroken, LeavesServed, ServesOpened, StopsServingOpened};
-ghost use Rattle.society_commands.specs.Refusals.{database_fault, opening_fault};
+ghost use Rattle.society_commands.specs.Closing.{IsLeftClosed};
+ghost use Rattle.society_commands.specs.Connections.{IsNotOpened, IsOver, LeavesBroken, LeavesServed, ServesOpened, StopsServingOpened};
+ghost use Rattle.society_commands.specs.Refusals.{database_fault};
 
+use crate::closing::close_left;
+use crate::host::OpenDatabase;
 use crate::replaying::BROKEN_OFF;
 use crate::serving::serve_store;
-use crate::words::Place;
+use crate::words::{Database, Place};
 use http_desk::Counted;
 use share_rules::Office;
 use society_core::{Desk, Store};
 use society_tables::{OpenFault, Tables};
-use sqlite::{Alter, Connection, Error, ErrorCode, FileFrom, FileStore, Wary};
+use sqlite::{Alter, Connection, FileStore};
 use std::alloc::Global;
 use std::io::Write;
 use std::net::{Net, TcpListener, TcpStream};
 
-/// What opens databases by their paths.
-pub trait OpenDatabase {
-    /// What holds a database.
-    type Medium: Alter + Drop;
-
-    /// What a connection may show that was opened at a path.
-    ghost may_open: { List ℕ → connection.State → Type 0 };
-
-    /// A connection to the database at a path, which is made where there is none. `Memory` where memory was refused, `Schema` where the
-    /// file holds no tables that can be read, `Damaged` where it is not as it was written, else `Store`.
-    fn open_database(&self, path: &str) -> Result<Connection<Self::Medium>, OpenFault>
-        ensures opened { IfOk result (λ c. may_open path.now (state Self.Medium.Store c)) }
-        ensures idle { IfOk result (λ c. c.in_transaction ≡ false) };
-}
-
-impl OpenDatabase for HostRuntime {
-    type Medium = FileStore<FileFrom<Wary>>;
-
-    ghost may_open = { λ path s. IsFound s };
-
-    fn open_database(&self, path: &str) -> Result<Connection<Self::Medium>, OpenFault> {
-        match Connection::open_from(self, path, false, Wary) {
-            Ok(connection) => Ok(connection),
-            Err((error, _)) => Err(fault_of(&error)),
-        }
-    }
-}
-
-/// What an error of opening a file says.
-fn fault_of(error: &Error) -> OpenFault
-    ensures { result ≡ opening_fault error.now }
-{
-    match error {
-        Error::SqliteFailure(ErrorCode::OutOfMemory) => OpenFault::Memory,
-        Error::SqliteFailure(ErrorCode::NotADatabase) => OpenFault::Schema,
-        Error::SqliteFailure(ErrorCode::DatabaseCorrupt) => OpenFault::Damaged,
-        _ => OpenFault::Store,
-    }
-}
-
-/// Opens the database at a path as the office's, and serves so many connections over it. Answers the exit status: 0, or 1 with
-/// one line on `err` where the database is not opened, or the port cannot be listened on or a connection not accepted.
+/// Opens a database as the office's, serves so many connections over it, and closes it, so that its file alone is the book. Answers
+/// the exit status: 0, or 1 with one line on `err` where the database is not opened, or the port cannot be listened on or a connection
+/// not accepted. That it can't be closed changes no status: its file and the log together are the book then, as while it was open.
 pub fn serve_file<
     H: Net<Listener = TcpListener, Stream = TcpStream> + OpenDatabase,
     W: Write,
@@ -66,23 +30,28 @@ pub fn serve_file<
 >(
     host: &H,
     alloc: Global,
-    path: &str,
+    database: Database<'_>,
     place: Place,
     office: &Office,
     out: &mut Counted<W>,
     err: &mut E,
 ) -> u8
     ensures status { (result ≡ 0) ⊎ (result ≡ 1) }
-    ensures served { result ≡ 0 → ServesOpened (state H.Medium.Store) (H.may_open path.now)
-        ⟦<Tables<H::Medium> as Store>⟧.state office.now W.contents out.old out.new place.connections }
+    ensures served { result ≡ 0 → ServesOpened file_state (H.may_open database.path.now) ⟦<Tables<FileStore<H::File>> as Store>⟧.state
+        (IsLeftClosed ⟦<Tables<FileStore<H::File>> as Store>⟧.state (λ t. t.conn))
+        office.now database.existing W.contents out.old out.new place.connections }
     // Nothing is printed where the database is not opened, or nothing can be listened on; else fewer connections came. In each case
     // the clause names what is left of the database.
-    ensures broken_off { result ≡ 1 → StopsServingOpened (state H.Medium.Store) (H.may_open path.now)
-        ⟦<Tables<H::Medium> as Store>⟧.state office.now W.contents out.old out.new place.connections }
+    ensures broken_off { result ≡ 1 → StopsServingOpened file_state (H.may_open database.path.now) ⟦<Tables<FileStore<H::File>> as Store>⟧.state
+        (IsLeftClosed ⟦<Tables<FileStore<H::File>> as Store>⟧.state (λ t. t.conn))
+        office.now database.existing W.contents out.old out.new place.connections }
 {
-    match host.open_database(path) {
+    match host.open_database(database) {
         Ok(connection) => {
-            let (status, _left) = serve_database(host, alloc, connection, place, office, out, err);
+            let existing = database.existing;
+            let (status, left) =
+                serve_database(host, alloc, connection, existing, place, office, out, err);
+            let _closed = close_left(left, err);
             status
         }
         Err(fault) => open_fault(fault, err),
@@ -100,6 +69,7 @@ fn serve_database<
     net: &N,
     alloc: Global,
     connection: Connection<M>,
+    existing: bool,
     place: Place,
     office: &Office,
     out: &mut Counted<W>,
@@ -107,18 +77,36 @@ fn serve_database<
 ) -> (u8, Result<Tables<M>, Connection<M>>)
     requires { connection.in_transaction ≡ false }
     ensures status { (result.0 ≡ 0) ⊎ (result.0 ≡ 1) }
-    ensures served { result.0 ≡ 0 → LeavesServed ⟦<Tables<M> as Store>⟧.state office.now (state M.Store connection)
+    ensures served { result.0 ≡ 0 → LeavesServed ⟦<Tables<M> as Store>⟧.state office.now existing (state M.Store connection)
         result.1 W.contents out.old out.new place.connections }
-    ensures broken_off { result.0 ≡ 1 → LeavesBroken (state M.Store) ⟦<Tables<M> as Store>⟧.state office.now (state M.Store connection)
+    ensures broken_off { result.0 ≡ 1 → LeavesBroken (state M.Store) ⟦<Tables<M> as Store>⟧.state office.now existing (state M.Store connection)
         result.1 W.contents out.old out.new place.connections }
 {
-    match Tables::open(alloc, connection, office) {
+    match open_tables(alloc, connection, existing, office) {
         Ok(tables) => {
             let mut desk = Desk::new(tables);
             let status = serve_store(net, alloc, &mut desk, place, out, err);
             (status, Ok(desk.into_store()))
         }
         Err((fault, connection)) => (open_fault(fault, err), Err(connection)),
+    }
+}
+
+/// The office's tables in a database, which has to hold them already or gets them where it has none.
+fn open_tables<M: Alter>(
+    alloc: Global,
+    connection: Connection<M>,
+    existing: bool,
+    office: &Office,
+) -> Result<Tables<M>, (OpenFault, Connection<M>)>
+    requires { connection.in_transaction ≡ false }
+    ensures over { IfOk result (λ t. IsOver office.now existing (state M.Store connection) (⟦<Tables<M> as Store>⟧.state t)) }
+    ensures fault { IfErr result (λ e. IsNotOpened office.now existing (state M.Store connection) (state M.Store e.1)) }
+{
+    if existing {
+        Tables::open_existing(alloc, connection, office)
+    } else {
+        Tables::open(alloc, connection, office)
     }
 }
 

@@ -3,14 +3,17 @@ ghost use Rattle.std.specs.Prelude.{◌≡◌, ◌≢◌, ◌⊎◌, IfErr, IfOk
 ghost use Rattle.std.specs.IoError.{error_kind};
 ghost use Rattle.clap.specs.Words.{kind_of};
 ghost use Rattle.clap.specs.declared.error.kind.ErrorKind.TheVariants.{DisplayHelp, OutOfMemory};
-ghost use Rattle.sqlite.specs.Held.{state};
-ghost use Rattle.society_commands.specs.Connections.{ServesOpened, StopsServingOpened};
+ghost use Rattle.sqlite.specs.Files.{file_state};
+ghost use Rattle.society_commands.specs.Closing.{IsLeftClosed};
+ghost use Rattle.society_commands.specs.Connections.{FindsSound, ServesOpened, StopsServingOpened};
 ghost use Rattle.society_commands.specs.Replays.{Replays, BreaksOff};
-ghost use Rattle.society_commands.specs.Refusals.{ended_with, no_words_by, status_without};
-ghost use Rattle.society_commands.specs.Words.{IsWrong, StartsReplay, StartsServing, AsksHelp, asked};
+ghost use Rattle.society_commands.specs.Refusals.{status_after, no_words_by, status_without};
+ghost use Rattle.society_commands.specs.Words.{IsWrong, StartsAudit, StartsReplay, StartsServing, AsksHelp, asked};
 
+use crate::auditing::audit_file;
 use crate::connections::print;
-use crate::opening::{OpenDatabase, serve_file};
+use crate::host::OpenDatabase;
+use crate::opening::serve_file;
 use crate::replaying::{BROKEN_OFF, SERVED, replay, report};
 use crate::words::{Words, words_in};
 use clap::Error;
@@ -18,6 +21,7 @@ use clap::error::ErrorKind as ClapKind;
 use http_desk::{Counted, DeskFault, FaultKind};
 use society_core::Store;
 use society_tables::Tables;
+use sqlite::FileStore;
 use std::alloc::Global;
 use std::io::{self, ErrorKind, Read, Write};
 use std::net::{Net, TcpListener, TcpStream};
@@ -35,9 +39,9 @@ pub enum NoWords {
 }
 
 /// Does what the program's words ask for: replays the reader at the office that they name, or serves connections there over the
-/// database that they name, or tells of the words on `out`; where they are wrong, says so on `err` and reads and writes nothing
-/// else. Answers the exit status: that of `replay` or of `serve_file`, 0 for help, 2 for wrong words; else memory was refused for
-/// the words.
+/// database that they name, or audits that database, or tells of the words on `out`; where they are wrong, says so on `err` and reads
+/// and writes nothing else. Answers the exit status: that of `replay`, `serve_file` or `audit_file`, 0 for help, 2 for wrong words;
+/// else memory was refused for the words.
 pub fn start<
     H: Net<Listener = TcpListener, Stream = TcpStream> + OpenDatabase,
     R: Read,
@@ -62,19 +66,25 @@ pub fn start<
     ensures served { IfOk result (λ status. status ≡ 0 → (asked (map string_bytes words.now) ≡ AsksHelp)
         ⊎ (StartsReplay (asked (map string_bytes words.now)) (λ office.
         Replays office R.remaining W.contents reader.old out.old out.new)
-        ⊎ StartsServing (asked (map string_bytes words.now)) (λ path place office.
-        ServesOpened (state H.Medium.Store) (H.may_open path) ⟦<Tables<H::Medium> as Store>⟧.state office W.contents out.old out.new place.connections))) }
+        ⊎ (StartsServing (asked (map string_bytes words.now)) (λ database place office.
+        ServesOpened file_state (H.may_open database.path.now) ⟦<Tables<FileStore<H::File>> as Store>⟧.state
+        (IsLeftClosed ⟦<Tables<FileStore<H::File>> as Store>⟧.state (λ t. t.conn)) office database.existing W.contents out.old out.new place.connections)
+        ⊎ StartsAudit (asked (map string_bytes words.now)) (λ path office.
+        FindsSound file_state (H.may_open path) office W.contents out.old out.new)))) }
     ensures broken_off { IfOk result (λ status. status ≡ 1
         → StartsReplay (asked (map string_bytes words.now)) (λ office.
         BreaksOff office R.remaining W.contents reader.old reader.new out.old out.new)
-        ⊎ StartsServing (asked (map string_bytes words.now)) (λ path place office.
-        StopsServingOpened (state H.Medium.Store) (H.may_open path) ⟦<Tables<H::Medium> as Store>⟧.state office W.contents out.old out.new place.connections)) }
+        ⊎ (StartsServing (asked (map string_bytes words.now)) (λ database place office.
+        StopsServingOpened file_state (H.may_open database.path.now) ⟦<Tables<FileStore<H::File>> as Store>⟧.state
+        (IsLeftClosed ⟦<Tables<FileStore<H::File>> as Store>⟧.state (λ t. t.conn)) office database.existing W.contents out.old out.new place.connections)
+        ⊎ StartsAudit (asked (map string_bytes words.now)) (λ path office. out.new ≡ out.old))) }
 {
     match words_in(alloc, words) {
         Ok(Words::Replay(office)) => Ok(replay(alloc, &office, reader, out, err)),
-        Ok(Words::Serve(path, place, office)) => {
-            Ok(serve_file(host, alloc, path, place, &office, out, err))
+        Ok(Words::Serve(database, place, office)) => {
+            Ok(serve_file(host, alloc, database, place, &office, out, err))
         }
+        Ok(Words::Audit(path, office)) => Ok(audit_file(host, alloc, path, &office, out, err)),
         Ok(Words::BadName) => Ok(refuse(err, "bad name")),
         Ok(Words::BadWords) => Ok(refuse(err, "bad words")),
         Err(error) => explain(alloc, &error, out, err),
@@ -132,7 +142,7 @@ pub fn why_no_words(error: &io::Error) -> NoWords
 /// Ends the program: the status is that of what it did; where its words could not be had one line is written on `err`, and the status
 /// is 2 where one is no text, 1 where memory was refused.
 pub fn ended<E: Write>(outcome: Result<u8, NoWords>, err: &mut E) -> u8
-    ensures { result ≡ ended_with outcome }
+    ensures { result ≡ status_after outcome }
 {
     match outcome {
         Ok(status) => status,

@@ -1,6 +1,6 @@
 ghost use Rattle.std.specs.Prelude.{◌≡◌, IfErr, IfOk, Some, map, string_bytes};
 ghost use Rattle.clap.specs.Words.{found_of, kind_of, rows_of};
-ghost use Rattle.society_commands.specs.Words.{Asked, IsReadAs, IsRefusedAs, asked, asked_at, asked_command, asked_office, asked_serve, number_given, place_of, serving};
+ghost use Rattle.society_commands.specs.Words.{Asked, IsReadAs, IsRefusedAs, asked, asked_at, asked_audit, asked_command, asked_office, asked_serve, auditing, flag_given, number_given, place_given, serving};
 
 use crate::command_line::command_line;
 use clap::{ArgMatches, Error};
@@ -16,13 +16,24 @@ pub struct Place {
     pub connections: u32,
 }
 
+/// Which database is served.
+#[derive(Clone, Copy, Debug)]
+pub struct Database<'a> {
+    /// Where its file is.
+    pub path: &'a str,
+    /// Whether it has to be an office's already; else one is begun where there is none.
+    pub existing: bool,
+}
+
 /// What the program's words ask for.
 #[derive(Debug)]
 pub enum Words<'a> {
     /// To replay standard input at this office.
     Replay(Office),
-    /// To serve connections at this office, over the database of a path.
-    Serve(&'a str, Place, Office),
+    /// To serve connections at this office, over a database.
+    Serve(Database<'a>, Place, Office),
+    /// To audit the database of a path as this office's.
+    Audit(&'a str, Office),
     /// The office's name is none.
     BadName,
     /// Nothing that the program knows.
@@ -41,6 +52,16 @@ fn long_number(options: &ArgMatches<'_>, option: &str) -> Option<u32>
     ensures { result ≡ number_given 32 option.now (rows_of (found_of options.now)) }
 {
     options.get_one::<u32>(option)
+}
+
+/// Whether an option without a value is given.
+fn is_given(options: &ArgMatches<'_>, option: &str) -> bool
+    ensures { result ≡ flag_given option.now (rows_of (found_of options.now)) }
+{
+    match options.get_str(option) {
+        Some(text) => text == "true",
+        None => false,
+    }
 }
 
 /// To replay at the office with these numbers and this name, where there is such an office.
@@ -71,22 +92,31 @@ fn office_in<'a>(options: &ArgMatches<'_>) -> Words<'a>
 
 /// The place that options name.
 fn place_in(options: &ArgMatches<'_>) -> Option<Place>
-    ensures { result ≡ place_of (rows_of (found_of options.now)) }
+    ensures { result ≡ place_given (rows_of (found_of options.now)) }
 {
     let port = short_number(options, "port")?;
     let connections = long_number(options, "connections")?;
     Some(Place { port, connections })
 }
 
-/// To serve the database of a path at this place, where the words ask for a replay.
-fn serve_at<'a>(path: &'a str, place: Place, words: Words<'a>) -> Words<'a>
-    ensures { (a : Asked) → IsReadAs a words.entry → IsReadAs (serving (Some path.entry.now) (Some place) a) result }
+/// To serve a database at this place and the office that the words name.
+fn serve_at<'a>(database: Database<'a>, place: Place, words: Words<'a>) -> Words<'a>
+    ensures { (a : Asked) → IsReadAs a words.entry
+        → IsReadAs (serving (Some database.entry.path.now) database.entry.existing (Some place) a) result }
 {
     match words {
-        Words::Replay(office) => Words::Serve(path, place, office),
-        Words::Serve(other, there, office) => Words::Serve(other, there, office),
-        Words::BadName => Words::BadName,
-        Words::BadWords => Words::BadWords,
+        Words::Replay(office) => Words::Serve(database, place, office),
+        other => other,
+    }
+}
+
+/// To audit the database of a path as that of the office that the words name.
+fn audit_at<'a>(path: &'a str, words: Words<'a>) -> Words<'a>
+    ensures { (a : Asked) → IsReadAs a words.entry → IsReadAs (auditing (Some path.entry.now) a) result }
+{
+    match words {
+        Words::Replay(office) => Words::Audit(path, office),
+        other => other,
     }
 }
 
@@ -97,8 +127,19 @@ fn serve_in<'a>(options: &ArgMatches<'a>) -> Words<'a>
     let Some(path) = options.get_str("db") else {
         return Words::BadWords;
     };
-    match place_in(options) {
-        Some(place) => serve_at(path, place, office_in(options)),
+    let Some(place) = place_in(options) else {
+        return Words::BadWords;
+    };
+    let existing = is_given(options, "existing");
+    serve_at(Database { path, existing }, place, office_in(options))
+}
+
+/// To audit as options say.
+fn audit_in<'a>(options: &ArgMatches<'a>) -> Words<'a>
+    ensures { IsReadAs (asked_audit (rows_of (found_of options.entry.now))) result }
+{
+    match options.get_str("db") {
+        Some(path) => audit_at(path, office_in(options)),
         None => Words::BadWords,
     }
 }
@@ -107,10 +148,10 @@ fn serve_in<'a>(options: &ArgMatches<'a>) -> Words<'a>
 fn command_in<'a>(command: &str, options: &ArgMatches<'a>) -> Words<'a>
     ensures { IsReadAs (asked_command command.now (rows_of (found_of options.entry.now))) result }
 {
-    if command == "serve" {
-        serve_in(options)
-    } else {
-        office_in(options)
+    match command {
+        "serve" => serve_in(options),
+        "audit" => audit_in(options),
+        _ => office_in(options),
     }
 }
 

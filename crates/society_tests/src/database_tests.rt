@@ -5,7 +5,7 @@ use crate::checks::{holds, is_status, is_text};
 use crate::day_tests::{ANSWERS, DAY};
 use http_desk::{Counted, serve};
 use share_rules::Office;
-use society_commands::{OpenDatabase, Place, TURNS, serve_file};
+use society_commands::{Database, Host, OpenDatabase, Place, TURNS, audit_file, serve_file};
 use society_core::Desk;
 use society_tables::{OpenFault, Tables};
 use sqlite::{Connection, FileFrom, FileStore, Wary};
@@ -18,7 +18,11 @@ use test_bodies::office;
 
 /// A desk over the database at a path, opened as the office's.
 fn opened(rt: &HostRuntime, path: &str) -> Result<Desk<Tables<FileStore<FileFrom<Wary>>>>, Fail> {
-    let Ok(connection) = rt.open_database(path) else {
+    let database = Database {
+        path,
+        existing: false,
+    };
+    let Ok(connection) = Host::<Wary>::new(rt).open_database(database) else {
         return Err(Fail::new("a file"));
     };
     if !connection.is_autocommit() {
@@ -62,11 +66,11 @@ fn a_day_over_a_file(rt: HostRuntime) -> Result<(), Fail> {
 
 /// A host with one peer, which comes where the office listens and goes without a request.
 #[derive(Drop)]
-struct Host<'a> {
+struct Visited<'a> {
     rt: &'a HostRuntime,
 }
 
-impl<'a> Net for Host<'a> {
+impl<'a> Net for Visited<'a> {
     type Stream = TcpStream;
 
     type Listener = TcpListener;
@@ -82,18 +86,24 @@ impl<'a> Net for Host<'a> {
     }
 }
 
-impl<'a> OpenDatabase for Host<'a> {
-    type Medium = FileStore<FileFrom<Wary>>;
+impl<'a> OpenDatabase for Visited<'a> {
+    type File = FileFrom<Wary>;
 
     ghost may_open = { λ path s. ⊤ };
 
-    fn open_database(&self, path: &str) -> Result<Connection<Self::Medium>, OpenFault> {
-        self.rt.open_database(path)
+    fn open_database(
+        &self,
+        database: Database<'_>,
+    ) -> Result<Connection<FileStore<Self::File>>, OpenFault> {
+        Host::<Wary>::new(self.rt).open_database(database)
     }
 }
 
-/// What is printed on standard output and on standard error where one connection is served over the database at a path, and the status.
-fn served(rt: &HostRuntime, path: &str, society: u16) -> Result<(Vec<u8>, Vec<u8>, u8), Fail> {
+/// What is printed on standard output and on standard error, and the status.
+type Printed = (Vec<u8>, Vec<u8>, u8);
+
+/// What is printed where one connection is served over a database.
+fn served(rt: &HostRuntime, database: Database<'_>, society: u16) -> Result<Printed, Fail> {
     let alloc = rt.alloc();
     let office = Office::new(society, 40, b"EXAMPLE SOCIETY").ok_or("an office")?;
     let place = Place {
@@ -103,9 +113,9 @@ fn served(rt: &HostRuntime, path: &str, society: u16) -> Result<(Vec<u8>, Vec<u8
     let mut out = Counted::new(Vec::<u8>::new(alloc));
     let mut err = Vec::<u8>::new(alloc);
     let status = serve_file(
-        &Host { rt },
+        &Visited { rt },
         alloc,
-        path,
+        database,
         place,
         &office,
         &mut out,
@@ -114,10 +124,30 @@ fn served(rt: &HostRuntime, path: &str, society: u16) -> Result<(Vec<u8>, Vec<u8
     Ok((out.into_inner(), err, status))
 }
 
-/// Rows of a path, a society, the status and what is printed on standard output and on standard error, in this order.
-const SERVED: [(&str, u16, u8, &str, &str); 4] = [
+/// What is printed where the database at a path is audited.
+fn audited(rt: &HostRuntime, path: &str, society: u16) -> Result<Printed, Fail> {
+    let alloc = rt.alloc();
+    let office = Office::new(society, 40, b"EXAMPLE SOCIETY").ok_or("an office")?;
+    let mut out = Counted::new(Vec::<u8>::new(alloc));
+    let mut err = Vec::<u8>::new(alloc);
+    let status = audit_file(&Host::<Wary>::new(rt), alloc, path, &office, &mut out, &mut err);
+    Ok((out.into_inner(), err, status))
+}
+
+/// Rows of a path, whether an office has to be there, a society, the status and what is printed on standard output and on standard
+/// error, in this order.
+const SERVED: [(&str, bool, u16, u8, &str, &str); 6] = [
     (
         "served.db",
+        true,
+        900,
+        1,
+        "",
+        "society: database empty\n",
+    ),
+    (
+        "served.db",
+        false,
         900,
         0,
         "listening\nconnection 1: 0 requests\n",
@@ -125,6 +155,7 @@ const SERVED: [(&str, u16, u8, &str, &str); 4] = [
     ),
     (
         "served.db",
+        false,
         901,
         1,
         "",
@@ -132,22 +163,74 @@ const SERVED: [(&str, u16, u8, &str, &str); 4] = [
     ),
     (
         "served.db",
+        false,
         900,
         0,
         "listening\nconnection 1: 0 requests\n",
         "",
     ),
-    (":memory:", 900, 1, "", "society: database store\n"),
+    (
+        "served.db",
+        true,
+        900,
+        0,
+        "listening\nconnection 1: 0 requests\n",
+        "",
+    ),
+    (":memory:", false, 900, 1, "", "society: database store\n"),
 ];
 
 #[test]
 fn connections_over_a_file(rt: HostRuntime) -> Result<(), Fail> {
     empty(&rt, "served.db", "served.db-wal")?;
-    for (path, society, status, printed, told) in SERVED {
-        let (out, err, ended) = served(&rt, path, society)?;
+    for (path, existing, society, status, printed, told) in SERVED {
+        let (out, err, ended) = served(&rt, Database { path, existing }, society)?;
         is_status(&rt, path, ended, status);
         is_text(&rt, path, &out, printed.as_bytes());
         is_text(&rt, path, &err, told.as_bytes());
     }
+    Ok(())
+}
+
+/// Rows of a society, the status and what is printed on standard output and on standard error where the day's file is audited.
+const AUDITED: [(u16, u8, &str, &str); 2] = [
+    (900, 0, "sound\n", ""),
+    (901, 1, "", "society: database of another office\n"),
+];
+
+/// A file that is audited keeps its bytes, and its log too.
+#[test]
+fn a_file_that_is_audited(rt: HostRuntime) -> Result<(), Fail> {
+    empty(&rt, "audited.db", "audited.db-wal")?;
+    answered(&rt, "audited.db", DAY)?;
+    let file = fs::read(&rt, "audited.db")?;
+    let log = fs::read(&rt, "audited.db-wal")?;
+    for (society, status, printed, told) in AUDITED {
+        let (out, err, ended) = audited(&rt, "audited.db", society)?;
+        is_status(&rt, printed, ended, status);
+        is_text(&rt, printed, &out, printed.as_bytes());
+        is_text(&rt, printed, &err, told.as_bytes());
+        holds(&rt, "its file", fs::read(&rt, "audited.db")? == file);
+        holds(&rt, "its log", fs::read(&rt, "audited.db-wal")? == log);
+    }
+    Ok(())
+}
+
+/// After a normal end the database file alone is the book: it opens without its log, with what had come before.
+#[test]
+fn the_file_alone_is_the_book(rt: HostRuntime) -> Result<(), Fail> {
+    empty(&rt, "alone.db", "alone.db-wal")?;
+    let (before, behind) = DAY.split_at(3_992);
+    let mut written = answered(&rt, "alone.db", before)?;
+    let database = Database {
+        path: "alone.db",
+        existing: true,
+    };
+    let (_, err, status) = served(&rt, database, 900)?;
+    is_status(&rt, "a normal end", status, 0);
+    is_text(&rt, "standard error", &err, b"");
+    fs::write(&rt, "alone.db-wal", "")?;
+    written.extend_from_slice(answered(&rt, "alone.db", behind)?.as_slice())?;
+    is_text(&rt, "the day's answers", &written, ANSWERS);
     Ok(())
 }

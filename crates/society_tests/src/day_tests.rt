@@ -1,7 +1,8 @@
 //! One day of the office, as it lies in the examples: what `replay` answers to its requests, byte for byte.
 use crate::checks::{is_status, is_text};
 use http_desk::Counted;
-use society_commands::start;
+use society_commands::{Host, start};
+use sqlite::Wary;
 use std::process::Abort;
 use std::test::Fail;
 
@@ -35,8 +36,9 @@ fn a_day_is_answered(rt: HostRuntime) -> Result<(), Fail> {
     let mut reader = Counted::new(DAY);
     let mut out = Counted::new(Vec::<u8>::new(alloc));
     let mut err = Vec::<u8>::new(alloc);
+    let host = Host::<Wary>::new(&rt);
     let status = start(
-        &rt,
+        &host,
         alloc,
         words.as_slice(),
         &mut reader,

@@ -1,7 +1,8 @@
 //! Words of the program: what is answered, and what is said of them.
 use crate::checks::{holds, is_status, is_text};
 use http_desk::Counted;
-use society_commands::start;
+use society_commands::{Host, start};
+use sqlite::Wary;
 use std::alloc::{AllocError, Global};
 use std::fs;
 use std::net::{Ipv4Addr, TcpListener};
@@ -31,7 +32,7 @@ const TAKEN: [Row; 6] = [
 ];
 
 /// Words that are wrong: what `clap` says of them.
-const WRONG: [Row; 28] = [
+const WRONG: [Row; 32] = [
     (
         "",
         2,
@@ -155,6 +156,26 @@ const WRONG: [Row; 28] = [
         "error: a value is required for '--name <TEXT>' but none was supplied\n",
     ),
     (
+        "serve|--existing|--existing|--db|F|--port|1|--connections|1|--society|900|--territory|40|--name|X",
+        2,
+        "error: the argument '--existing' cannot be used multiple times\n",
+    ),
+    (
+        "replay|--existing|--society|900|--territory|40|--name|X",
+        2,
+        "error: unexpected argument '--existing' found\n",
+    ),
+    (
+        "audit|--society|900|--territory|40|--name|X",
+        2,
+        "error: the following required arguments were not provided:\n  --db <PATH>\n",
+    ),
+    (
+        "audit|--db|F|--port|1|--society|900|--territory|40|--name|X",
+        2,
+        "error: unexpected argument '--port' found\n",
+    ),
+    (
         "replay|--society|900|--territory|40|--name|-X",
         2,
         "error: unexpected argument '-X' found\n",
@@ -175,6 +196,7 @@ Usage: society <COMMAND>
 Commands:
   replay  Answer the requests on standard input on standard output
   serve   Listen on this machine and answer the requests of connections
+  audit   Tell whether a file holds the office's book, and write nothing to it
 
 Options:
   -h, --help  Print help
@@ -183,10 +205,11 @@ Options:
 /// What `serve --help` tells.
 const SERVE_HELP: &str = "Listen on this machine and answer the requests of connections
 
-Usage: society serve --db <PATH> --port <N> --connections <N> --society <N> --territory <N> --name <TEXT>
+Usage: society serve [OPTIONS] --db <PATH> --port <N> --connections <N> --society <N> --territory <N> --name <TEXT>
 
 Options:
       --db <PATH>        File of the office's database, made where there is none
+      --existing         Serve only a file that holds an office already
       --port <N>         Port of this machine, 1 to 65535
       --connections <N>  Connections to serve, one after another, 1 to 1000000
       --society <N>      Number of the society, 1 to 999
@@ -194,6 +217,31 @@ Options:
       --name <TEXT>      Name of the office, 1 to 45 bytes of printable ASCII
   -h, --help             Print help
 ";
+
+/// What `audit --help` tells.
+const AUDIT_HELP: &str = "Tell whether a file holds the office's book, and write nothing to it
+
+Usage: society audit --db <PATH> --society <N> --territory <N> --name <TEXT>
+
+Options:
+      --db <PATH>      File of the office's database
+      --society <N>    Number of the society, 1 to 999
+      --territory <N>  Territory of the office, 1 to 9999
+      --name <TEXT>    Name of the office, 1 to 45 bytes of printable ASCII
+  -h, --help           Print help
+";
+
+/// Words that want a file of an office, at a path where none is.
+const WITHOUT_A_FILE: [&str; 2] = [
+    "serve|--existing|--db|none.db|--port|1|--connections|1|--society|900|--territory|40|--name|X",
+    "audit|--db|none.db|--society|900|--territory|40|--name|X",
+];
+
+/// The same at a path where an empty file is, without a log.
+const OVER_AN_EMPTY_FILE: [&str; 2] = [
+    "serve|--existing|--db|E|--port|1|--connections|1|--society|900|--territory|40|--name|X",
+    "audit|--db|E|--society|900|--territory|40|--name|X",
+];
 
 /// The program's words, its own name first.
 fn list_of(alloc: Global, words: &str) -> Result<Vec<String>, AllocError> {
@@ -216,7 +264,8 @@ fn started(rt: &HostRuntime, words: &str) -> Result<(Vec<u8>, Vec<u8>, u8), Fail
     let mut reader = Counted::new(input.as_slice());
     let mut out = Counted::new(Vec::<u8>::new(alloc));
     let mut err = Vec::<u8>::new(alloc);
-    let status = start(rt, alloc, list.as_slice(), &mut reader, &mut out, &mut err).map_err(
+    let host = Host::<Wary>::new(rt);
+    let status = start(&host, alloc, list.as_slice(), &mut reader, &mut out, &mut err).map_err(
         |_| "memory",
     )?;
     Ok((out.into_inner(), err, status))
@@ -247,11 +296,42 @@ fn words_that_are_wrong(rt: HostRuntime) -> Result<(), Fail> {
 
 #[test]
 fn help_is_told(rt: HostRuntime) -> Result<(), Fail> {
-    for (words, text) in [("--help", HELP), ("-h", HELP), ("serve|--help", SERVE_HELP)] {
+    for (words, text) in [
+        ("--help", HELP),
+        ("-h", HELP),
+        ("serve|--help", SERVE_HELP),
+        ("audit|--help", AUDIT_HELP),
+    ] {
         let (out, err, told) = started(&rt, words)?;
         is_status(&rt, words, told, 0);
         is_text(&rt, words, &out, text.as_bytes());
         is_text(&rt, words, &err, b"");
+    }
+    Ok(())
+}
+
+#[test]
+fn a_file_that_is_not_there(rt: HostRuntime) -> Result<(), Fail> {
+    for words in WITHOUT_A_FILE {
+        let (out, err, told) = started(&rt, words)?;
+        is_status(&rt, words, told, 1);
+        is_text(&rt, words, &err, b"society: database empty\n");
+        is_text(&rt, words, &out, b"");
+        holds(&rt, words, !fs::exists(&rt, "none.db")? && !fs::exists(&rt, "none.db-wal")?);
+    }
+    Ok(())
+}
+
+#[test]
+fn a_file_that_is_empty(rt: HostRuntime) -> Result<(), Fail> {
+    fs::write(&rt, "E", "")?;
+    for words in OVER_AN_EMPTY_FILE {
+        let (out, err, told) = started(&rt, words)?;
+        is_status(&rt, words, told, 1);
+        is_text(&rt, words, &err, b"society: database empty\n");
+        is_text(&rt, words, &out, b"");
+        let length = fs::metadata(&rt, "E")?.len();
+        holds(&rt, words, length == 0 && !fs::exists(&rt, "E-wal")?);
     }
     Ok(())
 }

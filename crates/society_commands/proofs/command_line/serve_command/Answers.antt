@@ -1,33 +1,19 @@
-use Rattle.std.proofs.Common.{rules, ◌≡◌, ◌∙◌, ap, codes, false, pos}
+use Rattle.std.proofs.Common.{◌≡◌, ◌∙◌, ap, codes}
 use Rattle.std.proofs.lemmas.Result.{IfOk-weaker}
-use Rattle.clap.specs.Simple.{app_of, app_of_fields, new_app, with_rule}
+use Rattle.clap.specs.Simple.{with_rule}
 use Rattle.clap.specs.Walk.{rule_of}
-use Rattle.clap.specs.declared.builder.command.Command.TheViews.{out-Command}
-use Rattle.clap.specs.declared.builder.value_parser.ValueParser.TheVariants as parser
-use Rattle.society_commands.specs.CommandLine.{number_option, required_option, with_office}
-use Rattle.society_commands.proofs.OptionLemmas.{numbered, one_more}
+use Rattle.society_commands.specs.CommandLine.{flag, with_office, with_place}
+use Rattle.society_commands.proofs.OptionLemmas.{one_more}
 use Rattle.society_commands.proofs.command_line.serve_command.Goals as goal
 
 pub returns : goal.returns
 returns c =
-    let within : c.range.result ≡ parser.Signed (pos 1) (pos 65535) = rw (c.value_parser.ensures, c.new.ensures.start, c.new.ensures.end) at c.range.ensures in
-    let within-2 : c.range-2.result ≡ parser.Signed (pos 1) (pos 1000000) = rw (c.value_parser-3.ensures, c.new-2.ensures.start, c.new-2.ensures.end) at c.range-2.ensures in
-    let given = c.value_parser-2.ensures.given in
-    let given-2 = c.value_parser-4.ensures.given in
-    let port = numbered c.required-2.result c.value_parser-2.result (codes "port") given.0 1 65535 c.required-2.ensures.rule c.value_parser-2.ensures.others given.1 (given.2 ∙ within) in
-    let connections = numbered c.required-3.result c.value_parser-4.result (codes "connections") given-2.0 1 1000000 c.required-3.ensures.rule c.value_parser-4.ensures.others given-2.1 (given-2.2 ∙ within-2) in
-    let database_is : rule_of c.help-database.result ≡ required_option (codes "db") = ap rule_of c.help-database.ensures ∙ c.required.ensures.rule in
-    let port_is : rule_of c.help-port.result ≡ number_option (codes "port") 1 65535 = ap rule_of c.help-port.ensures ∙ port in
-    let connections_is : rule_of c.help-connections.result ≡ number_option (codes "connections") 1 1000000 = ap rule_of c.help-connections.ensures ∙ connections in
-    let named : app_of c.about.result ≡ new_app (codes "serve") = ap app_of_fields c.about.ensures ∙ c.new-3.ensures.app in
-    let bare : (out-Command c.about.result).has_globals ≡ false = ap (λ f. f.has_globals) c.about.ensures ∙ c.new-3.ensures.local in
-    let first = one_more c.about.result c.help-database.result (required_option (codes "db")) c.arg.result c.arg.ensures database_is (ap (λ a. a.global) c.help-database.ensures ∙ c.required.ensures.local) in
-    let second = one_more c.in_ok-arg.field-0 c.help-port.result (number_option (codes "port") 1 65535) c.arg-2.result c.arg-2.ensures port_is (search rules) in
-    let third = one_more c.in_ok-arg-2.field-0 c.help-connections.result (number_option (codes "connections") 1 1000000) c.arg-3.result c.arg-3.ensures connections_is (search rules) in
-    let first_is = rw c.in_ok-arg.was at first in
-    let second_is = rw c.in_ok-arg-2.was at second in
-    let third_is = rw c.in_ok-command.was at third in
+    let begun = rw c.in_ok-command.was at c.over_database.ensures in
+    let existing_is : rule_of c.help-existing.result ≡ flag (codes "existing") = ap rule_of c.help-existing.ensures ∙ c.flag.ensures.rule in
+    let added = one_more c.in_ok-command.command c.help-existing.result (flag (codes "existing")) c.arg.result c.arg.ensures existing_is (ap (λ a. a.global) c.help-existing.ensures ∙ c.flag.ensures.local) in
+    let added_is = rw c.in_ok-arg.was at added in
+    let placed_is = rw c.in_ok-with_place.was at c.with_place.ensures in
     IfOk-weaker c.with_office.result _ _ (λ r h. (
-      h.0 ∙ ap with_office (third_is.0 ∙ ap (λ a. with_rule a (number_option (codes "connections") 1 1000000)) (second_is.0 ∙ ap (λ a. with_rule a (number_option (codes "port") 1 65535)) (first_is.0 ∙ ap (λ a. with_rule a (required_option (codes "db"))) named))),
-      h.1 ∙ (third_is.1 ∙ (second_is.1 ∙ (first_is.1 ∙ bare))),
+      h.0 ∙ ap with_office (placed_is.0 ∙ ap with_place (added_is.0 ∙ ap (λ a. with_rule a (flag (codes "existing"))) begun.0)),
+      h.1 ∙ (placed_is.1 ∙ (added_is.1 ∙ begun.1)),
     )) c.with_office.ensures

@@ -2,23 +2,19 @@ use Rattle.std.proofs.Common.{refl}
 use Rattle.sqlite.specs.Held.{state}
 use Rattle.society_book.specs.Kept.{tables_state}
 use Rattle.society_commands.proofs.ConnectionLemmas.{serves_database, stops_database}
-use Rattle.society_commands.proofs.DatabaseLemmas.{is_over}
 use Rattle.society_commands.proofs.opening.serve_database.Goals as goal
 
 pub returns-in-Ok-clause-served : goal.returns-in-Ok-clause-served
 returns-in-Ok-clause-served g c = λ zero.
-    let t = c.in-Ok.tables in
-    serves_database t c.new-desk.result c.serve_store-status.new.desk c.into_store.result (λ s. tables_state s.office (state g.M.Store s.conn) s.failures) c.args.office.now (state g.M.Store c.args.connection)
-    (is_over c.args.office.now t.office (state g.M.Store c.args.connection) (state g.M.Store t.conn) t.failures c.in-Ok.ensures.office c.in-Ok.ensures.known c.in-Ok.ensures.begun c.in-Ok.ensures.audited)
-    c.new-desk.ensures c.into_store.ensures g.W.Write.contents c.args.out.now c.serve_store-status.new.out c.args.place.connections (c.serve_store-status.ensures.served zero)
+    serves_database c.in-Ok.tables c.new-desk.result c.serve_store-status.new.desk c.into_store.result (λ s. tables_state s.office (state g.M.Store s.conn) s.failures) c.args.office.now c.args.existing
+    (state g.M.Store c.args.connection) c.in-Ok.ensures.over c.new-desk.ensures c.into_store.ensures g.W.Write.contents c.args.out.now c.serve_store-status.new.out c.args.place.connections
+    (c.serve_store-status.ensures.served zero)
 
 pub returns-in-Ok-clause-broken_off : goal.returns-in-Ok-clause-broken_off
 returns-in-Ok-clause-broken_off g c = λ one.
-    let t = c.in-Ok.tables in
-    stops_database t c.new-desk.result c.serve_store-status.new.desk c.into_store.result (λ s. tables_state s.office (state g.M.Store s.conn) s.failures) c.args.office.now (state g.M.Store c.args.connection)
-    (is_over c.args.office.now t.office (state g.M.Store c.args.connection) (state g.M.Store t.conn) t.failures c.in-Ok.ensures.office c.in-Ok.ensures.known c.in-Ok.ensures.begun c.in-Ok.ensures.audited)
-    c.new-desk.ensures c.into_store.ensures g.W.Write.contents c.args.out.now c.serve_store-status.new.out c.args.place.connections (c.serve_store-status.ensures.broken_off one)
+    stops_database c.in-Ok.tables c.new-desk.result c.serve_store-status.new.desk c.into_store.result (λ s. tables_state s.office (state g.M.Store s.conn) s.failures) c.args.office.now c.args.existing
+    (state g.M.Store c.args.connection) c.in-Ok.ensures.over c.new-desk.ensures c.into_store.ensures g.W.Write.contents c.args.out.now c.serve_store-status.new.out c.args.place.connections
+    (c.serve_store-status.ensures.broken_off one)
 
 pub returns-in-Err-clause-broken_off : goal.returns-in-Err-clause-broken_off
-returns-in-Err-clause-broken_off g c = λ one.
-    (record { fault = c.in-Err.fault; told = c.in-Err.ensures.told; unchanged = c.in-Err.ensures.unchanged; crash = c.in-Err.ensures.crash }, refl)
+returns-in-Err-clause-broken_off g c = λ one. (c.in-Err.ensures.fault, refl)

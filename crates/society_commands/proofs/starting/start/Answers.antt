@@ -1,5 +1,5 @@
 use Rattle.std.proofs.Common.{inl, inr}
-use Rattle.society_commands.proofs.WordLemmas.{asks_for, asks_to_serve, name_is_wrong, read_no_help, refused_served, replay_not_wrong, serve_not_wrong, words_are_wrong}
+use Rattle.society_commands.proofs.WordLemmas.{asks_for, asks_to_audit, asks_to_serve, audit_not_wrong, name_is_wrong, read_no_help, refused_served, replay_not_wrong, serve_not_wrong, words_are_wrong}
 use Rattle.society_commands.proofs.starting.start.Goals as goal
 
 pub returns-in-Ok-Replay-clause-wrong : goal.returns-in-Ok-Replay-clause-wrong
@@ -17,18 +17,32 @@ returns-in-Ok-Replay-clause-broken_off g c = λ one.
     inl (c.in-Ok-Replay.office, asks_for _ c.in-Ok-Replay.office (rw c.in-Ok-Replay.field-0-is at c.in-Ok-Replay.ensures.ok), c.replay.ensures.broken_off one)
 
 pub returns-in-Ok-Serve-clause-wrong : goal.returns-in-Ok-Serve-clause-wrong
-returns-in-Ok-Serve-clause-wrong g c = λ wrong. absurd (serve_not_wrong _ c.in-Ok-Serve.path c.in-Ok-Serve.place c.in-Ok-Serve.office (rw c.in-Ok-Serve.field-0-is at c.in-Ok-Serve.ensures.ok) wrong)
+returns-in-Ok-Serve-clause-wrong g c = λ wrong. absurd (serve_not_wrong _ c.in-Ok-Serve.database c.in-Ok-Serve.place c.in-Ok-Serve.office (rw c.in-Ok-Serve.field-0-is at c.in-Ok-Serve.ensures.ok) wrong)
 
 pub returns-in-Ok-Serve-clause-help : goal.returns-in-Ok-Serve-clause-help
 returns-in-Ok-Serve-clause-help g c = λ help. absurd (read_no_help _ _ c.in-Ok-Serve.ensures.ok help)
 
 pub returns-in-Ok-Serve-clause-served : goal.returns-in-Ok-Serve-clause-served
 returns-in-Ok-Serve-clause-served g c = λ zero.
-    inr (inr (c.in-Ok-Serve.path.now, c.in-Ok-Serve.place, c.in-Ok-Serve.office, asks_to_serve _ c.in-Ok-Serve.path c.in-Ok-Serve.place c.in-Ok-Serve.office (rw c.in-Ok-Serve.field-0-is at c.in-Ok-Serve.ensures.ok), c.serve_file.ensures.served zero))
+    inr (inr (inl (c.in-Ok-Serve.database, c.in-Ok-Serve.place, c.in-Ok-Serve.office, asks_to_serve _ c.in-Ok-Serve.database c.in-Ok-Serve.place c.in-Ok-Serve.office (rw c.in-Ok-Serve.field-0-is at c.in-Ok-Serve.ensures.ok), c.serve_file.ensures.served zero)))
 
 pub returns-in-Ok-Serve-clause-broken_off : goal.returns-in-Ok-Serve-clause-broken_off
 returns-in-Ok-Serve-clause-broken_off g c = λ one.
-    inr (c.in-Ok-Serve.path.now, c.in-Ok-Serve.place, c.in-Ok-Serve.office, asks_to_serve _ c.in-Ok-Serve.path c.in-Ok-Serve.place c.in-Ok-Serve.office (rw c.in-Ok-Serve.field-0-is at c.in-Ok-Serve.ensures.ok), c.serve_file.ensures.broken_off one)
+    inr (inl (c.in-Ok-Serve.database, c.in-Ok-Serve.place, c.in-Ok-Serve.office, asks_to_serve _ c.in-Ok-Serve.database c.in-Ok-Serve.place c.in-Ok-Serve.office (rw c.in-Ok-Serve.field-0-is at c.in-Ok-Serve.ensures.ok), c.serve_file.ensures.broken_off one))
+
+pub returns-in-Ok-Audit-clause-wrong : goal.returns-in-Ok-Audit-clause-wrong
+returns-in-Ok-Audit-clause-wrong g c = λ wrong. absurd (audit_not_wrong _ c.in-Ok-Audit.path c.in-Ok-Audit.office (rw c.in-Ok-Audit.field-0-is at c.in-Ok-Audit.ensures.ok) wrong)
+
+pub returns-in-Ok-Audit-clause-help : goal.returns-in-Ok-Audit-clause-help
+returns-in-Ok-Audit-clause-help g c = λ help. absurd (read_no_help _ _ c.in-Ok-Audit.ensures.ok help)
+
+pub returns-in-Ok-Audit-clause-served : goal.returns-in-Ok-Audit-clause-served
+returns-in-Ok-Audit-clause-served g c = λ zero.
+    inr (inr (inr (c.in-Ok-Audit.path.now, c.in-Ok-Audit.office, asks_to_audit _ c.in-Ok-Audit.path c.in-Ok-Audit.office (rw c.in-Ok-Audit.field-0-is at c.in-Ok-Audit.ensures.ok), c.audit_file.ensures.sound zero)))
+
+pub returns-in-Ok-Audit-clause-broken_off : goal.returns-in-Ok-Audit-clause-broken_off
+returns-in-Ok-Audit-clause-broken_off g c = λ one.
+    inr (inr (c.in-Ok-Audit.path.now, c.in-Ok-Audit.office, asks_to_audit _ c.in-Ok-Audit.path c.in-Ok-Audit.office (rw c.in-Ok-Audit.field-0-is at c.in-Ok-Audit.ensures.ok), c.audit_file.ensures.fault one))
 
 pub returns-in-Ok-BadName-clause-help : goal.returns-in-Ok-BadName-clause-help
 returns-in-Ok-BadName-clause-help g c = λ help. absurd (read_no_help _ _ c.in-Ok-BadName.ensures.ok help)

@@ -6,7 +6,7 @@ use Rattle.clap.specs.Matches.{found_of, subcommand_name_of}
 use Rattle.clap.specs.Simple.{App, app_of, is_simple, subcommand_of, subcommand_rows_of}
 use Rattle.clap.specs.Walk.{rows_of}
 use Rattle.society_commands.specs.CommandLine.{command_line}
-use Rattle.society_commands.specs.Words.{Asked, IsReadAs, asked_by}
+use Rattle.society_commands.specs.Words.{Asked, IsReadAs, asked_unless}
 use Rattle.society_commands.proofs.RefusalLemmas.{refused}
 use Rattle.society_commands.proofs.WordLemmas.{entered_is}
 use Rattle.society_commands.proofs.Worked.{simple, simple_and_free}
@@ -30,4 +30,4 @@ returns-in-Some-clause-ok c =
     let name : subcommand_name_of matches ≡ Some c.in-Some.command.now = sym c.subcommand.ensures.name ∙ rw c.in-Some.is refl in
     let rows : option_map (λ p. p.1) (subcommand_rows_of matches) ≡ Some (rows_of (found_of c.in-Some.options.now)) = sym c.subcommand.ensures.rows ∙ rw c.in-Some.is refl in
     let entered = sym there ∙ entered_is matches c.in-Some.command.now (rows_of (found_of c.in-Some.options.now)) name rows in
-    subst (λ (a : Asked). IsReadAs a c.command_in.result) (sym (ap₂ asked_by taken entered)) c.command_in.ensures
+    subst (λ (a : Asked). IsReadAs a c.command_in.result) (sym (ap₂ asked_unless taken entered)) c.command_in.ensures

@@ -1,0 +1,5 @@
+use Rattle.society_commands.proofs.ClosingLemmas.{copied_book}
+use Rattle.society_commands.proofs.closing.close_tables.Goals as goal
+
+pub returns-in-Ok : goal.returns-in-Ok
+returns-in-Ok g c = λ clean. copied_book c.args.tables.office c.args.tables.conn c.in-Ok.files c.args.tables.rests (rw c.into_connection.ensures.same at (c.in-Ok.ensures.copied clean))
