@@ -26,4 +26,5 @@ pub mod SenderLists
 pub mod LineWrites
 pub mod Mixed
 pub mod StoreQuestions
+pub mod Failing
 pub mod Reopening

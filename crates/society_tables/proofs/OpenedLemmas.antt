@@ -14,9 +14,9 @@ use Rattle.society_rows.specs.Layout.{office as layout_office}
 use Rattle.society_rows.specs.Stored.{HasLayout, rows_in}
 use Rattle.society_book.specs.BookRows.{book_of}
 use Rattle.society_book.specs.Kept.{Holds, IsAtRest, Rests, office_row}
-use Rattle.society_tables.specs.Opening.{HoldsOne, Inspects, IsOpenable, IsOutside, Opens, ShowsAs, SurvivesOpening, Tells, TellsOffice}
+use Rattle.society_tables.specs.Opening.{HoldsOne, Inspects, IsOpenable, IsOutside, Opens, ShowsAs, SurvivesOpening, Tells, TellsFailure, TellsOffice}
 use Rattle.society_tables.specs.declared.open_fault.OpenFault.{OpenFault}
-use Rattle.society_tables.specs.declared.open_fault.OpenFault.TheVariants.{Damaged, Empty}
+use Rattle.society_tables.specs.declared.open_fault.OpenFault.TheVariants.{Damaged, Empty, Schema, Store}
 use Rattle.society_book.proofs.AskLemmas.{clean_is, first_true, second_true}
 use Rattle.society_tables.proofs.EmptyTables.{begun_book, begun_rests}
 use Rattle.society_tables.proofs.OpenTold.{not_both, outside_told, told_of_layout}
@@ -45,6 +45,7 @@ module _ (o : Office) (old new : State) (r : Result (Unit {0}) OpenFault) (settl
     known = λ clean is_open. on_ok r (inl (subst IsBare (settled is_open) bare));
     unchanged = neither;
     told = λ clean is_open. told_by r failed;
+    failed = λ clean is_open has. absurd (not_both old.now.schema bare (subst HasLayout (sym (settled is_open)) has));
     crash = record {
       clean = crash.clean;
       shield = crash.shield;
@@ -68,14 +69,15 @@ module _ (o : Office) (old new : State) (r : Result (Unit {0}) OpenFault) (settl
       book_by (Err e) made = tt
 
   -- one of layout 2 that was audited
-  pub opens_audited : HasLayout old.now → Inspects old new r (λ db _. HoldsOne o db) → (HasCleanDisk new → HasLayout old.now → IfErr r (TellsOffice o (rows_in layout_office old.now.trees))) → (HasCleanDisk new → HasLayout old.now → IfErr r (λ e. e ≡ Damaged → ¬ Holds o old.now.trees)) → Opens o old new r
-  opens_audited has inspected told damaged = record {
+  pub opens_audited : HasLayout old.now → Inspects old new r (λ db _. HoldsOne o db) → (HasCleanDisk new → HasLayout old.now → IfErr r (TellsOffice o (rows_in layout_office old.now.trees))) → (HasCleanDisk new → HasLayout old.now → IfErr r (λ e. e ≡ Damaged → ¬ Holds o old.now.trees)) → TellsFailure Store old new r → Opens o old new r
+  opens_audited has inspected told damaged failed = record {
     rests = rests_by r (λ clean. inspected.found clean has);
     begun = λ clean is_open bare. absurd (not_both old.now.schema (subst IsBare (sym (settled is_open)) bare) has);
     audited = λ clean is_open was. held_by r (settled is_open) (inspected.found clean has) (inspected.undone clean);
     known = λ clean is_open. on_ok r (inr (subst HasLayout (settled is_open) has));
     unchanged = λ clean. on_err r (inspected.undone clean);
     told = λ clean is_open. told_by r (settled is_open) (told clean has) (damaged clean has);
+    failed = λ clean is_open was. failed clean has;
     crash = record {
       clean = inspected.survives.clean;
       shield = inspected.survives.shield;
@@ -114,15 +116,19 @@ module _ (o : Office) (old new : State) (r : Result (Unit {0}) OpenFault) (settl
       held_by (Ok x) same found shows = (subst (λ (db : Database). HoldsOne o db.trees) same found, shows)
       held_by (Err e) same found shows = tt
 
+pub no_failure : Schema ≢ Store
+no_failure is = cc
+
 -- one that has something else
-pub opens_other : (o : Office) (s : State) (told : OpenFault) → (IsTrue s.is_open → s.now ≡ s.committed) → Tells o s.now told → Opens o s s (Err told)
-opens_other o s told settled says = record {
+pub opens_other : (o : Office) (s : State) (told : OpenFault) → told ≢ Store → (IsTrue s.is_open → s.now ≡ s.committed) → Tells o s.now told → Opens o s s (Err told)
+opens_other o s told other settled says = record {
   rests = tt;
   begun = λ clean is_open bare. tt;
   audited = λ clean is_open has. tt;
   known = λ clean is_open. tt;
   unchanged = λ clean is_open. (settled is_open, refl);
   told = λ clean is_open. subst (λ (db : Database). Tells o db told) (settled is_open) says;
+  failed = λ clean is_open has is. absurd (other is);
   crash = record { clean = omega arith; shield = λ h. h; counts = omega arith; limit = refl; closes = λ clean is. inl is; crash = λ clean db h. inl h };
 }
 

@@ -6,6 +6,7 @@ use Rattle.sqlite_trees.specs.Tree.{Trees}
 use Rattle.sqlite.specs.Effect.{Database}
 use Rattle.sqlite.specs.State as connection
 use Rattle.sqlite_value.specs.Order.{Row}
+use Rattle.society_rows.specs.Effects.{MayFail}
 use Rattle.society_rows.specs.Forms.{IsOfForms, office_forms}
 use Rattle.society_rows.specs.Layout as layout
 use Rattle.society_rows.specs.NewBook.{IsBare, IsNewBook}
@@ -95,6 +96,11 @@ pub record Inspects {X E : Type 0} (old new : connection.State) (result : Result
   pub undone : connection.HasCleanDisk new → IsTrue new.is_open → (new.now ≡ old.committed) × (new.committed ≡ old.committed)
   pub survives : connection.Survives old new (λ _. ⊥)
 
+-- Over layout 2, and where the disk told the truth, this fault is told only where the medium failed meanwhile, or the connection was
+-- shut or has a limit of steps.
+abbrev pub TellsFailure : {X E : Type 0} → E → connection.State → connection.State → Result X E → Type 0
+TellsFailure told old new result = connection.HasCleanDisk new → HasLayout old.now → IfErr result (λ e. e ≡ told → MayFail old new)
+
 -- the tables hold a sound book of the office, with exactly what is derived from it
 abbrev pub HoldsOne : Office → Trees → Type 0
 HoldsOne office db = ∥ Holds office db ∥₁
@@ -108,8 +114,8 @@ abbrev pub SurvivesOpening : Office → connection.State → connection.State �
 SurvivesOpening office old new = connection.Survives old new (λ db. IsBare old.now × IsNewBook (office_row office) db)
 
 -- A database becomes an office's tables or is left as it is: one that had no table begins an empty book, one of layout 2 held a sound
--- book with what is derived from it and is shown as it was, a fault says what the database has, and a crash leaves what it left before or
--- the new book.
+-- book with what is derived from it and is shown as it was, a fault says what the database has, layout 2 is told as a failure of the store
+-- only where it failed, and a crash leaves what it left before or the new book.
 pub record Opens (office : Office) (old new : connection.State) (result : Result (Unit {0}) OpenFault) : Type 0 where
   pub rests : OnOk result ∥ Rests office new ∥₁
   pub begun : connection.HasCleanDisk new → IsTrue old.is_open → IsBare old.committed → OnOk result (book_of new.now.trees ≡ empty_book)
@@ -117,4 +123,5 @@ pub record Opens (office : Office) (old new : connection.State) (result : Result
   pub known : connection.HasCleanDisk new → IsTrue old.is_open → OnOk result (IsOpenable old.committed)
   pub unchanged : connection.HasCleanDisk new → OnErr result (ShowsAs old.committed new)
   pub told : connection.HasCleanDisk new → IsTrue old.is_open → IfErr result (Tells office old.committed)
+  pub failed : connection.HasCleanDisk new → IsTrue old.is_open → HasLayout old.committed → IfErr result (λ e. e ≡ fault.Store → MayFail old new)
   pub crash : SurvivesOpening office old new

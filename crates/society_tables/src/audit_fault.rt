@@ -7,7 +7,7 @@ use society_rows::RowFault;
 use std::alloc::{AllocError, AllocFailed};
 
 /// Why the rows of an office's tables do not pass an audit.
-#[derive(Debug)]
+#[derive(Debug, Drop)]
 pub enum AuditFault {
     /// Memory was refused.
     Memory,

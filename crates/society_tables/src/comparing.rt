@@ -5,12 +5,14 @@ ghost use Rattle.sqlite.specs.State.{HasCleanDisk};
 ghost use Rattle.sqlite.specs.Steps.{over_memory};
 ghost use Rattle.share_rules.specs.declared.office.Office.{Office as OfficeValue};
 ghost use Rattle.society_core.specs.Book.{Book};
+ghost use Rattle.society_rows.specs.Effects.{ErrsByMedium};
 ghost use Rattle.society_rows.specs.Questions.{Asks};
 ghost use Rattle.society_rows.specs.Reads.{Lists};
 ghost use Rattle.society_rows.specs.Stored.{HasLayout, rows_in};
 ghost use Rattle.society_rows.specs.TableNames.{listing_width, table_called};
 ghost use Rattle.society_rows.specs.declared.tables.TableName.TheVariants as name;
-ghost use Rattle.society_tables.specs.Opening.{Agree, Inspects, every_name};
+ghost use Rattle.society_tables.specs.Opening.{Agree, Inspects, TellsFailure, every_name};
+ghost use Rattle.society_tables.specs.declared.audit_fault.AuditFault.TheVariants.{Memory, Store};
 ghost use Rattle.society_book.specs.Kept.{HoldsBook};
 ghost use Rattle.society_tables.specs.Rebuilding.{IsAside, Passes, ShowsBook};
 
@@ -42,6 +44,7 @@ pub(crate) fn listed<S: Alter>(
     requires { conn.old.in_transaction ≡ false }
     ensures asked { Asks (state S.Store conn.old) (state S.Store conn.new) result
         (λ db rows. Lists (table_called table) (λ _. true) (listing_width table) db rows.items) }
+    ensures medium { ErrsByMedium (state S.Store conn.old) (state S.Store conn.new) result }
     ensures idle { conn.new.in_transaction ≡ false }
 {
     let mut tx = conn.transaction();
@@ -59,6 +62,7 @@ pub(crate) fn rows_of_table<S: Alter>(
     ensures asked { Inspects (state S.Store conn.old) (state S.Store conn.new) result
         (λ db rows. Lists (table_called table) (λ _. true) (listing_width table) db rows.items) }
     ensures aside { IfErr result IsAside }
+    ensures failed { TellsFailure Store (state S.Store conn.old) (state S.Store conn.new) result }
     ensures idle { conn.new.in_transaction ≡ false }
 {
     Ok(listed(conn, table)?)
@@ -72,12 +76,16 @@ fn rows_in_memory(
     requires { memory.old.in_transaction ≡ false }
     ensures rows { HasLayout (state over_memory memory.old).now → IfOk result (λ rows.
         Lists (table_called table) (λ _. true) (listing_width table) (state over_memory memory.old).now.trees rows.items) }
-    ensures aside { IfErr result IsAside }
+    ensures memory { IfErr result (λ e. e ≡ Memory) }
     ensures same { (state over_memory memory.new).now ≡ (state over_memory memory.old).now }
     ensures idle { memory.new.in_transaction ≡ false }
 {
     let _settled = memory.is_autocommit();
-    rows_of_table(memory, table)
+    match rows_of_table(memory, table) {
+        Ok(rows) => Ok(rows),
+        // Tables in memory fail by want of memory alone.
+        Err(_) => Err(AuditFault::Memory),
+    }
 }
 
 /// Whether two rows have the same values.
@@ -128,6 +136,7 @@ pub(crate) fn table_agrees<S: Alter>(
     ensures same { (state over_memory memory.new).now ≡ (state over_memory memory.old).now }
     ensures passes { (o : OfficeValue) → (b : Book) → HasCleanDisk (state S.Store conn.new) → ShowsBook o b (state S.Store conn.old) → HasLayout (state over_memory memory.old).now
         → HoldsBook o b (state over_memory memory.old).now.trees → Passes result (λ _. ⊤) }
+    ensures failed { TellsFailure Store (state S.Store conn.old) (state S.Store conn.new) result }
     ensures idle { conn.new.in_transaction ≡ false }
     ensures idle_memory { memory.new.in_transaction ≡ false }
 {
@@ -153,6 +162,7 @@ pub(crate) fn named_agree<S: Alter>(
     ensures same { (state over_memory memory.new).now ≡ (state over_memory memory.old).now }
     ensures passes { (o : OfficeValue) → (b : Book) → HasCleanDisk (state S.Store conn.new) → ShowsBook o b (state S.Store conn.old) → HasLayout (state over_memory memory.old).now
         → HoldsBook o b (state over_memory memory.old).now.trees → Passes result (λ _. ⊤) }
+    ensures failed { TellsFailure Store (state S.Store conn.old) (state S.Store conn.new) result }
     ensures idle { conn.new.in_transaction ≡ false }
     ensures idle_memory { memory.new.in_transaction ≡ false }
 {
@@ -175,6 +185,7 @@ pub(crate) fn tables_agree<S: Alter>(
         (λ db _. HasLayout (state over_memory memory.old).now → Agree every_name (state over_memory memory.old).now.trees db) }
     ensures passes { (o : OfficeValue) → (b : Book) → HasCleanDisk (state S.Store conn.new) → ShowsBook o b (state S.Store conn.old) → HasLayout (state over_memory memory.old).now
         → HoldsBook o b (state over_memory memory.old).now.trees → Passes result (λ _. ⊤) }
+    ensures failed { TellsFailure Store (state S.Store conn.old) (state S.Store conn.new) result }
     ensures idle { conn.new.in_transaction ≡ false }
 {
     named_agree(conn, memory, &OTHER_TABLES)

@@ -5,6 +5,7 @@ ghost use Rattle.sqlite.specs.Held.{state};
 ghost use Rattle.sqlite.specs.State.{HasCleanDisk, Survives};
 ghost use Rattle.share_rules.specs.declared.office.Office.{Office as OfficeValue};
 ghost use Rattle.society_core.specs.Book.{Book, IsSound, empty_book};
+ghost use Rattle.society_rows.specs.Effects.{ErrsByMedium, MayFail};
 ghost use Rattle.society_rows.specs.Layout.{balances, fronts};
 ghost use Rattle.society_rows.specs.Layout.{office as office_table};
 ghost use Rattle.society_rows.specs.NewBook.{Begins, IsBare, IsNewBook};
@@ -13,8 +14,10 @@ ghost use Rattle.society_rows.specs.Stored.{AreNumbered, HasLayout, rows_in};
 ghost use Rattle.society_rows.specs.TableNames.{table_called};
 ghost use Rattle.society_book.specs.Kept.{Holds, office_row};
 ghost use Rattle.society_tables.specs.Existing.{FindsOffice, SparesOffice, WhenOpen};
-ghost use Rattle.society_tables.specs.Opening.{HoldsOne, Inspects, IsOpenable, IsOutside, Opens, ShowsAs, SurvivesOpening, Tells, TellsOffice};
+ghost use Rattle.society_tables.specs.Opening.{HoldsOne, Inspects, IsOpenable, IsOutside, Opens, ShowsAs, SurvivesOpening, Tells, TellsFailure, TellsOffice};
 ghost use Rattle.society_tables.specs.Rebuilding.{Passes, ShowsBook};
+ghost use Rattle.society_tables.specs.declared.audit_fault.AuditFault.TheVariants as audit;
+ghost use Rattle.society_tables.specs.declared.open_fault.OpenFault.TheVariants as fault;
 ghost use Rattle.society_tables.specs.declared.open_fault.OpenFault.TheVariants.{Damaged, Empty};
 
 use crate::audit_fault::AuditFault;
@@ -34,6 +37,7 @@ fn is_office(rows: &[Row], office: &Office) -> Result<(), OpenFault>
     ensures told { IfErr result (TellsOffice office.now rows.now) }
     ensures other { IfErr result (λ e. e ≢ Damaged) }
     ensures there { IfErr result (λ e. e ≢ Empty) }
+    ensures read { IfErr result (λ e. e ≢ fault.Store) }
 {
     let [row] = rows else {
         return Err(OpenFault::Schema);
@@ -57,6 +61,7 @@ fn office_agrees<S: Alter>(conn: &mut Connection<S>, office: &Office) -> Result<
     ensures asked { Inspects (state S.Store conn.old) (state S.Store conn.new) result (λ db _. rows_in office_table db ≡ office_row office.now ∷ []) }
     ensures told { HasCleanDisk (state S.Store conn.new) → HasLayout (state S.Store conn.old).now
         → IfErr result (TellsOffice office.now (rows_in office_table (state S.Store conn.old).now.trees)) }
+    ensures failed { TellsFailure fault.Store (state S.Store conn.old) (state S.Store conn.new) result }
     ensures other { IfErr result (λ e. e ≢ Damaged) }
     ensures there { IfErr result (λ e. e ≢ Empty) }
     ensures idle { conn.new.in_transaction ≡ false }
@@ -70,6 +75,7 @@ fn is_numbered<S: Alter>(conn: &mut Connection<S>, table: TableName) -> Result<b
     requires { conn.old.in_transaction ≡ false }
     ensures asked { Asks (state S.Store conn.old) (state S.Store conn.new) result
         (λ db yes. IsTrue yes ↔ AreNumbered (table_called table) db) }
+    ensures medium { ErrsByMedium (state S.Store conn.old) (state S.Store conn.new) result }
     ensures idle { conn.new.in_transaction ≡ false }
 {
     let mut tx = conn.transaction();
@@ -84,6 +90,7 @@ fn has_numbers<S: Alter>(conn: &mut Connection<S>, table: TableName) -> Result<(
     ensures asked { Inspects (state S.Store conn.old) (state S.Store conn.new) result (λ db _. AreNumbered (table_called table) db) }
     ensures passes { HasCleanDisk (state S.Store conn.new) → (IsTrue (state S.Store conn.old).is_open → HasLayout (state S.Store conn.old).now × AreNumbered (table_called table) (state S.Store conn.old).now.trees)
         → Passes result (λ _. ⊤) }
+    ensures failed { TellsFailure audit.Store (state S.Store conn.old) (state S.Store conn.new) result }
     ensures idle { conn.new.in_transaction ≡ false }
 {
     if is_numbered(conn, table)? {
@@ -99,6 +106,7 @@ fn fronts_and_balances_numbered<S: Alter>(conn: &mut Connection<S>) -> Result<()
     ensures asked { Inspects (state S.Store conn.old) (state S.Store conn.new) result
         (λ db _. AreNumbered fronts db × AreNumbered balances db) }
     ensures passes { (o : OfficeValue) → (b : Book) → HasCleanDisk (state S.Store conn.new) → ShowsBook o b (state S.Store conn.old) → Passes result (λ _. ⊤) }
+    ensures failed { TellsFailure audit.Store (state S.Store conn.old) (state S.Store conn.new) result }
     ensures idle { conn.new.in_transaction ≡ false }
 {
     let _settled = conn.is_autocommit();
@@ -115,6 +123,7 @@ fn agrees_with<S: Alter>(
     ensures agree { Inspects (state S.Store conn.old) (state S.Store conn.new) result
         (λ db _. AreNumbered fronts db × AreNumbered balances db → HoldsOne (⟦<Tables<MemStore> as Store>⟧.state tables).office db) }
     ensures passes { HasCleanDisk (state S.Store conn.new) → ShowsBook (⟦<Tables<MemStore> as Store>⟧.state tables).office (⟦<Tables<MemStore> as Store>⟧.state tables).book (state S.Store conn.old) → Passes result (λ _. ⊤) }
+    ensures failed { TellsFailure audit.Store (state S.Store conn.old) (state S.Store conn.new) result }
     ensures idle { conn.new.in_transaction ≡ false }
 {
     let mut memory = tables.into_connection();
@@ -131,6 +140,7 @@ fn holds_rebuilt<S: Alter>(
     ensures agree { Inspects (state S.Store conn.old) (state S.Store conn.new) result
         (λ db _. AreNumbered fronts db × AreNumbered balances db → HoldsOne office.now db) }
     ensures passes { (b : Book) → HasCleanDisk (state S.Store conn.new) → IsSound b → ShowsBook office.now b (state S.Store conn.old) → Passes result (λ _. ⊤) }
+    ensures failed { TellsFailure audit.Store (state S.Store conn.old) (state S.Store conn.new) result }
     ensures idle { conn.new.in_transaction ≡ false }
 {
     let _settled = conn.is_autocommit();
@@ -149,6 +159,7 @@ fn holds_own<S: Alter>(
     ensures agree { Inspects (state S.Store conn.old) (state S.Store conn.new) result
         (λ db _. AreNumbered fronts db × AreNumbered balances db → HoldsOne office.now db) }
     ensures passes { (b : Book) → HasCleanDisk (state S.Store conn.new) → IsSound b → ShowsBook office.now b (state S.Store conn.old) → Passes result (λ _. ⊤) }
+    ensures failed { TellsFailure audit.Store (state S.Store conn.old) (state S.Store conn.new) result }
     ensures idle { conn.new.in_transaction ≡ false }
 {
     let _settled = conn.is_autocommit();
@@ -168,6 +179,7 @@ fn is_whole<S: Alter>(
     requires { conn.old.in_transaction ≡ false }
     ensures whole { Inspects (state S.Store conn.old) (state S.Store conn.new) result (λ db _. HoldsOne office.now db) }
     ensures passes { (b : Book) → HasCleanDisk (state S.Store conn.new) → IsSound b → ShowsBook office.now b (state S.Store conn.old) → Passes result (λ _. ⊤) }
+    ensures failed { TellsFailure audit.Store (state S.Store conn.old) (state S.Store conn.new) result }
     ensures idle { conn.new.in_transaction ≡ false }
 {
     let _settled = conn.is_autocommit();
@@ -187,6 +199,7 @@ fn audit<S: Alter>(
         → IfErr result (TellsOffice office.now (rows_in office_table (state S.Store conn.old).now.trees)) }
     ensures damaged { HasCleanDisk (state S.Store conn.new) → HasLayout (state S.Store conn.old).now
         → IfErr result (λ e. e ≡ Damaged → ¬ Holds office.now (state S.Store conn.old).now.trees) }
+    ensures failed { TellsFailure fault.Store (state S.Store conn.old) (state S.Store conn.new) result }
     ensures there { IfErr result (λ e. e ≢ Empty) }
     ensures idle { conn.new.in_transaction ≡ false }
 {
@@ -249,8 +262,9 @@ impl<S: Alter> Tables<S> {
     /// Where it has those of layout 2 they are audited: they have to be this office's, and exactly what the requests that
     /// they keep make of an empty book. The audit changes no row. `Schema` where there is something else, or no office that can
     /// be read; `OtherOffice` where the tables are another office's; `Damaged` where they are not what they should be; `Memory`
-    /// and `Store` where memory or the database failed, so tables that hold a sound book of the office are opened else. After a fault the connection comes back, in no transaction, and the
-    /// database is as it was committed.
+    /// and `Store` where memory or the database failed, so tables that hold a sound book of the office are opened else. Of tables
+    /// of layout 2 `Store` says that the medium failed in this opening, or the connection was shut or has a limit of steps. After a
+    /// fault the connection comes back, in no transaction, and the database is as it was committed.
     pub fn open(
         alloc: Global,
         connection: Connection<S>,
@@ -267,6 +281,8 @@ impl<S: Alter> Tables<S> {
         ensures told { IfErr result (λ e. HasCleanDisk (state S.Store e.1) → IsTrue (state S.Store connection).is_open → Tells office.now (state S.Store connection).committed e.0) }
         ensures begins { IfErr result (λ e. e.0 ≢ Empty) }
         ensures opens { IfErr result (λ e. HasCleanDisk (state S.Store e.1) → IsTrue (state S.Store connection).is_open → HasLayout (state S.Store connection).committed → HoldsOne office.now (state S.Store connection).committed.trees → IsOutside e.0) }
+        ensures failed { IfErr result (λ e. WhenOpen (state S.Store connection) (state S.Store e.1)
+            (HasLayout (state S.Store connection).committed → e.0 ≡ fault.Store → MayFail (state S.Store connection) (state S.Store e.1))) }
         ensures unchanged { IfErr result (λ e. HasCleanDisk (state S.Store e.1) → ShowsAs (state S.Store connection).committed (state S.Store e.1)) }
         ensures idle { IfErr result (λ e. e.1.in_transaction ≡ false) }
         ensures crash { MatchResult result (λ t. SurvivesOpening office.now (state S.Store connection) (state S.Store t.conn)) (λ e. SurvivesOpening office.now (state S.Store connection) (state S.Store e.1)) }
@@ -297,6 +313,8 @@ impl<S: Alter> Tables<S> {
         ensures told { IfErr result (λ e. WhenOpen (state S.Store connection) (state S.Store e.1) (Tells office.now (state S.Store connection).committed e.0)) }
         ensures opens { IfErr result (λ e. WhenOpen (state S.Store connection) (state S.Store e.1) (SparesOffice office.now (state S.Store connection).committed e.0)) }
         ensures untouched { IfErr result (λ e. e.0 ≡ Empty → e.1 ≡ connection) }
+        ensures failed { IfErr result (λ e. WhenOpen (state S.Store connection) (state S.Store e.1)
+            (HasLayout (state S.Store connection).committed → e.0 ≡ fault.Store → MayFail (state S.Store connection) (state S.Store e.1))) }
         ensures unchanged { IfErr result (λ e. HasCleanDisk (state S.Store e.1) → ShowsAs (state S.Store connection).committed (state S.Store e.1)) }
         ensures idle { IfErr result (λ e. e.1.in_transaction ≡ false) }
         // A crash leaves what it left before.

@@ -1,5 +1,5 @@
 //! The book of a database's own rows, built anew in memory.
-ghost use Rattle.std.specs.Prelude.{◌≡◌, ℕ, pos, Some, None, map, filter, IfOk, ⊤, false};
+ghost use Rattle.std.specs.Prelude.{◌≡◌, ◌≢◌, ℕ, pos, Some, None, map, filter, IfErr, IfOk, ⊤, false};
 ghost use Rattle.sqlite.specs.Held.{state};
 ghost use Rattle.std.specs.List.{AllByRecursion};
 ghost use Rattle.sqlite.specs.State.{HasCleanDisk};
@@ -8,7 +8,8 @@ ghost use Rattle.society_core.specs.Orders.{order_fault, order_of};
 ghost use Rattle.society_core.specs.declared.refusal.Refusal.TheVariants.{Unavailable};
 ghost use Rattle.society_book.specs.BookRows.{cut_rows, is_of_pool, paid_rows, pool_rows};
 ghost use Rattle.society_book.specs.Columns.{HasRows, number_at};
-ghost use Rattle.society_tables.specs.Opening.{Inspects};
+ghost use Rattle.society_tables.specs.Opening.{Inspects, TellsFailure};
+ghost use Rattle.society_tables.specs.declared.audit_fault.AuditFault.TheVariants.{Store};
 ghost use Rattle.society_tables.specs.Rebuilding.{AllReported, AllSent, ClosedOn, ComesFrom, IsAside, IsClosed, IsCut, IsPaid, IsReported, IsSent, IsUpToPools, IsWithin, Passes, ReportedOn, SentOn, cut_pair, paid_pair, sent_alone, without_pools};
 
 use crate::Tables;
@@ -26,7 +27,8 @@ pub(crate) type Anew = Desk<Tables<MemStore>>;
 
 /// Want of memory, or damage where the desk refuses.
 fn fault_of_refusal(refusal: Refusal) -> AuditFault
-    ensures { refusal ≡ Unavailable → IsAside result }
+    ensures aside { refusal ≡ Unavailable → IsAside result }
+    ensures judged { result ≢ Store }
 {
     match refusal {
         Refusal::Unavailable => AuditFault::Memory,
@@ -39,6 +41,7 @@ fn put_transmission(alloc: Global, desk: &mut Anew, row: &Row) -> Result<(), Aud
     ensures office { (⟦<Tables<MemStore> as Store>⟧.state desk.new).office ≡ (⟦<Tables<MemStore> as Store>⟧.state desk.old).office }
     ensures passes { (b : Book) → IsSound b → IsSent b row.now → IsWithin (⟦<Tables<MemStore> as Store>⟧.state desk.old).book.transmissions b.transmissions
         → Passes result (λ _. SentOn b (⟦<Tables<MemStore> as Store>⟧.state desk.old).book row.now (⟦<Tables<MemStore> as Store>⟧.state desk.new).book) }
+    ensures judged { IfErr result (λ e. e ≢ Store) }
 {
     let Ok(row) = TransmissionRow::from_row(row) else {
         return Err(AuditFault::Damaged);
@@ -60,6 +63,7 @@ fn put_return(alloc: Global, desk: &mut Anew, row: &Row) -> Result<(), AuditFaul
     ensures office { (⟦<Tables<MemStore> as Store>⟧.state desk.new).office ≡ (⟦<Tables<MemStore> as Store>⟧.state desk.old).office }
     ensures passes { (b : Book) → IsSound b → IsReported b row.now → IsWithin (⟦<Tables<MemStore> as Store>⟧.state desk.old).book.returns b.returns
         → Passes result (λ _. ReportedOn b (⟦<Tables<MemStore> as Store>⟧.state desk.old).book row.now (⟦<Tables<MemStore> as Store>⟧.state desk.new).book) }
+    ensures judged { IfErr result (λ e. e ≢ Store) }
 {
     let Ok(row) = ReturnRow::from_row(row) else {
         return Err(AuditFault::Damaged);
@@ -79,7 +83,8 @@ fn put_return(alloc: Global, desk: &mut Anew, row: &Row) -> Result<(), AuditFaul
 
 /// The senders and the numbers of a pool's cut, out of the rows of all cuts.
 fn cut_among(alloc: Global, rows: &[Row], pool: u32) -> Result<Vec<(SenderKey, u64)>, AuditFault>
-    ensures { AllByRecursion IsCut rows.now → Passes result (λ cut. cut.items ≡ map cut_pair (filter (is_of_pool 0 pool) rows.now)) }
+    ensures passes { AllByRecursion IsCut rows.now → Passes result (λ cut. cut.items ≡ map cut_pair (filter (is_of_pool 0 pool) rows.now)) }
+    ensures judged { IfErr result (λ e. e ≢ Store) }
 {
     let mut cut = Vec::new(alloc);
     for row in rows {
@@ -98,7 +103,8 @@ fn cut_among(alloc: Global, rows: &[Row], pool: u32) -> Result<Vec<(SenderKey, u
 
 /// The reporters and the numbers of the returns that a pool pays, out of the rows of all that are paid.
 fn returns_among(alloc: Global, rows: &[Row], pool: u32) -> Result<Vec<(Reporter, u64)>, AuditFault>
-    ensures { AllByRecursion IsPaid rows.now → Passes result (λ returns. returns.items ≡ map paid_pair (filter (is_of_pool 2 pool) rows.now)) }
+    ensures passes { AllByRecursion IsPaid rows.now → Passes result (λ returns. returns.items ≡ map paid_pair (filter (is_of_pool 2 pool) rows.now)) }
+    ensures judged { IfErr result (λ e. e ≢ Store) }
 {
     let mut returns = Vec::new(alloc);
     for row in rows {
@@ -122,7 +128,8 @@ fn order_with(
     cut: &[(SenderKey, u64)],
     returns: &[(Reporter, u64)],
 ) -> Result<PoolOrder, AuditFault>
-    ensures { (units : ℕ) → amount ≡ pos units → order_fault units cut.now returns.now ≡ None → Passes result (λ order. order ≡ order_of units cut.now returns.now) }
+    ensures passes { (units : ℕ) → amount ≡ pos units → order_fault units cut.now returns.now ≡ None → Passes result (λ order. order ≡ order_of units cut.now returns.now) }
+    ensures judged { IfErr result (λ e. e ≢ Store) }
 {
     let Ok(amount) = u64::try_from(amount) else {
         return Err(AuditFault::Damaged);
@@ -144,6 +151,7 @@ fn close_with(
     ensures office { (⟦<Tables<MemStore> as Store>⟧.state desk.new).office ≡ (⟦<Tables<MemStore> as Store>⟧.state desk.old).office }
     ensures passes { (b : Book) → IsSound b → order_at b pool ≡ Some order.now → IsUpToPools b (⟦<Tables<MemStore> as Store>⟧.state desk.old).book
         → Passes result (λ _. ClosedOn b (⟦<Tables<MemStore> as Store>⟧.state desk.old).book pool order.now (⟦<Tables<MemStore> as Store>⟧.state desk.new).book) }
+    ensures judged { IfErr result (λ e. e ≢ Store) }
 {
     match desk.close_pool(alloc, pool, order) {
         Ok(_) => Ok(()),
@@ -158,9 +166,10 @@ pub(crate) fn pool_of_row(
     cuts: &[Row],
     paid: &[Row],
 ) -> Result<(PoolNumber, PoolOrder), AuditFault>
-    ensures { (b : Book) → IsSound b → (closed : IsClosed b row.now)
+    ensures passes { (b : Book) → IsSound b → (closed : IsClosed b row.now)
         → HasRows (is_of_pool 0) (cut_rows b) cuts.now → HasRows (is_of_pool 2) (paid_rows b) paid.now
         → Passes result (λ it. (it.0 ≡ number_at 0 row.now) × (it.1 ≡ closed.order)) }
+    ensures judged { IfErr result (λ e. e ≢ Store) }
 {
     let Ok(row) = PoolRow::from_row(row) else {
         return Err(AuditFault::Damaged);
@@ -187,6 +196,7 @@ fn close_pool(
         → HasRows (is_of_pool 0) (cut_rows b) cuts.now → HasRows (is_of_pool 2) (paid_rows b) paid.now
         → IsUpToPools b (⟦<Tables<MemStore> as Store>⟧.state desk.old).book
         → Passes result (λ _. ClosedOn b (⟦<Tables<MemStore> as Store>⟧.state desk.old).book (number_at 0 row.now) closed.order (⟦<Tables<MemStore> as Store>⟧.state desk.new).book) }
+    ensures judged { IfErr result (λ e. e ≢ Store) }
 {
     let (pool, order) = pool_of_row(alloc, row, cuts, paid)?;
     close_with(alloc, desk, pool, &order)
@@ -197,6 +207,7 @@ fn put_transmissions(alloc: Global, desk: &mut Anew, rows: &[Row]) -> Result<(),
     ensures office { (⟦<Tables<MemStore> as Store>⟧.state desk.new).office ≡ (⟦<Tables<MemStore> as Store>⟧.state desk.old).office }
     ensures passes { (b : Book) → IsSound b → AllByRecursion (IsSent b) rows.now → IsWithin (⟦<Tables<MemStore> as Store>⟧.state desk.old).book.transmissions b.transmissions
         → Passes result (λ _. AllSent b (⟦<Tables<MemStore> as Store>⟧.state desk.old).book rows.now (⟦<Tables<MemStore> as Store>⟧.state desk.new).book) }
+    ensures judged { IfErr result (λ e. e ≢ Store) }
 {
     for row in rows {
         put_transmission(alloc, desk, row)?;
@@ -209,6 +220,7 @@ fn put_returns(alloc: Global, desk: &mut Anew, rows: &[Row]) -> Result<(), Audit
     ensures office { (⟦<Tables<MemStore> as Store>⟧.state desk.new).office ≡ (⟦<Tables<MemStore> as Store>⟧.state desk.old).office }
     ensures passes { (b : Book) → IsSound b → AllByRecursion (IsReported b) rows.now → IsWithin (⟦<Tables<MemStore> as Store>⟧.state desk.old).book.returns b.returns
         → Passes result (λ _. AllReported b (⟦<Tables<MemStore> as Store>⟧.state desk.old).book rows.now (⟦<Tables<MemStore> as Store>⟧.state desk.new).book) }
+    ensures judged { IfErr result (λ e. e ≢ Store) }
 {
     for row in rows {
         put_return(alloc, desk, row)?;
@@ -229,6 +241,7 @@ fn close_pools(
         → HasRows (is_of_pool 0) (pool_rows b) rows.now → HasRows (is_of_pool 0) (cut_rows b) cuts.now → HasRows (is_of_pool 2) (paid_rows b) paid.now
         → (⟦<Tables<MemStore> as Store>⟧.state desk.old).book ≡ without_pools b
         → Passes result (λ _. (⟦<Tables<MemStore> as Store>⟧.state desk.new).book ≡ b) }
+    ensures judged { IfErr result (λ e. e ≢ Store) }
 {
     for row in rows {
         close_pool(alloc, desk, row, cuts, paid)?;
@@ -244,6 +257,7 @@ fn transmissions_from<S: Alter>(
 ) -> Result<(), AuditFault>
     requires { conn.old.in_transaction ≡ false }
     ensures asked { Inspects (state S.Store conn.old) (state S.Store conn.new) result (λ _ _. ⊤) }
+    ensures failed { TellsFailure Store (state S.Store conn.old) (state S.Store conn.new) result }
     ensures idle { conn.new.in_transaction ≡ false }
     ensures office { (⟦<Tables<MemStore> as Store>⟧.state desk.new).office ≡ (⟦<Tables<MemStore> as Store>⟧.state desk.old).office }
     ensures passes { (b : Book) → HasCleanDisk (state S.Store conn.new) → ComesFrom b (state S.Store conn.old) → (⟦<Tables<MemStore> as Store>⟧.state desk.old).book ≡ empty_book
@@ -261,6 +275,7 @@ fn returns_from<S: Alter>(
 ) -> Result<(), AuditFault>
     requires { conn.old.in_transaction ≡ false }
     ensures asked { Inspects (state S.Store conn.old) (state S.Store conn.new) result (λ _ _. ⊤) }
+    ensures failed { TellsFailure Store (state S.Store conn.old) (state S.Store conn.new) result }
     ensures idle { conn.new.in_transaction ≡ false }
     ensures office { (⟦<Tables<MemStore> as Store>⟧.state desk.new).office ≡ (⟦<Tables<MemStore> as Store>⟧.state desk.old).office }
     ensures passes { (b : Book) → HasCleanDisk (state S.Store conn.new) → ComesFrom b (state S.Store conn.old) → (⟦<Tables<MemStore> as Store>⟧.state desk.old).book ≡ sent_alone b
@@ -280,6 +295,7 @@ fn pools_with_cuts<S: Alter>(
 ) -> Result<(), AuditFault>
     requires { conn.old.in_transaction ≡ false }
     ensures asked { Inspects (state S.Store conn.old) (state S.Store conn.new) result (λ _ _. ⊤) }
+    ensures failed { TellsFailure Store (state S.Store conn.old) (state S.Store conn.new) result }
     ensures idle { conn.new.in_transaction ≡ false }
     ensures office { (⟦<Tables<MemStore> as Store>⟧.state desk.new).office ≡ (⟦<Tables<MemStore> as Store>⟧.state desk.old).office }
     ensures passes { (b : Book) → HasCleanDisk (state S.Store conn.new) → ComesFrom b (state S.Store conn.old) → HasRows (is_of_pool 0) (pool_rows b) rows.now → HasRows (is_of_pool 0) (cut_rows b) cuts.now → (⟦<Tables<MemStore> as Store>⟧.state desk.old).book ≡ without_pools b
@@ -298,6 +314,7 @@ fn pools_of_rows<S: Alter>(
 ) -> Result<(), AuditFault>
     requires { conn.old.in_transaction ≡ false }
     ensures asked { Inspects (state S.Store conn.old) (state S.Store conn.new) result (λ _ _. ⊤) }
+    ensures failed { TellsFailure Store (state S.Store conn.old) (state S.Store conn.new) result }
     ensures idle { conn.new.in_transaction ≡ false }
     ensures office { (⟦<Tables<MemStore> as Store>⟧.state desk.new).office ≡ (⟦<Tables<MemStore> as Store>⟧.state desk.old).office }
     ensures passes { (b : Book) → HasCleanDisk (state S.Store conn.new) → ComesFrom b (state S.Store conn.old) → HasRows (is_of_pool 0) (pool_rows b) rows.now → (⟦<Tables<MemStore> as Store>⟧.state desk.old).book ≡ without_pools b
@@ -316,6 +333,7 @@ fn pools_from<S: Alter>(
 ) -> Result<(), AuditFault>
     requires { conn.old.in_transaction ≡ false }
     ensures asked { Inspects (state S.Store conn.old) (state S.Store conn.new) result (λ _ _. ⊤) }
+    ensures failed { TellsFailure Store (state S.Store conn.old) (state S.Store conn.new) result }
     ensures idle { conn.new.in_transaction ≡ false }
     ensures office { (⟦<Tables<MemStore> as Store>⟧.state desk.new).office ≡ (⟦<Tables<MemStore> as Store>⟧.state desk.old).office }
     ensures passes { (b : Book) → HasCleanDisk (state S.Store conn.new) → ComesFrom b (state S.Store conn.old) → (⟦<Tables<MemStore> as Store>⟧.state desk.old).book ≡ without_pools b
@@ -334,6 +352,7 @@ fn money_from<S: Alter>(
 ) -> Result<(), AuditFault>
     requires { conn.old.in_transaction ≡ false }
     ensures asked { Inspects (state S.Store conn.old) (state S.Store conn.new) result (λ _ _. ⊤) }
+    ensures failed { TellsFailure Store (state S.Store conn.old) (state S.Store conn.new) result }
     ensures idle { conn.new.in_transaction ≡ false }
     ensures office { (⟦<Tables<MemStore> as Store>⟧.state desk.new).office ≡ (⟦<Tables<MemStore> as Store>⟧.state desk.old).office }
     ensures passes { (b : Book) → HasCleanDisk (state S.Store conn.new) → ComesFrom b (state S.Store conn.old) → (⟦<Tables<MemStore> as Store>⟧.state desk.old).book ≡ sent_alone b
@@ -352,6 +371,7 @@ fn requests_from<S: Alter>(
 ) -> Result<(), AuditFault>
     requires { conn.old.in_transaction ≡ false }
     ensures asked { Inspects (state S.Store conn.old) (state S.Store conn.new) result (λ _ _. ⊤) }
+    ensures failed { TellsFailure Store (state S.Store conn.old) (state S.Store conn.new) result }
     ensures idle { conn.new.in_transaction ≡ false }
     ensures office { (⟦<Tables<MemStore> as Store>⟧.state desk.new).office ≡ (⟦<Tables<MemStore> as Store>⟧.state desk.old).office }
     ensures passes { (b : Book) → HasCleanDisk (state S.Store conn.new) → ComesFrom b (state S.Store conn.old) → (⟦<Tables<MemStore> as Store>⟧.state desk.old).book ≡ empty_book
@@ -370,12 +390,17 @@ pub(crate) fn rebuild<S: Alter>(
 ) -> Result<Tables<MemStore>, AuditFault>
     requires { conn.old.in_transaction ≡ false }
     ensures asked { Inspects (state S.Store conn.old) (state S.Store conn.new) result (λ _ _. ⊤) }
+    ensures failed { TellsFailure Store (state S.Store conn.old) (state S.Store conn.new) result }
     ensures idle { conn.new.in_transaction ≡ false }
     ensures office { IfOk result (λ t. (⟦<Tables<MemStore> as Store>⟧.state t).office ≡ office.now) }
     ensures passes { (b : Book) → HasCleanDisk (state S.Store conn.new) → ComesFrom b (state S.Store conn.old) → Passes result (λ t. (⟦<Tables<MemStore> as Store>⟧.state t).book ≡ b) }
 {
     let _settled = conn.is_autocommit();
-    let mut desk = Desk::new(Tables::in_memory(alloc, office)?);
+    let Ok(tables) = Tables::in_memory(alloc, office) else {
+        // Tables in memory fail by want of memory alone.
+        return Err(AuditFault::Memory);
+    };
+    let mut desk = Desk::new(tables);
     requests_from(alloc, conn, &mut desk)?;
     Ok(desk.into_store())
 }

@@ -13,6 +13,8 @@ use Rattle.society_tables.proofs.ComesAgain.{clean_before, shows_still}
 use Rattle.society_tables.proofs.OpenLemmas.{as_inspected, inspected_then}
 use Rattle.society_tables.proofs.RowsAgain.{aside_told}
 use Rattle.society_tables.proofs.SameTables.{agree_more}
+use Rattle.society_tables.proofs.Failing.{failed_passed, failed_then}
+use Rattle.society_tables.specs.declared.audit_fault.AuditFault.TheVariants.{Store}
 use Rattle.society_tables.proofs.comparing.named_agree.Goals as goal
 
 pub loop-table-preserved : goal.loop-table-preserved
@@ -53,3 +55,11 @@ returns-in_err-table_agrees-2-clause-passes g c o b clean shows has holds =
     (c.in_err-table_agrees-2.ensures.passes o b clean
     (shows_still o b _ _ _ _ (λ is_open. c.is_autocommit-settled.ensures.settled (rw (c.is_autocommit-settled.ensures.value, c.requires.ours) refl) is_open) c.loop-table.invariant.agree mid shows)
     (subst HasLayout same has) (subst (λ (db : Database). HoldsBook o b db.trees) same holds))
+
+pub returns-in_err-table_agrees-clause-failed : goal.returns-in_err-table_agrees-clause-failed
+returns-in_err-table_agrees-clause-failed g c = failed_passed Store _ _ c.in_err-table_agrees.field-0.0 c.from_residual.result _ c.in_err-table_agrees.ensures.agree c.in_err-table_agrees.ensures.failed c.from_residual.ensures.1
+
+pub returns-in_err-table_agrees-2-clause-failed : goal.returns-in_err-table_agrees-2-clause-failed
+returns-in_err-table_agrees-2-clause-failed g c =
+    failed_then Store _ _ _ (Ok tt) c.from_residual-in_err-table_agrees-2.result _ (λ is_open. c.is_autocommit-settled.ensures.settled (rw (c.is_autocommit-settled.ensures.value, c.requires.ours) refl) is_open) c.loop-table.invariant.agree c.in_err-table_agrees-2.ensures.agree.survives
+    (failed_passed Store _ _ c.in_err-table_agrees-2.field-0.0 c.from_residual-in_err-table_agrees-2.result _ c.in_err-table_agrees-2.ensures.agree c.in_err-table_agrees-2.ensures.failed c.from_residual-in_err-table_agrees-2.ensures.1)

@@ -1,10 +1,13 @@
-use Rattle.std.proofs.Common.{◌∙◌, Ok, sym}
+use Rattle.std.proofs.Common.{◌∙◌, Ok, subst, sym}
+use Rattle.society_tables.specs.Rebuilding.{IsAside}
 use Rattle.std.proofs.lemmas.Bool.{false≢true}
 use Rattle.society_rows.specs.TableNames.{listing_width, table_called}
 use Rattle.society_tables.proofs.OneListing.{listed_alike}
 use Rattle.society_tables.proofs.OpenLemmas.{then_inspected}
 use Rattle.society_tables.proofs.RowsAgain.{aside_told}
 use Rattle.society_tables.proofs.SameTables.{same_listed}
+use Rattle.society_tables.proofs.Failing.{by_memory, failed_never, failed_passed}
+use Rattle.society_tables.specs.declared.audit_fault.AuditFault.TheVariants.{Store}
 use Rattle.society_tables.proofs.comparing.table_agrees.Goals as goal
 
 pub returns-then-are_same_rows-clause-agree : goal.returns-then-are_same_rows-clause-agree
@@ -24,4 +27,11 @@ pub returns-in_err-rows-clause-passes : goal.returns-in_err-rows-clause-passes
 returns-in_err-rows-clause-passes g c o b clean shows has holds = aside_told _ _ c.from_residual.result c.from_residual.ensures.1 c.in_err-rows.ensures.aside
 
 pub returns-in_err-others-clause-passes : goal.returns-in_err-others-clause-passes
-returns-in_err-others-clause-passes g c o b clean shows has holds = aside_told _ _ c.from_residual-in_err-others.result c.from_residual-in_err-others.ensures.1 c.in_err-others.ensures.aside
+returns-in_err-others-clause-passes g c o b clean shows has holds = aside_told _ _ c.from_residual-in_err-others.result c.from_residual-in_err-others.ensures.1 (subst IsAside (sym c.in_err-others.ensures.memory) tt)
+
+pub returns-in_err-rows-clause-failed : goal.returns-in_err-rows-clause-failed
+returns-in_err-rows-clause-failed g c = failed_passed Store _ _ c.in_err-rows.field-0.0 c.from_residual.result _ c.in_err-rows.ensures.asked c.in_err-rows.ensures.failed c.from_residual.ensures.1
+
+pub returns-in_err-others-clause-failed : goal.returns-in_err-others-clause-failed
+returns-in_err-others-clause-failed g c =
+    failed_never Store _ _ _ c.from_residual-in_err-others.result _ c.in_ok-rows.ensures.asked (by_memory c.in_err-others.field-0.0 c.from_residual-in_err-others.result c.from_residual-in_err-others.ensures.1 c.in_err-others.ensures.memory)

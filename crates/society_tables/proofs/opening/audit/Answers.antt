@@ -10,6 +10,8 @@ use Rattle.society_tables.proofs.OpenLemmas.{inspected_then, same_answer}
 use Rattle.society_tables.proofs.ComesAgain.{clean_before, shows_still}
 use Rattle.society_tables.proofs.OpenTold.{audited_office, damaged_so, undamaged}
 use Rattle.society_tables.proofs.OpenTold.{there_by}
+use Rattle.society_tables.proofs.Failing.{failed_opened, failed_passed, failed_then}
+use Rattle.society_tables.specs.declared.open_fault.OpenFault.TheVariants.{Store}
 use Rattle.society_tables.proofs.opening.audit.Goals as goal
 
 fails : (o : Office) (rows : List Row) (f : AuditFault) (r : Result (Unit {0}) OpenFault) → rows ≡ office_row o ∷ [] → IsErrAnd r (λ e. e ≡ opened_by f) → IfErr r (TellsOffice o rows)
@@ -37,3 +39,11 @@ returns-in_err-is_whole-clause-damaged g c clean has =
 
 pub returns-in_err-is_whole-clause-there : goal.returns-in_err-is_whole-clause-there
 returns-in_err-is_whole-clause-there g c = there_by c.in_err-is_whole.field-0.0 c.from_residual-in_err-is_whole.result c.from_residual-in_err-is_whole.ensures.1
+
+pub returns-in_err-office_agrees-clause-failed : goal.returns-in_err-office_agrees-clause-failed
+returns-in_err-office_agrees-clause-failed g c = failed_passed Store _ _ c.in_err-office_agrees.field-0.0 c.from_residual.result _ c.in_err-office_agrees.ensures.asked c.in_err-office_agrees.ensures.failed c.from_residual.ensures.1
+
+pub returns-in_err-is_whole-clause-failed : goal.returns-in_err-is_whole-clause-failed
+returns-in_err-is_whole-clause-failed g c =
+    failed_then Store _ _ _ (Ok tt) c.from_residual-in_err-is_whole.result _ (λ is_open. c.is_autocommit-settled.ensures.settled (rw (c.is_autocommit-settled.ensures.value, c.requires) refl) is_open) c.in_ok-office_agrees.ensures.asked c.in_err-is_whole.ensures.whole.survives
+    (failed_opened _ _ c.in_err-is_whole.field-0.0 c.from_residual-in_err-is_whole.result _ c.in_err-is_whole.ensures.whole c.in_err-is_whole.ensures.failed c.from_residual-in_err-is_whole.ensures.1)

@@ -2,6 +2,8 @@ use Rattle.std.proofs.Common.{refl}
 use Rattle.society_tables.proofs.OpenLemmas.{inspected_then}
 use Rattle.society_tables.proofs.ComesAgain.{clean_before, shows_still}
 use Rattle.society_tables.proofs.RowsAgain.{aside_told}
+use Rattle.society_tables.proofs.Failing.{failed_passed, failed_then}
+use Rattle.society_tables.specs.declared.audit_fault.AuditFault.TheVariants.{Store}
 use Rattle.society_tables.proofs.opening.fronts_and_balances_numbered.Goals as goal
 
 pub returns-clause-asked : goal.returns-clause-asked
@@ -16,3 +18,9 @@ returns-clause-passes g c o b clean shows =
 
 pub returns-in_err-has_numbers-clause-passes : goal.returns-in_err-has_numbers-clause-passes
 returns-in_err-has_numbers-clause-passes g c o b clean shows = aside_told _ _ c.from_residual.result c.from_residual.ensures.1 (c.in_err-has_numbers.ensures.passes clean (λ is_open. ((shows is_open).0, (shows is_open).1.numbered.0)))
+
+pub returns-in_err-has_numbers-clause-failed : goal.returns-in_err-has_numbers-clause-failed
+returns-in_err-has_numbers-clause-failed g c = failed_passed Store _ _ c.in_err-has_numbers.field-0.0 c.from_residual.result _ c.in_err-has_numbers.ensures.asked c.in_err-has_numbers.ensures.failed c.from_residual.ensures.1
+
+pub returns-clause-failed : goal.returns-clause-failed
+returns-clause-failed g c = failed_then Store _ _ _ _ c.has_numbers-2.result _ (λ is_open. c.is_autocommit-settled.ensures.settled (rw (c.is_autocommit-settled.ensures.value, c.requires) refl) is_open) c.in_ok-has_numbers.ensures.asked c.has_numbers-2.ensures.asked.survives c.has_numbers-2.ensures.failed

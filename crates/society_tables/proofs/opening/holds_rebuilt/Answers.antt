@@ -2,6 +2,8 @@ use Rattle.std.proofs.Common.{refl}
 use Rattle.society_tables.proofs.OpenLemmas.{inspected_then}
 use Rattle.society_tables.proofs.ComesAgain.{clean_before, shows_still}
 use Rattle.society_tables.proofs.RowsAgain.{aside_told}
+use Rattle.society_tables.proofs.Failing.{failed_passed, failed_then}
+use Rattle.society_tables.specs.declared.audit_fault.AuditFault.TheVariants.{Store}
 use Rattle.society_tables.proofs.opening.holds_rebuilt.Goals as goal
 
 pub returns-clause-agree : goal.returns-clause-agree
@@ -17,3 +19,9 @@ returns-clause-passes g c b clean sound shows =
 pub returns-in_err-tables-clause-passes : goal.returns-in_err-tables-clause-passes
 returns-in_err-tables-clause-passes g c b clean sound shows =
     aside_told _ _ c.from_residual.result c.from_residual.ensures.1 (c.in_err-tables.ensures.passes b clean (record { shows = λ is_open. ((shows is_open).0, (shows is_open).1.kept); sound = sound }))
+
+pub returns-in_err-tables-clause-failed : goal.returns-in_err-tables-clause-failed
+returns-in_err-tables-clause-failed g c = failed_passed Store _ _ c.in_err-tables.field-0.0 c.from_residual.result _ c.in_err-tables.ensures.asked c.in_err-tables.ensures.failed c.from_residual.ensures.1
+
+pub returns-clause-failed : goal.returns-clause-failed
+returns-clause-failed g c = failed_then Store _ _ _ _ c.agrees_with.result _ (λ is_open. c.is_autocommit-settled.ensures.settled (rw (c.is_autocommit-settled.ensures.value, c.requires) refl) is_open) c.in_ok-tables.ensures.asked c.agrees_with.ensures.agree.survives c.agrees_with.ensures.failed

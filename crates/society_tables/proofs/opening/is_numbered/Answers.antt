@@ -4,6 +4,8 @@ use Rattle.society_rows.specs.Questions.{Asks}
 use Rattle.society_rows.specs.Stored.{AreNumbered}
 use Rattle.society_rows.specs.TableNames.{table_called}
 use Rattle.society_rows.proofs.AskedRows.{asks_by}
+use Rattle.society_tables.proofs.Failing.{errs_by}
+use Rattle.society_rows.specs.Effects.{ErrsByMedium}
 use Rattle.society_tables.proofs.opening.is_numbered.Goals as goal
 
 pub returns-clause-asked : goal.returns-clause-asked
@@ -12,4 +14,12 @@ returns-clause-asked g c =
     let new = state g.S.Store c.rollback.new.self.0 in
     let done : Asks (state g.S.Store c.args.conn.now) new c.are_numbered-yes.result (λ db yes. IsTrue yes ↔ AreNumbered (table_called c.args.table) db) =
     asks_by g.S.Store c.args.conn.now mid new c.are_numbered-yes.result _ (rw c.transaction-tx.ensures.begun at c.are_numbered-yes.ensures.read) c.rollback.ensures.undone c.rollback.ensures.survives in
+    search rules
+
+pub returns-clause-medium : goal.returns-clause-medium
+returns-clause-medium g c =
+    let mid = state g.S.Store c.are_numbered-yes.new.tx.conn.now in
+    let new = state g.S.Store c.rollback.new.self.0 in
+    let done : ErrsByMedium (state g.S.Store c.args.conn.now) new c.are_numbered-yes.result =
+    errs_by g.S.Store c.args.conn.now mid new c.are_numbered-yes.result (rw c.transaction-tx.ensures.begun at c.are_numbered-yes.ensures.medium) c.rollback.ensures.survives in
     search rules

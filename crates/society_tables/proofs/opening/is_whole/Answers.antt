@@ -2,6 +2,8 @@ use Rattle.std.proofs.Common.{refl}
 use Rattle.society_tables.proofs.OpenLemmas.{inspected_then}
 use Rattle.society_tables.proofs.ComesAgain.{clean_before, shows_still}
 use Rattle.society_tables.proofs.RowsAgain.{aside_told}
+use Rattle.society_tables.proofs.Failing.{failed_passed, failed_then}
+use Rattle.society_tables.specs.declared.audit_fault.AuditFault.TheVariants.{Store}
 use Rattle.society_tables.proofs.opening.is_whole.Goals as goal
 
 pub returns-clause-whole : goal.returns-clause-whole
@@ -15,3 +17,9 @@ returns-clause-passes g c b clean sound shows =
 
 pub returns-in_err-fronts_and_balances_numbered-clause-passes : goal.returns-in_err-fronts_and_balances_numbered-clause-passes
 returns-in_err-fronts_and_balances_numbered-clause-passes g c b clean sound shows = aside_told _ _ c.from_residual.result c.from_residual.ensures.1 (c.in_err-fronts_and_balances_numbered.ensures.passes c.args.office.now b clean shows)
+
+pub returns-in_err-fronts_and_balances_numbered-clause-failed : goal.returns-in_err-fronts_and_balances_numbered-clause-failed
+returns-in_err-fronts_and_balances_numbered-clause-failed g c = failed_passed Store _ _ c.in_err-fronts_and_balances_numbered.field-0.0 c.from_residual.result _ c.in_err-fronts_and_balances_numbered.ensures.asked c.in_err-fronts_and_balances_numbered.ensures.failed c.from_residual.ensures.1
+
+pub returns-clause-failed : goal.returns-clause-failed
+returns-clause-failed g c = failed_then Store _ _ _ _ c.holds_own.result _ (λ is_open. c.is_autocommit-settled.ensures.settled (rw (c.is_autocommit-settled.ensures.value, c.requires) refl) is_open) c.in_ok-fronts_and_balances_numbered.ensures.asked c.holds_own.ensures.agree.survives c.holds_own.ensures.failed

@@ -15,6 +15,8 @@ use Rattle.society_tables.proofs.OpenLemmas.{inspects_of, then_inspected}
 use Rattle.society_tables.proofs.OpenTold.{failed_not_damaged, failed_office, told_likewise}
 use Rattle.society_tables.proofs.SameTables.{all_pass}
 use Rattle.society_tables.proofs.OpenTold.{there_by}
+use Rattle.society_tables.proofs.Failing.{failed_never, office_failed}
+use Rattle.society_tables.specs.declared.open_fault.OpenFault.TheVariants.{Store}
 use Rattle.society_tables.proofs.opening.office_agrees.Goals as goal
 
 any_order : (db : Trees) (rows : List Row) (width : _) → Lists layout.office (λ _. true) width db rows → IsPermutation (rows_in layout.office db) rows
@@ -50,3 +52,9 @@ returns-in_err-rows-clause-other g c = failed_not_damaged c.in_err-rows.field-0.
 
 pub returns-in_err-rows-clause-there : goal.returns-in_err-rows-clause-there
 returns-in_err-rows-clause-there g c = there_by _ c.from_residual.result c.from_residual.ensures.1
+
+pub returns-in_err-rows-clause-failed : goal.returns-in_err-rows-clause-failed
+returns-in_err-rows-clause-failed g c = office_failed _ _ c.in_err-rows.field-0.0 c.from_residual.result _ c.in_err-rows.ensures.asked c.in_err-rows.ensures.medium c.from_residual.ensures.1
+
+pub returns-clause-failed : goal.returns-clause-failed
+returns-clause-failed g c = failed_never Store _ _ _ c.is_office.result _ (inspects_of {E = OpenFault} _ _ _ _ c.in_ok-rows.ensures.asked) c.is_office.ensures.read

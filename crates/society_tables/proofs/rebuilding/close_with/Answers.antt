@@ -9,4 +9,4 @@ returns-in-Ok-clause-passes c b sound there part =
 
 pub returns-in-Err-clause-passes : goal.returns-in-Err-clause-passes
 returns-in-Err-clause-passes c b sound there part =
-    c.fault_of_refusal.ensures (closed_again c.args.desk.now.office b _ c.args.pool c.args.order.now sound there part _ (Err c.in-Err.refusal) (c.in-Err.ensures.step refl))
+    c.fault_of_refusal.ensures.aside (closed_again c.args.desk.now.office b _ c.args.pool c.args.order.now sound there part _ (Err c.in-Err.refusal) (c.in-Err.ensures.step refl))

@@ -6,6 +6,8 @@ use Rattle.society_book.specs.Columns.{HasRows}
 use Rattle.society_tables.proofs.ComesAgain.{clean_before, comes_still, listed_rows}
 use Rattle.society_tables.proofs.OpenLemmas.{inspected_then}
 use Rattle.society_tables.proofs.RowsAgain.{aside_told}
+use Rattle.society_tables.proofs.Failing.{failed_passed, failed_then}
+use Rattle.society_tables.specs.declared.audit_fault.AuditFault.TheVariants.{Store}
 use Rattle.society_tables.proofs.rebuilding.pools_from.Goals as goal
 
 pub returns-clause-asked : goal.returns-clause-asked
@@ -22,3 +24,9 @@ returns-clause-passes g c b clean comes is =
 
 pub returns-in_err-rows-clause-passes : goal.returns-in_err-rows-clause-passes
 returns-in_err-rows-clause-passes g c b clean comes is = aside_told _ _ c.from_residual.result c.from_residual.ensures.1 c.in_err-rows.ensures.aside
+
+pub returns-in_err-rows-clause-failed : goal.returns-in_err-rows-clause-failed
+returns-in_err-rows-clause-failed g c = failed_passed Store _ _ c.in_err-rows.field-0.0 c.from_residual.result _ c.in_err-rows.ensures.asked c.in_err-rows.ensures.failed c.from_residual.ensures.1
+
+pub returns-clause-failed : goal.returns-clause-failed
+returns-clause-failed g c = failed_then Store _ _ _ _ c.pools_of_rows.result _ (λ is_open. c.is_autocommit-settled.ensures.settled (rw (c.is_autocommit-settled.ensures.value, c.requires) refl) is_open) c.in_ok-rows.ensures.asked c.pools_of_rows.ensures.asked.survives c.pools_of_rows.ensures.failed

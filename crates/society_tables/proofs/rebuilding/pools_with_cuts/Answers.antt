@@ -7,6 +7,8 @@ use Rattle.society_tables.proofs.AddLemmas.{any_told}
 use Rattle.society_tables.proofs.ComesAgain.{listed_rows}
 use Rattle.society_tables.proofs.OpenLemmas.{then_inspected}
 use Rattle.society_tables.proofs.RowsAgain.{aside_told}
+use Rattle.society_tables.proofs.Failing.{failed_never, failed_passed}
+use Rattle.society_tables.specs.declared.audit_fault.AuditFault.TheVariants.{Store}
 use Rattle.society_tables.proofs.rebuilding.pools_with_cuts.Goals as goal
 
 pub returns-clause-asked : goal.returns-clause-asked
@@ -21,3 +23,9 @@ returns-clause-passes g c b clean comes pools cuts is =
 
 pub returns-in_err-paid-clause-passes : goal.returns-in_err-paid-clause-passes
 returns-in_err-paid-clause-passes g c b clean comes pools cuts is = aside_told _ _ c.from_residual.result c.from_residual.ensures.1 c.in_err-paid.ensures.aside
+
+pub returns-in_err-paid-clause-failed : goal.returns-in_err-paid-clause-failed
+returns-in_err-paid-clause-failed g c = failed_passed Store _ _ c.in_err-paid.field-0.0 c.from_residual.result _ c.in_err-paid.ensures.asked c.in_err-paid.ensures.failed c.from_residual.ensures.1
+
+pub returns-clause-failed : goal.returns-clause-failed
+returns-clause-failed g c = failed_never Store _ _ _ c.close_pools.result _ c.in_ok-paid.ensures.asked c.close_pools.ensures.judged

@@ -31,7 +31,7 @@ pub returns-in-Err-clause-passes : goal.returns-in-Err-clause-passes
 returns-in-Err-clause-passes c b sound reported within =
     let from = c.in-Ok.ensures.value in
     let row = c.args.row.now in
-    c.fault_of_refusal.ensures
+    c.fault_of_refusal.ensures.aside
     (subst (λ r. IsTaken r (ReportedOn b (book_of (state over_memory c.args.desk.now.conn).now.trees) row (book_of (state over_memory c.put_return.new.self.conn).now.trees))) c.in-Err.is
     (reported_row b row sound reported c.args.desk.now.office _ _ _ _ _ c.put_return.result within
     (reporter_is b row sound reported c.in-Ok.row.reporter.now c.in-Ok-from_bytes.reporter c.from_bytes.result (ap (text_at 0) from) c.from_bytes.ensures c.in-Ok-from_bytes.is)

@@ -31,7 +31,7 @@ pub returns-in-Err-clause-passes : goal.returns-in-Err-clause-passes
 returns-in-Err-clause-passes c b sound sent within =
     let from = c.in-Ok.ensures.value in
     let row = c.args.row.now in
-    c.fault_of_refusal.ensures
+    c.fault_of_refusal.ensures.aside
     (subst (λ r. IsTaken r (SentOn b (book_of (state over_memory c.args.desk.now.conn).now.trees) row (book_of (state over_memory c.put_transmission.new.self.conn).now.trees))) c.in-Err.is
     (sent_row b row sound sent c.args.desk.now.office _ _ _ _ _ c.put_transmission.result within
     (sent_sender_is b row sound sent c.in-Ok.row.sender.now c.in-Ok-from_bytes.sender c.from_bytes.result (ap (text_at 0) from) c.from_bytes.ensures c.in-Ok-from_bytes.is)

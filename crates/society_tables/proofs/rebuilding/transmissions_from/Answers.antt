@@ -7,6 +7,8 @@ use Rattle.society_tables.proofs.AddLemmas.{any_told}
 use Rattle.society_tables.proofs.ComesAgain.{empty_within, listed_rows, sent_end}
 use Rattle.society_tables.proofs.OpenLemmas.{then_inspected}
 use Rattle.society_tables.proofs.RowsAgain.{all_sent, aside_told}
+use Rattle.society_tables.proofs.Failing.{failed_never, failed_passed}
+use Rattle.society_tables.specs.declared.audit_fault.AuditFault.TheVariants.{Store}
 use Rattle.society_tables.proofs.rebuilding.transmissions_from.Goals as goal
 
 pub returns-clause-asked : goal.returns-clause-asked
@@ -21,3 +23,9 @@ returns-clause-passes g c b clean comes empty =
 
 pub returns-in_err-rows-clause-passes : goal.returns-in_err-rows-clause-passes
 returns-in_err-rows-clause-passes g c b clean comes empty = aside_told _ _ c.from_residual.result c.from_residual.ensures.1 c.in_err-rows.ensures.aside
+
+pub returns-in_err-rows-clause-failed : goal.returns-in_err-rows-clause-failed
+returns-in_err-rows-clause-failed g c = failed_passed Store _ _ c.in_err-rows.field-0.0 c.from_residual.result _ c.in_err-rows.ensures.asked c.in_err-rows.ensures.failed c.from_residual.ensures.1
+
+pub returns-clause-failed : goal.returns-clause-failed
+returns-clause-failed g c = failed_never Store _ _ _ c.put_transmissions.result _ c.in_ok-rows.ensures.asked c.put_transmissions.ensures.judged
