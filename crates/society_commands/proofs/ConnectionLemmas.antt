@@ -1,5 +1,5 @@
 -- Connections come one after another: their requests are one run, and their lines stand behind one another.
-use Rattle.std.proofs.Common.{◌≡◌, ℕ, ◌+◌, List, [], ◌∷◌, ◌++◌, Option, Some, None, Result, Ok, Err, arith, ap, append_assoc, append-nil, inl, inr, length, refl, subst, sym, zero, ◌∙◌}
+use Rattle.std.proofs.Common.{◌≡◌, ℕ, ◌+◌, Bool, List, [], ◌∷◌, ◌++◌, Option, Some, None, Result, Ok, Err, arith, ap, append_assoc, append-nil, inl, inr, length, refl, subst, sym, zero, ◌∙◌}
 use Rattle.std.specs.Prelude.{IfOk, IfErr, codes}
 use Rattle.std.specs.Io.KnownBytes.{Appends}
 use Rattle.std.specs.List.{AllByRecursion}

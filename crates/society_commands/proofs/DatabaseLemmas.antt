@@ -1,17 +1,20 @@
 -- What a store shows that is opened over a database.
 use Rattle.std.proofs.Common.{◌≡◌, ℕ, IsTrue, Result, Ok, Err, ap, inr, false, true}
 use Rattle.std.specs.Prelude.{IfErr, IfOk, IsErrAnd, MatchResult}
+use Rattle.std.proofs.lemmas.Bool.{false≢true}
 use Rattle.share_rules.specs.declared.office.Office.{Office}
 use Rattle.sqlite.specs.State as connection
 use Rattle.society_core.specs.Book.{empty_book}
+use Rattle.society_rows.specs.Effects.{MayFail}
 use Rattle.society_rows.specs.NewBook.{IsBare}
 use Rattle.society_rows.specs.Stored.{HasLayout}
 use Rattle.society_book.proofs.AskLemmas.{clean_is, first_true, second_true}
 use Rattle.society_book.specs.BookRows.{book_of}
 use Rattle.society_book.specs.Kept.{tables_state}
+use Rattle.society_tables.specs.Existing.{WhenOpen}
 use Rattle.society_tables.specs.Opening.{HoldsOne, IsOpenable, ShowsAs, SurvivesOpening, Tells}
 use Rattle.society_tables.specs.declared.open_fault.OpenFault.{OpenFault}
-use Rattle.society_tables.specs.declared.open_fault.OpenFault.TheVariants.{Empty}
+use Rattle.society_tables.specs.declared.open_fault.OpenFault.TheVariants.{Empty, Store}
 use Rattle.society_commands.specs.Connections.{IsNotOpened, IsOver}
 
 -- tables that were opened are those of the office, over what the connection was found with
@@ -22,7 +25,7 @@ is_over : (office held : Office) (found begun : connection.State) (failures : �
     → IsOver office false found (tables_state held begun failures)
 is_over office held found begun failures same known bare kept = record {
   office_is = same;
-  there = λ existing opened clean. absurd existing;
+  there = λ existing opened clean. absurd (false≢true existing);
   known = λ opened clean. known (clean_is begun.is_clean (first_true begun.is_clean begun.is_open clean)) opened;
   bare = λ opened clean. bare (clean_is begun.is_clean (first_true begun.is_clean begun.is_open clean)) opened;
   kept = λ opened clean layout.
@@ -41,8 +44,8 @@ is_over_there office held found begun failures same empty kept = record {
   known = λ opened clean. inr (kept (clean_is begun.is_clean (first_true begun.is_clean begun.is_open clean)) opened).0;
   bare = λ opened clean none. absurd (empty opened none);
   kept = λ opened clean layout.
-      let both = (kept (clean_is begun.is_clean (first_true begun.is_clean begun.is_open clean)) opened).1 in
-      (both.0, ap (λ db. book_of db.trees) (both.1 (second_true begun.is_clean begun.is_open clean)).0);
+      let all = kept (clean_is begun.is_clean (first_true begun.is_clean begun.is_open clean)) opened in
+      (all.1, ap (λ db. book_of db.trees) (all.2 (second_true begun.is_clean begun.is_open clean)).0);
 }
 
 module _ {T C : Type 0} (office : Office) (found : connection.State) (held : T → Office) (shown : T → connection.State) (failures : T → ℕ) (left : C → connection.State) where
@@ -65,17 +68,19 @@ module _ {T C : Type 0} (office : Office) (found : connection.State) (held : T �
 
   -- what was not opened, where a book may begin
   pub not_any : (r : Result T (OpenFault × C)) → IfErr r (λ e. connection.HasCleanDisk (left e.1) → IsTrue found.is_open → Tells office found.committed e.0)
+      → IfErr r (λ e. WhenOpen found (left e.1) (HasLayout found.committed → e.0 ≡ Store → MayFail found (left e.1)))
       → IfErr r (λ e. connection.HasCleanDisk (left e.1) → ShowsAs found.committed (left e.1))
       → MatchResult r (λ t. SurvivesOpening office found (shown t)) (λ e. SurvivesOpening office found (left e.1))
       → IfErr r (λ e. IsNotOpened office false found (left e.1))
-  not_any (Ok t) told unchanged crash = tt
-  not_any (Err e) told unchanged crash = record { fault = e.0; told = told; empty = λ existing. absurd existing; unchanged = unchanged; crash = crash }
+  not_any (Ok t) told failed unchanged crash = tt
+  not_any (Err e) told failed unchanged crash = record { fault = e.0; told = told; empty = λ existing. absurd (false≢true existing); failed = failed; unchanged = unchanged; crash = crash }
 
   -- and where none may
   pub not_existing : (X : OpenFault × C → Type 0) (r : Result T (OpenFault × C)) → IfErr r (λ e. connection.HasCleanDisk (left e.1) → IsTrue found.is_open → Tells office found.committed e.0)
       → (IsTrue found.is_open → IsBare found.committed → IsErrAnd r (λ e. (e.0 ≡ Empty) × X e))
+      → IfErr r (λ e. WhenOpen found (left e.1) (HasLayout found.committed → e.0 ≡ Store → MayFail found (left e.1)))
       → IfErr r (λ e. connection.HasCleanDisk (left e.1) → ShowsAs found.committed (left e.1))
       → MatchResult r (λ t. connection.Survives found (shown t) (λ db. ⊥)) (λ e. connection.Survives found (left e.1) (λ db. ⊥))
       → IfErr r (λ e. IsNotOpened office true found (left e.1))
-  not_existing X (Ok t) told empty unchanged crash = tt
-  not_existing X (Err e) told empty unchanged crash = record { fault = e.0; told = told; empty = λ existing opened none. (empty opened none).0; unchanged = unchanged; crash = crash }
+  not_existing X (Ok t) told empty failed unchanged crash = tt
+  not_existing X (Err e) told empty failed unchanged crash = record { fault = e.0; told = told; empty = λ existing opened none. (empty opened none).0; failed = failed; unchanged = unchanged; crash = crash }

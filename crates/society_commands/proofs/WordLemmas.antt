@@ -125,13 +125,13 @@ not_wrong HasBadWords words.BadName reads wrong = absurd reads
 
 -- words that are read so as to be done are not wrong
 pub replay_not_wrong : (a : Asked) (office : Office) → IsReadAs a (words.Replay office) → IsWrong a → ⊥
-replay_not_wrong a office reads wrong = elim not_wrong a (words.Replay office) reads wrong [ inl is ↦ cc | inr is ↦ cc ]
+replay_not_wrong a office reads wrong = elim (not_wrong a (words.Replay office) reads wrong) [ inl is ↦ cc | inr is ↦ cc ]
 
 pub serve_not_wrong : (a : Asked) (database : Database) (place : Place) (office : Office) → IsReadAs a (words.Serve database place office) → IsWrong a → ⊥
-serve_not_wrong a database place office reads wrong = elim not_wrong a (words.Serve database place office) reads wrong [ inl is ↦ cc | inr is ↦ cc ]
+serve_not_wrong a database place office reads wrong = elim (not_wrong a (words.Serve database place office) reads wrong) [ inl is ↦ cc | inr is ↦ cc ]
 
 pub audit_not_wrong : (a : Asked) (path : Bor Text) (office : Office) → IsReadAs a (words.Audit path office) → IsWrong a → ⊥
-audit_not_wrong a path office reads wrong = elim not_wrong a (words.Audit path office) reads wrong [ inl is ↦ cc | inr is ↦ cc ]
+audit_not_wrong a path office reads wrong = elim (not_wrong a (words.Audit path office) reads wrong) [ inl is ↦ cc | inr is ↦ cc ]
 
 pub read_no_help : (a : Asked) (read : Words) → IsReadAs a read → a ≡ AsksHelp → ⊥
 read_no_help a read reads help = no_help read (subst (λ (b : Asked). IsReadAs b read) help reads)

@@ -15,12 +15,14 @@ use Rattle.sqlite.specs.Recovery.{Image}
 use Rattle.society_core.specs.Book.{empty_book}
 use Rattle.society_core.specs.Requests.{Reply}
 use Rattle.society_core.specs.State.{Rises, State}
+use Rattle.society_rows.specs.Effects.{MayFail}
 use Rattle.society_rows.specs.NewBook.{IsBare}
 use Rattle.society_rows.specs.Stored.{HasLayout}
 use Rattle.society_book.specs.BookRows.{book_of}
+use Rattle.society_tables.specs.Existing.{FindsOffice, WhenOpen}
 use Rattle.society_tables.specs.Opening.{HoldsOne, IsOpenable, ShowsAs, SurvivesOpening, Tells}
 use Rattle.society_tables.specs.declared.open_fault.OpenFault.{OpenFault}
-use Rattle.society_tables.specs.declared.open_fault.OpenFault.TheVariants.{Empty}
+use Rattle.society_tables.specs.declared.open_fault.OpenFault.TheVariants.{Empty, Store}
 use Rattle.society_commands.specs.Replays.{fault_name}
 
 -- how many requests a connection brought, by what it came to
@@ -117,18 +119,19 @@ LeavesOpening true office found left = connection.Survives found left (λ db. �
 LeavesOpening false office found left = SurvivesOpening office found left
 
 -- A database was not opened as the office's: this is why, its connection shows what was committed, and a crash leaves what it left
--- before or what opening may leave. Where it had to be an office's already and has no table, it is told as empty.
+-- before or what opening may leave. Where it had to be an office's already and has no table, it is told as empty; over layout 2 a failure
+-- of the store is told only where there may have been one.
 pub record IsNotOpened (office : Office) (existing : Bool) (found left : connection.State) : Type 0 where
   pub fault : OpenFault
   pub told : connection.HasCleanDisk left → IsTrue found.is_open → Tells office found.committed fault
   pub empty : IsTrue existing → IsTrue found.is_open → IsBare found.committed → fault ≡ Empty
+  pub failed : WhenOpen found left (HasLayout found.committed → fault ≡ Store → MayFail found left)
   pub unchanged : connection.HasCleanDisk left → ShowsAs found.committed left
   pub crash : LeavesOpening existing office found left
 
 -- a database was found to hold a sound book of the office with what is derived from it; it shows that still, and a crash leaves what it left before
 pub record IsSoundDatabase (office : Office) (found left : connection.State) : Type 0 where
-  pub sound : connection.HasCleanDisk left → IsTrue found.is_open → HasLayout found.committed × HoldsOne office found.committed.trees
-  pub unchanged : connection.HasCleanDisk left → ShowsAs found.committed left
+  pub sound : FindsOffice office found left
   pub crash : connection.Survives found left (λ db. ⊥)
 
 -- a database that was opened so was audited and is sound, and `sound` was printed

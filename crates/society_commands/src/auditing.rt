@@ -28,7 +28,7 @@ pub fn audit_file<H: OpenDatabase, W: Write, E: Write>(
 ) -> u8
     ensures status { (result ≡ 0) ⊎ (result ≡ 1) }
     ensures sound { result ≡ 0
-        → FindsSound file_state (H.may_open path.now) office.now W.contents out.old out.new }
+        → FindsSound (file_state {g = H.File.Disk}) (H.may_open path.now) office.now W.contents out.old out.new }
     ensures fault { result ≡ 1 → out.new ≡ out.old }
 {
     let database = Database {

@@ -26,8 +26,11 @@ pub trait OpenDatabase {
     /// A connection to the database at a path. Where there is none it is made, or nothing is made and this is `Empty`, if the database
     /// has to be there already. `Memory` where memory was refused, `Schema` where the file holds no tables that can be read, `Damaged`
     /// where it is not as it was written, else `Store`.
-    fn open_database(&self, database: Database<'_>) -> Result<Connection<FileStore<Self::File>>, OpenFault>
-        ensures opened { IfOk result (λ c. may_open database.path.now (file_state c)) }
+    fn open_database(
+        &self,
+        database: Database<'_>,
+    ) -> Result<Connection<FileStore<Self::File>>, OpenFault>
+        ensures opened { IfOk result (λ c. may_open database.entry.path.now (file_state c)) }
         ensures idle { IfOk result (λ c. c.in_transaction ≡ false) };
 }
 
@@ -80,7 +83,10 @@ impl<'a, S: Begin> OpenDatabase for Host<'a, S> {
     // No clause ties a path to bytes: `S` stands for those of the file that is opened.
     ghost may_open = { λ path s. IsFoundIn (image_at S.Start) s };
 
-    fn open_database(&self, database: Database<'_>) -> Result<Connection<FileStore<Self::File>>, OpenFault> {
+    fn open_database(
+        &self,
+        database: Database<'_>,
+    ) -> Result<Connection<FileStore<Self::File>>, OpenFault> {
         if database.existing && is_missing(self.runtime, database.path)? {
             return Err(OpenFault::Empty);
         }

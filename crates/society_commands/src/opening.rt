@@ -37,21 +37,22 @@ pub fn serve_file<
     err: &mut E,
 ) -> u8
     ensures status { (result ≡ 0) ⊎ (result ≡ 1) }
-    ensures served { result ≡ 0 → ServesOpened file_state (H.may_open database.path.now) ⟦<Tables<FileStore<H::File>> as Store>⟧.state
+    ensures served { result ≡ 0 → ServesOpened (file_state {g = H.File.Disk}) (H.may_open database.entry.path.now) ⟦<Tables<FileStore<H::File>> as Store>⟧.state
         (IsLeftClosed ⟦<Tables<FileStore<H::File>> as Store>⟧.state (λ t. t.conn))
-        office.now database.existing W.contents out.old out.new place.connections }
+        office.now database.entry.existing W.contents out.old out.new place.connections }
     // Nothing is printed where the database is not opened, or nothing can be listened on; else fewer connections came. In each case
     // the clause names what is left of the database.
-    ensures broken_off { result ≡ 1 → StopsServingOpened file_state (H.may_open database.path.now) ⟦<Tables<FileStore<H::File>> as Store>⟧.state
+    ensures broken_off { result ≡ 1 → StopsServingOpened (file_state {g = H.File.Disk}) (H.may_open database.entry.path.now) ⟦<Tables<FileStore<H::File>> as Store>⟧.state
         (IsLeftClosed ⟦<Tables<FileStore<H::File>> as Store>⟧.state (λ t. t.conn))
-        office.now database.existing W.contents out.old out.new place.connections }
+        office.now database.entry.existing W.contents out.old out.new place.connections }
 {
     match host.open_database(database) {
         Ok(connection) => {
             let existing = database.existing;
-            let (status, left) =
-                serve_database(host, alloc, connection, existing, place, office, out, err);
-            let _closed = close_left(left, err);
+            let (status, left) = serve_database(
+                host, alloc, connection, existing, place, office, out, err,
+            );
+            drop(close_left(left, err));
             status
         }
         Err(fault) => open_fault(fault, err),

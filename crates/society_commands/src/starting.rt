@@ -67,15 +67,15 @@ pub fn start<
         ⊎ (StartsReplay (asked (map string_bytes words.now)) (λ office.
         Replays office R.remaining W.contents reader.old out.old out.new)
         ⊎ (StartsServing (asked (map string_bytes words.now)) (λ database place office.
-        ServesOpened file_state (H.may_open database.path.now) ⟦<Tables<FileStore<H::File>> as Store>⟧.state
+        ServesOpened (file_state {g = H.File.Disk}) (H.may_open database.path.now) ⟦<Tables<FileStore<H::File>> as Store>⟧.state
         (IsLeftClosed ⟦<Tables<FileStore<H::File>> as Store>⟧.state (λ t. t.conn)) office database.existing W.contents out.old out.new place.connections)
         ⊎ StartsAudit (asked (map string_bytes words.now)) (λ path office.
-        FindsSound file_state (H.may_open path) office W.contents out.old out.new)))) }
+        FindsSound (file_state {g = H.File.Disk}) (H.may_open path) office W.contents out.old out.new)))) }
     ensures broken_off { IfOk result (λ status. status ≡ 1
         → StartsReplay (asked (map string_bytes words.now)) (λ office.
         BreaksOff office R.remaining W.contents reader.old reader.new out.old out.new)
         ⊎ (StartsServing (asked (map string_bytes words.now)) (λ database place office.
-        StopsServingOpened file_state (H.may_open database.path.now) ⟦<Tables<FileStore<H::File>> as Store>⟧.state
+        StopsServingOpened (file_state {g = H.File.Disk}) (H.may_open database.path.now) ⟦<Tables<FileStore<H::File>> as Store>⟧.state
         (IsLeftClosed ⟦<Tables<FileStore<H::File>> as Store>⟧.state (λ t. t.conn)) office database.existing W.contents out.old out.new place.connections)
         ⊎ StartsAudit (asked (map string_bytes words.now)) (λ path office. out.new ≡ out.old))) }
 {

@@ -130,21 +130,21 @@ fn audited(rt: &HostRuntime, path: &str, society: u16) -> Result<Printed, Fail> 
     let office = Office::new(society, 40, b"EXAMPLE SOCIETY").ok_or("an office")?;
     let mut out = Counted::new(Vec::<u8>::new(alloc));
     let mut err = Vec::<u8>::new(alloc);
-    let status = audit_file(&Host::<Wary>::new(rt), alloc, path, &office, &mut out, &mut err);
+    let status = audit_file(
+        &Host::<Wary>::new(rt),
+        alloc,
+        path,
+        &office,
+        &mut out,
+        &mut err,
+    );
     Ok((out.into_inner(), err, status))
 }
 
 /// Rows of a path, whether an office has to be there, a society, the status and what is printed on standard output and on standard
 /// error, in this order.
 const SERVED: [(&str, bool, u16, u8, &str, &str); 6] = [
-    (
-        "served.db",
-        true,
-        900,
-        1,
-        "",
-        "society: database empty\n",
-    ),
+    ("served.db", true, 900, 1, "", "society: database empty\n"),
     (
         "served.db",
         false,

@@ -265,9 +265,15 @@ fn started(rt: &HostRuntime, words: &str) -> Result<(Vec<u8>, Vec<u8>, u8), Fail
     let mut out = Counted::new(Vec::<u8>::new(alloc));
     let mut err = Vec::<u8>::new(alloc);
     let host = Host::<Wary>::new(rt);
-    let status = start(&host, alloc, list.as_slice(), &mut reader, &mut out, &mut err).map_err(
-        |_| "memory",
-    )?;
+    let status = start(
+        &host,
+        alloc,
+        list.as_slice(),
+        &mut reader,
+        &mut out,
+        &mut err,
+    )
+    .map_err(|_| "memory")?;
     Ok((out.into_inner(), err, status))
 }
 
@@ -317,7 +323,11 @@ fn a_file_that_is_not_there(rt: HostRuntime) -> Result<(), Fail> {
         is_status(&rt, words, told, 1);
         is_text(&rt, words, &err, b"society: database empty\n");
         is_text(&rt, words, &out, b"");
-        holds(&rt, words, !fs::exists(&rt, "none.db")? && !fs::exists(&rt, "none.db-wal")?);
+        holds(
+            &rt,
+            words,
+            !fs::exists(&rt, "none.db")? && !fs::exists(&rt, "none.db-wal")?,
+        );
     }
     Ok(())
 }

@@ -1,0 +1,27 @@
+use Rattle.sqlite.specs.Held.{state}
+use Rattle.society_commands.proofs.DatabaseLemmas.{not_any, not_existing, over_any, over_existing}
+use Rattle.society_commands.proofs.opening.open_tables.Goals as goal
+
+pub returns-then-existing-clause-over : goal.returns-then-existing-clause-over
+returns-then-existing-clause-over g c =
+    rw c.if-existing.true
+    (over_existing c.args.office.now (state g.M.Store c.args.connection) (λ t. t.office) (λ t. state g.M.Store t.conn) (λ t. t.failures) (state g.M.Store) _
+    c.open_existing.result c.open_existing.ensures.office c.open_existing.ensures.empty c.open_existing.ensures.audited)
+
+pub returns-then-existing-clause-fault : goal.returns-then-existing-clause-fault
+returns-then-existing-clause-fault g c =
+    rw c.if-existing.true
+    (not_existing c.args.office.now (state g.M.Store c.args.connection) (λ t. t.office) (λ t. state g.M.Store t.conn) (λ t. t.failures) (state g.M.Store) _
+    c.open_existing.result c.open_existing.ensures.told c.open_existing.ensures.empty c.open_existing.ensures.failed c.open_existing.ensures.unchanged c.open_existing.ensures.crash)
+
+pub returns-else-existing-clause-over : goal.returns-else-existing-clause-over
+returns-else-existing-clause-over g c =
+    rw c.if-existing.false
+    (over_any c.args.office.now (state g.M.Store c.args.connection) (λ t. t.office) (λ t. state g.M.Store t.conn) (λ t. t.failures) (state g.M.Store)
+    c.open.result c.open.ensures.office c.open.ensures.known c.open.ensures.begun c.open.ensures.audited)
+
+pub returns-else-existing-clause-fault : goal.returns-else-existing-clause-fault
+returns-else-existing-clause-fault g c =
+    rw c.if-existing.false
+    (not_any c.args.office.now (state g.M.Store c.args.connection) (λ t. t.office) (λ t. state g.M.Store t.conn) (λ t. t.failures) (state g.M.Store)
+    c.open.result c.open.ensures.told c.open.ensures.failed c.open.ensures.unchanged c.open.ensures.crash)
