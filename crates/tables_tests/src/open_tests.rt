@@ -2,7 +2,6 @@
 ghost use Rattle.std.specs.Prelude.{◌≡◌, IfOk, false};
 
 use crate::checks::{holds, told};
-use crate::listing::rows_by;
 use share_rules::Office;
 use society_core::{Desk, PoolOrder, ReturnKey, Store};
 use society_tables::{AuditFault, OpenFault, Tables, confirm, open_after_crash, reopen};
@@ -152,8 +151,8 @@ fn nothing_is_begun_where_tables_are_to_be_there(rt: HostRuntime) -> Result<(), 
     let Err((OpenFault::Empty, mut conn)) = opened else {
         return Err(Fail::new("an empty database"));
     };
-    let names = rows_by(rt.alloc(), &mut conn, &["SELECT name FROM sqlite_master"])?;
-    told(&rt, "its tables", &names.as_str(), &"");
+    let names = conn.query_all("SELECT name FROM sqlite_master", &[])?;
+    told(&rt, "its tables", &names.len(), &0);
     Ok(())
 }
 
