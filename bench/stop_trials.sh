@@ -4,8 +4,8 @@
 #
 # usage: bench/stop_trials.sh [NAME]     (a part of the tests' names; all: some 30 minutes)
 #
-# The trials are crates/file_tests/src/stop_trials.rt. Tests of them are made here, in a copy of the crates, and run under `rt try`,
-# unproved.
+# The trials are the files of bench/stop_trials. They go into a copy of crates/file_tests here, tests are made of them, and those are run
+# under `rt try`, unproved.
 set -eu
 case ${1:-} in
 -h | --help)
@@ -17,7 +17,12 @@ here=$(cd "$(dirname "$0")/.." && pwd)
 copy=$(mktemp -d)
 trap 'rm -rf "$copy"' EXIT
 tar -C "$here" --exclude=out -cf - crates crates.txt HANDLES | tar -C "$copy" -xf -
+sed -i 's/^file_tests:.*/& sqlite_disk/' "$copy/crates.txt"
 cd "$copy/crates/file_tests"
+for module in fused stops stop_trials; do
+  cp "$here/bench/stop_trials/$module.txt" "src/$module.rt"
+  printf '#[cfg(test)]\nmod %s;\n' "$module" >>src/lib.rt
+done
 trial() {
   printf '\n#[test]\nfn %s(rt: HostRuntime) -> Result<(), Fail> {\n    check_trial(&rt, rt.alloc(), Trial::%s, Part::%s, File::%s)\n}\n' "$@" >>src/stop_trials.rt
 }

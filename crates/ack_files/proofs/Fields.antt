@@ -2,11 +2,11 @@
 use Rattle.std.proofs.Common.{◌≡◌, ℕ, ◌-◌, List, ◌++◌, length, replicate, ap, ◌∙◌, arith, drop}
 use borrow.Rule.Slice.PartMut.{put_mid, post_of}
 use Rattle.std.proofs.lemmas.List.{append-nil, take_at, drop_at, drop_all}
-use Rattle.cwr_records.specs.Lines.{fill}
+use Rattle.cwr_records.specs.Lines.{fill_field}
 
 -- bytes that have the width already are the field
-pub fill-whole : (width : ℕ) (bytes : List ℕ) → length bytes ≡ width → fill width bytes ≡ bytes
-unfolding fill
+pub fill-whole : (width : ℕ) (bytes : List ℕ) → length bytes ≡ width → fill_field width bytes ≡ bytes
+unfolding fill_field
 fill-whole width bytes h =
     let none : width - length bytes ≡ 0 = omega arith in
     ap (λ (n : ℕ). bytes ++ replicate n 32) none ∙ append-nil bytes

@@ -1,4 +1,3 @@
-pub mod DigitLemmas
 pub mod Fields
 pub mod AckLemmas
 mod Worked

@@ -1,4 +1,3 @@
-pub mod Digits
 pub mod Lines
 pub mod Acknowledgement
 pub use Rattle.cwr_files.specs.Contents

@@ -1,12 +1,12 @@
+//! The acknowledgement of a transmission: header, one line for each transaction, trailer.
 ghost use Rattle.std.specs.Prelude.{◌≡◌, ◌≤◌, ◌<◌, ◌+◌, ◌^◌, ◌++◌, length, drop, find, flat_map, IfOk, OnOk};
 ghost use Rattle.std.specs.List.{zip};
 ghost use Rattle.std.specs.Option.{option_copied};
-ghost use Rattle.cwr_records.specs.Lines.{fill};
+ghost use Rattle.cwr_records.specs.Lines.{fill_field};
 ghost use Rattle.cwr_files.specs.Transaction.{title_of, first_work, submitter_number};
 ghost use Rattle.ack_files.specs.Acknowledgement.{acknowledgement, ack_body, ack_group_header, ack_group_trailer, ack_header, ack_lines, ack_record, ack_trailer, has_transactions, recipient_number, status_of};
 ghost use Rattle.ack_files.specs.Lines.{header_line, group_header_line, acknowledgement_line, group_trailer_line, trailer_line};
 
-use crate::digits::digits;
 use crate::lines::{
     append_acknowledgement, append_group_header, append_group_trailer, append_header,
     append_trailer,
@@ -18,17 +18,17 @@ use cwr_records::{
 };
 use share_rules::Office;
 use std::alloc::{AllocError, Global};
-use work_ids::SenderKey;
+use work_ids::{SenderKey, last_digits};
 use works_core::Verdict;
 
-/// A field that the bytes fill.
+// A field that the bytes fill.
 fn whole<'a, const WIDTH: usize>(bytes: &'a [u8; WIDTH]) -> Fixed<'a, WIDTH>
     ensures { result ≡ bytes.now }
 {
     Fixed::new(bytes)
 }
 
-/// Appends the header of an acknowledgement.
+// Appends the header of an acknowledgement.
 fn append_ack_header(
     office: &Office,
     original: &TransmissionHeader<'_>,
@@ -36,7 +36,7 @@ fn append_ack_header(
 ) -> Result<(), AllocError>
     ensures { OnOk result (out.new.items ≡ out.old.items ++ header_line (ack_header office.now original.now)) }
 {
-    let sender_id = digits::<9>(u64::from(office.society));
+    let sender_id = last_digits::<9>(u64::from(office.society));
     let header = TransmissionHeader {
         sender_type: whole(b"SO"),
         sender_id: whole(&sender_id),
@@ -50,12 +50,12 @@ fn append_ack_header(
     append_header(&header, out)
 }
 
-/// Appends the header of an acknowledgement's group.
+// Appends the header of an acknowledgement's group.
 fn append_ack_group_header(original: &GroupHeader<'_>, out: &mut Vec<u8>) -> Result<(), AllocError>
     ensures { OnOk result (out.new.items ≡ out.old.items ++ group_header_line (ack_group_header original.now)) }
 {
-    let group_id = digits::<5>(1);
-    let batch_request = digits::<10>(0);
+    let group_id = last_digits::<5>(1);
+    let batch_request = last_digits::<10>(0);
     let header = GroupHeader {
         transaction_type: whole(b"ACK"),
         group_id: whole(&group_id),
@@ -66,14 +66,14 @@ fn append_ack_group_header(original: &GroupHeader<'_>, out: &mut Vec<u8>) -> Res
     append_group_header(&header, out)
 }
 
-/// Appends the trailer of an acknowledgement's group.
+// Appends the trailer of an acknowledgement's group.
 fn append_ack_group_trailer(count: u64, out: &mut Vec<u8>) -> Result<(), AllocError>
     requires { count < 2 ^ 63 }
     ensures { OnOk result (out.new.items ≡ out.old.items ++ group_trailer_line (ack_group_trailer count)) }
 {
-    let group_id = digits::<5>(1);
-    let transaction_count = digits::<8>(count);
-    let record_count = digits::<8>(count + 2);
+    let group_id = last_digits::<5>(1);
+    let transaction_count = last_digits::<8>(count);
+    let record_count = last_digits::<8>(count + 2);
     let trailer = GroupTrailer {
         group_id: whole(&group_id),
         transaction_count: whole(&transaction_count),
@@ -82,7 +82,7 @@ fn append_ack_group_trailer(count: u64, out: &mut Vec<u8>) -> Result<(), AllocEr
     append_group_trailer(&trailer, out)
 }
 
-/// Appends the trailer of an acknowledgement.
+// Appends the trailer of an acknowledgement.
 fn append_ack_trailer(
     groups: u64,
     transactions: u64,
@@ -91,9 +91,9 @@ fn append_ack_trailer(
 ) -> Result<(), AllocError>
     ensures { OnOk result (out.new.items ≡ out.old.items ++ trailer_line (ack_trailer groups transactions records)) }
 {
-    let group_count = digits::<5>(groups);
-    let transaction_count = digits::<8>(transactions);
-    let record_count = digits::<8>(records);
+    let group_count = last_digits::<5>(groups);
+    let transaction_count = last_digits::<8>(transactions);
+    let record_count = last_digits::<8>(records);
     let trailer = TransmissionTrailer {
         group_count: whole(&group_count),
         transaction_count: whole(&transaction_count),
@@ -102,18 +102,21 @@ fn append_ack_trailer(
     append_trailer(&trailer, out)
 }
 
-/// The office's number of a transaction's work; blanks where the transaction is rejected.
-#[tactic(auto, unfolding(cwr_records::specs::Lines::fill))]
+// The office's number of a transaction's work; blanks where the transaction is rejected.
+#[tactic(auto, unfolding(cwr_records::specs::Lines::fill_field))]
 fn recipient_number(sender: &SenderKey, verdict: &Verdict) -> [u8; 20]
     ensures { result ≡ recipient_number sender.now verdict.now }
 {
     match verdict {
-        Verdict::Accepted { ordinal, .. } => joined(sender.sender_id(), &digits::<11>(*ordinal)),
+        Verdict::Accepted { ordinal, .. } => joined(
+            sender.sender_id(),
+            &last_digits::<11>(*ordinal),
+        ),
         Verdict::Rejected(_) => [b' '; 20],
     }
 }
 
-/// Nine bytes and eleven behind them.
+// Nine bytes and eleven behind them.
 fn joined(front: &[u8], back: &[u8; 11]) -> [u8; 20]
     requires { length front.now ≡ 9 }
     ensures { result ≡ front.now ++ back.now }
@@ -124,7 +127,7 @@ fn joined(front: &[u8], back: &[u8; 11]) -> [u8; 20]
     bytes
 }
 
-/// Whether a verdict accepts or rejects, as a status.
+// Whether a verdict accepts or rejects, as a status.
 fn status<'a>(verdict: &Verdict) -> Fixed<'a, 2>
     ensures { result ≡ status_of verdict.now }
 {
@@ -134,21 +137,21 @@ fn status<'a>(verdict: &Verdict) -> Fixed<'a, 2>
     }
 }
 
-/// A transaction's title, as it came.
+// A transaction's title, as it came.
 fn title<'a>(transaction: &Transaction<'a>) -> Fixed<'a, 60>
-    ensures { result ≡ fill 60 (title_of transaction.now) }
+    ensures { result ≡ fill_field 60 (title_of transaction.now) }
 {
     transaction.title().widened()
 }
 
-/// A transaction's work number, as it came.
+// A transaction's work number, as it came.
 fn submitter_number<'a>(transaction: &Transaction<'a>) -> Fixed<'a, 20>
-    ensures { result ≡ fill 20 (submitter_number (first_work transaction.now.records)) }
+    ensures { result ≡ fill_field 20 (submitter_number (first_work transaction.now.records)) }
 {
     transaction.submitter_number().widened()
 }
 
-/// Appends the ACK line of the transaction with this number, from 0.
+// Appends the ACK line of the transaction with this number, from 0.
 fn append_ack(
     sender: &SenderKey,
     original: &TransmissionHeader<'_>,
@@ -159,10 +162,10 @@ fn append_ack(
 ) -> Result<(), AllocError>
     ensures { OnOk result (out.new.items ≡ out.old.items ++ acknowledgement_line (ack_record sender.now original.now number transaction.now verdict.now)) }
 {
-    let transaction_sequence = digits::<8>(number);
-    let record_sequence = digits::<8>(0);
-    let original_group = digits::<5>(u64::from(transaction.group));
-    let original_sequence = digits::<8>(u64::from(transaction.sequence));
+    let transaction_sequence = last_digits::<8>(number);
+    let record_sequence = last_digits::<8>(0);
+    let original_group = last_digits::<5>(u64::from(transaction.group));
+    let original_sequence = last_digits::<8>(u64::from(transaction.sequence));
     let recipient = recipient_number(sender, verdict);
     let source = AcknowledgementRecord {
         transaction_sequence: whole(&transaction_sequence),
@@ -181,7 +184,7 @@ fn append_ack(
     append_acknowledgement(&source, out)
 }
 
-/// Appends the ACK lines of some transactions, the first with this number, and tells the number after the last.
+// Appends the ACK lines of some transactions, the first with this number, and tells the number after the last.
 fn append_transactions(
     sender: &SenderKey,
     original: &TransmissionHeader<'_>,
@@ -207,7 +210,7 @@ fn append_transactions(
     Ok(at)
 }
 
-/// Appends the ACK lines of the transactions of all groups, and tells how many there are.
+// Appends the ACK lines of the transactions of all groups, and tells how many there are.
 fn append_groups(
     sender: &SenderKey,
     original: &TransmissionHeader<'_>,
@@ -233,7 +236,7 @@ fn append_groups(
     Ok(at)
 }
 
-/// The first group that lists a transaction.
+// The first group that lists a transaction.
 fn opening<'t, 'a>(groups: &'t [Group<'a>]) -> Option<&'t Group<'a>>
     ensures { option_copied result ≡ find has_transactions groups.now }
 {
@@ -245,7 +248,7 @@ fn opening<'t, 'a>(groups: &'t [Group<'a>]) -> Option<&'t Group<'a>>
     None
 }
 
-/// Appends what stands behind the header of an acknowledgement.
+// Appends what stands behind the header of an acknowledgement.
 fn append_body(
     sender: &SenderKey,
     transmission: &Transmission<'_>,

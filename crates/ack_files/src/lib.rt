@@ -2,7 +2,6 @@
 #![tactic(auto)]
 
 mod acknowledgement;
-mod digits;
 mod lines;
 
 pub use acknowledgement::write_ack;

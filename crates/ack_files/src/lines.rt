@@ -1,3 +1,4 @@
+//! The lines of an acknowledgement.
 ghost use Rattle.std.specs.Prelude.{◌≡◌, ◌++◌, OnOk};
 ghost use Rattle.ack_files.specs.Lines.{header_line, group_header_line, acknowledgement_line, group_trailer_line, trailer_line};
 

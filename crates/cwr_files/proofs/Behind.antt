@@ -10,12 +10,12 @@ use Rattle.cwr_files.specs.declared.counts.OpenGroup.{OpenGroup}
 use Rattle.cwr_files.specs.declared.counts.Stage.{Stage}
 use Rattle.cwr_files.specs.declared.counts.Stage.TheVariants.{Header, Between, Within, Ended}
 use Rattle.cwr_files.specs.RecordTypes.{hdr, grh, grt, trl, has_type, is_frame, type_of_group}
-use Rattle.cwr_files.specs.LineFaults.{is_too_large, number_at}
+use Rattle.cwr_files.specs.LineFaults.{is_too_large, record_sequence_at}
 use Rattle.cwr_files.specs.Chain.{header_fault, between_fault, group_fault, record_fault, ended_fault}
 use Rattle.cwr_files.specs.LinesBefore.{since, is_ended, is_open, open_type, groups_before, transactions_in_group, lines_in_group, next_number, begins_transaction, transactions_before}
 use Rattle.cwr_files.proofs.Chained.{later_fault, structure_fault, fault-chained}
 use Rattle.cwr_files.specs.FileFault.{fault_at}
-use Rattle.cwr_files.specs.Counts.{stage_of, counts_of, stage_fault, counted_fault, group_after, opened_by, after_in, counts_after}
+use Rattle.cwr_files.specs.Counts.{stage_of, counts_of, stage_fault, counted_fault, group_after, group_begun_by, after_in, counts_after}
 use Rattle.cwr_files.proofs.LineFacts.{other_type, NoFrame, no_frame, blank_is_no_grh}
 
 -- the fault of a stage
@@ -101,7 +101,7 @@ since-chosen : (code l : List ℕ) (xs : List (List ℕ)) (b : Bool) → has_typ
 since-chosen code l xs true e = ap (λ ys. length ys + 1) (since-it code l xs e)
 since-chosen code l xs false e = ap (λ ys. length ys + 1) (since-other code l xs e) ∙ omega arith
 
-next-other : (l : List ℕ) (past : List (List ℕ)) → has_type grh l ≡ false → next_number (l ∷ past) ≡ number_at (open_type past) (next_number past) l + 1
+next-other : (l : List ℕ) (past : List (List ℕ)) → has_type grh l ≡ false → next_number (l ∷ past) ≡ record_sequence_at (open_type past) (next_number past) l + 1
 unfolding next_number
 next-other l past e =
     ap (λ k. length (since k (since grh (l ∷ past))) + 1) (open_type-other l past e)
@@ -211,8 +211,8 @@ open-step l past e =
     let t = in_group-other l past e ∙ one-more (has_type (open_type past) l) (transactions_in_group past) in
     rw (open_type-other l past e, t, lines-other l past e, next-other l past e) refl
 
-open-begun : (l : List ℕ) (past : List (List ℕ)) → has_type grh l ≡ true → open_of (l ∷ past) ≡ opened_by l
-unfolding opened_by
+open-begun : (l : List ℕ) (past : List (List ℕ)) → has_type grh l ≡ true → open_of (l ∷ past) ≡ group_begun_by l
+unfolding group_begun_by
 open-begun l past e = rw (open_type-it l past e, in_group-it l past e, lines-it l past e, next-it l past e) refl
 
 stage-ended : (l : List ℕ) (past : List (List ℕ)) → is_ended (l ∷ past) ≡ true → stage_of (l ∷ past) ≡ Ended

@@ -9,7 +9,7 @@ use Rattle.cwr_files.specs.RecordTypes.{hdr, grh, grt, trl, has_type, is_frame, 
 use Rattle.cwr_files.specs.RightLines.{bears, is_numbered, has_group_counts, has_file_counts}
 use Rattle.cwr_files.specs.LinesBefore.{since, is_ended, is_open, open_type, groups_before, transactions_in_group, lines_in_group, next_number, transactions_before}
 use Rattle.cwr_files.specs.Sentences.{Sentence, sentence, first_that_holds}
-use Rattle.cwr_files.specs.LineFaults.{is_too_large, sequence_at, number_at, structure_sentences}
+use Rattle.cwr_files.specs.LineFaults.{is_too_large, sequence_at, record_sequence_at, structure_sentences}
 use Rattle.cwr_files.specs.Chain.{header_fault, opening_fault, trailer_fault, between_fault, closing_fault, record_fault, group_fault, ended_fault}
 use Rattle.cwr_files.specs.FileFault.{fault_at}
 use Rattle.cwr_files.proofs.LineFacts.{other_type}
@@ -158,7 +158,7 @@ later-line sender nearest past line =
     let type = open_type p in
     chosen (is_ended p) (is_open p) (has_type hdr line) (has_type grh line) (has_type grt line) (has_type trl line)
     (has_type type line) (transactions_in_group p == 0) (is_read type)
-    (is_numbered (sequence_at type (transactions_in_group p) line) (number_at type (next_number p) line) line)
+    (is_numbered (sequence_at type (transactions_in_group p) line) (record_sequence_at type (next_number p) line) line)
     (has_group_counts (groups_before p) (transactions_in_group p) (lines_in_group p + 1) line)
     (bears (group_header_of line).group_id (groups_before p + 1)) (is_code (type_of_group line))
     (has_file_counts (groups_before p) (transactions_before p) (length p + 1) line)

@@ -4,13 +4,13 @@ use Rattle.std.specs.Prelude.{◌&&◌, ◌||◌, bytes_eq}
 use Rattle.std.proofs.lemmas.Bool.{eqb-true, or_parts, and_parts}
 use Rattle.std.proofs.lemmas.Slice.Eq.{bytes_eq-Decides}
 use Rattle.std.proofs.lemmas.List.{length-append, length-take, length-replicate}
-use Rattle.cwr_records.specs.Lines.{field, fill, is_blank}
+use Rattle.cwr_records.specs.Lines.{field, fill_field, is_blank}
 use Rattle.cwr_records.specs.Places.{record_type_in}
 use Rattle.cwr_files.specs.RecordTypes.{hdr, grh, grt, trl, has_type, is_frame}
 
 -- a field has its width
 pub length-field : (line : List ℕ) (first last : ℕ) → length (field line first last) ≡ last + 1 - first
-unfolding field fill
+unfolding field fill_field
 length-field line first last = simp (length-append, length-replicate, length-take) (omega arith)
 
 -- three bytes, one by one
@@ -46,7 +46,7 @@ differs_at x y t e d = ap (λ z. eqb z 71 && t) e ∙ ap (λ b. b && t) d
 
 -- a blank line is no group header
 pub blank_is_no_grh : (line : List ℕ) → is_blank line ≡ true → has_type grh line ≡ false
-unfolding has_type field fill is_blank
+unfolding has_type field fill_field is_blank
 blank_is_no_grh [] blank = refl
 blank_is_no_grh (x ∷ xs) blank =
     let first = and_parts _ _ blank in

@@ -4,7 +4,7 @@ use Rattle.std.specs.Result.{is_ok}
 use Rattle.std.proofs.lemmas.Bool.{false≢true, or_from}
 use Rattle.std.proofs.lemmas.List.{append-nil, length-replicate, length-take, length-drop, drop-append-le, take_all, take_at, take-append-drop}
 use Rattle.std.proofs.lemmas.List.Folds.{list_any-append}
-use Rattle.cwr_records.specs.Lines.{line_of, has_line_end}
+use Rattle.cwr_records.specs.Lines.{line_of_piece, has_line_end}
 use Rattle.cwr_files.specs.Sizes.{max_line, max_body}
 use Rattle.cwr_files.specs.declared.fault.FileFault.{FileFault}
 use Rattle.cwr_files.specs.declared.fault.ReadFault.{ReadFault}
@@ -74,11 +74,11 @@ now-other sender body at w f is e =
     let h = w.lines in
     let r = h.read in
     elim (empty-or-not (drop at.start body)) [
-      | inl none ↦ end-number (map line_of r.past) f is (sym (ap counted_end r.counted ∙ end-behind (map line_of r.past)) ∙ ends-behind-lines sender body at w.lines.read none ∙ e)
+      | inl none ↦ end-number (map line_of_piece r.past) f is (sym (ap counted_end r.counted ∙ end-behind (map line_of_piece r.past)) ∙ ends-behind-lines sender body at w.lines.read none ∙ e)
       | inr some ↦
-          number-at (fault_at sender (map line_of r.past) (length body) (line_of (drop at.start body))) (length r.past + 1) (end_fault (line_of (drop at.start body) ∷ map line_of r.past)) f is
-          (line-other sender (map line_of r.past) (length body) (line_of (drop at.start body)) w.fits)
-          (λ x. end-number (line_of (drop at.start body) ∷ map line_of r.past) f is x)
+          number-at (fault_at sender (map line_of_piece r.past) (length body) (line_of_piece (drop at.start body))) (length r.past + 1) (end_fault (line_of_piece (drop at.start body) ∷ map line_of_piece r.past)) f is
+          (line-other sender (map line_of_piece r.past) (length body) (line_of_piece (drop at.start body)) w.fits)
+          (λ x. end-number (line_of_piece (drop at.start body) ∷ map line_of_piece r.past) f is x)
           (last-line sender body at w.lines some ∙ e)
     ]
 
@@ -88,9 +88,9 @@ then-large sender body more at w no_end many =
     let r = reads-more sender body more at w.lines.read in
     let cut : drop at.start (body ++ more) ≡ drop at.start body ++ more = drop-append-le at.start body more w.lines.read.within in
     let free : has_line_end (drop at.start (body ++ more)) ≡ false = ap has_line_end cut ∙ list_any-append (λ b. eqb b 10) (drop at.start body) more ∙ or_from _ _ w.lines.no_end no_end in
-    let long : max_line + 1 ≤ length (line_of (drop at.start (body ++ more))) = omega (arith, line-loses-one (drop at.start (body ++ more)) free, ap length cut, length-append (drop at.start body) more) in
+    let long : max_line + 1 ≤ length (line_of_piece (drop at.start (body ++ more))) = omega (arith, line-loses-one (drop at.start (body ++ more)) free, ap length cut, length-append (drop at.start body) more) in
     ap (file_fault sender) (sym (append-nil (body ++ more)))
-    ∙ settles-size sender (body ++ more) at (record { read = reads-more sender body more at w.lines.read; no_end = free }) (too_long (length (body ++ more)) (line_of (drop at.start (body ++ more))) long) []
+    ∙ settles-size sender (body ++ more) at (record { read = reads-more sender body more at w.lines.read; no_end = free }) (too_long (length (body ++ more)) (line_of_piece (drop at.start (body ++ more))) long) []
 
 number-same : (f g : FileFault) → Some f ≡ Some g → f.number ≡ g.number
 number-same f g e = let same : f ≡ g = cc in ap (λ (h : FileFault). h.number) same
@@ -111,10 +111,10 @@ settled-now sender body f all = sym (all []) ∙ ap (file_fault sender) (append-
 
 -- before its first byte a body is pending
 pub pending-none : (sender : List ℕ) (at : Progress) → at.start ≡ 0 → IsReadTo sender [] at → IsPending sender [] at
-unfolding is_too_large line_of
+unfolding is_too_large line_of_piece
 pending-none sender at start r = record {
   lines = record { read = r; no_end = ap (λ n. has_line_end (drop n [])) start };
-  fits = ap (λ n. is_too_large 0 (line_of (drop n []))) start;
+  fits = ap (λ n. is_too_large 0 (line_of_piece (drop n []))) start;
 }
 
 -- what callers see of a reader in pieces
@@ -165,7 +165,7 @@ stops-here seen old new piece kept body n f is made grown cut s = record {
 -- the piece was kept whole, since what is pending is within the sizes
 pub takes-piece : (seen old new : Fed) (piece kept body : List ℕ) (room n : ℕ) (at : Progress) → seen ≡ old → new ≡ record { sender = seen.sender; body = body } → body ≡ seen.body ++ kept → kept ≡ take n piece → n ≡ min (length piece) room → room ≡ max_body + 1 - length seen.body → IsPending seen.sender body at → (new ≡ record old { body = old.body ++ piece }) × IsUnsettled new.sender new.body
 takes-piece seen old new piece kept body room n at is made grown cut count left w =
-    let fits = (too_large-parts (length body) (line_of (drop at.start body)) w.fits).1 in
+    let fits = (too_large-parts (length body) (line_of_piece (drop at.start body)) w.fits).1 in
     let many : length body ≡ length seen.body + length kept = ap length grown ∙ length-append seen.body kept in
     let all : length piece ≤ n = omega (arith, fits, many, ap length cut, length-take n piece, count, left) in
     let whole : kept ≡ piece = cut ∙ take_all n piece all in
@@ -186,7 +186,7 @@ stays-as-it-was seen old new at is same w =
 
 -- what is pending is no larger than a body may be
 pub pending-small : (sender body : List ℕ) (at : Progress) → IsPending sender body at → length body ≤ max_body
-pending-small sender body at w = (too_large-parts (length body) (line_of (drop at.start body)) w.fits).1
+pending-small sender body at w = (too_large-parts (length body) (line_of_piece (drop at.start body)) w.fits).1
 
 -- the bytes that were pending hold no LF
 pub searched-none : (body piece : List ℕ) (start : ℕ) → start ≤ length body → has_line_end (drop start body) ≡ false → has_line_end (take (length body - start) (drop start (body ++ piece))) ≡ false

@@ -8,10 +8,10 @@ use Rattle.cwr_records.specs.Records.{group_header_of}
 use Rattle.cwr_files.specs.declared.counts.Counts.{Counts}
 use Rattle.cwr_files.specs.declared.counts.Stage.TheVariants.{Header, Between, Within, Ended}
 use Rattle.cwr_files.specs.RecordTypes.{hdr, grh, grt, trl, has_type, is_frame, is_read, is_code, type_of_group}
-use Rattle.cwr_files.specs.RightLines.{is_numbered, is_dated, bears, has_group_counts, has_file_counts, is_header, is_opening, is_closing, is_trailer, is_record, sender_in}
+use Rattle.cwr_files.specs.RightLines.{is_numbered, is_dated, bears, has_group_counts, has_file_counts, is_header, is_opening, is_closing, is_trailer, is_record, sender_of_header}
 use Rattle.cwr_files.specs.Chain.{header_fault, opening_fault, trailer_fault, between_fault, closing_fault, record_fault, group_fault, ended_fault}
-use Rattle.cwr_files.specs.LineFaults.{sequence_at, number_at}
-use Rattle.cwr_files.specs.Counts.{group_after, opened_by, counts_after}
+use Rattle.cwr_files.specs.LineFaults.{sequence_at, record_sequence_at}
+use Rattle.cwr_files.specs.Counts.{group_after, group_begun_by, counts_after}
 use Rattle.cwr_files.proofs.LineFacts.{other_type, NoFrame, no_frame}
 
 -- counts, by where they stand
@@ -71,15 +71,15 @@ pub header-good : (sender line : List ℕ) → header_fault sender line ≡ None
 unfolding header_fault is_header
 header-good sender line e =
     let a = guard-not (has_type hdr line) 1 _ e in
-    let b = guard-not (bytes_eq (sender_in line) sender) 2 _ a.1 in
+    let b = guard-not (bytes_eq (sender_of_header line) sender) 2 _ a.1 in
     let c = guard-not (is_dated line) 3 _ b.1 in
     and_from _ _ (and_from _ _ a.0 b.0) c.0
 
 pub header-faultless : (sender line : List ℕ) → is_header sender line ≡ true → header_fault sender line ≡ None
 unfolding header_fault is_header
 header-faultless sender line e =
-    let a = and_parts (has_type hdr line && bytes_eq (sender_in line) sender) (is_dated line) e in
-    let b = and_parts (has_type hdr line) (bytes_eq (sender_in line) sender) a.0 in
+    let a = and_parts (has_type hdr line && bytes_eq (sender_of_header line) sender) (is_dated line) e in
+    let b = and_parts (has_type hdr line) (bytes_eq (sender_of_header line) sender) a.0 in
     rw (b.0, b.1, a.1) refl
 
 pub after-header : (line : List ℕ) → counts_after at_header line ≡ at_between 1 0 0
@@ -109,7 +109,7 @@ opening-faultless m t n line e =
     rw (b.0, b.1, a.1) refl
 
 pub after-opening : (n m t : ℕ) (line : List ℕ) → has_type grh line ≡ true → counts_after (at_between n m t) line ≡ at_within (type_of_group line) 0 1 1 (n + 1) (m + 1) t
-unfolding counts_after opened_by
+unfolding counts_after group_begun_by
 after-opening n m t line h = rw h refl
 
 -- transmission trailers
@@ -167,7 +167,7 @@ after-closing kind r q k n m t line h = rw h refl
 -- what a record without a fault is
 pub record IsGood (kind : List ℕ) (r k : ℕ) (line : List ℕ) : Type 0 where
   pub begun : (not (has_type kind line) && eqb r 0) ≡ false
-  pub is_record' : is_record kind (sequence_at kind r line) (number_at kind k line) line ≡ true
+  pub is_record' : is_record kind (sequence_at kind r line) (record_sequence_at kind k line) line ≡ true
 
 pub record-free : (kind : List ℕ) (j k : ℕ) (line : List ℕ) → is_record kind j k line ≡ true → NoFrame line
 unfolding is_record
@@ -181,7 +181,7 @@ unfolding group_fault record_fault is_record
 record-good m r q k kind line e h =
     let o : cond false (closing_fault m r q line) (record_fault kind r k line) ≡ None = rw h at e in
     let a = guard (is_frame line || (not (has_type kind line) && eqb r 0)) 6 _ o in
-    let b = guard (is_read kind && not (is_numbered (sequence_at kind r line) (number_at kind k line) line)) 7 _ a.1 in
+    let b = guard (is_read kind && not (is_numbered (sequence_at kind r line) (record_sequence_at kind k line) line)) 7 _ a.1 in
     let c = guard-not (is_code (record_type_in line)) 13 _ b.1 in
     let d = or-parts (is_frame line) (not (has_type kind line) && eqb r 0) a.0 in
     record {
@@ -192,11 +192,11 @@ record-good m r q k kind line e h =
 pub record-faultless : (m r q k : ℕ) (kind line : List ℕ) → IsGood kind r k line → group_fault m kind r q k line ≡ None
 unfolding group_fault record_fault is_record
 record-faultless m r q k kind line g =
-    let numbered = is_numbered (sequence_at kind r line) (number_at kind k line) line in
-    let a = and_parts (not (is_frame line) && (not (is_read kind) || is_numbered (sequence_at kind r line) (number_at kind k line) line)) (is_code (record_type_in line)) g.is_record' in
-    let b = and_parts (not (is_frame line)) (not (is_read kind) || is_numbered (sequence_at kind r line) (number_at kind k line) line) a.0 in
+    let numbered = is_numbered (sequence_at kind r line) (record_sequence_at kind k line) line in
+    let a = and_parts (not (is_frame line) && (not (is_read kind) || is_numbered (sequence_at kind r line) (record_sequence_at kind k line) line)) (is_code (record_type_in line)) g.is_record' in
+    let b = and_parts (not (is_frame line)) (not (is_read kind) || is_numbered (sequence_at kind r line) (record_sequence_at kind k line) line) a.0 in
     let free = no_frame line (not-is (is_frame line) b.0) in
-    rw (free.no_grt, not-is (is_frame line) b.0, g.begun, back-way (is_read kind) (is_numbered (sequence_at kind r line) (number_at kind k line) line) b.1, a.1) refl
+    rw (free.no_grt, not-is (is_frame line) b.0, g.begun, back-way (is_read kind) (is_numbered (sequence_at kind r line) (record_sequence_at kind k line) line) b.1, a.1) refl
 
 pub after-record : (kind : List ℕ) (r q k n m t : ℕ) (line : List ℕ) (b : Bool) → has_type grt line ≡ false → has_type kind line ≡ b → counts_after (at_within kind r q k n m t) line ≡ at_within kind (cond b (r + 1) r) (q + 1) (cond b 0 k + 1) (n + 1) m (cond b (t + 1) t)
 unfolding counts_after group_after

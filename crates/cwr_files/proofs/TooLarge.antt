@@ -4,7 +4,7 @@ use Rattle.std.specs.Prelude.{nat_lt}
 use Rattle.std.proofs.lemmas.Bool.{or_parts, or_from, ltb-false, le-ltb, cases_Bool, eqb-true, false≢true}
 use Rattle.std.proofs.lemmas.List.{append-nil, length-take, take_at, get_or_at}
 use Rattle.std.proofs.lemmas.List.Folds.{list_any-append, list_any_at}
-use Rattle.cwr_records.specs.Lines.{line_of, without_last, has_line_end}
+use Rattle.cwr_records.specs.Lines.{line_of_piece, without_last, has_line_end}
 use Rattle.cwr_files.specs.Sizes.{max_line, max_body}
 use Rattle.cwr_files.specs.LineFaults.{is_too_large}
 
@@ -48,12 +48,12 @@ last-is-none (b ∷ bs) free =
     ]
 
 -- bytes without an LF lose none
-pub open-line : (p : List ℕ) → has_line_end p ≡ false → line_of p ≡ without_last 13 p
-unfolding line_of
+pub open-line : (p : List ℕ) → has_line_end p ≡ false → line_of_piece p ≡ without_last 13 p
+unfolding line_of_piece
 open-line p free = ap (λ t. without_last 13 (cond t (take (length p - 1) p) p)) (last-is-none p free)
 
-ended-line : (p : List ℕ) → line_of (p ++ 10 ∷ []) ≡ without_last 13 p
-unfolding line_of
+ended-line : (p : List ℕ) → line_of_piece (p ++ 10 ∷ []) ≡ without_last 13 p
+unfolding line_of_piece
 ended-line p =
     let at : length (p ++ 10 ∷ []) - 1 ≡ length p = omega (arith, length-append p (10 ∷ [])) in
     let last : get_or (p ++ 10 ∷ []) (length (p ++ 10 ∷ []) - 1) 0 ≡ 10 = get_or_at p 10 [] 0 (length (p ++ 10 ∷ []) - 1) (sym at) in
@@ -73,27 +73,27 @@ no-more b bs = chosen (eqb (get_or bs (length bs - 1) 0) b) where
   chosen true = omega (arith, length-take (length bs - 1) bs)
   chosen false = omega arith
 
-line-loses-two : (p : List ℕ) → length p ≤ length (line_of p) + 2
-unfolding line_of
+line-loses-two : (p : List ℕ) → length p ≤ length (line_of_piece p) + 2
+unfolding line_of_piece
 line-loses-two p = omega (arith, less-one 10 p, less-one 13 (without_last 10 p))
 
-pub line-loses-one : (p : List ℕ) → has_line_end p ≡ false → length p ≤ length (line_of p) + 1
+pub line-loses-one : (p : List ℕ) → has_line_end p ≡ false → length p ≤ length (line_of_piece p) + 1
 line-loses-one p free = omega (arith, less-one 13 p, ap length (open-line p free))
 
-line-gains-none : (p : List ℕ) → has_line_end p ≡ false → length (line_of p) ≤ length p
+line-gains-none : (p : List ℕ) → has_line_end p ≡ false → length (line_of_piece p) ≤ length p
 line-gains-none p free = omega (arith, no-more 13 p, ap length (open-line p free))
 
-one-more : (p : List ℕ) (x : ℕ) (t : Bool) → eqb x 10 ≡ t → has_line_end p ≡ false → length (line_of p) ≤ length (line_of (p ++ x ∷ []))
+one-more : (p : List ℕ) (x : ℕ) (t : Bool) → eqb x 10 ≡ t → has_line_end p ≡ false → length (line_of_piece p) ≤ length (line_of_piece (p ++ x ∷ []))
 one-more p x true is free =
-    omega (arith, ap length (open-line p free), ap length (ended-line p), ap (λ y. length (line_of (p ++ y ∷ []))) (eqb-true x 10 is))
+    omega (arith, ap length (open-line p free), ap length (ended-line p), ap (λ y. length (line_of_piece (p ++ y ∷ []))) (eqb-true x 10 is))
 one-more p x false is free =
     let alone : has_line_end (x ∷ []) ≡ false = or_from _ _ is refl in
     let none : has_line_end (p ++ x ∷ []) ≡ false = list_any-append (λ b. eqb b 10) p (x ∷ []) ∙ or_from _ _ free alone in
     omega (arith, line-gains-none p free, line-loses-one (p ++ x ∷ []) none, length-append p (x ∷ []))
 
 -- bytes that follow make the line of bytes without an LF no shorter
-pub line-grows : (p more : List ℕ) → has_line_end p ≡ false → length (line_of p) ≤ length (line_of (p ++ more))
-line-grows p [] free = omega (arith, ap (λ q. length (line_of q)) (append-nil p))
+pub line-grows : (p more : List ℕ) → has_line_end p ≡ false → length (line_of_piece p) ≤ length (line_of_piece (p ++ more))
+line-grows p [] free = omega (arith, ap (λ q. length (line_of_piece q)) (append-nil p))
 line-grows p (x ∷ []) free = one-more p x (eqb x 10) refl free
 line-grows p (x ∷ y ∷ more) free =
     omega (arith, line-gains-none p free, line-loses-two (p ++ x ∷ y ∷ more), length-append p (x ∷ y ∷ more))

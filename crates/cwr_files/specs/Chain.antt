@@ -1,17 +1,17 @@
--- Representation: how the one pass finds a line's fault, test after test, by running counts. What it finds is said by LineFaults.
+-- Representation, not meaning: how the one pass finds a line's fault, test after test, by running counts. What it finds is said by LineFaults.
 use Rattle.std.specs.Prelude.{ℕ, ◌+◌, not, ◌&&◌, ◌||◌, List, Option, Some, None, if◌then◌else◌, ◌==◌, bytes_eq}
 use Rattle.cwr_records.specs.Lines.{is_blank}
 use Rattle.cwr_records.specs.Places.{record_type_in}
 use Rattle.cwr_records.specs.Records.{group_header_of}
 use Rattle.cwr_files.specs.RecordTypes.{hdr, grh, grt, trl, has_type, is_frame, is_code, is_read, type_of_group}
-use Rattle.cwr_files.specs.RightLines.{bears, is_dated, is_numbered, has_group_counts, has_file_counts, sender_in}
-use Rattle.cwr_files.specs.LineFaults.{sequence_at, number_at}
+use Rattle.cwr_files.specs.RightLines.{bears, is_dated, is_numbered, has_group_counts, has_file_counts, sender_of_header}
+use Rattle.cwr_files.specs.LineFaults.{sequence_at, record_sequence_at}
 
 -- line 1: 1 no HDR, 2 another sender, 3 a date or time that is none
 unfoldable pub header_fault : List ℕ → List ℕ → Option ℕ
 header_fault sender line =
     if not (has_type hdr line) then Some 1
-    else (if not (bytes_eq (sender_in line) sender) then Some 2
+    else (if not (bytes_eq (sender_of_header line) sender) then Some 2
     else (if not (is_dated line) then Some 3 else None))
 
 -- a group header behind so many groups: 5 another group ID than the next, 13 a transaction type that is none
@@ -40,7 +40,7 @@ closing_fault group transactions lines line =
 unfoldable pub record_fault : List ℕ → ℕ → ℕ → List ℕ → Option ℕ
 record_fault type transactions further line =
     if is_frame line || (not (has_type type line) && transactions == 0) then Some 6
-    else (if is_read type && not (is_numbered (sequence_at type transactions line) (number_at type further line) line) then Some 7
+    else (if is_read type && not (is_numbered (sequence_at type transactions line) (record_sequence_at type further line) line) then Some 7
     else (if not (is_code (record_type_in line)) then Some 13 else None))
 
 -- within the group with this ID and type: a group trailer's fault, or that of another record

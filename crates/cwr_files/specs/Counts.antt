@@ -1,4 +1,4 @@
--- Representation: the running counts of the one pass over a body. What they stand for is said by LinesBefore, what is found by LineFaults.
+-- Representation, not meaning: the running counts of the one pass over a body. What they stand for is said by LinesBefore, what is found by LineFaults.
 use Rattle.std.specs.Prelude.{◌≡◌, ℕ, ◌+◌, ◌^◌, ◌<◌, List, [], ◌∷◌, length, Option, Some, None, Result, MatchResult, if◌then◌else◌}
 use Rattle.cwr_files.specs.declared.fault.FileFault.{FileFault}
 use Rattle.cwr_files.specs.declared.counts.Counts.{Counts}
@@ -6,7 +6,7 @@ use Rattle.cwr_files.specs.declared.counts.OpenGroup.{OpenGroup}
 use Rattle.cwr_files.specs.declared.counts.Stage.{Stage}
 use Rattle.cwr_files.specs.declared.counts.Stage.TheVariants.{Header, Between, Within, Ended}
 use Rattle.cwr_files.specs.RecordTypes.{grh, grt, has_type, type_of_group}
-use Rattle.cwr_files.specs.LineFaults.{is_too_large, number_at}
+use Rattle.cwr_files.specs.LineFaults.{is_too_large, record_sequence_at}
 use Rattle.cwr_files.specs.Chain.{header_fault, between_fault, group_fault, ended_fault}
 use Rattle.cwr_files.specs.LinesBefore.{is_ended, is_open, open_type, groups_before, transactions_in_group, lines_in_group, next_number, transactions_before}
 use Rattle.cwr_files.specs.FileFault.{fault_at}
@@ -52,19 +52,19 @@ group_after g line = record {
   kind = g.kind;
   transactions = (if has_type g.kind line then g.transactions + 1 else g.transactions);
   lines = g.lines + 1;
-  further = number_at g.kind g.further line + 1;
+  further = record_sequence_at g.kind g.further line + 1;
 }
 
 -- a group that has just begun
-unfoldable pub opened_by : List ℕ → OpenGroup
-opened_by line = record { kind = type_of_group line; transactions = 0; lines = 1; further = 1 }
+unfoldable pub group_begun_by : List ℕ → OpenGroup
+group_begun_by line = record { kind = type_of_group line; transactions = 0; lines = 1; further = 1 }
 
 -- the counts after a line that has no fault
 abbrev pub after_in : Stage → Counts → List ℕ → Counts
 after_in Header c line = record c { lines = c.lines + 1; stage = Between }
 after_in Between c line =
     if has_type grh line
-    then record c { lines = c.lines + 1; groups = c.groups + 1; stage = Within (opened_by line) }
+    then record c { lines = c.lines + 1; groups = c.groups + 1; stage = Within (group_begun_by line) }
     else record c { lines = c.lines + 1; stage = Ended }
 after_in (Within g) c line =
     if has_type grt line

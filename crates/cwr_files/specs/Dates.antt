@@ -1,7 +1,7 @@
 -- Dates and times of a transmission header.
 use Rattle.std.specs.Prelude.{ℕ, ◌/◌, ◌%◌, Bool, false, ◌&&◌, List, Option, Some, None, nat_lt, nat_le, pos}
 use Rattle.jiff.specs.Words.{days_in_month}
-use Rattle.work_ids.specs.Digits.{number_of}
+use Rattle.work_ids.specs.Digits.{decimal_value}
 
 -- whether eight digits, year, month and day, are a date of the calendar with a year from 1 (CISAC CWR 2.2, YYYYMMDD; the year: profile)
 unfoldable pub is_real_date : ℕ → Bool
@@ -22,8 +22,8 @@ passes test (Some number) = test number
 
 -- whether a field is a date, in digits alone
 unfoldable pub is_date : List ℕ → Bool
-is_date bytes = passes is_real_date (number_of bytes)
+is_date bytes = passes is_real_date (decimal_value bytes)
 
 -- whether a field is a time of day, in digits alone
 unfoldable pub is_time : List ℕ → Bool
-is_time bytes = passes is_real_time (number_of bytes)
+is_time bytes = passes is_real_time (decimal_value bytes)

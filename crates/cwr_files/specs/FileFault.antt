@@ -1,6 +1,6 @@
 -- The fault of a body that is no transmission of a sender: the first line at which a sentence holds, and which one.
 use Rattle.std.specs.Prelude.{ℕ, ◌+◌, List, [], ◌∷◌, length, map, sum_by, Option, Some, None}
-use Rattle.cwr_records.specs.Lines.{pieces, line_of}
+use Rattle.cwr_records.specs.Lines.{pieces, line_of_piece}
 use Rattle.cwr_files.specs.declared.fault.FileFault.{FileFault}
 use Rattle.cwr_files.specs.Sentences.{first_that_holds}
 use Rattle.cwr_files.specs.LineFaults.{line_sentences, end_sentences}
@@ -20,9 +20,9 @@ end_fault past = fault_or (first_that_holds (end_sentences past)) (length past +
 
 -- the first fault of the pieces of a body and of its end, behind the pieces before them, the nearest first
 abbrev pub fault_from : List ℕ → List (List ℕ) → List (List ℕ) → Option FileFault
-fault_from sender past [] = end_fault (map line_of past)
+fault_from sender past [] = end_fault (map line_of_piece past)
 fault_from sender past (piece ∷ more) =
-    fault_or (fault_at sender (map line_of past) (sum_by length past + length piece) (line_of piece)) (length past + 1)
+    fault_or (fault_at sender (map line_of_piece past) (sum_by length past + length piece) (line_of_piece piece)) (length past + 1)
     (fault_from sender (piece ∷ past) more)
 
 -- the file fault of a body for a sender, where it has one (CISAC CWR 2.2; the numbers: profile)

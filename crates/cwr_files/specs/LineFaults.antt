@@ -5,7 +5,7 @@ use Rattle.cwr_records.specs.Places.{record_type_in}
 use Rattle.cwr_records.specs.Records.{group_header_of}
 use Rattle.cwr_files.specs.LinesBefore.{is_first, is_between, is_within, is_ended, open_type, groups_before, transactions_before, transactions_in_group, lines_in_group, next_number}
 use Rattle.cwr_files.specs.RecordTypes.{hdr, grh, grt, trl, has_type, is_code, is_read, type_of_group}
-use Rattle.cwr_files.specs.RightLines.{bears, is_dated, is_numbered, has_group_counts, has_file_counts, sender_in}
+use Rattle.cwr_files.specs.RightLines.{bears, is_dated, is_numbered, has_group_counts, has_file_counts, sender_of_header}
 use Rattle.cwr_files.specs.Sentences.{Sentence, sentence}
 use Rattle.cwr_files.specs.Sizes.{max_line, max_body}
 
@@ -15,7 +15,7 @@ is_no_header past line = is_first past && not (has_type hdr line)
 
 -- 2: the first line bears another sender key than the one that was handed in (profile)
 abbrev pub has_other_sender : List ℕ → List (List ℕ) → List ℕ → Bool
-has_other_sender sender past line = is_first past && not (bytes_eq (sender_in line) sender)
+has_other_sender sender past line = is_first past && not (bytes_eq (sender_of_header line) sender)
 
 -- 3: the first line's creation date, creation time or transmission date is none (CISAC CWR 2.2; the number: profile)
 abbrev pub has_wrong_date : List (List ℕ) → List ℕ → Bool
@@ -48,14 +48,14 @@ abbrev pub sequence_at : List ℕ → ℕ → List ℕ → ℕ
 sequence_at type transactions line = if has_type type line then transactions else transactions - 1
 
 -- the record sequence of a line, where a line that begins no transaction would have this one (CISAC CWR 2.2)
-abbrev pub number_at : List ℕ → ℕ → List ℕ → ℕ
-number_at type further line = if has_type type line then 0 else further
+abbrev pub record_sequence_at : List ℕ → ℕ → List ℕ → ℕ
+record_sequence_at type further line = if has_type type line then 0 else further
 
 -- 7: within a group of type NWR or REV, another record than GRT whose transaction or record sequence is not digits alone that are the right number (CISAC CWR 2.2; groups of other types, the number: profile)
 abbrev pub has_wrong_sequence : List (List ℕ) → List ℕ → Bool
 has_wrong_sequence past line =
     is_within past && not (has_type grt line) && is_read (open_type past)
-    && not (is_numbered (sequence_at (open_type past) (transactions_in_group past) line) (number_at (open_type past) (next_number past) line) line)
+    && not (is_numbered (sequence_at (open_type past) (transactions_in_group past) line) (record_sequence_at (open_type past) (next_number past) line) line)
 
 -- 8: within a group, a GRT whose group ID, transaction count or record count is not digits alone that are right (CISAC CWR 2.2; the number: profile)
 abbrev pub has_wrong_group_counts : List (List ℕ) → List ℕ → Bool

@@ -1,4 +1,4 @@
--- Representation: what is listed of a body, and from where the listing goes on.
+-- Representation, not meaning: what is listed of a body, and from where the listing goes on.
 use Rattle.std.specs.Prelude.{◌≡◌, ℕ, ◌≤◌, List, length, map}
 use Rattle.cwr_records.specs.Lines.{lines}
 use Rattle.cwr_records.specs.Records.{record_of}

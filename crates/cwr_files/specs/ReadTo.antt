@@ -1,6 +1,6 @@
--- Representation: how far the lines of a body are read while it may still grow.
+-- Representation, not meaning: how far the lines of a body are read while it may still grow.
 use Rattle.std.specs.Prelude.{◌≡◌, ℕ, ◌≤◌, false, List, ◌++◌, length, drop, map, sum_by, Option, Some, None}
-use Rattle.cwr_records.specs.Lines.{pieces, line_of, has_line_end}
+use Rattle.cwr_records.specs.Lines.{pieces, line_of_piece, has_line_end}
 use Rattle.cwr_files.specs.declared.fault.FileFault.{FileFault}
 use Rattle.cwr_files.specs.declared.progress.Progress.{Progress}
 use Rattle.cwr_files.specs.Sizes.{max_body}
@@ -12,7 +12,7 @@ use Rattle.cwr_files.specs.Prefixes.{IsSettled}
 -- the lines before a place are read and have no fault: what is found from there on, behind them, is the body's fault, whatever follows
 pub record IsReadTo (sender body : List ℕ) (at : Progress) : Type 0 where
   pub past : List (List ℕ)
-  pub counted : at.counts ≡ counts_of (map line_of past)
+  pub counted : at.counts ≡ counts_of (map line_of_piece past)
   pub same : (more : List ℕ) → fault_from sender past (pieces (drop at.start body ++ more)) ≡ file_fault sender (body ++ more)
   pub read : sum_by length past ≡ at.start
   pub lines : length past ≤ at.start
@@ -27,7 +27,7 @@ pub record HasReadLines (sender body : List ℕ) (at : Progress) : Type 0 where
 -- all lines that have ended are read, and what stands behind them is not too large yet
 pub record IsPending (sender body : List ℕ) (at : Progress) : Type 0 where
   pub lines : HasReadLines sender body at
-  pub fits : is_too_large (length body) (line_of (drop at.start body)) ≡ false
+  pub fits : is_too_large (length body) (line_of_piece (drop at.start body)) ≡ false
 
 -- a reader in pieces knows the fault of its bytes, whatever follows, or how far they are read
 abbrev pub IsKnown : List ℕ → List ℕ → Progress → Option FileFault → Type 0

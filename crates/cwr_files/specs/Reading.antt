@@ -10,14 +10,14 @@ use Rattle.cwr_files.specs.File.{File}
 use Rattle.cwr_files.specs.Sizes.{IsWithinSizes}
 
 -- a body is a transmission of a sender, within the sizes (profile)
-abbrev pub Holds : List ℕ → List ℕ → Transmission → Type 0
-Holds body sender t = File (lines body) sender t × IsWithinSizes body
+abbrev pub IsTransmission : List ℕ → List ℕ → Transmission → Type 0
+IsTransmission body sender t = File (lines body) sender t × IsWithinSizes body
 
 -- a reader answered this transmission, unless memory ran out
-abbrev pub Answers : Transmission → Result Transmission ReadFault → Type 0
-Answers t (Ok u) = u ≡ t
-Answers t (Err (read_faults.File f)) = ⊥
-Answers t (Err read_faults.Memory) = Unit {0}
+abbrev pub AnswersTransmission : Transmission → Result Transmission ReadFault → Type 0
+AnswersTransmission t (Ok u) = u ≡ t
+AnswersTransmission t (Err (read_faults.File f)) = ⊥
+AnswersTransmission t (Err read_faults.Memory) = Unit {0}
 
 -- a reader answered this fault and no other; a transmission, or that memory ran out, only where there is none
 abbrev pub TellsFault : Option FileFault → Result Transmission ReadFault → Type 0
@@ -28,5 +28,5 @@ TellsFault fault (Err read_faults.Memory) = fault ≡ None
 -- Where a body has no file fault, it is the transmission that it tells, of the sender, and no other. Where it has one, it is none. (profile)
 abbrev pub IsJudged : List ℕ → List ℕ → Option FileFault → Type 0
 IsJudged sender body None =
-    Holds body sender (transmission_in body) × ((t : Transmission) → File (lines body) sender t → t ≡ transmission_in body)
-IsJudged sender body (Some f) = (t : Transmission) → Holds body sender t → ⊥
+    IsTransmission body sender (transmission_in body) × ((t : Transmission) → File (lines body) sender t → t ≡ transmission_in body)
+IsJudged sender body (Some f) = (t : Transmission) → IsTransmission body sender t → ⊥

@@ -1,6 +1,6 @@
 -- What single lines bear, and which are right where they stand.
 use Rattle.std.specs.Prelude.{ℕ, Bool, not, ◌&&◌, ◌||◌, List, ◌++◌, ◌==◌, bytes_eq}
-use Rattle.work_ids.specs.Digits.{number_of}
+use Rattle.work_ids.specs.Digits.{decimal_value}
 use Rattle.cwr_records.specs.Places.{record_type_in, record_sequence_in, transaction_sequence_in}
 use Rattle.cwr_records.specs.Records.{group_header_of, group_trailer_of, header_of, trailer_of}
 use Rattle.cwr_files.specs.Dates.{passes, is_date, is_time}
@@ -8,7 +8,7 @@ use Rattle.cwr_files.specs.RecordTypes.{hdr, grh, grt, trl, has_type, is_frame, 
 
 -- whether a field is digits alone that are this number (profile)
 unfoldable pub bears : List ℕ → ℕ → Bool
-bears bytes number = passes (λ n. n == number) (number_of bytes)
+bears bytes number = passes (λ n. n == number) (decimal_value bytes)
 
 -- whether a line bears this transaction sequence and this record sequence (CISAC CWR 2.2)
 unfoldable pub is_numbered : ℕ → ℕ → List ℕ → Bool
@@ -27,8 +27,8 @@ has_file_counts groups transactions records line =
     && bears (trailer_of line).record_count records
 
 -- the sender key that a transmission header bears: its sender type and sender ID (CISAC CWR 2.2; that they are one key: profile)
-abbrev pub sender_in : List ℕ → List ℕ
-sender_in line = (header_of line).sender_type ++ (header_of line).sender_id
+abbrev pub sender_of_header : List ℕ → List ℕ
+sender_of_header line = (header_of line).sender_type ++ (header_of line).sender_id
 
 -- whether a header's creation date, transmission date and creation time are right (CISAC CWR 2.2)
 unfoldable pub is_dated : List ℕ → Bool
@@ -37,7 +37,7 @@ is_dated line =
 
 -- whether a line is a transmission header of a sender (CISAC CWR 2.2; the sender key: profile)
 unfoldable pub is_header : List ℕ → List ℕ → Bool
-is_header sender line = has_type hdr line && bytes_eq (sender_in line) sender && is_dated line
+is_header sender line = has_type hdr line && bytes_eq (sender_of_header line) sender && is_dated line
 
 -- whether a line is the header of the group with this ID (CISAC CWR 2.2)
 unfoldable pub is_opening : ℕ → List ℕ → Bool

@@ -9,14 +9,14 @@ use Rattle.work_ids.specs.WorkNumber.{work_number_of}
 use Rattle.work_ids.specs.declared.fault.IdFault.{IdFault}
 
 -- the record that begins a transaction, if it is a work
-abbrev pub work_in : Record → Option WorkRecord
-work_in (kind.Work work) = Some work
-work_in _ = None
+abbrev pub work_record_in : Record → Option WorkRecord
+work_record_in (kind.Work work) = Some work
+work_record_in _ = None
 
 -- the first of some records, if it is a work
 abbrev pub first_work : List Record → Option WorkRecord
 first_work [] = None
-first_work (first ∷ more) = work_in first
+first_work (first ∷ more) = work_record_in first
 
 -- the title of a work, nothing where there is none
 abbrev pub work_title : Option WorkRecord → List ℕ

@@ -11,8 +11,8 @@ use crate::transmission::{Group, Groups, Records, Transaction, Transactions, Tra
 use cwr_records::{Line, TransactionKind, read_as, read_record, split_line};
 use std::alloc::{AllocError, Global};
 
-/// The records of a transaction: its first line, and those after it up to one that begins another or ends the group. What
-/// stands from that one on is lent back, so that no line is cut twice.
+// The records of a transaction: its first line, and those after it up to one that begins another or ends the group. What
+// stands from that one on is lent back, so that no line is cut twice.
 fn records<'a>(
     alloc: Global,
     kind: &[u8; 3],
@@ -39,7 +39,7 @@ fn records<'a>(
     Ok((Records::from_vec(list), rest))
 }
 
-/// The kind of the transactions of a group that is read.
+// The kind of the transactions of a group that is read.
 fn kind_of(kind: &[u8; 3]) -> TransactionKind
     ensures { result ≡ kind_of kind.now }
 {
@@ -50,7 +50,7 @@ fn kind_of(kind: &[u8; 3]) -> TransactionKind
     }
 }
 
-/// The transactions of a group that is read, out of the lines after its header.
+// The transactions of a group that is read, out of the lines after its header.
 fn transactions<'a>(
     alloc: Global,
     kind: &[u8; 3],
@@ -84,7 +84,7 @@ fn transactions<'a>(
     Ok(Transactions::from_vec(list))
 }
 
-/// The group with this ID, out of its header and the lines after it.
+// The group with this ID, out of its header and the lines after it.
 fn group<'a>(
     alloc: Global,
     id: u32,
@@ -107,7 +107,7 @@ fn group<'a>(
     })
 }
 
-/// The groups in the lines after a transmission header.
+// The groups in the lines after a transmission header.
 fn groups<'a>(alloc: Global, after: &'a [u8]) -> Result<Groups<'a>, AllocError>
     requires { length after.now < 2 ^ 32 }
     ensures { IfOk result (λ g. g ≡ groups_in (lines after.now)) }

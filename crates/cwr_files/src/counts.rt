@@ -67,7 +67,7 @@ pub fn step(sender: &SenderKey, counts: &Counts, end: usize, line: &Line) -> Res
     }
 }
 
-/// The fault of a line by the counts before it.
+// The fault of a line by the counts before it.
 #[tactic(auto, unfolding(crate::specs::Counts::counted_fault))]
 fn counted_fault(sender: &SenderKey, counts: &Counts, end: usize, line: &Line) -> Option<u8>
     requires { HasRoom counts.now }
@@ -84,7 +84,7 @@ fn counted_fault(sender: &SenderKey, counts: &Counts, end: usize, line: &Line) -
     }
 }
 
-/// The counts after a line that has no fault.
+// The counts after a line that has no fault.
 #[tactic(auto, unfolding(crate::specs::Counts::counts_after))]
 fn counts_after(counts: &Counts, line: &Line) -> Counts
     requires { HasRoom counts.now }
@@ -98,7 +98,7 @@ fn counts_after(counts: &Counts, line: &Line) -> Counts
     }
 }
 
-/// The counts one line on, at a stage.
+// The counts one line on, at a stage.
 fn moved(counts: &Counts, stage: Stage) -> Counts
     requires { counts.now.lines < 2 ^ 63 }
     ensures { result ≡ record counts.now { lines = counts.now.lines + 1; stage = stage } }
@@ -111,8 +111,8 @@ fn moved(counts: &Counts, stage: Stage) -> Counts
     }
 }
 
-/// The counts after a group header or the transmission trailer.
-#[tactic(auto, unfolding(crate::specs::Counts::opened_by))]
+// The counts after a group header or the transmission trailer.
+#[tactic(auto, unfolding(crate::specs::Counts::group_begun_by))]
 fn after_between(counts: &Counts, line: &Line) -> Counts
     requires { HasRoom counts.now }
     ensures { result ≡ after_in Between counts.now line.now }
@@ -134,7 +134,7 @@ fn after_between(counts: &Counts, line: &Line) -> Counts
     }
 }
 
-/// The counts after a line within a group.
+// The counts after a line within a group.
 fn after_record(counts: &Counts, group: &OpenGroup, line: &Line) -> Counts
     requires room { HasRoom counts.now }
     requires group_room { StageHasRoom (Within group.now) }
@@ -156,7 +156,7 @@ fn after_record(counts: &Counts, group: &OpenGroup, line: &Line) -> Counts
     }
 }
 
-/// The open group after one more of its records.
+// The open group after one more of its records.
 #[tactic(auto, unfolding(crate::specs::Counts::group_after))]
 fn group_after(group: &OpenGroup, line: &Line) -> OpenGroup
     requires { StageHasRoom (Within group.now) }

@@ -6,7 +6,7 @@ ghost use Rattle.cwr_files.specs.RightLines.{is_dated};
 use cwr_records::{Fixed, Line, TransmissionHeader, read_as};
 use jiff::civil::Date;
 
-/// Whether eight digits, year, month and day, are a date of the calendar with a year from 1.
+// Whether eight digits, year, month and day, are a date of the calendar with a year from 1.
 #[tactic(auto, unfolding(crate::specs::Dates::is_real_date))]
 fn is_real_date(digits: u64) -> bool
     ensures { result ≡ is_real_date digits }
@@ -20,7 +20,7 @@ fn is_real_date(digits: u64) -> bool
     year >= 1 && Date::new(year, month, day).is_ok()
 }
 
-/// Whether six digits are hours to 23, minutes and seconds to 59.
+// Whether six digits are hours to 23, minutes and seconds to 59.
 #[tactic(auto, unfolding(crate::specs::Dates::is_real_time))]
 fn is_real_time(digits: u64) -> bool
     ensures { result ≡ is_real_time digits }
@@ -28,7 +28,7 @@ fn is_real_time(digits: u64) -> bool
     digits / 10_000 <= 23 && digits / 100 % 100 <= 59 && digits % 100 <= 59
 }
 
-/// Whether a field is a date, in digits alone.
+// Whether a field is a date, in digits alone.
 #[tactic(auto, unfolding(crate::specs::Dates::is_date))]
 fn is_date(field: &Fixed<'_, 8>) -> bool
     ensures { result ≡ is_date field.now }
@@ -39,7 +39,7 @@ fn is_date(field: &Fixed<'_, 8>) -> bool
     }
 }
 
-/// Whether a field is a time of day, in digits alone.
+// Whether a field is a time of day, in digits alone.
 #[tactic(auto, unfolding(crate::specs::Dates::is_time))]
 fn is_time(field: &Fixed<'_, 6>) -> bool
     ensures { result ≡ is_time field.now }

@@ -36,7 +36,7 @@ pub fn last_fault(sender: &SenderKey, body: &[u8], at: &Progress) -> Option<File
     }
 }
 
-/// The fault of a body that ends behind these counts: 1 it has no line, 10 it has no trailer.
+// The fault of a body that ends behind these counts: 1 it has no line, 10 it has no trailer.
 fn end_fault(counts: &Counts) -> Option<FileFault>
     requires { counts.now.lines < 2 ^ 63 }
     ensures { result ≡ counted_end counts.now }

@@ -4,7 +4,7 @@ ghost use Rattle.cwr_files.specs.declared.transmission.Transmission.{Transmissio
 ghost use Rattle.cwr_files.specs.Contents.{transmission_in};
 ghost use Rattle.cwr_files.specs.Fed.{Feeds, StaysSettled};
 ghost use Rattle.cwr_files.specs.FileFault.{file_fault};
-ghost use Rattle.cwr_files.specs.Reading.{Holds, Answers, TellsFault};
+ghost use Rattle.cwr_files.specs.Reading.{IsTransmission, AnswersTransmission, TellsFault};
 ghost use Rattle.cwr_files.specs.Sizes.{max_body};
 
 use crate::fault::{FileFault, ReadFault};
@@ -80,8 +80,8 @@ impl FileReader {
 
     /// What `read_transmission` answers for the bytes that were fed, as a whole body; it is lent out of the reader.
     pub fn finish<'a>(&'a self, alloc: Global) -> Result<Transmission<'a>, ReadFault>
-        ensures found { IfOk result (Holds self.now.body self.now.sender) }
-        ensures only { (t : Transmission) → Holds self.now.body self.now.sender t → Answers t result }
+        ensures found { IfOk result (IsTransmission self.now.body self.now.sender) }
+        ensures only { (t : Transmission) → IsTransmission self.now.body self.now.sender t → AnswersTransmission t result }
         ensures reads { IfOk result (λ t. t ≡ transmission_in self.now.body) }
         ensures fault { TellsFault (file_fault self.now.sender self.now.body) result }
     {

@@ -1,8 +1,8 @@
 //! Which fault a line has, in each place where it may stand. Where several hold it is the least.
 ghost use Rattle.std.specs.Prelude.{◌≡◌, ◌+◌, ◌^◌, ◌<◌, bytes_eq};
-ghost use Rattle.cwr_files.specs.LineFaults.{is_too_large, sequence_at, number_at};
+ghost use Rattle.cwr_files.specs.LineFaults.{is_too_large, sequence_at, record_sequence_at};
 ghost use Rattle.cwr_files.specs.Chain.{header_fault, opening_fault, trailer_fault, between_fault, closing_fault, record_fault, group_fault, ended_fault};
-ghost use Rattle.cwr_files.specs.RightLines.{is_numbered, sender_in};
+ghost use Rattle.cwr_files.specs.RightLines.{is_numbered, sender_of_header};
 
 use crate::counts::{Counts, OpenGroup};
 use crate::dates::is_dated;
@@ -37,16 +37,16 @@ pub fn header_fault(sender: &SenderKey, line: &Line) -> Option<u8>
     None
 }
 
-/// Whether a header bears the sender key.
+// Whether a header bears the sender key.
 fn is_of_sender(sender: &SenderKey, line: &Line) -> bool
-    ensures { result ≡ bytes_eq (sender_in line.now) sender.now }
+    ensures { result ≡ bytes_eq (sender_of_header line.now) sender.now }
 {
     let header: TransmissionHeader = read_as(line);
     header.sender_type.field().is(sender.sender_type())
         && header.sender_id.field().is(sender.sender_id())
 }
 
-/// The fault of a group header behind so many groups: 5 another group ID, 13 a transaction type that is none.
+// The fault of a group header behind so many groups: 5 another group ID, 13 a transaction type that is none.
 #[tactic(auto, unfolding(crate::specs::Chain::opening_fault))]
 fn opening_fault(groups: u64, line: &Line) -> Option<u8>
     requires { groups < 2 ^ 63 }
@@ -61,7 +61,7 @@ fn opening_fault(groups: u64, line: &Line) -> Option<u8>
     None
 }
 
-/// The fault of a transmission trailer behind these counts: 9 another count.
+// The fault of a transmission trailer behind these counts: 9 another count.
 #[tactic(auto, unfolding(crate::specs::Chain::trailer_fault))]
 fn trailer_fault(counts: &Counts, line: &Line) -> Option<u8>
     requires { counts.now.lines < 2 ^ 63 }
@@ -90,7 +90,7 @@ pub fn between_fault(counts: &Counts, line: &Line) -> Option<u8>
     Some(4)
 }
 
-/// The fault of the trailer of the open group with this ID: 8 another ID or count.
+// The fault of the trailer of the open group with this ID: 8 another ID or count.
 #[tactic(auto, unfolding(crate::specs::Chain::closing_fault))]
 fn closing_fault(id: u64, group: &OpenGroup, line: &Line) -> Option<u8>
     requires { group.now.lines < 2 ^ 63 }
@@ -103,9 +103,9 @@ fn closing_fault(id: u64, group: &OpenGroup, line: &Line) -> Option<u8>
     }
 }
 
-/// Whether a line bears the sequence numbers that are right in an open group.
+// Whether a line bears the sequence numbers that are right in an open group.
 fn is_in_sequence(group: &OpenGroup, line: &Line) -> bool
-    ensures { result ≡ is_numbered (sequence_at group.now.kind group.now.transactions line.now) (number_at group.now.kind group.now.further line.now) line.now }
+    ensures { result ≡ is_numbered (sequence_at group.now.kind group.now.transactions line.now) (record_sequence_at group.now.kind group.now.further line.now) line.now }
 {
     if has_type(line, &group.kind) {
         is_numbered(line, group.transactions, 0)
@@ -114,8 +114,8 @@ fn is_in_sequence(group: &OpenGroup, line: &Line) -> bool
     }
 }
 
-/// The fault of a record in an open group: 6 a frame record or one before the first transaction, 7 another sequence
-/// number, 13 a record type that is none.
+// The fault of a record in an open group: 6 a frame record or one before the first transaction, 7 another sequence
+// number, 13 a record type that is none.
 #[tactic(auto, unfolding(crate::specs::Chain::record_fault))]
 fn record_fault(group: &OpenGroup, line: &Line) -> Option<u8>
     ensures { result ≡ record_fault group.now.kind group.now.transactions group.now.further line.now }

@@ -5,7 +5,7 @@ ghost use Rattle.cwr_files.specs.RightLines.{bears, is_numbered, has_group_count
 
 use cwr_records::{Field, GroupHeader, GroupTrailer, Line, TransmissionTrailer, read_as};
 
-/// Whether a field is digits alone that are this number.
+// Whether a field is digits alone that are this number.
 #[tactic(auto, unfolding(crate::specs::RightLines::bears))]
 fn bears(field: &Field, expected: u64) -> bool
     requires { length field.now ≤ 19 }

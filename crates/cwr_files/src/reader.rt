@@ -3,7 +3,7 @@ ghost use Rattle.std.specs.Prelude.{◌≡◌, ℕ, List, IfOk, None};
 ghost use Rattle.cwr_files.specs.declared.transmission.Transmission.{Transmission};
 ghost use Rattle.cwr_files.specs.FileFault.{file_fault};
 ghost use Rattle.cwr_files.specs.Contents.{transmission_in};
-ghost use Rattle.cwr_files.specs.Reading.{Holds, Answers, TellsFault, IsJudged};
+ghost use Rattle.cwr_files.specs.Reading.{IsTransmission, AnswersTransmission, TellsFault, IsJudged};
 
 use crate::builder::contents;
 use crate::fault::{FileFault, ReadFault};
@@ -20,8 +20,8 @@ pub fn read_transmission<'a>(
     body: &'a [u8],
     sender: &SenderKey,
 ) -> Result<Transmission<'a>, ReadFault>
-    ensures found { IfOk result (Holds body.now sender.now) }
-    ensures only { (t : Transmission) → Holds body.now sender.now t → Answers t result }
+    ensures found { IfOk result (IsTransmission body.now sender.now) }
+    ensures only { (t : Transmission) → IsTransmission body.now sender.now t → AnswersTransmission t result }
     ensures reads { IfOk result (λ t. t ≡ transmission_in body.now) }
     ensures fault { TellsFault (file_fault sender.now body.now) result }
 {
@@ -36,8 +36,8 @@ pub fn told<'a>(
     fault: Option<FileFault>,
 ) -> Result<Transmission<'a>, ReadFault>
     requires { fault ≡ file_fault sender.now body.now }
-    ensures found { IfOk result (Holds body.now sender.now) }
-    ensures only { (t : Transmission) → Holds body.now sender.now t → Answers t result }
+    ensures found { IfOk result (IsTransmission body.now sender.now) }
+    ensures only { (t : Transmission) → IsTransmission body.now sender.now t → AnswersTransmission t result }
     ensures reads { IfOk result (λ t. t ≡ transmission_in body.now) }
     ensures fault { TellsFault (file_fault sender.now body.now) result }
 {

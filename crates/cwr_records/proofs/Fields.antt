@@ -6,9 +6,9 @@ use Rattle.std.proofs.lemmas.Bool.Decides.{nat_tests}
 use Rattle.std.specs.List.{list_all}
 use Rattle.std.proofs.lemmas.List.{append-nil, append_assoc, replicate-append-replicate, take-append-le, reverse-append, take_at, drop_at, take-append-drop, length-append, length-replicate, length-drop, length-take, take_min, drop_min}
 use Rattle.std.proofs.lemmas.List.Folds.{list_all-append}
-use Rattle.cwr_records.specs.Lines.{is_blank, fill, field}
+use Rattle.cwr_records.specs.Lines.{is_blank, fill_field, field}
 use Rattle.work_ids.specs.Characters.{is_digit}
-use Rattle.work_ids.specs.Digits.{number_of}
+use Rattle.work_ids.specs.Digits.{decimal_value}
 
 and-true : (b : Bool) → (b && true) ≡ b
 and-true true = refl
@@ -74,29 +74,29 @@ pub filled-differs : (present text now : List ℕ) (n : ℕ) → present ++ repl
 filled-differs present text now n view other = (λ t. cc, λ e. absurd (other (filled-front present text n (view ∙ e))))
 
 -- what is blank at its end is no number
-pub number_of-blank : (present : List ℕ) (n : ℕ) → 0 < n → None ≡ number_of (present ++ replicate n 32)
-unfolding number_of
+pub number_of-blank : (present : List ℕ) (n : ℕ) → 0 < n → None ≡ decimal_value (present ++ replicate n 32)
+unfolding decimal_value
 number_of-blank present zero some = absurd (omega arith)
 number_of-blank present (suc n) some =
     rw (list_all-append is_digit present (replicate (suc n) 32), and-false (list_all is_digit present), and-false _) refl
 
 -- a field is what the line has there, filled up
-pub field-clipped : (line piece : List ℕ) (first last : ℕ) → 1 ≤ first → first ≤ last → piece ≡ take (min (last - (first - 1)) (length (drop (min (first - 1) (length line)) line))) (drop (min (first - 1) (length line)) line) → fill (last - (first - 1)) piece ≡ field line first last
+pub field-clipped : (line piece : List ℕ) (first last : ℕ) → 1 ≤ first → first ≤ last → piece ≡ take (min (last - (first - 1)) (length (drop (min (first - 1) (length line)) line))) (drop (min (first - 1) (length line)) line) → fill_field (last - (first - 1)) piece ≡ field line first last
 unfolding field
 field-clipped line piece first last one order p =
     let w : last + 1 - first ≡ last - (first - 1) = omega arith in
     rw (w, p, take_min (last - (first - 1)) (drop (min (first - 1) (length line)) line), drop_min (first - 1) line) refl
 
 -- as many bytes as the width stay as they are
-pub fill-whole : (bs : List ℕ) → fill (length bs) bs ≡ bs
-unfolding fill
+pub fill-whole : (bs : List ℕ) → fill_field (length bs) bs ≡ bs
+unfolding fill_field
 fill-whole bs =
     let none : length bs - length bs ≡ 0 = omega arith in
     rw (none, append-nil bs) refl
 
 -- a filled list that is not too long has its width
-pub length-fill : (width : ℕ) (bs : List ℕ) → length bs ≤ width → length (fill width bs) ≡ width
-unfolding fill
+pub length-fill : (width : ℕ) (bs : List ℕ) → length bs ≤ width → length (fill_field width bs) ≡ width
+unfolding fill_field
 length-fill width bs within = filled-length bs width within
 
 -- a field has as many bytes as its positions say, however short its line is
@@ -135,8 +135,8 @@ length-trimmed bs =
     omega (arith, length-drop (prefix_len is_blank_byte front) front, length-take (length bs - suffix_len is_blank_byte bs) bs)
 
 -- a filled list is filled further as the list itself is
-pub fill-filled : (width more : ℕ) (bs : List ℕ) → length bs ≤ width → width ≤ more → fill more bs ≡ fill more (bs ++ replicate (width - length bs) 32)
-unfolding fill
+pub fill-filled : (width more : ℕ) (bs : List ℕ) → length bs ≤ width → width ≤ more → fill_field more bs ≡ fill_field more (bs ++ replicate (width - length bs) 32)
+unfolding fill_field
 fill-filled width more bs within wider =
     let size = filled-length bs width within in
     let parts : more - length bs ≡ (width - length bs) + (more - width) = omega arith in

@@ -5,7 +5,7 @@ use Rattle.std.proofs.lemmas.List.{append-nil, take_all, take_more, drop_all, dr
 use Rattle.std.proofs.lemmas.List.Folds.{list_any-append}
 use Rattle.std.proofs.Math.Seq.{take-add}
 use Rattle.memchr.specs.Find.{is_byte, NoneBefore, Nowhere, Passes}
-use Rattle.cwr_records.specs.Lines.{pieces, onto_first, line_of, has_line_end, IsFirstLine, IsWholePiece}
+use Rattle.cwr_records.specs.Lines.{pieces, onto_first, line_of_piece, has_line_end, IsFirstLine, IsWholePiece}
 
 -- a front of bytes and the pieces of the rest, where no LF stands within the front
 abbrev pub onto_front : List ℕ → List (List ℕ) → List (List ℕ)
@@ -95,12 +95,12 @@ pieces-last bs count is some free =
     ap pieces (sym (append-nil bs)) ∙ open-pieces bs [] some free ∙ rw (take_all count bs all, drop_all count bs all) refl
 
 -- a first piece that is cut off gives the first line
-pub first_line : (body piece rest line : List ℕ) (n : ℕ) → 0 < n → n ≤ length body → piece ≡ take n body → rest ≡ drop n body → pieces body ≡ take n body ∷ pieces (drop n body) → line ≡ line_of piece → IsFirstLine body line rest
+pub first_line : (body piece rest line : List ℕ) (n : ℕ) → 0 < n → n ≤ length body → piece ≡ take n body → rest ≡ drop n body → pieces body ≡ take n body ∷ pieces (drop n body) → line ≡ line_of_piece piece → IsFirstLine body line rest
 first_line body piece rest line n some within p r e l = record {
   piece = piece;
   joined = rw (p, r) (sym (take-append-drop n body));
   pieces_are = rw (p, r) e;
   line_is = l;
-  lines_are = rw (l, p, r) (ap (map line_of) e);
+  lines_are = rw (l, p, r) (ap (map line_of_piece) e);
   shorter = omega (arith, ap length r, length-drop n body);
 }

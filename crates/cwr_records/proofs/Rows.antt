@@ -9,7 +9,7 @@ use Rattle.cwr_records.specs.declared.layout.Position.{Position}
 use Rattle.cwr_records.specs.Layouts.{row_behind, is_ordered, nowhere, width_of, fields_at, is_one_line, ended, Place, row, is_layout, positions_of}
 use Rattle.cwr_records.specs.Records.{record_of, IsReadBack}
 use Rattle.cwr_records.specs.declared.record.Record.{Record}
-use Rattle.cwr_records.specs.Lines.{field, pieces, lines, line_of, without_last}
+use Rattle.cwr_records.specs.Lines.{field, pieces, lines, line_of_piece, without_last}
 use Rattle.cwr_records.proofs.Fields.{fill-whole}
 
 -- one more field on what is written so far, with the blanks in front of it
@@ -107,15 +107,15 @@ without_last-push b xs =
     rw (n, get_or_at xs b [] 0 (length xs) refl, same) (take_at xs (b ∷ []) (length xs) refl)
 
 -- a line with its line end is that line
-pub line_of-ended : (line : List ℕ) → line_of (ended line) ≡ line
-unfolding line_of
+pub line_of-ended : (line : List ℕ) → line_of_piece (ended line) ≡ line
+unfolding line_of_piece
 line_of-ended line =
     let split : ended line ≡ (line ++ 13 ∷ []) ++ 10 ∷ [] = sym (append_assoc line (13 ∷ []) (10 ∷ [])) in
     ap (λ (l : List ℕ). without_last 13 (without_last 10 l)) split ∙ ap (without_last 13) (without_last-push 10 (line ++ 13 ∷ [])) ∙ without_last-push 13 line
 
 -- a line that holds no LF is one line, whatever follows it
 pub lines-ended : (line rest : List ℕ) → no_lf line ≡ true → lines (ended line ++ rest) ≡ line ∷ lines rest
-lines-ended line rest h = ap (map line_of) (pieces-ended line rest h) ∙ ap (λ (l : List ℕ). l ∷ lines rest) (line_of-ended line)
+lines-ended line rest h = ap (map line_of_piece) (pieces-ended line rest h) ∙ ap (λ (l : List ℕ). l ∷ lines rest) (line_of-ended line)
 
 -- what is written of a record by its layout is read as that record
 pub reads_back : (places : List Place) (cs : List (List ℕ)) (r : Record) → IsTrue (is_layout places) → map length cs ≡ map width_of (positions_of places) → ((line : List ℕ) → fields_at (positions_of places) line ≡ cs → record_of line ≡ r) → IsTrue (is_one_line cs) → IsReadBack (row places cs) r

@@ -2,8 +2,8 @@
 use Rattle.std.specs.Prelude.{◌≡◌, ℕ, true, false, List, [], ◌∷◌, ◌++◌, length, replicate, Some, None, refl, codes}
 use Rattle.cwr_records.specs.Blanks.{trimmed}
 use Rattle.cwr_records.specs.Layouts.{ended, is_layout, is_one_line, place, row}
-use Rattle.cwr_records.specs.Lines.{field, fill, is_blank, line_of, lines}
-use Rattle.work_ids.specs.Digits.{number_of}
+use Rattle.cwr_records.specs.Lines.{field, fill_field, is_blank, line_of_piece, lines}
+use Rattle.work_ids.specs.Digits.{decimal_value}
 use Rattle.cwr_records.specs.Places.{header_places, group_header_places, work_places, publisher_places, publisher_territory_places, writer_places, writer_territory_places, publisher_for_writer_places, alternate_title_places, recording_places, acknowledgement_places, group_trailer_places, trailer_places}
 use Rattle.cwr_records.specs.Records.{record_of, header_of, header_contents, group_header_of, group_header_contents, work_of, work_contents, publisher_of, publisher_contents, publisher_territory_of, publisher_territory_contents, writer_of, writer_contents, writer_territory_of, writer_territory_contents, publisher_for_writer_of, publisher_for_writer_contents, alternate_title_of, alternate_title_contents, recording_of, recording_contents, acknowledgement_of, acknowledgement_contents, group_trailer_of, group_trailer_contents, trailer_of, trailer_contents}
 use Rattle.cwr_records.specs.Typed.{indicator_of, share_of, territory_of}
@@ -15,12 +15,12 @@ use Rattle.cwr_records.specs.declared.writer.WriterRole.TheVariants.{Controlled 
 
 -- one carriage return at a line's end is dropped, the last line end may be missing, an empty line counts
 three_lines : lines (codes "A\r\n\nB\r\r\nC") ≡ codes "A" ∷ [] ∷ codes "B\r" ∷ codes "C" ∷ []
-unfolding line_of
+unfolding line_of_piece
 three_lines = refl
 
 -- a CR alone behind the last line end is an empty line
 lone_return : lines (codes "TRL\r\n\r") ≡ codes "TRL" ∷ [] ∷ []
-unfolding line_of
+unfolding line_of_piece
 lone_return = refl
 
 no_lines : lines [] ≡ []
@@ -28,28 +28,28 @@ no_lines = refl
 
 -- a field past the end of its line is read as if the line were filled with blanks
 field_past_the_end : field (codes "ABC") 2 5 ≡ codes "BC  "
-unfolding field fill
+unfolding field fill_field
 field_past_the_end = refl
 
-whole_number : number_of (codes "00012") ≡ Some 12
-unfolding number_of
+whole_number : decimal_value (codes "00012") ≡ Some 12
+unfolding decimal_value
 whole_number = refl
 
-blank_number : number_of (codes "   ") ≡ None
-unfolding number_of
+blank_number : decimal_value (codes "   ") ≡ None
+unfolding decimal_value
 blank_number = refl
 
 -- shares
 half : share_of (codes "05000") ≡ Some 5000
-unfolding share_of is_blank number_of
+unfolding share_of is_blank decimal_value
 half = refl
 
 all_of_it : share_of (codes "10000") ≡ Some 10000
-unfolding share_of is_blank number_of
+unfolding share_of is_blank decimal_value
 all_of_it = refl
 
 more_than_all : share_of (codes "10001") ≡ None
-unfolding share_of is_blank number_of
+unfolding share_of is_blank decimal_value
 more_than_all = refl
 
 blank_share : share_of (codes "     ") ≡ Some 0
@@ -57,32 +57,32 @@ unfolding share_of is_blank
 blank_share = refl
 
 short_share : share_of (codes "0500 ") ≡ None
-unfolding share_of is_blank number_of
+unfolding share_of is_blank decimal_value
 short_share = refl
 
 -- territories: blanks at both ends and zeros in front do not count
 territory_forty : territory_of (codes " 40 ") ≡ Some 40
-unfolding territory_of trimmed number_of
+unfolding territory_of trimmed decimal_value
 territory_forty = refl
 
 same_territory : territory_of (codes "0040") ≡ Some 40
-unfolding territory_of trimmed number_of
+unfolding territory_of trimmed decimal_value
 same_territory = refl
 
 forty_in_front : territory_of (codes "40  ") ≡ Some 40
-unfolding territory_of trimmed number_of
+unfolding territory_of trimmed decimal_value
 forty_in_front = refl
 
 three_digits : territory_of (codes "040 ") ≡ Some 40
-unfolding territory_of trimmed number_of
+unfolding territory_of trimmed decimal_value
 three_digits = refl
 
 the_world : territory_of (codes "2136") ≡ Some 2136
-unfolding territory_of trimmed number_of
+unfolding territory_of trimmed decimal_value
 the_world = refl
 
 no_territory : territory_of (codes "    ") ≡ None
-unfolding territory_of trimmed number_of
+unfolding territory_of trimmed decimal_value
 no_territory = refl
 
 included : indicator_of (codes "I") ≡ Some Included
@@ -128,11 +128,11 @@ header_read : record_of header_line ≡ kind.TransmissionHeader (record {
   transmission_date = codes "20260106";
   character_set = blanks 15;
 })
-unfolding record_of field fill
+unfolding record_of field fill_field
 header_read = refl
 
 header_written : row header_places (header_contents (header_of header_line)) ≡ header_line ++ blanks 15
-unfolding field fill
+unfolding field fill_field
 header_written = refl
 
 abbrev group_header_line : List ℕ
@@ -145,11 +145,11 @@ group_header_read : record_of group_header_line ≡ kind.GroupHeader (record {
   batch_request = codes "0000000000";
   submission_type = blanks 2;
 })
-unfolding record_of field fill
+unfolding record_of field fill_field
 group_header_read = refl
 
 group_header_written : row group_header_places (group_header_contents (group_header_of group_header_line)) ≡ group_header_line ++ blanks 2
-unfolding field fill
+unfolding field fill_field
 group_header_written = refl
 
 abbrev registration_line : List ℕ
@@ -172,11 +172,11 @@ registration_read : record_of registration_line ≡ kind.Work (record {
   composite_type = blanks 3;
   version_type = blanks 3;
 })
-unfolding record_of field fill
+unfolding record_of field fill_field
 registration_read = refl
 
 registration_written : row work_places (work_contents (work_of registration_line)) ≡ registration_line ++ blanks 39
-unfolding field fill
+unfolding field fill_field
 registration_written = refl
 
 abbrev publisher_line : List ℕ
@@ -201,11 +201,11 @@ publisher_read : record_of publisher_line ≡ kind.Publisher (record {
   sr_society = blanks 3;
   sr_share = codes "10000";
 })
-unfolding record_of field fill
+unfolding record_of field fill_field
 publisher_read = refl
 
 publisher_written : row publisher_places (publisher_contents (publisher_of publisher_line)) ≡ publisher_line
-unfolding field fill
+unfolding field fill_field
 publisher_written = refl
 
 abbrev publisher_row_line : List ℕ
@@ -223,11 +223,11 @@ publisher_row_read : record_of publisher_row_line ≡ kind.PublisherTerritory (r
   shares_change = blanks 1;
   sequence = codes "001";
 })
-unfolding record_of field fill
+unfolding record_of field fill_field
 publisher_row_read = refl
 
 publisher_row_written : row publisher_territory_places (publisher_territory_contents (publisher_territory_of publisher_row_line)) ≡ publisher_row_line
-unfolding field fill
+unfolding field fill_field
 publisher_row_written = refl
 
 abbrev writer_line : List ℕ
@@ -251,11 +251,11 @@ writer_read : record_of writer_line ≡ kind.Writer (record {
   sr_society = blanks 3;
   sr_share = codes "00000";
 })
-unfolding record_of field fill
+unfolding record_of field fill_field
 writer_read = refl
 
 writer_written : row writer_places (writer_contents (writer_of writer_line)) ≡ writer_line
-unfolding field fill
+unfolding field fill_field
 writer_written = refl
 
 abbrev writer_row_line : List ℕ
@@ -273,11 +273,11 @@ writer_row_read : record_of writer_row_line ≡ kind.WriterTerritory (record {
   shares_change = blanks 1;
   sequence = codes "001";
 })
-unfolding record_of field fill
+unfolding record_of field fill_field
 writer_row_read = refl
 
 writer_row_written : row writer_territory_places (writer_territory_contents (writer_territory_of writer_row_line)) ≡ writer_row_line
-unfolding field fill
+unfolding field fill_field
 writer_row_written = refl
 
 abbrev publisher_of_the_writer_line : List ℕ
@@ -292,11 +292,11 @@ publisher_of_the_writer_read : record_of publisher_of_the_writer_line ≡ kind.P
   society_agreement = blanks 14;
   writer_party = codes "A1" ++ blanks 7;
 })
-unfolding record_of field fill
+unfolding record_of field fill_field
 publisher_of_the_writer_read = refl
 
 publisher_of_the_writer_written : row publisher_for_writer_places (publisher_for_writer_contents (publisher_for_writer_of publisher_of_the_writer_line)) ≡ publisher_of_the_writer_line ++ blanks 7
-unfolding field fill
+unfolding field fill_field
 publisher_of_the_writer_written = refl
 
 abbrev recording_line : List ℕ
@@ -313,11 +313,11 @@ recording_read : record_of recording_line ≡ kind.Recording (record {
   ean = blanks 13;
   isrc = codes "ATABC2600001";
 })
-unfolding record_of field fill
+unfolding record_of field fill_field
 recording_read = refl
 
 recording_written : row recording_places (recording_contents (recording_of recording_line)) ≡ recording_line
-unfolding field fill
+unfolding field fill_field
 recording_written = refl
 
 abbrev group_trailer_line : List ℕ
@@ -328,11 +328,11 @@ group_trailer_read : record_of group_trailer_line ≡ kind.GroupTrailer (record 
   transaction_count = codes "00000001";
   record_count = codes "00000009";
 })
-unfolding record_of field fill
+unfolding record_of field fill_field
 group_trailer_read = refl
 
 group_trailer_written : row group_trailer_places (group_trailer_contents (group_trailer_of group_trailer_line)) ≡ group_trailer_line
-unfolding field fill
+unfolding field fill_field
 group_trailer_written = refl
 
 abbrev trailer_line : List ℕ
@@ -343,11 +343,11 @@ trailer_read : record_of trailer_line ≡ kind.TransmissionTrailer (record {
   transaction_count = codes "00000001";
   record_count = codes "00000011";
 })
-unfolding record_of field fill
+unfolding record_of field fill_field
 trailer_read = refl
 
 trailer_written : row trailer_places (trailer_contents (trailer_of trailer_line)) ≡ trailer_line
-unfolding field fill
+unfolding field fill_field
 trailer_written = refl
 
 abbrev acknowledgement_line : List ℕ
@@ -367,29 +367,29 @@ acknowledgement_read : record_of acknowledgement_line ≡ kind.Acknowledgement (
   processing_date = codes "20260106";
   status = codes "AS";
 })
-unfolding record_of field fill
+unfolding record_of field fill_field
 acknowledgement_read = refl
 
 acknowledgement_written : row acknowledgement_places (acknowledgement_contents (acknowledgement_of acknowledgement_line)) ≡ acknowledgement_line
-unfolding field fill
+unfolding field fill_field
 acknowledgement_written = refl
 
 -- a line of 106 bytes is written with 145, and its line end
 registration_ended : length (ended (row work_places (work_contents (work_of registration_line)))) ≡ 147
-unfolding field fill
+unfolding field fill_field
 registration_ended = refl
 
 -- the other type of each layout that has two, a further title, and a type that has no layout
 revision_written : row work_places (work_contents (work_of (codes "REV" ++ blanks 142))) ≡ codes "REV" ++ blanks 142
-unfolding field fill
+unfolding field fill_field
 revision_written = refl
 
 other_publisher_written : row publisher_places (publisher_contents (publisher_of (codes "OPU" ++ blanks 133))) ≡ codes "OPU" ++ blanks 133
-unfolding field fill
+unfolding field fill_field
 other_publisher_written = refl
 
 other_writer_written : row writer_places (writer_contents (writer_of (codes "OWR" ++ blanks 147))) ≡ codes "OWR" ++ blanks 147
-unfolding field fill
+unfolding field fill_field
 other_writer_written = refl
 
 abbrev further_title_line : List ℕ
@@ -402,13 +402,13 @@ further_title_read : record_of further_title_line ≡ kind.AlternateTitle (recor
   title_type = codes "AT";
   language = codes "EN";
 })
-unfolding record_of field fill
+unfolding record_of field fill_field
 further_title_read = refl
 
 further_title_written : row alternate_title_places (alternate_title_contents (alternate_title_of further_title_line)) ≡ further_title_line
-unfolding field fill
+unfolding field fill_field
 further_title_written = refl
 
 agreement_read : record_of (codes "AGRXXXXXXXX00000005") ≡ kind.Other (codes "AGRXXXXXXXX00000005")
-unfolding record_of field fill
+unfolding record_of field fill_field
 agreement_read = refl

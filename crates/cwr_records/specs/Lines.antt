@@ -28,21 +28,21 @@ abbrev pub without_last : ℕ → List ℕ → List ℕ
 without_last b bs = cond (eqb (get_or bs (length bs - 1) 0) b) (take (length bs - 1) bs) bs
 
 -- the line of a piece: without its LF, then without one CR at its end (profile)
-unfoldable pub line_of : List ℕ → List ℕ
-line_of piece = without_last 13 (without_last 10 piece)
+unfoldable pub line_of_piece : List ℕ → List ℕ
+line_of_piece piece = without_last 13 (without_last 10 piece)
 
 -- the lines of a body (CISAC CWR 2.2; that the last line end may be missing: profile)
 abbrev pub lines : List ℕ → List (List ℕ)
-lines body = map line_of (pieces body)
+lines body = map line_of_piece (pieces body)
 
 -- bytes with blanks after them, up to a width
-unfoldable pub fill : ℕ → List ℕ → List ℕ
-fill width bs = filled_with_blanks width bs
+unfoldable pub fill_field : ℕ → List ℕ → List ℕ
+fill_field width bs = filled_with_blanks width bs
 
 -- the field of a line from one position to another, both from 1, with blanks past the line's end (CISAC CWR 2.2; the blanks: profile)
 unfoldable pub field : List ℕ → ℕ → ℕ → List ℕ
-unfolding fill
-field line first last = fill (last + 1 - first) (take (last + 1 - first) (drop (first - 1) line))
+unfolding fill_field
+field line first last = fill_field (last + 1 - first) (take (last + 1 - first) (drop (first - 1) line))
 
 -- whether all bytes are blanks
 unfoldable pub is_blank : List ℕ → Bool
@@ -53,6 +53,6 @@ pub record IsFirstLine (body line rest : List ℕ) : Type 0 where
   pub piece : List ℕ
   pub joined : body ≡ piece ++ rest
   pub pieces_are : pieces body ≡ piece ∷ pieces rest
-  pub line_is : line ≡ line_of piece
+  pub line_is : line ≡ line_of_piece piece
   pub lines_are : lines body ≡ line ∷ lines rest
   pub shorter : length rest < length body

@@ -456,13 +456,13 @@ lettered_types =
     ∷ []
 
 -- the first record type whose letters a code is, unknown where there is none (profile)
-abbrev pub first_of : List (List ℕ × RecordType) → List ℕ → RecordType
-first_of [] code = Unknown
-first_of (x ∷ xs) code = cond (bytes_eq code x.0) x.1 (first_of xs code)
+abbrev pub first_type_of : List (List ℕ × RecordType) → List ℕ → RecordType
+first_type_of [] code = Unknown
+first_type_of (x ∷ xs) code = cond (bytes_eq code x.0) x.1 (first_type_of xs code)
 
 -- the record type that three bytes name (CISAC CWR 2.2)
 abbrev pub type_of : List ℕ → RecordType
-type_of code = first_of lettered_types code
+type_of code = first_type_of lettered_types code
 
 -- the record of a line, of a record type (CISAC CWR 2.2)
 abbrev pub record_as : RecordType → List ℕ → Record

@@ -1,8 +1,8 @@
 //! A field of a line: lent bytes, and blanks up to the field's width.
 ghost use Rattle.std.specs.Prelude.{◌≡◌, ◌<◌, ◌≤◌, ◌+◌, ◌-◌, ◌↔◌, ◌==◌, ◌++◌, ℕ, List, length, get_or, replicate, IsTrue, IfSome, ◌^◌};
 ghost use Rattle.work_ids.specs.Blanks.{trimmed, without_trailing_blanks};
-ghost use Rattle.work_ids.specs.Digits.{number_of};
-ghost use Rattle.cwr_records.specs.Lines.{fill, is_blank};
+ghost use Rattle.work_ids.specs.Digits.{decimal_value};
+ghost use Rattle.cwr_records.specs.Lines.{fill_field, is_blank};
 
 use crate::fixed::Fixed;
 use std::marker::Model;
@@ -27,7 +27,7 @@ impl<'a> Field<'a> {
     /// These bytes, filled with blanks up to the width.
     pub fn new(present: &'a [u8], width: usize) -> Field<'a>
         requires { length present.now ≤ width }
-        ensures value { result ≡ fill width present.now }
+        ensures value { result ≡ fill_field width present.now }
         ensures len { length result ≡ width }
     {
         Field { present, width }
@@ -127,7 +127,7 @@ impl<'a> Field<'a> {
     /// The field with more blanks behind it.
     pub fn widened<const WIDTH: usize>(&self) -> Fixed<'a, WIDTH>
         requires { length self.now ≤ WIDTH }
-        ensures { result ≡ fill WIDTH self.now }
+        ensures { result ≡ fill_field WIDTH self.now }
     {
         Fixed::new(self.present)
     }
@@ -135,7 +135,7 @@ impl<'a> Field<'a> {
     /// The decimal value, where the field is digits alone, and has at least one; else none.
     pub fn number(&self) -> Option<u64>
         requires { length self.now ≤ 19 }
-        ensures { result ≡ number_of self.now }
+        ensures { result ≡ decimal_value self.now }
     {
         if self.present.len() < self.width {
             return None;

@@ -1,6 +1,6 @@
 //! A field of a record, with its width in its type.
 ghost use Rattle.std.specs.Prelude.{◌≡◌, ◌≤◌, ◌-◌, ◌++◌, ℕ, List, length, replicate};
-ghost use Rattle.cwr_records.specs.Lines.{fill};
+ghost use Rattle.cwr_records.specs.Lines.{fill_field};
 
 use crate::field::Field;
 use std::marker::Model;
@@ -23,7 +23,7 @@ impl<'a, const WIDTH: usize> Fixed<'a, WIDTH> {
     /// These bytes, filled with blanks.
     pub fn new(present: &'a [u8]) -> Fixed<'a, WIDTH>
         requires { length present.now ≤ WIDTH }
-        ensures value { result ≡ fill WIDTH present.now }
+        ensures value { result ≡ fill_field WIDTH present.now }
         ensures len { length result ≡ WIDTH }
     {
         Fixed { present }

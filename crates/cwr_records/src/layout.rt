@@ -68,7 +68,7 @@ impl<'a> LineFields<'a> {
     }
 }
 
-/// The position at an index.
+// The position at an index. It is a function so that its clause stands at the call: the prover wants it.
 fn position_at(positions: &[Position], index: usize) -> Position
     requires { index < length positions.now }
     ensures { result ≡ get_or positions.now index nowhere }

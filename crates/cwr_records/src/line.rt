@@ -2,7 +2,7 @@
 ghost use Rattle.std.specs.Prelude.{◌≡◌, ◌<◌, ◌≤◌, ◌-◌, ◌+◌, ◌∷◌, [], ◌≢◌, ℕ, List, length, take, drop, false, MatchOption};
 ghost use Rattle.cwr_records.specs.Layouts.{field_in, width_of};
 ghost use Rattle.cwr_records.specs.Places.{record_sequence_in, record_type_in, transaction_sequence_in};
-ghost use Rattle.cwr_records.specs.Lines.{field, fill, has_line_end, is_blank, line_of, pieces, without_last, IsFirstLine, IsWholePiece};
+ghost use Rattle.cwr_records.specs.Lines.{field, fill_field, has_line_end, is_blank, line_of_piece, pieces, without_last, IsFirstLine, IsWholePiece};
 
 use crate::field::Field;
 use crate::layout::{Position, RECORD_SEQUENCE, RECORD_TYPE, TRANSACTION_SEQUENCE};
@@ -112,14 +112,14 @@ pub fn split_line<'a>(bytes: &'a [u8]) -> (Line<'a>, &'a [u8])
 }
 
 /// The line of a piece of a body: without its LF, then without one CR at its end.
-#[tactic(auto, unfolding(crate::specs::Lines::line_of))]
+#[tactic(auto, unfolding(crate::specs::Lines::line_of_piece))]
 pub fn line_of<'a>(piece: &'a [u8]) -> Line<'a>
-    ensures { result ≡ line_of piece.now }
+    ensures { result ≡ line_of_piece piece.now }
 {
     Line::new(without_last(without_last(piece, b'\n'), b'\r'))
 }
 
-/// How many bytes the first piece has, its LF included.
+// How many bytes the first piece has, its LF included.
 fn piece_len(bytes: &[u8]) -> usize
     requires { bytes.now ≢ [] }
     ensures some { 0 < result }
@@ -145,7 +145,7 @@ pub fn whole_piece(bytes: &[u8], searched: usize) -> Option<usize>
     }
 }
 
-/// The bytes without their last one, where that is `end`.
+// The bytes without their last one, where that is `end`.
 fn without_last(bytes: &[u8], end: u8) -> &[u8]
     requires { 0 < end }
     ensures { result.now ≡ without_last end bytes.now }

@@ -30,7 +30,7 @@ impl PublisherRole {
         }
     }
 
-    /// What a record type says, which is one of the two.
+    // What a record type says, which is one of the two.
     fn of(code: &Fixed<'_, 3>) -> PublisherRole
         ensures { result ≡ publisher_role_of code.now }
     {

@@ -53,7 +53,7 @@ const TYPES: [([u8; 3], RecordType); 16] = [
     (*b"TRL", RecordType::Trl),
 ];
 
-/// The record type of a line.
+// The record type of a line.
 fn record_type(line: &Line<'_>) -> RecordType
     ensures { result ≡ type_of (record_type_in line.now) }
 {

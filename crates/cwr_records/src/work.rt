@@ -31,7 +31,7 @@ impl TransactionKind {
         }
     }
 
-    /// What a record type says, which is one of the two.
+    // What a record type says, which is one of the two.
     fn of(code: &Fixed<'_, 3>) -> TransactionKind
         ensures { result ≡ kind_of code.now }
     {

@@ -24,7 +24,7 @@ pub fn write_record<'a, K: RecordKind<'a>>(source: &K, out: &mut Vec<u8>) -> Res
     written
 }
 
-/// Appends the record's line and CR LF; where memory is refused, perhaps a part of them.
+// Appends the record's line and CR LF; where memory is refused, perhaps a part of them.
 fn append_record<'a, K: RecordKind<'a>>(source: &K, out: &mut Vec<u8>) -> Result<(), AllocError>
     ensures ok { OnOk result (out.new.items ≡ out.old.items ++ ended (row K.places (K.contents source.now))) }
     ensures err { OnErr result (take (length out.old.items) out.new.items ≡ out.old.items) }
@@ -40,7 +40,7 @@ fn append_record<'a, K: RecordKind<'a>>(source: &K, out: &mut Vec<u8>) -> Result
     out.extend_from_slice(b"\r\n")
 }
 
-/// Appends blanks; where memory is refused, perhaps some of them.
+// Appends blanks; where memory is refused, perhaps some of them.
 fn append_blanks(out: &mut Vec<u8>, count: usize) -> Result<(), AllocError>
     ensures ok { OnOk result (out.new.items ≡ out.old.items ++ replicate count 32) }
     ensures err { OnErr result (take (length out.old.items) out.new.items ≡ out.old.items) }
@@ -51,7 +51,7 @@ fn append_blanks(out: &mut Vec<u8>, count: usize) -> Result<(), AllocError>
     Ok(())
 }
 
-/// Appends a field, its blanks included; where memory is refused, perhaps a part of it.
+// Appends a field, its blanks included; where memory is refused, perhaps a part of it.
 fn append_field(out: &mut Vec<u8>, field: &Field<'_>) -> Result<(), AllocError>
     ensures ok { OnOk result (out.new.items ≡ out.old.items ++ field.now) }
     ensures err { OnErr result (take (length out.old.items) out.new.items ≡ out.old.items) }

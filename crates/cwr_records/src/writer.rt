@@ -30,7 +30,7 @@ impl WriterRole {
         }
     }
 
-    /// What a record type says, which is one of the two.
+    // What a record type says, which is one of the two.
     fn of(code: &Fixed<'_, 3>) -> WriterRole
         ensures { result ≡ writer_role_of code.now }
     {

@@ -259,7 +259,7 @@ fn gap_filled(rt: HostRuntime) -> Result<(), Fail> {
 #[test]
 fn put_in_pieces(rt: HostRuntime) -> Result<(), Fail> {
     // One record fewer than the group says, which the tenth line tells.
-    let miscounted = changed(rt.alloc(), REGISTERED, &[(1_019, b"8")])?;
+    let miscounted = changed(rt.alloc(), REGISTERED, &[(10, 24, b"8")])?;
     let miscounted = miscounted.as_slice();
     let fault = FileFault {
         number: 8,
@@ -336,7 +336,7 @@ fn held_revision_repeated(rt: HostRuntime) -> Result<(), Fail> {
 
 #[test]
 fn held_number_reused_on_the_desk(rt: HostRuntime) -> Result<(), Fail> {
-    let other = changed(rt.alloc(), REGISTERED, &[(144, b"H")])?;
+    let other = changed(rt.alloc(), REGISTERED, &[(3, 29, b"H")])?;
     let other = other.as_slice();
     check_rows(
         &rt,
@@ -370,11 +370,11 @@ fn revision_before_its_work(rt: HostRuntime) -> Result<(), Fail> {
 #[test]
 fn ownership_sum(rt: HostRuntime) -> Result<(), Fail> {
     let alloc = rt.alloc();
-    let faulty = changed(alloc, REGISTERED, &[(551, b"05007")])?;
+    let faulty = changed(alloc, REGISTERED, &[(6, 130, b"05007")])?;
     let rejected = changed(
         alloc,
         REGISTERED_ACK,
-        &[(262, b"                    "), (290, b"RJ")],
+        &[(3, 130, b"                    "), (3, 158, b"RJ")],
     )?;
     let mut desk = new_desk(alloc)?;
     check_rows_on(
@@ -399,7 +399,7 @@ fn ownership_sum(rt: HostRuntime) -> Result<(), Fail> {
 
 #[test]
 fn ownership_sum_at_the_limit(rt: HostRuntime) -> Result<(), Fail> {
-    let body = changed(rt.alloc(), REGISTERED, &[(551, b"05006")])?;
+    let body = changed(rt.alloc(), REGISTERED, &[(6, 130, b"05006")])?;
     check_rows(
         &rt,
         rt.alloc(),
@@ -414,7 +414,7 @@ fn ownership_sum_at_the_limit(rt: HostRuntime) -> Result<(), Fail> {
 fn unread_group(rt: HostRuntime) -> Result<(), Fail> {
     let alloc = rt.alloc();
     let body = with_unread_group(alloc)?;
-    let second_group = changed(alloc, REGISTERED_ACK, &[(166, b"00002")])?;
+    let second_group = changed(alloc, REGISTERED_ACK, &[(3, 34, b"00002")])?;
     let mut desk = new_desk(alloc)?;
     check_rows_on(&rt, alloc, &mut desk, &[Row::Put(1, &body, applied(1))])?;
     told(
@@ -465,7 +465,7 @@ fn answers_to<S: Store>(
 #[test]
 fn held_number_reused_in_a_run(rt: HostRuntime) -> Result<(), Fail> {
     let alloc = rt.alloc();
-    let other = changed(alloc, REGISTERED, &[(144, b"H")])?;
+    let other = changed(alloc, REGISTERED, &[(3, 29, b"H")])?;
     let (sender, number) = (sender()?, number(3)?);
     let put = |body| Request::PutTransmission {
         sender,

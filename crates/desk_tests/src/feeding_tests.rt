@@ -63,7 +63,7 @@ fn first_acknowledgement(rt: HostRuntime) -> Result<(), Fail> {
 #[test]
 fn record_count_off_by_one(rt: HostRuntime) -> Result<(), Fail> {
     let alloc = rt.alloc();
-    let faulty = changed(alloc, REGISTERED, &[(1_019, b"8")])?;
+    let faulty = changed(alloc, REGISTERED, &[(10, 24, b"8")])?;
     let refused = "{\"error\":\"file\",\"fault\":8,\"line\":10}";
     let applied = "{\"front\":1,\"state\":\"applied\"}";
     check_puts(
@@ -113,7 +113,7 @@ fn cut_files(rt: HostRuntime) -> Result<(), Fail> {
 #[test]
 fn broken_requests(rt: HostRuntime) -> Result<(), Fail> {
     let alloc = rt.alloc();
-    let faulty = changed(alloc, REGISTERED, &[(1_019, b"8")])?;
+    let faulty = changed(alloc, REGISTERED, &[(10, 24, b"8")])?;
     let cut = faulty.as_slice().get(..1_040).ok_or("a front")?;
     for (row, length, body) in [
         ("cut", REGISTERED.len(), &REGISTERED[..1_047]),

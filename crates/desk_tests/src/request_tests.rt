@@ -270,7 +270,7 @@ fn targets_of_returns(rt: HostRuntime) -> Result<(), Fail> {
 fn answers(rt: HostRuntime) -> Result<(), Fail> {
     let alloc = rt.alloc();
     let mut desk = new_desk(alloc)?;
-    let faulty = changed(alloc, REGISTERED, &[(1_019, b"8")])?;
+    let faulty = changed(alloc, REGISTERED, &[(10, 24, b"8")])?;
     let mut input = Vec::new(alloc);
     input.extend_from_slice(
         b"PUT /v1/senders/PB000000012/transmissions/1 HTTP/1.1\r\nConnection: close\r\nContent-Length: 1048\r\n\r\n",

@@ -117,7 +117,7 @@ fn set_body(conn: &mut Connection<MemStore>, body: &Vec<u8>) -> Result<(), Fail>
 fn a_changed_byte_of_a_body_is_damage(rt: HostRuntime) -> Result<(), Fail> {
     let alloc = rt.alloc();
     let mut conn = left_by_pool(alloc)?;
-    set_body(&mut conn, &changed(alloc, REGISTERED, &[(0, b"X")])?)?;
+    set_body(&mut conn, &changed(alloc, REGISTERED, &[(1, 1, b"X")])?)?;
     check_refused(&rt, alloc, conn, &BODIES, OpenFault::Damaged)
 }
 

@@ -7,20 +7,21 @@ use Rattle.std.proofs.Math.Seq.{take-append_seam}
 use Rattle.cwr_files.specs.Fed.{Fed, WasFed}
 use Rattle.httparse.specs.Grammar.{RequestHead, print_request}
 use Rattle.society_core.specs.Requests.{Puts, Query, Reply}
+use Rattle.society_core.specs.Runs.{Calls}
 use Rattle.society_core.specs.State.{State}
 use Rattle.society_core.specs.declared.transmission_key.TransmissionKey.{TransmissionKey}
-use Rattle.http_desk.specs.Answering.{ComesNext, IsLeft, Takes}
+use Rattle.http_desk.specs.Answering.{ComesNext, IsLeft, TakesRequest}
 use Rattle.http_desk.specs.Counted.{failures_of, inner_of}
 use Rattle.http_desk.specs.Feeding.{HasFed, pending}
 use Rattle.http_desk.specs.Head.{HasHead}
 use Rattle.http_desk.specs.Input.{unread, FailsBy, ReadsAwaited}
 use Rattle.http_desk.specs.Outbox.{Sends}
-use Rattle.http_desk.specs.Part.{Begins, print_part}
+use Rattle.http_desk.specs.Part.{BeginsWithHead, print_part}
 use Rattle.http_desk.specs.BodyLength.{is_put}
 use Rattle.http_desk.specs.Path.{query_for}
 use Rattle.http_desk.specs.Reads.{Awaits}
-use Rattle.http_desk.specs.Serves.{Calls, Steps}
-use Rattle.http_desk.specs.Told.{Tells, told_reply}
+use Rattle.http_desk.specs.Serves.{Steps}
+use Rattle.http_desk.specs.Told.{TellsReply, told_reply}
 use Rattle.http_desk.specs.Upcoming.{HasPart, IsUpcoming, StopsBy}
 use Rattle.http_desk.specs.declared.answering.Next.{Next}
 use Rattle.http_desk.specs.declared.counted.Counted.{Counted}
@@ -45,7 +46,7 @@ use Rattle.http_desk.proofs.UpcomingLemmas.{ReadsOn-join}
 -- what a head asks is asked by the request that begins with it
 pub part_asks : (bytes later more : List ℕ) (kept other : Head) (wanted : Wanted) → HasHead bytes kept → later ≡ bytes ++ more → AsksFor bytes kept wanted → PartAsks later other wanted
 part_asks bytes later more kept other wanted h grown asks = λ has.
-    let P : List ℕ → Type 0 = λ v. Begins v h.0 (h.1 ++ more) in
+    let P : List ℕ → Type 0 = λ v. BeginsWithHead v h.0 (h.1 ++ more) in
     let begins = subst P (sym grown) (Begins-append bytes more h.1 h.0 h.2) in
     let same = Begins-unique later _ _ _ _ begins (begins_of has.part later has.rest has.is_part has.whole) in
     asks h has.part.body ∙ ap (λ (r : RequestHead). query_for (is_put r.method) r.target has.part.body) same.0
@@ -66,7 +67,7 @@ body_at bytes kept has =
 -- a whole request was answered, and taken
 pub takes_part : {S : Type 0} (state : S → State) (desk new_desk : S) (bytes rest : List ℕ) (told : Told) (close : Bool) (kept : Head) → (has : HasPart bytes kept)
     → rest ≡ drop (kept.length + kept.body) bytes → close ≡ kept.closes → Steps state desk new_desk has.part (told_reply told)
-    → Takes state desk new_desk bytes rest told close
+    → TakesRequest state desk new_desk bytes rest told close
 takes_part state desk new_desk bytes rest told close kept has front is step = record {
   part = has.part;
   is_part = has.is_part;
@@ -84,8 +85,8 @@ takes_part state desk new_desk bytes rest told close kept has front is step = re
 -- a request whose body was fed was answered
 pub takes_fed : {S : Type 0} (state : S → State) (desk new_desk : S) (before rest : List ℕ) (turns spare : ℕ) (known now : Option (List ℕ)) (reads now_reads : ℕ) (kept : Head) (sink : Fed) (left : ℕ) (told : Told) (key : TransmissionKey) (reply : Reply)
     → (so : HasFed before rest turns spare known now reads now_reads kept sink left) → HasHead before kept → left ≡ 0 → AsksFor before kept (wanted.Fed key)
-    → Tells reply (told_reply told) → ((bytes : List ℕ) → WasFed sink bytes → Calls state desk new_desk (Puts key.sender key.number bytes) reply)
-    → Takes state desk new_desk (pending before kept so.fed rest) rest told kept.closes
+    → TellsReply reply (told_reply told) → ((bytes : List ℕ) → WasFed sink bytes → Calls state desk new_desk (Puts key.sender key.number bytes) reply)
+    → TakesRequest state desk new_desk (pending before kept so.fed rest) rest told kept.closes
 takes_fed state desk new_desk before rest turns spare known now reads now_reads kept sink left told key reply so h none asks tells calls = record {
   part = record { head = h.0; body = so.fed };
   is_part = fed_is_part before turns known reads kept rest spare now now_reads sink left so h none;

@@ -7,11 +7,11 @@ use Rattle.http_desk.specs.declared.connection_end.End.{End}
 use Rattle.http_desk.specs.declared.connection_end.End.TheVariants.{Quiet, Closed, Bad, TooLarge, Busy}
 use Rattle.http_desk.specs.declared.body_length.BodyLength.TheVariants.{Sized, Faulty, Large}
 use Rattle.http_desk.specs.BodyLength.{body_length, closes}
-use Rattle.http_desk.specs.Part.{Part, print_part, Begins, IsPart, IsOpenPart}
-use Rattle.http_desk.specs.Reads.{Awaits, Reads, Ends, IsBad, IsTooLarge, IsLast, HasNoPart}
+use Rattle.http_desk.specs.Part.{Part, print_part, BeginsWithHead, IsPart, IsOpenPart}
+use Rattle.http_desk.specs.Reads.{Awaits, ReadsAsRequests, Ends, IsBad, IsTooLarge, IsLast, HasNoPart}
 use Rattle.http_desk.proofs.HeadLemmas.{Begins-unique, print_request-some}
 
-pub begins_of : (part : Part) (bytes rest : List ℕ) → IsPart part → bytes ≡ print_part part ++ rest → Begins bytes part.head (part.body ++ rest)
+pub begins_of : (part : Part) (bytes rest : List ℕ) → IsPart part → bytes ≡ print_part part ++ rest → BeginsWithHead bytes part.head (part.body ++ rest)
 begins_of part bytes rest is e =
     record { reads = (is.valid, e ∙ append_assoc (print_request part.head) part.body rest); short = is.short; few = is.few }
 
@@ -33,7 +33,7 @@ part_unique p q bytes r s a b e f =
 
 -- ---- the ends are apart
 
-not_nil : (bytes rest : List ℕ) (head : RequestHead) → Begins bytes head rest → bytes ≡ [] → ⊥
+not_nil : (bytes rest : List ℕ) (head : RequestHead) → BeginsWithHead bytes head rest → bytes ≡ [] → ⊥
 not_nil bytes rest head b e =
     omega (arith, ap length b.reads.1, length-append (print_request head) rest, print_request-some head, ap length e)
 
@@ -161,7 +161,7 @@ one_way bytes r s (p ∷ ps) (q ∷ qs) ls ms e f a b x y u v =
     let later = one_way (flat_map print_part ps ++ r) r s ps qs ls ms e f a.1 b.1 refl same.1 u v in
     (ap (λ (t : Part). t ∷ (ps ++ ls)) same.0 ∙ ap (λ (ts : List Part). q ∷ ts) later.0, later.1)
 
-pub one_reading : (bytes : List ℕ) (parts others : List Part) (end other : End) → Reads bytes parts end → Reads bytes others other
+pub one_reading : (bytes : List ℕ) (parts others : List Part) (end other : End) → ReadsAsRequests bytes parts end → ReadsAsRequests bytes others other
     → end ≢ Busy → other ≢ Busy → (parts ≡ others) × (end ≡ other)
 one_reading bytes parts others end other a b n m =
     let same = one_way bytes a.2 b.2 a.0 b.0 a.1 b.1 end other a.4.each b.4.each a.4.whole b.4.whole (stops a.2 a.1 end a.5 n) (stops b.2 b.1 other b.5 m) in

@@ -9,8 +9,8 @@ use Rattle.httparse.specs.declared.spans.HeaderSpan.{HeaderSpan}
 use Rattle.httparse.specs.declared.spans.RequestSpans.{RequestSpans}
 use Rattle.httparse.proofs.GrammarLemmas.{request_unique, request_prefix_free, ReadsRequest-append}
 use Rattle.http_desk.specs.declared.body_length.BodyLength.TheVariants.{Faulty, Large}
-use Rattle.http_desk.specs.BodyLength.{body_length, body_length_of, closes, closes_by}
-use Rattle.http_desk.specs.Part.{Begins, max_head, max_fields}
+use Rattle.http_desk.specs.BodyLength.{body_length, body_length_of, closes, ends_connection}
+use Rattle.http_desk.specs.Part.{BeginsWithHead, max_head, max_fields}
 use Rattle.http_desk.specs.Reads.{AwaitsHead, IsBad, IsTooLarge, HasNoHead}
 
 pub print_request-some : (head : RequestHead) → 1 ≤ length (print_request head)
@@ -31,12 +31,12 @@ pub awaits_first : (bytes : List ℕ) → length bytes ≡ 0 → AwaitsHead byte
 awaits_first [] e = record { none = none_in_nil; short = omega arith; possible = λ some. absurd (some refl) }
 awaits_first (b ∷ bytes) e = absurd (omega arith)
 
-pub Begins-append : (bytes more rest : List ℕ) (head : RequestHead) → Begins bytes head rest → Begins (bytes ++ more) head (rest ++ more)
+pub Begins-append : (bytes more rest : List ℕ) (head : RequestHead) → BeginsWithHead bytes head rest → BeginsWithHead (bytes ++ more) head (rest ++ more)
 Begins-append bytes more rest head b =
     record { reads = ReadsRequest-append bytes head rest more b.reads; short = b.short; few = b.few }
 
 -- two heads at the front of the same bytes are one
-pub Begins-unique : (bytes rest other : List ℕ) (head second : RequestHead) → Begins bytes head rest → Begins bytes second other → (head ≡ second) × (rest ≡ other)
+pub Begins-unique : (bytes rest other : List ℕ) (head second : RequestHead) → BeginsWithHead bytes head rest → BeginsWithHead bytes second other → (head ≡ second) × (rest ≡ other)
 Begins-unique bytes rest other head second a b = request_unique bytes head second rest other a.reads b.reads
 
 pub slice_range-append : (front back : List ℕ) (start end : ℕ) → start ≤ end → end ≤ length front → slice_range (front ++ back) start end ≡ slice_range front start end
@@ -81,18 +81,18 @@ nonempty-append (b ∷ bytes) more some e = cc
 pub bad_from_none : (bytes more : List ℕ) → bytes ≢ [] → HasNoHead (bytes ++ more) → IsBad (bytes ++ more)
 bad_from_none bytes more some none = inl (nonempty-append bytes more some, none)
 
-pub bad_from_faulty : (bytes more rest : List ℕ) (head : RequestHead) → Begins bytes head rest → body_length head ≡ Faulty → IsBad (bytes ++ more)
+pub bad_from_faulty : (bytes more rest : List ℕ) (head : RequestHead) → BeginsWithHead bytes head rest → body_length head ≡ Faulty → IsBad (bytes ++ more)
 bad_from_faulty bytes more rest head begins faulty =
     inr (head, rest ++ more, Begins-append bytes more rest head begins, inl faulty)
 
-pub large_from_head : (bytes more rest : List ℕ) (head : RequestHead) → Begins bytes head rest → body_length head ≡ Large → IsTooLarge (bytes ++ more)
+pub large_from_head : (bytes more rest : List ℕ) (head : RequestHead) → BeginsWithHead bytes head rest → body_length head ≡ Large → IsTooLarge (bytes ++ more)
 large_from_head bytes more rest head begins large = (head, rest ++ more, Begins-append bytes more rest head begins, large)
 
 -- ---- what the parser answered
 
 pub begins_at : (bytes : List ℕ) (headers : List HeaderSpan) (spans : RequestSpans) (head : RequestHead)
     → IsRequestAt bytes headers spans head → length (print_request head) ≤ max_head → length head.fields ≤ max_fields
-    → Begins bytes head (drop spans.len bytes)
+    → BeginsWithHead bytes head (drop spans.len bytes)
 begins_at bytes headers spans head at short few = record { reads = at.reads; short = short; few = few }
 
 pub body_length_at : (head : RequestHead) (method : List ℕ) (fields : List (List ℕ × List ℕ)) → method ≡ head.method
@@ -100,7 +100,7 @@ pub body_length_at : (head : RequestHead) (method : List ℕ) (fields : List (Li
 body_length_at head method fields m f = rw (m, f) refl
 
 pub closes_at : (head : RequestHead) (minor : ℕ) (fields : List (List ℕ × List ℕ)) → minor ≡ head.minor
-    → fields ≡ map name_and_value head.fields → closes_by minor fields ≡ closes head
+    → fields ≡ map name_and_value head.fields → ends_connection minor fields ≡ closes head
 closes_at head minor fields m f = rw (m, f) refl
 
 pub few_at : (bytes : List ℕ) (headers : List HeaderSpan) (count : ℕ) (head : RequestHead)

@@ -3,7 +3,7 @@ use Rattle.std.proofs.Common.{◌≡◌, ℕ, ◌+◌, ◌-◌, ◌<◌, ◌≤�
 use Rattle.std.specs.Prelude.{IfSome, unwrap_or, ◌^◌}
 use Rattle.std.proofs.lemmas.List.{append-nil, take_rest, take-append-drop}
 use Rattle.std.specs.Io.KnownBytes.{Appends, Consumes, Keeps}
-use Rattle.http_desk.specs.Counted.{Writes, AppendsFront, counted_on}
+use Rattle.http_desk.specs.Counted.{WritesBytes, AppendsFront, counted_on}
 use Rattle.http_desk.specs.Outbox.{Gathers, Sends}
 
 pub Appends-none : (a : Option (List ℕ)) → Appends a a []
@@ -44,7 +44,7 @@ split_on bytes done rest n e =
     e ∙ ap (λ v. done ++ v) (sym (take-append-drop n rest)) ∙ sym (append_assoc done (take n rest) (drop n rest))
     ∙ ap (λ v. (done ++ take n rest) ++ v) (sym (take_rest rest n))
 
-pub Writes-after : {T E : Type 0} (r : Result T E) (a b c : Option (List ℕ)) (xs ys : List ℕ) → Appends a b xs → Writes r b c ys → Writes r a c (xs ++ ys)
+pub Writes-after : {T E : Type 0} (r : Result T E) (a b c : Option (List ℕ)) (xs ys : List ℕ) → Appends a b xs → WritesBytes r b c ys → WritesBytes r a c (xs ++ ys)
 Writes-after (Ok x) a b c xs ys p q = Appends-join a b c xs ys p q
 Writes-after (Err e) a b c xs ys p q =
     (xs ++ q.0, q.1, ap (λ (v : List ℕ). xs ++ v) q.2 ∙ sym (append_assoc xs q.0 q.1), Appends-join a b c xs q.0 p q.3)
@@ -118,7 +118,7 @@ AppendsFront-all a b xs ys p = (xs, ys, refl, p)
 
 -- a head was put behind what waits, and all was written, and then a body
 pub Gathers-written : {T E : Type 0} (r : Result T E) (a b c d : Option (List ℕ)) (old room head body put now : List ℕ) → Sends a b (old ++ []) room → put ≡ room ++ head
-    → Appends b c put → Writes r c d body → now ≡ [] → Gathers r a d old now (head ++ body)
+    → Appends b c put → WritesBytes r c d body → now ≡ [] → Gathers r a d old now (head ++ body)
 Gathers-written (Ok x) a b c d old room head body put now s e p w n =
     Sends-all a d (old ++ (head ++ body)) now n
     (Sends-then a b d old room (head ++ body) (Sends-is a b _ _ room s (append-nil old))
@@ -135,7 +135,7 @@ Gathers-unwritten a b c old room head body put s e p =
     (AppendsFront-is b c _ _ (AppendsFront-longer b c put body p) (ap (λ (v : List ℕ). v ++ body) e ∙ append_assoc room head body))
 
 -- what waited was written, or a front of it
-pub Writes-sent : {T E : Type 0} (r : Result T E) (a b c : Option (List ℕ)) (xs waiting : List ℕ) → Sends a b xs waiting → Writes r b c waiting → Writes r a c xs
+pub Writes-sent : {T E : Type 0} (r : Result T E) (a b c : Option (List ℕ)) (xs waiting : List ℕ) → Sends a b xs waiting → WritesBytes r b c waiting → WritesBytes r a c xs
 Writes-sent (Ok x) a b c xs waiting s w = Sends-flushed a b c xs waiting s w
 Writes-sent (Err e) a b c xs waiting s w = Sends-cut a b c xs waiting s w
 

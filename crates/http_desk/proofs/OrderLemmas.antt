@@ -9,7 +9,8 @@ use Rattle.serde_json.specs.View.{items_view, view}
 use Rattle.serde_json.specs.declared.value.Value.{Value}
 use Rattle.society_core.specs.Orders.{Order, order_fault, order_of}
 use Rattle.society_core.specs.Requests.{AsksElsewhere, Closes, ClosesFaulty}
-use Rattle.http_desk.specs.OrderText.{OrderNumbers, before, close_asked, close_query, closes_by, json_of, numbers_in, named_number, named_numbers}
+use Rattle.society_core.specs.declared.order_fault.OrderFault.{OrderFault}
+use Rattle.http_desk.specs.OrderText.{OrderNumbers, before, close_asked, close_query, close_by_numbers, json_of, numbers_in, named_number, named_numbers}
 
 -- ---- the value of a body
 
@@ -29,13 +30,13 @@ pub closes_ordered : (pool : ℕ) (numbers : OrderNumbers) (order : Order) → o
     → order ≡ order_of numbers.amount numbers.cut numbers.returns → Closes pool order ≡ close_asked pool (Some numbers)
 closes_ordered pool numbers order none is = rw none (ap (Closes pool) is)
 
-pub closes_faulty : (pool : ℕ) (numbers : OrderNumbers) (fault : ℕ) → order_fault numbers.amount numbers.cut numbers.returns ≡ Some fault
+pub closes_faulty : (pool : ℕ) (numbers : OrderNumbers) (fault : OrderFault) → order_fault numbers.amount numbers.cut numbers.returns ≡ Some fault
     → ClosesFaulty fault ≡ close_asked pool (Some numbers)
 closes_faulty pool numbers fault is = rw is refl
 
 -- ---- the put of a pool asks something
 
-closed_some : (pool : ℕ) (numbers : OrderNumbers) (fault : Option ℕ) → closes_by pool numbers fault ≢ AsksElsewhere
+closed_some : (pool : ℕ) (numbers : OrderNumbers) (fault : Option OrderFault) → close_by_numbers pool numbers fault ≢ AsksElsewhere
 closed_some pool numbers None = λ e. cc
 closed_some pool numbers (Some fault) = λ e. cc
 

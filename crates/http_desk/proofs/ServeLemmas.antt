@@ -21,9 +21,9 @@ use Rattle.http_desk.specs.Counted.{AppendsFront, TakesAtLeast, TakesAtMost, cou
 use Rattle.http_desk.specs.Input.{BeforeEach, IsPiece, all_of, unread, ReadsOn}
 use Rattle.http_desk.specs.Outbox.{Sends}
 use Rattle.http_desk.specs.Part.{Part, print_part, IsOpenPart, IsPart}
-use Rattle.http_desk.specs.Reads.{Awaits, Cuts, Reads}
+use Rattle.http_desk.specs.Reads.{Awaits, Cuts, ReadsAsRequests}
 use Rattle.http_desk.specs.Serves.{AreAnswered, Breaks, CausedBy, IsAwaiting, IsGivenUp, KeepsTurns, NeedsMore, Serves, Steps, Stopped, Unwritten, Written}
-use Rattle.http_desk.specs.Text.{text, texts, ending}
+use Rattle.http_desk.specs.Text.{reply_text, texts, ending}
 use Rattle.http_desk.specs.Upcoming.{EndsSo, StopsBy}
 use Rattle.http_desk.proofs.AnsweredLemmas.{none_answered, one_answered_on}
 use Rattle.http_desk.proofs.CuttingLemmas.{none_while_awaited}
@@ -55,13 +55,13 @@ pub record SoFar {S : Type 0} (state : S → State) (known now_known : Option (L
 -- ---- one more
 
 texts-more : (parts : List Part) (replies : List Reply) (part : Part) (reply : Reply) → length replies ≡ length parts
-    → texts (parts ++ part ∷ []) (replies ++ reply ∷ []) ≡ texts parts replies ++ text reply (closes part.head)
-texts-more [] [] part reply e = append-nil (text reply (closes part.head))
+    → texts (parts ++ part ∷ []) (replies ++ reply ∷ []) ≡ texts parts replies ++ reply_text reply (closes part.head)
+texts-more [] [] part reply e = append-nil (reply_text reply (closes part.head))
 texts-more [] (r ∷ replies) part reply e = absurd (omega arith)
 texts-more (p ∷ parts) [] part reply e = absurd (omega arith)
 texts-more (p ∷ parts) (r ∷ replies) part reply e =
-    ap (λ (v : List ℕ). text r (closes p.head) ++ v) (texts-more parts replies part reply (omega arith))
-    ∙ sym (append_assoc (text r (closes p.head)) (texts parts replies) (text reply (closes part.head)))
+    ap (λ (v : List ℕ). reply_text r (closes p.head) ++ v) (texts-more parts replies part reply (omega arith))
+    ∙ sym (append_assoc (reply_text r (closes p.head)) (texts parts replies) (reply_text reply (closes part.head)))
 
 each-more : (parts : List Part) (part : Part) → AllByRecursion IsOpenPart parts → IsOpenPart part → AllByRecursion IsOpenPart (parts ++ part ∷ [])
 each-more [] part all is = (is, tt)
@@ -192,7 +192,7 @@ pub record Finishes {S : Type 0} (state : S → State) (known : Option (List ℕ
   pub given : IfSome known (λ all. all ≡ bytes)
   pub parts : List Part
   pub replies : List Reply
-  pub reads : Reads bytes parts end
+  pub reads : ReadsAsRequests bytes parts end
   pub answers : AreAnswered state parts replies old now
   pub written : Sends holds now_holds (texts parts replies) waiting
   pub count : requests ≡ length parts
@@ -411,9 +411,9 @@ module _ {S : Type 0} (state : S → State) (known now : Option (List ℕ)) (pen
   answers : AreAnswered state (so.parts ++ part ∷ []) (so.replies ++ reply ∷ []) old new
   answers = one_answered_on state so.parts so.replies old mid new part reply so.answers step
 
-  texts_are : texts so.parts so.replies ++ text reply close ≡ texts (so.parts ++ part ∷ []) (so.replies ++ reply ∷ [])
+  texts_are : texts so.parts so.replies ++ reply_text reply close ≡ texts (so.parts ++ part ∷ []) (so.replies ++ reply ∷ [])
   texts_are =
-      ap (λ b. texts so.parts so.replies ++ text reply b) is_last
+      ap (λ b. texts so.parts so.replies ++ reply_text reply b) is_last
       ∙ sym (texts-more so.parts so.replies part reply so.answers.each)
 
   counted : requests + 1 ≡ length (so.parts ++ part ∷ [])
@@ -428,12 +428,12 @@ module _ {S : Type 0} (state : S → State) (known now : Option (List ℕ)) (pen
   is_open : close ≡ false → IsOpenPart part
   is_open e = record { is_part = is; open_after = sym is_last ∙ e }
 
-  written_on : Sends mid_holds last (waiting ++ text reply close) later → Sends holds last (texts (so.parts ++ part ∷ []) (so.replies ++ reply ∷ [])) later
+  written_on : Sends mid_holds last (waiting ++ reply_text reply close) later → Sends holds last (texts (so.parts ++ part ∷ []) (so.replies ++ reply ∷ [])) later
   written_on sends =
       Sends-is holds last _ _ later
-      (Sends-more holds mid_holds last (texts so.parts so.replies) waiting (text reply close) later so.written sends) texts_are
+      (Sends-more holds mid_holds last (texts so.parts so.replies) waiting (reply_text reply close) later so.written sends) texts_are
 
-  pub goes_on : close ≡ false → Sends mid_holds last (waiting ++ text reply close) later → SoFar state known now left spare turns reads now_reads old new holds last later (requests + 1)
+  pub goes_on : close ≡ false → Sends mid_holds last (waiting ++ reply_text reply close) later → SoFar state known now left spare turns reads now_reads old new holds last later (requests + 1)
   goes_on e sends = record {
     parts = so.parts ++ part ∷ [];
     replies = so.replies ++ reply ∷ [];
@@ -463,7 +463,7 @@ module _ {S : Type 0} (state : S → State) (known now : Option (List ℕ)) (pen
   begun : (rest : List ℕ) → pending ++ rest ≡ print_part part ++ (left ++ rest)
   begun rest = ap (λ (v : List ℕ). v ++ rest) whole ∙ append_assoc (print_part part) left rest
 
-  reads_closed : close ≡ true → Reads every (so.parts ++ part ∷ []) Closed
+  reads_closed : close ≡ true → ReadsAsRequests every (so.parts ++ part ∷ []) Closed
   reads_closed e = (
     so.parts,
     part ∷ [],
@@ -473,7 +473,7 @@ module _ {S : Type 0} (state : S → State) (known now : Option (List ℕ)) (pen
     (left ++ unwrap_or now [], is, sym is_last ∙ e, begun (unwrap_or now [])),
   )
 
-  pub closes_on : close ≡ true → Sends mid_holds last (waiting ++ text reply close) later → Finishes state known old new holds last later (requests + 1) Closed
+  pub closes_on : close ≡ true → Sends mid_holds last (waiting ++ reply_text reply close) later → Finishes state known old new holds last later (requests + 1) Closed
   closes_on e sends = record {
     bytes = every;
     given = given_of known now _ so.consumed;
@@ -485,9 +485,9 @@ module _ {S : Type 0} (state : S → State) (known now : Option (List ℕ)) (pen
     count = counted;
   }
 
-  front_written : AppendsFront mid_holds last (waiting ++ text reply close) → AppendsFront holds last (texts (so.parts ++ part ∷ []) (so.replies ++ reply ∷ []))
+  front_written : AppendsFront mid_holds last (waiting ++ reply_text reply close) → AppendsFront holds last (texts (so.parts ++ part ∷ []) (so.replies ++ reply ∷ []))
   front_written f =
-      AppendsFront-is holds last _ _ (Sends-front holds mid_holds last (texts so.parts so.replies) waiting (text reply close) so.written f) texts_are
+      AppendsFront-is holds last _ _ (Sends-front holds mid_holds last (texts so.parts so.replies) waiting (reply_text reply close) so.written f) texts_are
 
   unwritten_by : (shut : Bool) → close ≡ shut → AppendsFront holds last (texts (so.parts ++ part ∷ []) (so.replies ++ reply ∷ []))
       → Unwritten every (so.parts ++ part ∷ []) (so.replies ++ reply ∷ []) holds last
@@ -500,7 +500,7 @@ module _ {S : Type 0} (state : S → State) (known now : Option (List ℕ)) (pen
   unwritten_by true e f =
       inr (Closed, reads_closed e, AppendsFront-is holds last _ _ f (sym (append-nil (texts (so.parts ++ part ∷ []) (so.replies ++ reply ∷ [])))))
 
-  pub failed : AppendsFront mid_holds last (waiting ++ text reply close) → Breaks state (record { kind = Write; requests = requests + 1 }) known old new holds last
+  pub failed : AppendsFront mid_holds last (waiting ++ reply_text reply close) → Breaks state (record { kind = Write; requests = requests + 1 }) known old new holds last
   failed f = record {
     bytes = every;
     given = given_of known now _ so.consumed;

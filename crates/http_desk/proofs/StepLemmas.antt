@@ -9,16 +9,16 @@ use Rattle.share_rules.specs.declared.office.Office.{Office}
 use Rattle.society_core.specs.Answers.{added_answer, added_book, answer, close_answer, close_book, close_refusal, closed_answer, closed_book, known_as, next, pool_known_as, put_answer, put_book, return_answer, return_book, return_known_as, stored_answer, stored_book}
 use Rattle.society_core.specs.Book.{Book}
 use Rattle.society_core.specs.Orders.{Order}
-use Rattle.society_core.specs.Requests.{Query, Puts, PutsReturn, Closes, ClosesFaulty, AsksAck, AsksSender, AsksWork, AsksVerdicts, AsksCredits, AsksBalance, AsksElsewhere, Reply, Refused}
-use Rattle.society_core.specs.Runs.{Proceeds, Step}
+use Rattle.society_core.specs.Requests.{Query, Puts, PutsReturn, Closes, ClosesFaulty, Inquires, AsksElsewhere, Reply, Refused}
+use Rattle.society_core.specs.Runs.{Calls, Proceeds, Step, asks_store}
 use Rattle.society_core.specs.State.{Goes, State}
+use Rattle.society_core.specs.declared.order_fault.OrderFault.{OrderFault}
 use Rattle.society_core.specs.declared.refusal.Refusal.{Refusal}
-use Rattle.society_core.specs.declared.refusal.Refusal.TheVariants.{Order as OrderFault, Unavailable, Unknown}
+use Rattle.society_core.specs.declared.refusal.Refusal.TheVariants.{Order as NoOrder, Unavailable, Unknown}
 use Rattle.society_core.specs.declared.return_key.ReturnKey.{ReturnKey}
 use Rattle.society_core.specs.declared.store.Known.{Known}
 use Rattle.society_core.specs.declared.store.Known.TheVariants.{Absent, Same, Other}
-use Rattle.http_desk.specs.Serves.{Calls, asks_store}
-use Rattle.http_desk.specs.Told.{IsShown, Tells}
+use Rattle.http_desk.specs.Told.{IsShown, TellsReply}
 use Rattle.http_desk.specs.Wanted.{StandsFor}
 use Rattle.http_desk.specs.declared.asked.Asked.{Asked}
 use Rattle.http_desk.specs.declared.asked.Asked.TheVariants as asked_so
@@ -63,36 +63,31 @@ shown_stays office book (Puts sender number body) shown = put_stays book sender 
 shown_stays office book (PutsReturn key body) shown = return_stays book key body (return_known_as book key body) shown
 shown_stays office book (Closes pool order) shown = close_stays book pool order (pool_known_as book pool order) shown
 shown_stays office book (ClosesFaulty fault) shown = refl
-shown_stays office book (AsksAck sender number) shown = refl
-shown_stays office book (AsksSender sender) shown = refl
-shown_stays office book (AsksWork sender work) shown = refl
-shown_stays office book (AsksVerdicts sender number) shown = refl
-shown_stays office book (AsksCredits pool) shown = refl
-shown_stays office book (AsksBalance account) shown = refl
+shown_stays office book (Inquires inquiry) shown = refl
 shown_stays office book AsksElsewhere shown = refl
 
 -- what is told of a step's reply is a step's reply
 tells_step : (office : Office) (book : Book) (query : Query) (reply told : Reply) (after : Book)
-    → Tells reply told → Step office book query reply after → Step office book query told after
+    → TellsReply reply told → Step office book query reply after → Step office book query told after
 tells_step office book query reply told after (inl same) step = subst (λ (r : Reply). Step office book query r after) (sym same) step
 tells_step office book query reply told after (inr (shown, busy)) (inl (is, gone)) =
     inr (busy, gone ∙ shown_stays office book query (subst IsShown is shown))
 tells_step office book query reply told after (inr (shown, busy)) (inr (is, stays)) = inr (busy, stays)
 
-proceeds_told : (old new : State) (query : Query) (reply told : Reply) → Tells reply told → Proceeds old new query reply → Proceeds old new query told
+proceeds_told : (old new : State) (query : Query) (reply told : Reply) → TellsReply reply told → Proceeds old new query reply → Proceeds old new query told
 proceeds_told old new query reply told tells call = record {
   step = λ clean. tells_step old.office old.book query reply told new.book tells (call.step clean);
   goes = call.goes;
 }
 
 -- a refusal is told as it is
-tells_refused : (reply told : Reply) (refusal : Refusal) → Tells reply told → reply ≡ Refused refusal → told ≡ Refused refusal
+tells_refused : (reply told : Reply) (refusal : Refusal) → TellsReply reply told → reply ≡ Refused refusal → told ≡ Refused refusal
 tells_refused reply told refusal (inl same) is = same ∙ is
 tells_refused reply told refusal (inr (shown, busy)) is = absurd (subst IsShown is shown)
 
 -- what is told of a call's reply is a call's reply
 pub tells_call : {S : Type 0} (state : S → State) (desk new_desk : S) (query : Query) (reply told : Reply)
-    → Tells reply told → Calls state desk new_desk query reply → Calls state desk new_desk query told
+    → TellsReply reply told → Calls state desk new_desk query reply → Calls state desk new_desk query told
 tells_call state desk new_desk query reply told tells call = record {
   proceeds = proceeds_told (state desk) (state new_desk) query reply told tells call.proceeds;
   untouched = call.untouched;
@@ -127,14 +122,14 @@ unknown_call state desk = record {
 }
 
 -- an order at fault is refused
-pub faulty_call : {S : Type 0} (state : S → State) (desk : S) (fault : ℕ) → Calls state desk desk (ClosesFaulty fault) (Refused (OrderFault fault))
+pub faulty_call : {S : Type 0} (state : S → State) (desk : S) (fault : OrderFault) → Calls state desk desk (ClosesFaulty fault) (Refused (NoOrder fault))
 faulty_call state desk fault = record {
   proceeds = record { step = λ clean. inl (refl, refl); goes = stays (state desk) (ClosesFaulty fault) };
   untouched = λ _. refl;
   unknown = λ e. absurd (faulty_some fault e);
 }
   where
-    faulty_some : (n : ℕ) → ClosesFaulty n ≢ AsksElsewhere
+    faulty_some : (n : OrderFault) → ClosesFaulty n ≢ AsksElsewhere
     faulty_some n = λ e. cc
 
 -- ---- requests that ask the store

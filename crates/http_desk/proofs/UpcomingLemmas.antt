@@ -12,10 +12,10 @@ use Rattle.http_desk.specs.declared.body_length.BodyLength.TheVariants.{Sized}
 use Rattle.http_desk.specs.declared.head.Head.{Head}
 use Rattle.http_desk.specs.declared.upcoming.Upcoming.{Upcoming}
 use Rattle.http_desk.specs.declared.upcoming.Upcoming.TheVariants.{Request, Ended}
-use Rattle.http_desk.specs.Head.{HasHead, IsKept}
+use Rattle.http_desk.specs.Head.{HasHead, IsHeadKept}
 use Rattle.http_desk.specs.Input.{BeforeEach, IsPiece, ReadsOn, all_of}
 use Rattle.http_desk.specs.Upcoming.{EndsSo, HasPart, IsUpcoming, IsUpcomingHead, ended_with}
-use Rattle.http_desk.specs.Part.{Begins}
+use Rattle.http_desk.specs.Part.{BeginsWithHead}
 use Rattle.http_desk.specs.Path.{PutsTransmission}
 use Rattle.http_desk.specs.Reads.{Awaits, AwaitsHead, Ends, IsBad, IsTooLarge, small_request}
 use Rattle.http_desk.specs.Counted.{counted_on}
@@ -223,7 +223,7 @@ ended_partial (b ∷ bytes) known is_end awaits =
     at_end (b ∷ bytes) known Bad is_end (inl (some, none_partial (b ∷ bytes) awaits.none))
 
 -- a head and less than its body
-short_body : (bytes rest : List ℕ) (head : RequestHead) (kept : Head) → Begins bytes head rest → IsKept head kept
+short_body : (bytes rest : List ℕ) (head : RequestHead) (kept : Head) → BeginsWithHead bytes head rest → IsHeadKept head kept
     → length bytes < kept.length + kept.body → length rest < kept.body
 short_body bytes rest head kept begins is short =
     omega (arith, ap length begins.reads.1, length-append (print_request head) rest, is.size, short)

@@ -3,17 +3,18 @@ use Rattle.std.specs.Prelude.{◌≡◌, ℕ, true, false, List, [], ◌∷◌, 
 use Rattle.std.specs.Fmt.{digits}
 use Rattle.percent_encoding.specs.Percent.{percent_decode}
 use Rattle.society_core.specs.Keys.{return_key}
-use Rattle.society_core.specs.Requests.{Puts, PutsReturn, AsksAck, AsksElsewhere, Arrived, Stored, Acknowledged, Refused}
+use Rattle.society_core.specs.Requests.{Puts, PutsReturn, Inquires, AsksElsewhere, Arrived, Stored, Showed, Acknowledged, Refused}
+use Rattle.society_core.specs.declared.inquiry.Inquiry.TheVariants as inquiries
 use Rattle.society_core.specs.declared.answers.Receipt.TheVariants.{New, Repeated}
 use Rattle.society_core.specs.declared.refusal.Refusal.TheVariants.{Reused, File, Csv, Unknown}
 use Rattle.society_core.specs.declared.answers.Standing.TheVariants.{Applied, Held}
 use Rattle.http_desk.specs.declared.body_length.BodyLength.TheVariants.{Sized, Faulty, Large}
 use Rattle.http_desk.specs.declared.connection_end.End.TheVariants.{Quiet, Bad, TooLarge, Busy}
-use Rattle.http_desk.specs.BodyLength.{body_length_of, closes_by}
+use Rattle.http_desk.specs.BodyLength.{body_length_of, ends_connection}
 use Rattle.http_desk.specs.Upcoming.{ended_with}
-use Rattle.http_desk.specs.Path.{asked, is_path, parameter, transmission_number_in}
+use Rattle.http_desk.specs.Path.{asked_of_route, is_path, parameter, transmission_number_in_path}
 use Rattle.http_desk.specs.declared.routes.Route.TheVariants.{Transmission, Acknowledgement, Return}
-use Rattle.http_desk.specs.Text.{ending, head_text, text}
+use Rattle.http_desk.specs.Text.{ending, head_text, reply_text}
 
 -- one field
 abbrev only : List ℕ → List ℕ → List (List ℕ × List ℕ)
@@ -60,16 +61,16 @@ an_empty_encoding = refl
 
 -- ---- the end of the connection
 
-closed_in_any_case : closes_by 1 (only (codes "Connection") (codes "CLOSE")) ≡ true
+closed_in_any_case : ends_connection 1 (only (codes "Connection") (codes "CLOSE")) ≡ true
 closed_in_any_case = refl
 
-closed_among_others : closes_by 1 (only (codes "Connection") (codes "close, x")) ≡ false
+closed_among_others : ends_connection 1 (only (codes "Connection") (codes "close, x")) ≡ false
 closed_among_others = refl
 
-closed_by_the_second : closes_by 1 ((codes "connection", codes "keep-alive") ∷ only (codes "connection") (codes "close")) ≡ true
+closed_by_the_second : ends_connection 1 ((codes "connection", codes "keep-alive") ∷ only (codes "connection") (codes "close")) ≡ true
 closed_by_the_second = refl
 
-version_one_zero : closes_by 0 (only (codes "Connection") (codes "keep-alive")) ≡ true
+version_one_zero : ends_connection 0 (only (codes "Connection") (codes "keep-alive")) ≡ true
 version_one_zero = refl
 
 nothing_more : ended_with [] ≡ Quiet
@@ -82,7 +83,7 @@ a_stray_line_end = refl
 
 -- the number that this parameter has
 abbrev number : List ℕ → Option ℕ
-number text = transmission_number_in ((codes "n", text) ∷ [])
+number text = transmission_number_in_path ((codes "n", text) ∷ [])
 
 last_number : number (codes "999999") ≡ Some 999999
 unfolding percent_decode
@@ -117,74 +118,74 @@ a_query = refl
 abbrev parts : List (List ℕ × List ℕ)
 parts = (codes "sender", codes "PB000000012") ∷ (codes "n", codes "1") ∷ []
 
-put : asked true Transmission parts (codes "HDR") ≡ Puts (codes "PB000000012") 1 (codes "HDR")
+put : asked_of_route true Transmission parts (codes "HDR") ≡ Puts (codes "PB000000012") 1 (codes "HDR")
 unfolding percent_decode
 put = refl
 
-get : asked false Acknowledgement parts [] ≡ AsksAck (codes "PB000000012") 1
+get : asked_of_route false Acknowledgement parts [] ≡ Inquires (inquiries.Acknowledgement (codes "PB000000012") 1)
 unfolding percent_decode
 get = refl
 
-get_of_a_transmission : asked false Transmission parts [] ≡ AsksElsewhere
+get_of_a_transmission : asked_of_route false Transmission parts [] ≡ AsksElsewhere
 get_of_a_transmission = refl
 
-put_of_an_acknowledgement : asked true Acknowledgement parts [] ≡ AsksElsewhere
+put_of_an_acknowledgement : asked_of_route true Acknowledgement parts [] ≡ AsksElsewhere
 put_of_an_acknowledgement = refl
 
 -- a return is put under a reporter of up to 20 bytes and a number
 abbrev return_parts : List ℕ → List (List ℕ × List ℕ)
 return_parts reporter = (codes "reporter", reporter) ∷ (codes "n", codes "7") ∷ []
 
-put_return : asked true Return (return_parts (codes "RADIO%31")) (codes "x") ≡ PutsReturn (return_key (codes "RADIO1              ") 7) (codes "x")
+put_return : asked_of_route true Return (return_parts (codes "RADIO%31")) (codes "x") ≡ PutsReturn (return_key (codes "RADIO1              ") 7) (codes "x")
 unfolding percent_decode
 put_return = refl
 
-put_return_of_nobody : asked true Return (return_parts (codes "radio")) (codes "x") ≡ AsksElsewhere
+put_return_of_nobody : asked_of_route true Return (return_parts (codes "radio")) (codes "x") ≡ AsksElsewhere
 unfolding percent_decode
 put_return_of_nobody = refl
 
-get_of_a_return : asked false Return (return_parts (codes "RADIO1")) [] ≡ AsksElsewhere
+get_of_a_return : asked_of_route false Return (return_parts (codes "RADIO1")) [] ≡ AsksElsewhere
 get_of_a_return = refl
 
 -- ---- answers
 
-applied : text (Arrived (record { known = false; front = 1; standing = Applied })) false ≡ codes "HTTP/1.1 201 Created\r\nContent-Type: application/json\r\nContent-Length: 29\r\n\r\n{\"front\":1,\"state\":\"applied\"}"
+applied : reply_text (Arrived (record { known = false; front = 1; standing = Applied })) false ≡ codes "HTTP/1.1 201 Created\r\nContent-Type: application/json\r\nContent-Length: 29\r\n\r\n{\"front\":1,\"state\":\"applied\"}"
 unfolding head_text digits
 applied = refl
 
-held : text (Arrived (record { known = false; front = 0; standing = Held })) true ≡ codes "HTTP/1.1 202 Accepted\r\nContent-Type: application/json\r\nContent-Length: 26\r\nConnection: close\r\n\r\n{\"front\":0,\"state\":\"held\"}"
+held : reply_text (Arrived (record { known = false; front = 0; standing = Held })) true ≡ codes "HTTP/1.1 202 Accepted\r\nContent-Type: application/json\r\nContent-Length: 26\r\nConnection: close\r\n\r\n{\"front\":0,\"state\":\"held\"}"
 unfolding head_text digits
 held = refl
 
-repeated : text (Arrived (record { known = true; front = 1; standing = Held })) false ≡ codes "HTTP/1.1 200 OK\r\nContent-Type: application/json\r\nContent-Length: 26\r\n\r\n{\"front\":1,\"state\":\"held\"}"
+repeated : reply_text (Arrived (record { known = true; front = 1; standing = Held })) false ≡ codes "HTTP/1.1 200 OK\r\nContent-Type: application/json\r\nContent-Length: 26\r\n\r\n{\"front\":1,\"state\":\"held\"}"
 unfolding head_text digits
 repeated = refl
 
-acknowledged : text (Acknowledged (codes "HDR")) false ≡ codes "HTTP/1.1 200 OK\r\nContent-Type: application/octet-stream\r\nContent-Length: 3\r\n\r\nHDR"
+acknowledged : reply_text (Showed (Acknowledged (codes "HDR"))) false ≡ codes "HTTP/1.1 200 OK\r\nContent-Type: application/octet-stream\r\nContent-Length: 3\r\n\r\nHDR"
 unfolding head_text digits
 acknowledged = refl
 
-reused : text (Refused Reused) false ≡ codes "HTTP/1.1 409 Conflict\r\nContent-Type: application/json\r\nContent-Length: 18\r\n\r\n{\"error\":\"reused\"}"
+reused : reply_text (Refused Reused) false ≡ codes "HTTP/1.1 409 Conflict\r\nContent-Type: application/json\r\nContent-Length: 18\r\n\r\n{\"error\":\"reused\"}"
 unfolding head_text digits
 reused = refl
 
-faulty : text (Refused (File (record { number = 8; line = 10 }))) false ≡ codes "HTTP/1.1 422 Unprocessable Entity\r\nContent-Type: application/json\r\nContent-Length: 36\r\n\r\n{\"error\":\"file\",\"fault\":8,\"line\":10}"
+faulty : reply_text (Refused (File (record { number = 8; line = 10 }))) false ≡ codes "HTTP/1.1 422 Unprocessable Entity\r\nContent-Type: application/json\r\nContent-Length: 36\r\n\r\n{\"error\":\"file\",\"fault\":8,\"line\":10}"
 unfolding head_text digits
 faulty = refl
 
-stored : text (Stored New) false ≡ codes "HTTP/1.1 201 Created\r\nContent-Type: application/json\r\nContent-Length: 18\r\n\r\n{\"state\":\"stored\"}"
+stored : reply_text (Stored New) false ≡ codes "HTTP/1.1 201 Created\r\nContent-Type: application/json\r\nContent-Length: 18\r\n\r\n{\"state\":\"stored\"}"
 unfolding head_text digits
 stored = refl
 
-stored_before : text (Stored Repeated) false ≡ codes "HTTP/1.1 200 OK\r\nContent-Type: application/json\r\nContent-Length: 18\r\n\r\n{\"state\":\"stored\"}"
+stored_before : reply_text (Stored Repeated) false ≡ codes "HTTP/1.1 200 OK\r\nContent-Type: application/json\r\nContent-Length: 18\r\n\r\n{\"state\":\"stored\"}"
 unfolding head_text digits
 stored_before = refl
 
-faulty_return : text (Refused (Csv (record { number = 3; row = 12 }))) false ≡ codes "HTTP/1.1 422 Unprocessable Entity\r\nContent-Type: application/json\r\nContent-Length: 34\r\n\r\n{\"error\":\"csv\",\"fault\":3,\"row\":12}"
+faulty_return : reply_text (Refused (Csv (record { number = 3; row = 12 }))) false ≡ codes "HTTP/1.1 422 Unprocessable Entity\r\nContent-Type: application/json\r\nContent-Length: 34\r\n\r\n{\"error\":\"csv\",\"fault\":3,\"row\":12}"
 unfolding head_text digits
 faulty_return = refl
 
-unknown : text (Refused Unknown) false ≡ codes "HTTP/1.1 404 Not Found\r\nContent-Type: application/json\r\nContent-Length: 19\r\n\r\n{\"error\":\"unknown\"}"
+unknown : reply_text (Refused Unknown) false ≡ codes "HTTP/1.1 404 Not Found\r\nContent-Type: application/json\r\nContent-Length: 19\r\n\r\n{\"error\":\"unknown\"}"
 unfolding head_text digits
 unknown = refl
 

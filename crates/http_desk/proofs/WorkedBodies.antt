@@ -8,25 +8,26 @@ use Rattle.serde_json.specs.Read.{read}
 use Rattle.work_ids.specs.declared.account.Account.TheVariants.{Party, Unclaimed}
 use Rattle.works_core.specs.declared.verdict.Verdict.TheVariants.{Accepted, Rejected}
 use Rattle.society_core.specs.Requests.{Query, ClosesFaulty}
-use Rattle.http_desk.specs.Json.{balance_text, sender_text, title_text, verdicts_text}
+use Rattle.society_core.specs.declared.order_fault.OrderFault.TheVariants.{NamedTwice, OutOfRange, Shape}
+use Rattle.http_desk.specs.Json.{balance_json_text, sender_json_text, title_text, verdicts_json_text}
 use Rattle.http_desk.specs.OrderText.{close_asked, numbers_in}
 use Rattle.http_desk.specs.Table.{table_text}
 
-two_held : sender_text 0 (2 ∷ 3 ∷ []) ≡ codes "{\"front\":0,\"held\":[2,3]}"
-unfolding sender_text serde_json_on_literals digits
+two_held : sender_json_text 0 (2 ∷ 3 ∷ []) ≡ codes "{\"front\":0,\"held\":[2,3]}"
+unfolding sender_json_text serde_json_on_literals digits
 two_held = refl
 
-nobody : sender_text 0 [] ≡ codes "{\"front\":0,\"held\":[]}"
-unfolding sender_text serde_json_on_literals digits
+nobody : sender_json_text 0 [] ≡ codes "{\"front\":0,\"held\":[]}"
+unfolding sender_json_text serde_json_on_literals digits
 nobody = refl
 
-two_verdicts : verdicts_text (Accepted 1 0 ∷ Rejected 5 ∷ []) ≡ codes "[{\"ordinal\":1,\"revision\":0},{\"fault\":5}]"
-unfolding verdicts_text serde_json_on_literals digits
+two_verdicts : verdicts_json_text (Accepted 1 0 ∷ Rejected 5 ∷ []) ≡ codes "[{\"ordinal\":1,\"revision\":0},{\"fault\":5}]"
+unfolding verdicts_json_text serde_json_on_literals digits
 two_verdicts = refl
 
 -- a party's number that has a quotation mark and a backslash
-escaped_account : balance_text (Party (codes "PB000000012") (codes "a\"b\\     ")) 0 ≡ codes "{\"account\":\"PPB000000012a\\\"b\\\\\",\"units\":0}"
-unfolding balance_text serde_json_on_literals digits
+escaped_account : balance_json_text (Party (codes "PB000000012") (codes "a\"b\\     ")) 0 ≡ codes "{\"account\":\"PPB000000012a\\\"b\\\\\",\"units\":0}"
+unfolding balance_json_text serde_json_on_literals digits
 escaped_account = refl
 
 escaped_title : title_text (195 ∷ 137 ∷ 84 ∷ 37 ∷ []) ≡ codes "%C3%89T%25"
@@ -46,18 +47,18 @@ quoted_account = refl
 abbrev close_of : List ℕ → Query
 close_of text = close_asked 7 (option_and_then numbers_in (read text))
 
-an_array : close_of (codes "[]") ≡ ClosesFaulty 1
+an_array : close_of (codes "[]") ≡ ClosesFaulty Shape
 unfolding serde_json_on_literals
 an_array = refl
 
-another_member : close_of (codes "{\"amount\":1,\"cut\":[],\"returns\":[],\"kind\":0}") ≡ ClosesFaulty 1
+another_member : close_of (codes "{\"amount\":1,\"cut\":[],\"returns\":[],\"kind\":0}") ≡ ClosesFaulty Shape
 unfolding serde_json_on_literals
 another_member = refl
 
-amount_over_the_limit : close_of (codes "{\"amount\":1000000000001,\"cut\":[],\"returns\":[]}") ≡ ClosesFaulty 2
+amount_over_the_limit : close_of (codes "{\"amount\":1000000000001,\"cut\":[],\"returns\":[]}") ≡ ClosesFaulty OutOfRange
 unfolding serde_json_on_literals
 amount_over_the_limit = refl
 
-return_named_twice : close_of (codes "{\"amount\":1,\"cut\":[],\"returns\":[[\"R\",1],[\"R\",1]]}") ≡ ClosesFaulty 4
+return_named_twice : close_of (codes "{\"amount\":1,\"cut\":[],\"returns\":[[\"R\",1],[\"R\",1]]}") ≡ ClosesFaulty NamedTwice
 unfolding serde_json_on_literals
 return_named_twice = refl

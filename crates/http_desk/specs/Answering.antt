@@ -2,7 +2,7 @@
 use Rattle.std.specs.Prelude.{◌≡◌, ℕ, Bool, true, false, List, ◌++◌, Option, Result, Ok, Err, ⊤}
 use Rattle.society_core.specs.State.{State}
 use Rattle.http_desk.specs.BodyLength.{closes}
-use Rattle.http_desk.specs.Counted.{Known, failures_between, known_of}
+use Rattle.http_desk.specs.Counted.{Known, failures_between, bytes_known}
 use Rattle.http_desk.specs.declared.answering.Next.{Next}
 use Rattle.http_desk.specs.declared.answering.Next.TheVariants.{Request, Ended}
 use Rattle.http_desk.specs.declared.counted.Counted.{Counted}
@@ -27,7 +27,7 @@ is_end (Request answered) = false
 is_end (Ended end) = true
 
 -- the request at the front of the bytes was answered so by a step, and taken
-pub record Takes {S : Type 0} (state : S → State) (desk new_desk : S) (bytes rest : List ℕ) (told : Told) (close : Bool) : Type 0 where
+pub record TakesRequest {S : Type 0} (state : S → State) (desk new_desk : S) (bytes rest : List ℕ) (told : Told) (close : Bool) : Type 0 where
   pub part : Part
   pub is_part : IsPart part
   pub whole : bytes ≡ print_part part ++ rest
@@ -35,16 +35,16 @@ pub record Takes {S : Type 0} (state : S → State) (desk new_desk : S) (bytes r
   pub step : Steps state desk new_desk part (told_reply told)
 
 -- a request was taken, or the bytes have this end, or more are awaited
-abbrev pub Comes : {S : Type 0} → (S → State) → S → S → List ℕ → List ℕ → Option (List ℕ) → Result Next FaultKind → Type 0
-Comes state desk new_desk bytes rest known (Ok (Request answered)) = Takes state desk new_desk bytes rest answered.told answered.closes
-Comes state desk new_desk bytes rest known (Ok (Ended end)) = EndsSo bytes known end × (new_desk ≡ desk)
-Comes state desk new_desk bytes rest known (Err kind) = Awaits bytes × (new_desk ≡ desk)
+abbrev pub TakesOrEnds : {S : Type 0} → (S → State) → S → S → List ℕ → List ℕ → Option (List ℕ) → Result Next FaultKind → Type 0
+TakesOrEnds state desk new_desk bytes rest known (Ok (Request answered)) = TakesRequest state desk new_desk bytes rest answered.told answered.closes
+TakesOrEnds state desk new_desk bytes rest known (Ok (Ended end)) = EndsSo bytes known end × (new_desk ≡ desk)
+TakesOrEnds state desk new_desk bytes rest known (Err kind) = Awaits bytes × (new_desk ≡ desk)
 
 -- what came next, and the bytes that were read for it and not answered before; each read was needed
 pub record ComesNext {S R : Type 0} (state : S → State) (remaining : Known R) (desk new_desk : S) (reader new_reader : Counted R) (input new_input : Input) (result : Result Next FaultKind) : Type 0 where
   pub bytes : List ℕ
   pub reads : ReadsBy Awaits remaining reader new_reader (unread input) bytes input.turns new_input.turns
-  pub comes : Comes state desk new_desk bytes (unread new_input) (known_of remaining new_reader) result
+  pub comes : TakesOrEnds state desk new_desk bytes (unread new_input) (bytes_known remaining new_reader) result
 
 -- why no request came, while these texts waited
 pub record IsLeft {S R W : Type 0} (state : S → State) (remaining : Known R) (contents : Known W) (desk new_desk : S) (reader new_reader : Counted R) (writer new_writer : Counted W) (input new_input : Input) (waiting : List ℕ) (kind : FaultKind) : Type 0 where
@@ -52,4 +52,4 @@ pub record IsLeft {S R W : Type 0} (state : S → State) (remaining : Known R) (
   pub reads : ReadsBy Awaits remaining reader new_reader (unread input) bytes input.turns new_input.turns
   pub same : new_desk ≡ desk
   pub stops : StopsBy kind bytes new_input.turns (failures_between reader new_reader) (failures_between writer new_writer)
-      (known_of contents writer) (known_of contents new_writer) waiting
+      (bytes_known contents writer) (bytes_known contents new_writer) waiting

@@ -10,20 +10,20 @@ use Rattle.http_desk.specs.declared.body_length.BodyLength.{BodyLength}
 use Rattle.http_desk.specs.declared.body_length.BodyLength.TheVariants.{Sized, Faulty, Large}
 
 -- the greatest body, in bytes (profile)
-abbrev pub max_body : ℕ
-max_body = 1048576
+abbrev pub max_request_body : ℕ
+max_request_body = 1048576
 
 -- a field has this name; names are compared without case (RFC 9110, section 5.1)
-abbrev pub is_named : List ℕ → List ℕ × List ℕ → Bool
-is_named name field = str_eq_ignore_ascii_case field.0 name
+abbrev pub is_field_named : List ℕ → List ℕ × List ℕ → Bool
+is_field_named name field = str_eq_ignore_ascii_case field.0 name
 
 -- the values of the fields of this name, in their order
-abbrev pub values_of : List ℕ → List (List ℕ × List ℕ) → List (List ℕ)
-values_of name fields = map (λ field. field.1) (filter (is_named name) fields)
+abbrev pub field_values : List ℕ → List (List ℕ × List ℕ) → List (List ℕ)
+field_values name fields = map (λ field. field.1) (filter (is_field_named name) fields)
 
 -- the body of so many bytes, where it is not too large (profile)
 abbrev pub sized : ℕ → BodyLength
-sized size = if nat_le size max_body then Sized size else Large
+sized size = if nat_le size max_request_body then Sized size else Large
 
 -- no Content-Length means no body; more than one, or one that is not all digits, is a fault (RFC 9110, section 8.6; profile)
 abbrev pub body_length_by : List (List ℕ) → BodyLength
@@ -42,8 +42,8 @@ is_known_method method = bytes_eq method (codes "GET") || is_put method
 -- the length of the body by method and fields: no Transfer-Encoding field is taken (profile)
 abbrev pub body_length_of : List ℕ → List (List ℕ × List ℕ) → BodyLength
 body_length_of method fields =
-    if is_known_method method && nat_lt (length (values_of (codes "transfer-encoding") fields)) 1
-    then body_length_by (values_of (codes "content-length") fields)
+    if is_known_method method && nat_lt (length (field_values (codes "transfer-encoding") fields)) 1
+    then body_length_by (field_values (codes "content-length") fields)
     else Faulty
 
 -- the length of the body after a head
@@ -56,12 +56,12 @@ is_close value = str_eq_ignore_ascii_case value (codes "close")
 
 -- a Connection field with the value close
 abbrev pub says_close : List ℕ × List ℕ → Bool
-says_close field = is_named (codes "connection") field && is_close field.1
+says_close field = is_field_named (codes "connection") field && is_close field.1
 
 -- version 1.0, or such a field, ends the connection after the answer (RFC 9112, section 9.3; profile)
-abbrev pub closes_by : ℕ → List (List ℕ × List ℕ) → Bool
-closes_by minor fields = minor == 0 || list_any says_close fields
+abbrev pub ends_connection : ℕ → List (List ℕ × List ℕ) → Bool
+ends_connection minor fields = minor == 0 || list_any says_close fields
 
 -- the connection ends after the answer to a head
 abbrev pub closes : RequestHead → Bool
-closes head = closes_by head.minor (map name_and_value head.fields)
+closes head = ends_connection head.minor (map name_and_value head.fields)

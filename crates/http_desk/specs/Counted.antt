@@ -1,4 +1,4 @@
--- A reader or a writer whose failures, and reads that gave bytes, are counted.
+-- Representation, not meaning: a reader or a writer whose failures, and reads that gave bytes, are counted.
 use Rattle.std.specs.Prelude.{◌≡◌, ℕ, ◌+◌, ◌-◌, ◌^◌, ◌≤◌, Bool, true, false, zero, suc, min, List, ◌++◌, length, Option, Result, MatchResult}
 use Rattle.std.specs.Io.KnownBytes.{Appends, Consumes}
 use Rattle.http_desk.specs.declared.counted.Counted.{Counted}
@@ -12,8 +12,8 @@ abbrev pub Known : Type 0 → Type 0
 Known T = T → Option (List ℕ)
 
 -- what is known of the bytes of one that is counted
-abbrev pub known_of : {T : Type 0} → Known T → Counted T → Option (List ℕ)
-known_of known counted = known (inner_of counted)
+abbrev pub bytes_known : {T : Type 0} → Known T → Counted T → Option (List ℕ)
+bytes_known known counted = known (inner_of counted)
 
 -- how often it failed
 abbrev pub failures_of : {T : Type 0} → Counted T → ℕ
@@ -55,8 +55,8 @@ abbrev pub AppendsFront : Option (List ℕ) → Option (List ℕ) → List ℕ �
 AppendsFront old new bytes = (front : List ℕ) × (back : List ℕ) × (bytes ≡ front ++ back) × Appends old new front
 
 -- all bytes were appended, or after a failure a front of them
-abbrev pub Writes : {T E : Type 0} → Result T E → Option (List ℕ) → Option (List ℕ) → List ℕ → Type 0
-Writes result old new bytes = MatchResult result (λ _. Appends old new bytes) (λ _. AppendsFront old new bytes)
+abbrev pub WritesBytes : {T E : Type 0} → Result T E → Option (List ℕ) → Option (List ℕ) → List ℕ → Type 0
+WritesBytes result old new bytes = MatchResult result (λ _. Appends old new bytes) (λ _. AppendsFront old new bytes)
 
 -- at most so many bytes were read
 abbrev pub TakesAtMost : Option (List ℕ) → Option (List ℕ) → ℕ → Type 0

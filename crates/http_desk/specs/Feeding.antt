@@ -1,7 +1,7 @@
 -- Representation, not meaning: a request whose body is fed while it comes. What was read of it and not answered is its head, what was fed, and what is unread.
 use Rattle.std.specs.Prelude.{◌≡◌, ℕ, ◌+◌, ◌≤◌, Bool, true, false, List, ◌++◌, length, take, Option, Result, Ok, Err}
 use Rattle.cwr_files.specs.Fed.{Fed, WasFed}
-use Rattle.http_desk.specs.Counted.{Known, known_of, reads_of}
+use Rattle.http_desk.specs.Counted.{Known, bytes_known, reads_of}
 use Rattle.http_desk.specs.declared.connection_end.End.TheVariants.{Bad}
 use Rattle.http_desk.specs.declared.counted.Counted.{Counted}
 use Rattle.http_desk.specs.declared.fault.FaultKind.{FaultKind}
@@ -40,5 +40,5 @@ is_cut Refused = false
 -- a request was fed, as far as it came
 pub record FeedsRequest {R : Type 0} (remaining : Known R) (reader new_reader : Counted R) (input new_input : Input) (head : Head) (sink : Fed) (result : Result Feeding FaultKind) : Type 0 where
   pub left : ℕ
-  pub so_far : HasFed (unread input) (unread new_input) input.turns new_input.turns (known_of remaining reader) (known_of remaining new_reader) (reads_of reader) (reads_of new_reader) head sink left
-  pub ends : EndsFeeding result left (pending (unread input) head so_far.fed (unread new_input)) (known_of remaining new_reader)
+  pub so_far : HasFed (unread input) (unread new_input) input.turns new_input.turns (bytes_known remaining reader) (bytes_known remaining new_reader) (reads_of reader) (reads_of new_reader) head sink left
+  pub ends : EndsFeeding result left (pending (unread input) head so_far.fed (unread new_input)) (bytes_known remaining new_reader)

@@ -7,11 +7,11 @@ use Rattle.http_desk.specs.declared.head.Head.{Head}
 use Rattle.http_desk.specs.declared.head.Reading.{Reading}
 use Rattle.http_desk.specs.declared.head.Reading.TheVariants.{Whole, Partial, Bad, TooLarge}
 use Rattle.http_desk.specs.BodyLength.{body_length, is_put, closes}
-use Rattle.http_desk.specs.Part.{Begins}
+use Rattle.http_desk.specs.Part.{BeginsWithHead}
 use Rattle.http_desk.specs.Reads.{AwaitsHead, IsBad, IsTooLarge}
 
 -- what is kept of a head: its method, where its target lies, its length, that of its body, and whether it ends the connection
-pub record IsKept (head : RequestHead) (kept : Head) : Type 0 where
+pub record IsHeadKept (head : RequestHead) (kept : Head) : Type 0 where
   pub put : kept.put ≡ is_put head.method
   pub target : slice_range (print_request head) kept.target.start kept.target.end ≡ head.target
   pub within : IsWithin (length (print_request head)) kept.target
@@ -21,7 +21,7 @@ pub record IsKept (head : RequestHead) (kept : Head) : Type 0 where
 
 -- the bytes begin with a head within the limits, of which this is kept
 abbrev pub HasHead : List ℕ → Head → Type 0
-HasHead bytes kept = (head : RequestHead) × (rest : List ℕ) × Begins bytes head rest × IsKept head kept
+HasHead bytes kept = (head : RequestHead) × (rest : List ℕ) × BeginsWithHead bytes head rest × IsHeadKept head kept
 
 -- what reading the head at the front of the bytes says of them, whatever follows
 abbrev pub Means : Reading → List ℕ → Type 0

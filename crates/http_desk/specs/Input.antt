@@ -2,7 +2,7 @@
 use Rattle.std.specs.Prelude.{◌≡◌, ℕ, ◌+◌, ◌*◌, ◌≤◌, List, [], ◌∷◌, ◌++◌, length, drop, Option}
 use Rattle.std.specs.Io.KnownBytes.{Consumes}
 use Rattle.std.specs.List.{flat_map, AllByRecursion}
-use Rattle.http_desk.specs.Counted.{Known, counted_on, known_of, reads_of}
+use Rattle.http_desk.specs.Counted.{Known, counted_on, bytes_known, reads_of}
 use Rattle.http_desk.specs.declared.counted.Counted.{Counted}
 use Rattle.http_desk.specs.declared.fault.FaultKind.{FaultKind}
 use Rattle.http_desk.specs.declared.fault.FaultKind.TheVariants.{Read, Write, Turns, Memory}
@@ -51,7 +51,7 @@ pub record ReadsOn (Holds : List ℕ → Type 0) (old new : List ℕ) (turns new
 -- the same of a reader
 abbrev pub ReadsBy : {R : Type 0} → (List ℕ → Type 0) → Known R → Counted R → Counted R → List ℕ → List ℕ → ℕ → ℕ → Type 0
 ReadsBy Holds remaining reader new_reader old new turns new_turns =
-    ReadsOn Holds old new turns new_turns (known_of remaining reader) (known_of remaining new_reader) (reads_of reader) (reads_of new_reader)
+    ReadsOn Holds old new turns new_turns (bytes_known remaining reader) (bytes_known remaining new_reader) (reads_of reader) (reads_of new_reader)
 
 -- the same of an input too, which keeps all that the reader gives
 abbrev pub ReadsWhere : {R : Type 0} → (List ℕ → Type 0) → Known R → Counted R → Counted R → Input → Input → Type 0

@@ -16,8 +16,8 @@ use Rattle.works_core.specs.declared.verdict.Verdict.TheVariants.{Accepted, Reje
 use Rattle.society_core.specs.Requests.{Shown}
 
 -- a whole number
-abbrev pub whole : ℕ → Data
-whole value = number (unsigned value)
+abbrev pub whole_number : ℕ → Data
+whole_number value = number (unsigned value)
 
 -- an array of these values
 abbrev pub array_of : List Data → Data
@@ -26,13 +26,13 @@ array_of values = array (items_of values)
 -- how a sender stands: its front, and the numbers that are held, ascending
 abbrev pub sender_json : ℕ → List ℕ → Data
 sender_json front held =
-    object (member (codes "front") (whole front) (member (codes "held") (array_of (map whole held)) no_members))
+    object (member (codes "front") (whole_number front) (member (codes "held") (array_of (map whole_number held)) no_members))
 
 -- a verdict: the work's ordinal and which revision it is, or the fault
 abbrev pub verdict_json : Verdict → Data
 verdict_json (Accepted ordinal revision) =
-    object (member (codes "ordinal") (whole ordinal) (member (codes "revision") (whole revision) no_members))
-verdict_json (Rejected fault) = object (member (codes "fault") (whole fault) no_members)
+    object (member (codes "ordinal") (whole_number ordinal) (member (codes "revision") (whole_number revision) no_members))
+verdict_json (Rejected fault) = object (member (codes "fault") (whole_number fault) no_members)
 
 -- the verdicts of a transmission, in the order of its file
 abbrev pub verdicts_json : List Verdict → Data
@@ -41,13 +41,13 @@ verdicts_json verdicts = array_of (map verdict_json verdicts)
 -- what an account has come to
 abbrev pub balance_json : Account → ℕ → Data
 balance_json account units =
-    object (member (codes "account") (string (account_text account)) (member (codes "units") (whole units) no_members))
+    object (member (codes "account") (string (account_text account)) (member (codes "units") (whole_number units) no_members))
 
 -- a holder of a work
 abbrev pub holder_json : Holder → Data
 holder_json holder =
     object (member (codes "account") (string (account_text holder.account))
-    (member (codes "weight") (whole holder.weight) no_members))
+    (member (codes "weight") (whole_number holder.weight) no_members))
 
 -- an ISWC in its printed form, or null
 abbrev pub iswc_json : Option (List ℕ) → Data
@@ -73,23 +73,23 @@ work_json work =
     (member (codes "isrcs") (array_of (map string work.isrcs))
     (member (codes "iswc") (iswc_json work.iswc)
     (member (codes "number") (string (without_trailing_blanks work.number))
-    (member (codes "ordinal") (whole work.version.ordinal)
-    (member (codes "revision") (whole work.version.revision)
+    (member (codes "ordinal") (whole_number work.version.ordinal)
+    (member (codes "revision") (whole_number work.version.revision)
     (member (codes "title") (string (title_text work.title))
-    (member (codes "transmission") (whole work.version.transmission) no_members))))))))
+    (member (codes "transmission") (whole_number work.version.transmission) no_members))))))))
 
 -- the text of how a sender stands
-unfoldable pub sender_text : ℕ → List ℕ → List ℕ
-sender_text front held = compact_text (sender_json front held)
+unfoldable pub sender_json_text : ℕ → List ℕ → List ℕ
+sender_json_text front held = compact_text (sender_json front held)
 
 -- the text of verdicts
-unfoldable pub verdicts_text : List Verdict → List ℕ
-verdicts_text verdicts = compact_text (verdicts_json verdicts)
+unfoldable pub verdicts_json_text : List Verdict → List ℕ
+verdicts_json_text verdicts = compact_text (verdicts_json verdicts)
 
 -- the text of a balance
-unfoldable pub balance_text : Account → ℕ → List ℕ
-balance_text account units = compact_text (balance_json account units)
+unfoldable pub balance_json_text : Account → ℕ → List ℕ
+balance_json_text account units = compact_text (balance_json account units)
 
 -- the text of a work
-unfoldable pub work_text : Shown → List ℕ
-work_text work = compact_text (work_json work)
+unfoldable pub work_json_text : Shown → List ℕ
+work_json_text work = compact_text (work_json work)

@@ -11,6 +11,8 @@ use Rattle.work_ids.specs.Reporter.{reporter_of}
 use Rattle.work_ids.specs.SenderKey.{sender_key_of}
 use Rattle.society_core.specs.Orders.{order_fault, order_of}
 use Rattle.society_core.specs.Requests.{Query, Closes, ClosesFaulty}
+use Rattle.society_core.specs.declared.order_fault.OrderFault.{OrderFault}
+use Rattle.society_core.specs.declared.order_fault.OrderFault.TheVariants.{Shape}
 
 -- what an order's JSON spells, whatever its limits: an amount, of each sender of the cut a number, and the returns
 pub record OrderNumbers : Type 0 where
@@ -35,12 +37,12 @@ pair_in value =
     else None
 
 -- the text names something, which is known as other bytes
-abbrev pub named : (List ℕ → Option (List ℕ)) → List ℕ × ℕ → Option (List ℕ × ℕ)
-named name pair = option_map (λ known. (known, pair.1)) (name pair.0)
+abbrev pub named_pair : (List ℕ → Option (List ℕ)) → List ℕ × ℕ → Option (List ℕ × ℕ)
+named_pair name pair = option_map (λ known. (known, pair.1)) (name pair.0)
 
 -- a name that reads well and a whole number from 0
 abbrev pub named_number : (List ℕ → Option (List ℕ)) → Data → Option (List ℕ × ℕ)
-named_number name value = option_and_then (named name) (pair_in value)
+named_number name value = option_and_then (named_pair name) (pair_in value)
 
 -- the first and all others, where they are there
 abbrev pub before : Option (List ℕ × ℕ) → Option (List (List ℕ × ℕ)) → Option (List (List ℕ × ℕ))
@@ -101,15 +103,15 @@ abbrev pub json_of : List ℕ → Option Data
 json_of body = if is_utf8 body then read body else None
 
 -- what numbers without that fault ask of a pool
-abbrev pub closes_by : ℕ → OrderNumbers → Option ℕ → Query
-closes_by pool numbers None = Closes pool (order_of numbers.amount numbers.cut numbers.returns)
-closes_by pool numbers (Some fault) = ClosesFaulty fault
+abbrev pub close_by_numbers : ℕ → OrderNumbers → Option OrderFault → Query
+close_by_numbers pool numbers None = Closes pool (order_of numbers.amount numbers.cut numbers.returns)
+close_by_numbers pool numbers (Some fault) = ClosesFaulty fault
 
--- what an order asks of a pool: another shape is fault 1
+-- what an order asks of a pool: another shape is a fault
 abbrev pub close_asked : ℕ → Option OrderNumbers → Query
 close_asked pool (Some numbers) =
-    closes_by pool numbers (order_fault numbers.amount numbers.cut numbers.returns)
-close_asked pool None = ClosesFaulty 1
+    close_by_numbers pool numbers (order_fault numbers.amount numbers.cut numbers.returns)
+close_asked pool None = ClosesFaulty Shape
 
 -- what the put of a pool asks by its body
 unfoldable pub close_query : ℕ → List ℕ → Query

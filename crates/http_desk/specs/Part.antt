@@ -22,7 +22,7 @@ abbrev pub print_part : Part → List ℕ
 print_part part = print_request part.head ++ part.body
 
 -- the bytes are a head within the limits, and then rest
-pub record Begins (bytes : List ℕ) (head : RequestHead) (rest : List ℕ) : Type 0 where
+pub record BeginsWithHead (bytes : List ℕ) (head : RequestHead) (rest : List ℕ) : Type 0 where
   pub reads : ReadsRequest bytes head rest
   pub short : length (print_request head) ≤ max_head
   pub few : length head.fields ≤ max_fields

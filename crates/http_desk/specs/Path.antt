@@ -17,7 +17,9 @@ use Rattle.work_ids.specs.Numbers.{is_pool_number, is_return_number, is_transmis
 use Rattle.work_ids.specs.WorkNumber.{work_number_of}
 use Rattle.work_ids.specs.declared.account.Account.{Account as AccountKey}
 use Rattle.society_core.specs.Keys.{return_key}
-use Rattle.society_core.specs.Requests.{Query, Puts, PutsReturn, AsksAck, AsksSender, AsksWork, AsksVerdicts, AsksCredits, AsksBalance, AsksElsewhere}
+use Rattle.society_core.specs.Requests.{Query, Puts, PutsReturn, Inquires, AsksElsewhere}
+use Rattle.society_core.specs.declared.inquiry.Inquiry.{Inquiry}
+use Rattle.society_core.specs.declared.inquiry.Inquiry.TheVariants as inquiries
 use Rattle.http_desk.specs.declared.routes.Route.{Route}
 use Rattle.http_desk.specs.declared.routes.Route.TheVariants.{Transmission, Acknowledgement, Return, Sender, Verdicts, Work, Account, Pool}
 use Rattle.http_desk.specs.BodyLength.{is_put}
@@ -58,77 +60,76 @@ abbrev pub parameter : List ℕ → List (List ℕ × List ℕ) → Option (List
 parameter name parts = option_map percent_decode (named name parts)
 
 -- the sender in what the parameters of a route took
-abbrev pub sender_in : List (List ℕ × List ℕ) → Option (List ℕ)
-sender_in parts = option_and_then sender_of (parameter (codes "sender") parts)
+abbrev pub sender_in_path : List (List ℕ × List ℕ) → Option (List ℕ)
+sender_in_path parts = option_and_then sender_of (parameter (codes "sender") parts)
 
 -- the number of a transmission in it
-abbrev pub transmission_number_in : List (List ℕ × List ℕ) → Option ℕ
-transmission_number_in parts = option_and_then (number_in_text is_transmission_number) (parameter (codes "n") parts)
+abbrev pub transmission_number_in_path : List (List ℕ × List ℕ) → Option ℕ
+transmission_number_in_path parts = option_and_then (number_in_text is_transmission_number) (parameter (codes "n") parts)
 
 -- the reporter in it
-abbrev pub reporter_in : List (List ℕ × List ℕ) → Option (List ℕ)
-reporter_in parts = option_and_then reporter_named (parameter (codes "reporter") parts)
+abbrev pub reporter_in_path : List (List ℕ × List ℕ) → Option (List ℕ)
+reporter_in_path parts = option_and_then reporter_named (parameter (codes "reporter") parts)
 
 -- the number of a return in it
-abbrev pub return_number_in : List (List ℕ × List ℕ) → Option ℕ
-return_number_in parts = option_and_then (number_in_text is_return_number) (parameter (codes "n") parts)
+abbrev pub return_number_in_path : List (List ℕ × List ℕ) → Option ℕ
+return_number_in_path parts = option_and_then (number_in_text is_return_number) (parameter (codes "n") parts)
 
 -- the number of a pool in it
-abbrev pub pool_number_in : List (List ℕ × List ℕ) → Option ℕ
-pool_number_in parts = option_and_then (number_in_text is_pool_number) (parameter (codes "pool") parts)
+abbrev pub pool_number_in_path : List (List ℕ × List ℕ) → Option ℕ
+pool_number_in_path parts = option_and_then (number_in_text is_pool_number) (parameter (codes "pool") parts)
 
 -- the work number in it
-abbrev pub work_number_in : List (List ℕ × List ℕ) → Option (List ℕ)
-work_number_in parts = option_and_then (λ bytes. result_ok (work_number_of bytes)) (parameter (codes "work") parts)
+abbrev pub work_number_in_path : List (List ℕ × List ℕ) → Option (List ℕ)
+work_number_in_path parts = option_and_then (λ bytes. result_ok (work_number_of bytes)) (parameter (codes "work") parts)
 
 -- the account in it
-abbrev pub account_in : List (List ℕ × List ℕ) → Option AccountKey
-account_in parts = option_and_then (λ bytes. result_ok (account_of bytes)) (parameter (codes "account") parts)
+abbrev pub account_in_path : List (List ℕ × List ℕ) → Option AccountKey
+account_in_path parts = option_and_then (λ bytes. result_ok (account_of bytes)) (parameter (codes "account") parts)
 
--- what is asked of one thing, where it is there
+-- what is made of a party and something of it, where both are there
+abbrev pub of_both : {X Y : Type 0} → (List ℕ → X → Y) → Option (List ℕ) → Option X → Option Y
+of_both makes (Some party) (Some thing) = Some (makes party thing)
+of_both makes (Some party) None = None
+of_both makes None thing = None
+
+-- what is asked of a thing where it is there, else something that the office does not have
 abbrev pub asked_of : {X : Type 0} → (X → Query) → Option X → Query
 asked_of asks (Some thing) = asks thing
 asked_of asks None = AsksElsewhere
 
--- what is asked of a party and something of it, where both are there
-abbrev pub asked_of_both : {X : Type 0} → (List ℕ → X → Query) → Option (List ℕ) → Option X → Query
-asked_of_both asks (Some party) (Some thing) = asks party thing
-asked_of_both asks (Some party) None = AsksElsewhere
-asked_of_both asks None thing = AsksElsewhere
-
 -- what a put asks of a route, by what its parameters took and the body: a route reads its own and no other
 abbrev pub asked_by_put : Route → List (List ℕ × List ℕ) → List ℕ → Query
 asked_by_put Transmission parts body =
-    asked_of_both (λ sender number. Puts sender number body) (sender_in parts) (transmission_number_in parts)
+    asked_of (λ query. query) (of_both (λ sender number. Puts sender number body) (sender_in_path parts) (transmission_number_in_path parts))
 asked_by_put Return parts body =
-    asked_of_both (λ reporter number. PutsReturn (return_key reporter number) body) (reporter_in parts) (return_number_in parts)
-asked_by_put Pool parts body = asked_of (λ pool. close_query pool body) (pool_number_in parts)
-asked_by_put Acknowledgement parts body = AsksElsewhere
-asked_by_put Sender parts body = AsksElsewhere
-asked_by_put Verdicts parts body = AsksElsewhere
-asked_by_put Work parts body = AsksElsewhere
-asked_by_put Account parts body = AsksElsewhere
+    asked_of (λ query. query) (of_both (λ reporter number. PutsReturn (return_key reporter number) body) (reporter_in_path parts) (return_number_in_path parts))
+asked_by_put Pool parts body = asked_of (λ pool. close_query pool body) (pool_number_in_path parts)
+asked_by_put other parts body = AsksElsewhere
 
--- what a get asks of a route, whatever its body
+-- what a get asks to be shown of a route, whatever its body
+abbrev pub inquiry_at : Route → List (List ℕ × List ℕ) → Option Inquiry
+inquiry_at Acknowledgement parts = of_both inquiries.Acknowledgement (sender_in_path parts) (transmission_number_in_path parts)
+inquiry_at Sender parts = option_map inquiries.Sender (sender_in_path parts)
+inquiry_at Verdicts parts = of_both inquiries.Verdicts (sender_in_path parts) (transmission_number_in_path parts)
+inquiry_at Work parts = of_both inquiries.Work (sender_in_path parts) (work_number_in_path parts)
+inquiry_at Account parts = option_map inquiries.Balance (account_in_path parts)
+inquiry_at Pool parts = option_map inquiries.Credits (pool_number_in_path parts)
+inquiry_at other parts = None
+
+-- what a get asks of a route
 abbrev pub asked_by_get : Route → List (List ℕ × List ℕ) → Query
-asked_by_get Acknowledgement parts = asked_of_both AsksAck (sender_in parts) (transmission_number_in parts)
-asked_by_get Sender parts = asked_of AsksSender (sender_in parts)
-asked_by_get Verdicts parts = asked_of_both AsksVerdicts (sender_in parts) (transmission_number_in parts)
-asked_by_get Work parts = asked_of_both AsksWork (sender_in parts) (work_number_in parts)
-asked_by_get Account parts = asked_of AsksBalance (account_in parts)
-asked_by_get Pool parts = asked_of AsksCredits (pool_number_in parts)
-asked_by_get Transmission parts = AsksElsewhere
-asked_by_get Return parts = AsksElsewhere
+asked_by_get route parts = asked_of Inquires (inquiry_at route parts)
 
 -- what is asked of a route, by whether the method is PUT
-abbrev pub asked : Bool → Route → List (List ℕ × List ℕ) → List ℕ → Query
-asked true route parts body = asked_by_put route parts body
-asked false route parts body = asked_by_get route parts
+abbrev pub asked_of_route : Bool → Route → List (List ℕ × List ℕ) → List ℕ → Query
+asked_of_route true route parts body = asked_by_put route parts body
+asked_of_route false route parts body = asked_by_get route parts
 
 -- what is asked, where a route takes the path
 abbrev pub asked_by : Bool → List ℕ → Option (RouteOf Route) → List ℕ → Query
 asked_by put path (Some route) body =
-    asked put route.value (walk route.pattern route.text path route.names 0 0) body
+    asked_of_route put route.value (walk route.pattern route.text path route.names 0 0) body
 asked_by put path None body = AsksElsewhere
 
 -- what is asked by a method, a target and a body

@@ -6,7 +6,7 @@ use Rattle.http_desk.specs.declared.body_length.BodyLength.TheVariants.{Sized, F
 use Rattle.http_desk.specs.declared.connection_end.End.{End}
 use Rattle.http_desk.specs.declared.connection_end.End.TheVariants.{Quiet, Closed, Bad, TooLarge, Busy}
 use Rattle.http_desk.specs.BodyLength.{body_length, closes}
-use Rattle.http_desk.specs.Part.{Part, print_part, Begins, IsPart, IsOpenPart, max_head}
+use Rattle.http_desk.specs.Part.{Part, print_part, BeginsWithHead, IsPart, IsOpenPart, max_head}
 use Rattle.http_desk.specs.Path.{PutsTransmission}
 
 -- the bytes are these requests, each of which leaves the connection open, and then rest
@@ -16,7 +16,7 @@ pub record Cuts (bytes : List ℕ) (parts : List Part) (rest : List ℕ) : Type 
 
 -- the bytes do not begin with a head within the limits
 abbrev pub HasNoHead : List ℕ → Type 0
-HasNoHead bytes = (head : RequestHead) (rest : List ℕ) → ¬ (Begins bytes head rest)
+HasNoHead bytes = (head : RequestHead) (rest : List ℕ) → ¬ (BeginsWithHead bytes head rest)
 
 -- no whole request stands at the front of the bytes
 abbrev pub HasNoPart : List ℕ → Type 0
@@ -37,7 +37,7 @@ pub record AwaitsBody (bytes : List ℕ) : Type 0 where
   pub head : RequestHead
   pub rest : List ℕ
   pub size : ℕ
-  pub begins : Begins bytes head rest
+  pub begins : BeginsWithHead bytes head rest
   pub sized : body_length head ≡ Sized size
   pub short : length rest < size
 
@@ -49,11 +49,11 @@ Awaits bytes = AwaitsHead bytes ⊎ AwaitsBody bytes
 abbrev pub IsBad : List ℕ → Type 0
 IsBad bytes =
     ((bytes ≢ []) × HasNoHead bytes)
-    ⊎ ((head : RequestHead) × (rest : List ℕ) × Begins bytes head rest × IsFaulty head rest)
+    ⊎ ((head : RequestHead) × (rest : List ℕ) × BeginsWithHead bytes head rest × IsFaulty head rest)
 
 -- a head without fault that announces more than the greatest body
 abbrev pub IsTooLarge : List ℕ → Type 0
-IsTooLarge bytes = (head : RequestHead) × (rest : List ℕ) × Begins bytes head rest × (body_length head ≡ Large)
+IsTooLarge bytes = (head : RequestHead) × (rest : List ℕ) × BeginsWithHead bytes head rest × (body_length head ≡ Large)
 
 -- the longest request, in bytes of head and body, for which no memory is asked while it is read, where its body is not kept (profile)
 abbrev pub small_request : ℕ
@@ -66,7 +66,7 @@ AsksMemory head size = (small_request < length (print_request head) + size) ⊎ 
 -- a head without fault after which memory can be refused
 abbrev pub MayBeBusy : List ℕ → Type 0
 MayBeBusy bytes =
-    (head : RequestHead) × (rest : List ℕ) × Begins bytes head rest
+    (head : RequestHead) × (rest : List ℕ) × BeginsWithHead bytes head rest
     × ((size : ℕ) × (body_length head ≡ Sized size) × AsksMemory head size)
 
 -- the bytes are a request that ends the connection, and what is not read
@@ -88,7 +88,7 @@ Ends bytes (part ∷ []) Busy = ⊥
 Ends bytes (part ∷ other ∷ parts) end = ⊥
 
 -- the bytes are these requests in this order, with this end; Busy says that memory was refused while a further one was read
-abbrev pub Reads : List ℕ → List Part → End → Type 0
-Reads bytes parts end =
+abbrev pub ReadsAsRequests : List ℕ → List Part → End → Type 0
+ReadsAsRequests bytes parts end =
     (front : List Part) × (last : List Part) × (rest : List ℕ)
     × (parts ≡ front ++ last) × Cuts bytes front rest × Ends rest last end

@@ -5,7 +5,7 @@ use Rattle.csv.specs.Writing.{default_writer, fields_written, has_written, row_t
 use Rattle.csv.specs.declared.writer.Writer.{Writer}
 
 -- the writer has written these rows, and stands between two
-pub record HasRows (table : Writer (Vec ℕ Global)) (rows : List ℕ) : Type 0 where
+pub record HasWrittenRows (table : Writer (Vec ℕ Global)) (rows : List ℕ) : Type 0 where
   pub text : text_written (λ out. Some out.items) table ≡ Some rows
   pub setup : writer_setup table ≡ default_writer
   pub fields : fields_written table ≡ 0
@@ -14,4 +14,4 @@ pub record HasRows (table : Writer (Vec ℕ Global)) (rows : List ℕ) : Type 0 
 -- one row of these fields was added, whatever stood before it
 abbrev pub AddsRow : Writer (Vec ℕ Global) → Writer (Vec ℕ Global) → List (List ℕ) → Type 0
 AddsRow table new_table fields =
-    (rows : List ℕ) → HasRows table rows → HasRows new_table (rows ++ row_text default_writer fields)
+    (rows : List ℕ) → HasWrittenRows table rows → HasWrittenRows new_table (rows ++ row_text default_writer fields)

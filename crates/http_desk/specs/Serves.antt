@@ -1,49 +1,27 @@
 -- What a connection comes to: the requests that were read, their answers, the book after them, and why it was given up.
-use Rattle.std.specs.Prelude.{◌≡◌, ◌⊎◌, ℕ, ◌+◌, ◌*◌, ◌≤◌, Bool, true, false, IsTrue, IfSome, List, [], ◌∷◌, ◌++◌, length, map, Option}
+use Rattle.std.specs.Prelude.{◌≡◌, ◌⊎◌, ℕ, ◌+◌, ◌*◌, ◌≤◌, IsTrue, IfSome, List, [], ◌∷◌, ◌++◌, length, map, Option}
 use Rattle.std.specs.Io.KnownBytes.{Appends, Consumes}
 use Rattle.std.specs.List.{flat_map, AllByRecursion}
 use Rattle.society_core.specs.Book.{Book}
 use Rattle.society_core.specs.Entries.{Entry, IsIn}
 use Rattle.society_core.specs.Headline.{OneContent, HoldsWhatCame}
-use Rattle.society_core.specs.Requests.{Query, Puts, PutsReturn, Closes, ClosesFaulty, AsksAck, AsksSender, AsksWork, AsksVerdicts, AsksCredits, AsksBalance, AsksElsewhere, Reply, Refused}
-use Rattle.society_core.specs.Runs.{Proceeds, Run}
+use Rattle.society_core.specs.Requests.{Query, Reply}
+use Rattle.society_core.specs.Runs.{Calls, Run}
 use Rattle.society_core.specs.State.{State, Rises}
-use Rattle.society_core.specs.declared.refusal.Refusal.TheVariants.{Unknown}
 use Rattle.http_desk.specs.declared.connection.Served.{Served}
 use Rattle.http_desk.specs.declared.connection_end.End.{End}
 use Rattle.http_desk.specs.declared.counted.Counted.{Counted}
 use Rattle.http_desk.specs.declared.fault.DeskFault.{DeskFault}
 use Rattle.http_desk.specs.declared.fault.FaultKind.{FaultKind}
 use Rattle.http_desk.specs.declared.fault.FaultKind.TheVariants.{Read, Write, Turns, Memory}
-use Rattle.http_desk.specs.Counted.{AppendsFront, TakesAtLeast, Known, TakesAtMost, counted_on, ends_of, failures_of, known_of, reads_of}
+use Rattle.http_desk.specs.Counted.{AppendsFront, TakesAtLeast, Known, TakesAtMost, counted_on, ends_of, failures_of, bytes_known, reads_of}
 use Rattle.http_desk.specs.Input.{BeforeEach, IsPiece, all_of}
 use Rattle.http_desk.specs.Part.{Part, print_part, IsOpenPart}
 use Rattle.http_desk.specs.Path.{request_of}
-use Rattle.http_desk.specs.Reads.{Awaits, Reads, Cuts, HasNoPart}
+use Rattle.http_desk.specs.Reads.{Awaits, ReadsAsRequests, Cuts, HasNoPart}
 use Rattle.http_desk.specs.Text.{texts, ending}
 use Rattle.http_desk.specs.Upcoming.{HasPart}
 use Rattle.http_desk.specs.declared.head.Head.{Head}
-
--- whether a request asks the store: one for nothing that the office has does not, nor does an order at fault
-abbrev pub asks_store : Query → Bool
-asks_store (Puts sender number body) = true
-asks_store (PutsReturn key body) = true
-asks_store (Closes pool order) = true
-asks_store (ClosesFaulty fault) = false
-asks_store (AsksAck sender number) = true
-asks_store (AsksSender sender) = true
-asks_store (AsksWork sender work) = true
-asks_store (AsksVerdicts sender number) = true
-asks_store (AsksCredits pool) = true
-asks_store (AsksBalance account) = true
-asks_store AsksElsewhere = false
-
--- A request was answered by a call that led the store on. One that asks nothing of the store leaves it untouched; one for nothing that
--- the office has asks no memory either, so it is told that this is unknown, and never that the office is unavailable.
-pub record Calls {S : Type 0} (state : S → State) (desk new_desk : S) (query : Query) (reply : Reply) : Type 0 where
-  pub proceeds : Proceeds (state desk) (state new_desk) query reply
-  pub untouched : asks_store query ≡ false → new_desk ≡ desk
-  pub unknown : query ≡ AsksElsewhere → reply ≡ Refused Unknown
 
 -- a request of a connection was answered so
 abbrev pub Steps : {S : Type 0} → (S → State) → S → S → Part → Reply → Type 0
@@ -93,7 +71,7 @@ pub record Serves {S : Type 0} (state : S → State) (known : Option (List ℕ))
   pub parts : List Part
   pub replies : List Reply
   pub end : End
-  pub reads : Reads bytes parts end
+  pub reads : ReadsAsRequests bytes parts end
   pub answers : AreAnswered state parts replies desk new_desk
   pub written : Appends holds new_holds (texts parts replies ++ ending end)
   pub count : requests ≡ length parts
@@ -111,7 +89,7 @@ UnwrittenAnswers bytes parts replies holds new_holds =
 -- the bytes are these requests with an end, and what was written is a front of the answers and the text of the end
 abbrev pub UnwrittenEnd : List ℕ → List Part → List Reply → Option (List ℕ) → Option (List ℕ) → Type 0
 UnwrittenEnd bytes parts replies holds new_holds =
-    (end : End) × Reads bytes parts end × AppendsFront holds new_holds (texts parts replies ++ ending end)
+    (end : End) × ReadsAsRequests bytes parts end × AppendsFront holds new_holds (texts parts replies ++ ending end)
 
 -- not all that was due was written: answers, or, where these are all, what is due at the end
 abbrev pub Unwritten : List ℕ → List Part → List Reply → Option (List ℕ) → Option (List ℕ) → Type 0
@@ -147,7 +125,7 @@ pub record NeedsMore (known new_known : Option (List ℕ)) (requests : ℕ) : Ty
 
 -- the same of a reader
 abbrev pub NeedsRead : {R : Type 0} → Known R → Counted R → Counted R → ℕ → Type 0
-NeedsRead remaining reader new_reader requests = NeedsMore (known_of remaining reader) (known_of remaining new_reader) requests
+NeedsRead remaining reader new_reader requests = NeedsMore (bytes_known remaining reader) (bytes_known remaining new_reader) requests
 
 -- it failed in between
 abbrev pub Fails : {T : Type 0} → Counted T → Counted T → Type 0
@@ -161,7 +139,7 @@ CausedBy Write requests turns remaining reader new_reader writer new_writer =
     Fails writer new_writer
 CausedBy Turns requests turns remaining reader new_reader writer new_writer =
     (reads_of new_reader ≡ counted_on (reads_of reader) turns)
-    × TakesAtLeast (known_of remaining reader) (known_of remaining new_reader) turns
+    × TakesAtLeast (bytes_known remaining reader) (bytes_known remaining new_reader) turns
     × NeedsRead remaining reader new_reader requests
 CausedBy Memory requests turns remaining reader new_reader writer new_writer =
     (requests ≡ 0) × (new_reader ≡ reader) × (new_writer ≡ writer)
@@ -174,25 +152,25 @@ IsAwaiting bytes = (parts : List Part) × (rest : List ℕ) × Cuts bytes parts 
 -- whole, refused or too large stood behind the requests that had come. At most one further read gave none.
 pub record KeepsTurns {R : Type 0} (remaining : Known R) (reader new_reader : Counted R) (turns : ℕ) : Type 0 where
   pub pieces : List (List ℕ)
-  pub consumed : Consumes (known_of remaining reader) (known_of remaining new_reader) (all_of pieces)
+  pub consumed : Consumes (bytes_known remaining reader) (bytes_known remaining new_reader) (all_of pieces)
   pub each : AllByRecursion IsPiece pieces
   pub needed : BeforeEach IsAwaiting [] pieces
   pub counts : reads_of new_reader ≡ counted_on (reads_of reader) (length pieces)
   pub within : length pieces ≤ turns
   pub ends : ends_of new_reader ≤ ends_of reader + 1
   pub reads : reads_of new_reader ≤ reads_of reader + turns
-  pub most : TakesAtMost (known_of remaining reader) (known_of remaining new_reader) (turns * 16384)
+  pub most : TakesAtMost (bytes_known remaining reader) (bytes_known remaining new_reader) (turns * 16384)
 
 -- all these bytes were written, and so many requests are told
 abbrev pub ClosesBy : {W : Type 0} → Known W → Counted W → Counted W → ℕ → List ℕ → Served → Type 0
 ClosesBy contents writer new_writer requests bytes served =
-    (served.requests ≡ requests) × Appends (known_of contents writer) (known_of contents new_writer) bytes
+    (served.requests ≡ requests) × Appends (bytes_known contents writer) (bytes_known contents new_writer) bytes
 
 -- the writer failed at a front of these bytes, after so many requests
 abbrev pub FailsToClose : {W : Type 0} → Known W → Counted W → Counted W → ℕ → List ℕ → DeskFault → Type 0
 FailsToClose contents writer new_writer requests bytes fault =
     (fault ≡ record { kind = Write; requests = requests })
-    × AppendsFront (known_of contents writer) (known_of contents new_writer) bytes
+    × AppendsFront (bytes_known contents writer) (bytes_known contents new_writer) bytes
     × Fails writer new_writer
 
 -- neither the reader nor the writer failed
@@ -203,9 +181,9 @@ NeitherFails reader new_reader writer new_writer =
 -- a desk served a connection to its end
 abbrev pub IsServed : {S R W : Type 0} → (S → State) → Known R → Known W → S → S → Counted R → Counted W → Counted W → Served → Type 0
 IsServed state remaining contents desk new_desk reader writer new_writer served =
-    Serves state (known_of remaining reader) desk new_desk (known_of contents writer) (known_of contents new_writer) served.requests
+    Serves state (bytes_known remaining reader) desk new_desk (bytes_known contents writer) (bytes_known contents new_writer) served.requests
 
 -- a desk gave a connection up: what came before, and why
 pub record IsGivenUp {S R W : Type 0} (state : S → State) (remaining : Known R) (contents : Known W) (desk new_desk : S) (reader new_reader : Counted R) (writer new_writer : Counted W) (turns : ℕ) (fault : DeskFault) : Type 0 where
-  pub breaks : Breaks state fault (known_of remaining reader) desk new_desk (known_of contents writer) (known_of contents new_writer)
+  pub breaks : Breaks state fault (bytes_known remaining reader) desk new_desk (bytes_known contents writer) (bytes_known contents new_writer)
   pub cause : CausedBy fault.kind fault.requests turns remaining reader new_reader writer new_writer

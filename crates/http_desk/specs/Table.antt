@@ -19,9 +19,9 @@ abbrev pub credit_fields : Credit → List (List ℕ)
 credit_fields credit = isrc_field credit.isrc ∷ account_text credit.account ∷ decimal credit.units ∷ []
 
 -- a row for each credit
-abbrev pub credit_rows : List Credit → List ℕ
-credit_rows credits = flat_map (λ credit. row_text default_writer (credit_fields credit)) credits
+abbrev pub credit_table_rows : List Credit → List ℕ
+credit_table_rows credits = flat_map (λ credit. row_text default_writer (credit_fields credit)) credits
 
 -- the table of a pool: the names of the columns, and a row for each credit
 unfoldable pub table_text : List Credit → List ℕ
-table_text credits = row_text default_writer column_names ++ credit_rows credits
+table_text credits = row_text default_writer column_names ++ credit_table_rows credits

@@ -1,6 +1,7 @@
 -- The bytes of an answer (RFC 9112, section 4; the fields and bodies: profile).
 use Rattle.std.specs.Prelude.{ℕ, Bool, true, false, List, [], ◌∷◌, ◌++◌, length, codes, decimal, if◌then◌else◌, unwrap_or}
 use Rattle.http.specs.StatusCode.{reason_phrase}
+use Rattle.society_core.specs.Orders.{order_fault_number}
 use Rattle.society_core.specs.declared.answers.Arrival.{Arrival}
 use Rattle.society_core.specs.declared.answers.Receipt.{Receipt}
 use Rattle.society_core.specs.declared.answers.Receipt.TheVariants.{New, Repeated}
@@ -8,14 +9,14 @@ use Rattle.society_core.specs.declared.answers.Standing.{Standing}
 use Rattle.society_core.specs.declared.answers.Standing.TheVariants.{Applied, Held}
 use Rattle.society_core.specs.declared.refusal.Refusal.{Refusal}
 use Rattle.society_core.specs.declared.refusal.Refusal.TheVariants.{Reused, File, Csv, Order, Cut, ReturnUnknown, ReturnPaid, Unknown, Unavailable}
-use Rattle.society_core.specs.Requests.{Reply, Arrived, Stored, Closed, Acknowledged, Stands, Shows, Judged, Credited, Owed, Refused}
+use Rattle.society_core.specs.Requests.{Reply, Arrived, Stored, Closed, Showed, Refused, Showing, Acknowledged, Stands, Described, Judged, Credited, Owed}
 use Rattle.work_ids.specs.Blanks.{without_trailing_blanks}
 use Rattle.http_desk.specs.declared.status.ContentType.{ContentType}
 use Rattle.http_desk.specs.declared.status.ContentType.TheVariants as types
 use Rattle.http_desk.specs.declared.status.Status.{Status}
 use Rattle.http_desk.specs.declared.status.Status.TheVariants as statuses
 use Rattle.http_desk.specs.BodyLength.{closes}
-use Rattle.http_desk.specs.Json.{balance_text, sender_text, verdicts_text, work_text}
+use Rattle.http_desk.specs.Json.{balance_json_text, sender_json_text, verdicts_json_text, work_json_text}
 use Rattle.http_desk.specs.Part.{Part}
 use Rattle.http_desk.specs.Table.{table_text}
 use Rattle.http_desk.specs.declared.connection_end.End.{End}
@@ -124,7 +125,7 @@ refusal_text (File fault) =
     codes "{\"error\":\"file\",\"fault\":" ++ decimal fault.number ++ codes ",\"line\":" ++ decimal fault.line ++ codes "}"
 refusal_text (Csv fault) =
     codes "{\"error\":\"csv\",\"fault\":" ++ decimal fault.number ++ codes ",\"row\":" ++ decimal fault.row ++ codes "}"
-refusal_text (Order fault) = codes "{\"error\":\"order\",\"fault\":" ++ decimal fault ++ codes "}"
+refusal_text (Order fault) = codes "{\"error\":\"order\",\"fault\":" ++ decimal (order_fault_number fault) ++ codes "}"
 refusal_text (Cut sender front) = cut_text sender front
 refusal_text (ReturnUnknown key) = return_text key.reporter key.number
 refusal_text (ReturnPaid key pool) = paid_text key.reporter key.number pool
@@ -147,28 +148,34 @@ refusal_status Unavailable = statuses.Unavailable
 abbrev pub refused_text : Refusal → Bool → List ℕ
 refused_text refusal close = answer_text (refusal_status refusal) types.Json (refusal_text refusal) close
 
--- the bytes of an answer to a question, in JSON
-abbrev pub shown_text : List ℕ → Bool → List ℕ
-shown_text body close = answer_text statuses.Done types.Json body close
+-- the content type of what is shown: an acknowledgement is a file, the credits of a pool are a table
+abbrev pub showing_type : Showing → ContentType
+showing_type (Acknowledged bytes) = types.File
+showing_type (Credited credits) = types.Table
+showing_type other = types.Json
+
+-- the body of what is shown
+abbrev pub showing_text : Showing → List ℕ
+showing_text (Acknowledged bytes) = bytes
+showing_text (Stands front held) = sender_json_text front held
+showing_text (Described work) = work_json_text work
+showing_text (Judged verdicts) = verdicts_json_text verdicts
+showing_text (Credited credits) = table_text credits
+showing_text (Owed account units) = balance_json_text account units
 
 -- the bytes of an answer; close says that the connection ends after it
-abbrev pub text : Reply → Bool → List ℕ
-text (Arrived arrival) close = answer_text (arrival_status arrival) types.Json (arrival_text arrival) close
-text (Acknowledged bytes) close = answer_text statuses.Done types.File bytes close
-text (Stored receipt) close = answer_text (receipt_status receipt) types.Json stored_text close
-text (Closed receipt pool) close = answer_text (receipt_status receipt) types.Json (closed_text pool) close
-text (Stands front held) close = shown_text (sender_text front held) close
-text (Shows work) close = shown_text (work_text work) close
-text (Judged verdicts) close = shown_text (verdicts_text verdicts) close
-text (Credited credits) close = answer_text statuses.Done types.Table (table_text credits) close
-text (Owed account units) close = shown_text (balance_text account units) close
-text (Refused refusal) close = refused_text refusal close
+abbrev pub reply_text : Reply → Bool → List ℕ
+reply_text (Arrived arrival) close = answer_text (arrival_status arrival) types.Json (arrival_text arrival) close
+reply_text (Stored receipt) close = answer_text (receipt_status receipt) types.Json stored_text close
+reply_text (Closed receipt pool) close = answer_text (receipt_status receipt) types.Json (closed_text pool) close
+reply_text (Showed showing) close = answer_text statuses.Done (showing_type showing) (showing_text showing) close
+reply_text (Refused refusal) close = refused_text refusal close
 
 -- the bytes of the answers to requests, one after another
 abbrev pub texts : List Part → List Reply → List ℕ
 texts [] replies = []
 texts (part ∷ parts) [] = []
-texts (part ∷ parts) (reply ∷ replies) = text reply (closes part.head) ++ texts parts replies
+texts (part ∷ parts) (reply ∷ replies) = reply_text reply (closes part.head) ++ texts parts replies
 
 -- the answer to bytes that are no request
 abbrev pub bad_text : List ℕ

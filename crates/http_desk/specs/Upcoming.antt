@@ -1,7 +1,7 @@
 -- Representation, not meaning: what was found at the front of the bytes that were read, and why nothing was.
 use Rattle.std.specs.Prelude.{◌≡◌, ℕ, Bool, true, false, List, [], ◌∷◌, ◌++◌, length, unwrap_or, Option}
 use Rattle.std.specs.Io.KnownBytes.{Appends}
-use Rattle.http_desk.specs.Counted.{AppendsFront, Known, failures_between, known_of}
+use Rattle.http_desk.specs.Counted.{AppendsFront, Known, failures_between, bytes_known}
 use Rattle.http_desk.specs.declared.connection_end.End.{End}
 use Rattle.http_desk.specs.declared.connection_end.End.TheVariants.{Quiet, Bad}
 use Rattle.http_desk.specs.declared.counted.Counted.{Counted}
@@ -11,7 +11,7 @@ use Rattle.http_desk.specs.declared.head.Head.{Head}
 use Rattle.http_desk.specs.declared.input.Input.{Input}
 use Rattle.http_desk.specs.declared.upcoming.Upcoming.{Upcoming}
 use Rattle.http_desk.specs.declared.upcoming.Upcoming.TheVariants.{Request, Ended}
-use Rattle.http_desk.specs.Head.{HasHead, IsKept}
+use Rattle.http_desk.specs.Head.{HasHead, IsHeadKept}
 use Rattle.http_desk.specs.Input.{unread}
 use Rattle.http_desk.specs.Part.{Part, print_part, IsPart}
 use Rattle.http_desk.specs.Reads.{Awaits, Ends}
@@ -23,7 +23,7 @@ pub record HasPart (bytes : List ℕ) (kept : Head) : Type 0 where
   pub rest : List ℕ
   pub whole : bytes ≡ print_part part ++ rest
   pub is_part : IsPart part
-  pub is_kept : IsKept part.head kept
+  pub is_kept : IsHeadKept part.head kept
   pub size : kept.body ≡ length part.body
 
 -- the bytes, with what the reader is known to have left, are this end and no further request
@@ -46,9 +46,9 @@ IsUpcoming (Request kept) bytes known = HasPart bytes kept
 IsUpcoming (Ended end) bytes known = EndsSo bytes known end
 
 -- whether the end stands there
-abbrev pub is_ended : Upcoming → Bool
-is_ended (Request kept) = false
-is_ended (Ended end) = true
+abbrev pub is_at_end : Upcoming → Bool
+is_at_end (Request kept) = false
+is_at_end (Ended end) = true
 
 -- why no request came: the reader failed or no turn was left, where more bytes were awaited and all that waited was written; or the writer failed
 abbrev pub StopsBy : FaultKind → List ℕ → ℕ → (ℕ × ℕ) → (ℕ × ℕ) → Option (List ℕ) → Option (List ℕ) → List ℕ → Type 0
@@ -64,4 +64,4 @@ StopsBy Memory bytes turns reader writer holds new_holds waiting = ⊥
 abbrev pub IsStopped : {R W : Type 0} → Known W → Counted R → Counted R → Counted W → Counted W → Input → List ℕ → FaultKind → Type 0
 IsStopped contents reader new_reader writer new_writer input waiting kind =
     StopsBy kind (unread input) input.turns (failures_between reader new_reader) (failures_between writer new_writer)
-    (known_of contents writer) (known_of contents new_writer) waiting
+    (bytes_known contents writer) (bytes_known contents new_writer) waiting

@@ -1,7 +1,7 @@
 -- Representation, not meaning: what a method and a target ask, before the body comes, and what is asked with it.
 use Rattle.std.specs.Prelude.{◌≡◌, ℕ, List}
 use Rattle.cwr_files.specs.Fed.{WasFed}
-use Rattle.society_core.specs.Requests.{Query, Puts, PutsReturn, query_of}
+use Rattle.society_core.specs.Requests.{Query, Puts, PutsReturn, Inquires, AsksElsewhere, query_of}
 use Rattle.http_desk.specs.BodyLength.{is_put}
 use Rattle.http_desk.specs.declared.asked.Asked.{Asked}
 use Rattle.http_desk.specs.declared.asked.Asked.TheVariants as asked
@@ -9,7 +9,7 @@ use Rattle.http_desk.specs.declared.head.Head.{Head}
 use Rattle.http_desk.specs.declared.requests.Wanted.{Wanted}
 use Rattle.http_desk.specs.declared.requests.Wanted.TheVariants as wanted
 use Rattle.http_desk.specs.declared.requests.WithBody.{WithBody}
-use Rattle.http_desk.specs.declared.requests.WithBody.TheVariants.{Return, Pool, Anyway}
+use Rattle.http_desk.specs.declared.requests.WithBody.TheVariants.{Return, Pool, Show, Elsewhere}
 use Rattle.http_desk.specs.Head.{HasHead}
 use Rattle.http_desk.specs.OrderText.{close_query}
 use Rattle.http_desk.specs.Path.{query_for, request_of}
@@ -19,7 +19,8 @@ use Rattle.http_desk.specs.Upcoming.{HasPart}
 abbrev pub asked_whole : WithBody → List ℕ → Query
 asked_whole (Return key) body = PutsReturn key body
 asked_whole (Pool pool) body = close_query pool body
-asked_whole (Anyway request) body = query_of request
+asked_whole (Show inquiry) body = Inquires inquiry
+asked_whole Elsewhere body = AsksElsewhere
 
 -- what is asked with this body, however it comes to the desk
 abbrev pub asked_with : Wanted → List ℕ → Query

@@ -1,10 +1,10 @@
 //! The one door to the desk: what is asked, with its body as it came.
-ghost use Rattle.society_core.specs.Requests.{Query, query_of, reply_of};
-ghost use Rattle.http_desk.specs.Serves.{Calls};
+ghost use Rattle.society_core.specs.Requests.{Query, reply_of};
+ghost use Rattle.society_core.specs.Runs.{Calls};
 ghost use Rattle.http_desk.specs.Wanted.{StandsFor};
 
 use crate::fed_put::FedPut;
-use society_core::{Answer, Desk, Refusal, Request, Store, answer};
+use society_core::{Answer, Desk, Request, Store, answer};
 use std::alloc::Global;
 
 /// What is asked of the desk, with its body.
@@ -14,17 +14,6 @@ pub(crate) enum Asked<'b> {
     Fed(FedPut),
     /// Anything else; its body was read whole.
     Whole(Request<'b>),
-}
-
-// Asks what needs the store; what needs none is told as it is.
-fn ask_whole<S: Store>(alloc: Global, desk: &mut Desk<S>, request: &Request<'_>) -> Answer
-    ensures { Calls S.state desk.old desk.new (query_of request.now) (reply_of result) }
-{
-    match request {
-        Request::Elsewhere => Answer::Refused(Refusal::Unknown),
-        Request::FaultyOrder { fault } => Answer::Refused(Refusal::Order(*fault)),
-        _ => answer(alloc, desk, request),
-    }
 }
 
 /// Asks it at the desk.
@@ -39,6 +28,6 @@ pub(crate) fn ask<S: Store>(alloc: Global, desk: &mut Desk<S>, asked: Asked<'_>)
                 Err(refusal) => Answer::Refused(refusal),
             }
         }
-        Asked::Whole(request) => ask_whole(alloc, desk, &request),
+        Asked::Whole(request) => answer(alloc, desk, &request),
     }
 }

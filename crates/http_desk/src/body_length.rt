@@ -4,8 +4,8 @@ ghost use Rattle.std.specs.List.{list_all};
 ghost use Rattle.std.specs.Str.{str_eq_ignore_ascii_case};
 ghost use Rattle.std.specs.Str.Parse.{digits_value};
 ghost use Rattle.httparse.specs.Spans.{IsHeaderWithin, header_bytes};
-ghost use Rattle.http_desk.specs.Fields.{IsFound};
-ghost use Rattle.http_desk.specs.BodyLength.{is_named, values_of, body_length_by, body_length_of, closes_by, says_close, is_put};
+ghost use Rattle.http_desk.specs.Fields.{FindsValues};
+ghost use Rattle.http_desk.specs.BodyLength.{is_field_named, field_values, body_length_by, body_length_of, ends_connection, says_close, is_put};
 
 use httparse::spans::HeaderSpan;
 use work_ids::{is_number, number_up_to};
@@ -42,7 +42,7 @@ fn is_same_word(left: &[u8], right: &[u8]) -> bool
 // Whether a field has this name.
 fn has_name(bytes: &[u8], header: &HeaderSpan, name: &[u8]) -> bool
     requires { IsHeaderWithin (length bytes.now) header.now }
-    ensures { result ≡ is_named name.now (header_bytes bytes.now header.now) }
+    ensures { result ≡ is_field_named name.now (header_bytes bytes.now header.now) }
 {
     is_same_word(header.name.of(bytes), name)
 }
@@ -50,7 +50,7 @@ fn has_name(bytes: &[u8], header: &HeaderSpan, name: &[u8]) -> bool
 /// The value of the only field of this name.
 pub(crate) fn lone_value<'b>(bytes: &'b [u8], headers: &[HeaderSpan], name: &[u8]) -> Found<'b>
     requires { All (IsHeaderWithin (length bytes.now)) headers.now }
-    ensures { IsFound result (values_of name.now (map (header_bytes bytes.now) headers.now)) }
+    ensures { FindsValues result (field_values name.now (map (header_bytes bytes.now) headers.now)) }
 {
     let mut found = None;
     for header in headers {
@@ -78,7 +78,7 @@ fn is_closing(bytes: &[u8], header: &HeaderSpan) -> bool
 /// Whether the connection ends after the answer.
 pub(crate) fn closes(bytes: &[u8], headers: &[HeaderSpan], minor: u8) -> bool
     requires { All (IsHeaderWithin (length bytes.now)) headers.now }
-    ensures { result ≡ closes_by minor (map (header_bytes bytes.now) headers.now) }
+    ensures { result ≡ ends_connection minor (map (header_bytes bytes.now) headers.now) }
 {
     if minor == 0 {
         return true;

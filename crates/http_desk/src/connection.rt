@@ -3,10 +3,10 @@ ghost use Rattle.std.specs.Prelude.{◌≡◌, ◌≢◌, ◌<◌, ◌++◌, ◌
 ghost use Rattle.society_core.specs.State.{Rises};
 ghost use Rattle.http_desk.specs.Counted.{failures_of};
 ghost use Rattle.http_desk.specs.Input.{unread};
-ghost use Rattle.http_desk.specs.Outbox.{waiting, Puts};
+ghost use Rattle.http_desk.specs.Outbox.{waiting, PutsText};
 ghost use Rattle.http_desk.specs.Room.{IsReady};
 ghost use Rattle.http_desk.specs.Serves.{ClosesBy, FailsToClose, IsServed, IsGivenUp, KeepsTurns, NeitherFails};
-ghost use Rattle.http_desk.specs.Text.{text, ending};
+ghost use Rattle.http_desk.specs.Text.{reply_text, ending};
 ghost use Rattle.http_desk.specs.Told.{IsReadyToSend, told_reply};
 
 use crate::answering::{Next, answer_upcoming};
@@ -28,7 +28,7 @@ pub struct Served {
     pub requests: u128,
 }
 
-// Puts an answer behind the texts that wait.
+// Puts an answer behind the texts that wait. A call of its own for the proof: it keeps what else is in the room.
 fn send<W: Write>(
     writer: &mut Counted<W>,
     room: &mut Room,
@@ -37,8 +37,8 @@ fn send<W: Write>(
 ) -> Result<(), NotWritten>
     requires ready { IsReady room.old }
     requires told { IsReadyToSend told.now }
-    ensures gathers { Puts W.contents result writer.old writer.new room.old.outbox room.new.outbox
-        (text (told_reply told.now) close) }
+    ensures gathers { PutsText W.contents result writer.old writer.new room.old.outbox room.new.outbox
+        (reply_text (told_reply told.now) close) }
     ensures kept { OnOk result (failures_of writer.new ≡ failures_of writer.old) }
     ensures failed { OnErr result (Rises (failures_of writer.old) (failures_of writer.new)) }
     ensures input { room.new.input ≡ room.old.input }

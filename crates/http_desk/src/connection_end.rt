@@ -1,3 +1,4 @@
+//! How a connection ends.
 /// How a connection ends.
 #[derive(Clone, Copy, Debug, PartialEq, Eq)]
 pub enum End {

@@ -75,12 +75,12 @@ impl<R: Read> Counted<R> {
 
 impl<W: Write> Counted<W> {
     ghost use Rattle.std.specs.Prelude.{◌≡◌, ◌<◌, OnOk, OnErr};
-    ghost use Rattle.http_desk.specs.Counted.{inner_of, failures_of, reads_of, Writes};
+    ghost use Rattle.http_desk.specs.Counted.{inner_of, failures_of, reads_of, WritesBytes};
     ghost use Rattle.society_core.specs.State.{Rises};
 
     /// All bytes, in order; an error, or a write that takes no byte, is counted and ends it.
     pub fn write_all(&mut self, bytes: &[u8]) -> Result<(), NotWritten>
-        ensures wrote { Writes result (W.contents (inner_of self.old)) (W.contents (inner_of self.new)) bytes.now }
+        ensures wrote { WritesBytes result (W.contents (inner_of self.old)) (W.contents (inner_of self.new)) bytes.now }
         ensures kept { OnOk result (failures_of self.new ≡ failures_of self.old) }
         ensures failed { OnErr result (Rises (failures_of self.old) (failures_of self.new)) }
         ensures uncounted { reads_of self.new ≡ reads_of self.old }

@@ -1,3 +1,4 @@
+//! Why a connection is given up.
 /// Why a connection was given up.
 #[derive(Clone, Copy, Debug, PartialEq, Eq)]
 pub enum FaultKind {

@@ -49,7 +49,7 @@ fn account_value(alloc: Global, account: &Account) -> Result<Value, AllocError>
 
 // The numbers of transmissions, as values.
 fn number_values(alloc: Global, numbers: &[TransmissionNumber]) -> Result<Vec<Value>, AllocError>
-    ensures { IfOk result (λ values. map view values.items ≡ map spec.whole numbers.now) }
+    ensures { IfOk result (λ values. map view values.items ≡ map spec.whole_number numbers.now) }
 {
     let mut values = Vec::with_capacity(alloc, numbers.len())?;
     for number in numbers {
@@ -70,7 +70,7 @@ fn sender_value(alloc: Global, status: &SenderStatus) -> Result<Value, AllocErro
 /// The body that tells how a sender stands.
 pub(crate) fn sender_text(alloc: Global, status: &SenderStatus) -> Result<Vec<u8>, AllocError>
     ensures { IfOk result (λ text.
-        text.items ≡ spec.sender_text status.now.front status.now.held.items) }
+        text.items ≡ spec.sender_json_text status.now.front status.now.held.items) }
 {
     let value = sender_value(alloc, status)?;
     text_of(alloc, &value)
@@ -108,7 +108,7 @@ fn verdicts_value(alloc: Global, verdicts: &[Verdict]) -> Result<Value, AllocErr
 
 /// The body that lists verdicts.
 pub(crate) fn verdicts_text(alloc: Global, verdicts: &[Verdict]) -> Result<Vec<u8>, AllocError>
-    ensures { IfOk result (λ text. text.items ≡ spec.verdicts_text verdicts.now) }
+    ensures { IfOk result (λ text. text.items ≡ spec.verdicts_json_text verdicts.now) }
 {
     let value = verdicts_value(alloc, verdicts)?;
     text_of(alloc, &value)
@@ -128,7 +128,7 @@ pub(crate) fn balance_text(
     account: &Account,
     units: u64,
 ) -> Result<Vec<u8>, AllocError>
-    ensures { IfOk result (λ text. text.items ≡ spec.balance_text account.now units) }
+    ensures { IfOk result (λ text. text.items ≡ spec.balance_json_text account.now units) }
 {
     let value = balance_value(alloc, account, units)?;
     text_of(alloc, &value)
@@ -208,7 +208,7 @@ fn work_value(alloc: Global, work: &Work) -> Result<Value, AllocError>
 
 /// The body that shows a work.
 pub(crate) fn work_text(alloc: Global, work: &Work) -> Result<Vec<u8>, AllocError>
-    ensures { IfOk result (λ text. text.items ≡ spec.work_text (shown_of work.now)) }
+    ensures { IfOk result (λ text. text.items ≡ spec.work_json_text (shown_of work.now)) }
 {
     let value = work_value(alloc, work)?;
     text_of(alloc, &value)

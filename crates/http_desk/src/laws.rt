@@ -4,7 +4,7 @@ ghost use Rattle.society_core.specs.Requests.{Query, Reply};
 ghost use Rattle.http_desk.specs.declared.connection_end.End.{End};
 ghost use Rattle.http_desk.specs.declared.connection_end.End.TheVariants.{Busy};
 ghost use Rattle.http_desk.specs.Part.{Part};
-ghost use Rattle.http_desk.specs.Reads.{Reads};
+ghost use Rattle.http_desk.specs.Reads.{ReadsAsRequests};
 ghost use Rattle.http_desk.specs.Serves.{Answered, AnsweredThrough};
 
 use society_core::Store;
@@ -12,7 +12,7 @@ use society_core::Store;
 /// Bytes are cut into requests in one way, since no head begins another: two readings of the same bytes are one. A refusal
 /// of memory, which bytes do not tell, stays out of it.
 pub fn one_cutting()
-    ensures { (bytes : List ℕ) (parts others : List Part) (end other : End) → Reads bytes parts end → Reads bytes others other
+    ensures { (bytes : List ℕ) (parts others : List Part) (end other : End) → ReadsAsRequests bytes parts end → ReadsAsRequests bytes others other
         → end ≢ Busy → other ≢ Busy → (parts ≡ others) × (end ≡ other) }
 {}
 

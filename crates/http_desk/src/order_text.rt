@@ -8,12 +8,9 @@ ghost use Rattle.http_desk.specs.OrderText.{are_three, are_two, close_query, jso
 ghost use Rattle.http_desk.specs.OrderRead.{numbers_read};
 
 use serde_json::Value;
-use society_core::{OrderError, PoolOrder, Request};
+use society_core::{OrderError, OrderFault, PoolOrder, Request};
 use std::alloc::{AllocError, Global};
 use work_ids::{PoolNumber, Reporter, SenderKey};
-
-/// Order fault of a body of another shape (profile).
-const NO_ORDER: u8 = 1;
 
 /// Members of an order.
 const MEMBERS: usize = 3;
@@ -170,8 +167,8 @@ fn numbers_in(alloc: Global, body: &[u8]) -> Result<Option<Numbers>, AllocError>
     numbers_of(alloc, &value)
 }
 
-/// What a put of a pool asks by its body: to close it by an order, or its least fault, 1 for another shape. `AllocError`
-/// where memory is refused while it is read.
+/// What a put of a pool asks by its body: to close it by an order, or its least fault. `AllocError` where memory is
+/// refused while it is read.
 pub(crate) fn close_by<'b>(
     alloc: Global,
     pool: PoolNumber,
@@ -180,7 +177,9 @@ pub(crate) fn close_by<'b>(
     ensures { IfOk result (λ request. query_of request ≡ close_query pool body.now) }
 {
     let Some(numbers) = numbers_in(alloc, body)? else {
-        return Ok(Request::FaultyOrder { fault: NO_ORDER });
+        return Ok(Request::FaultyOrder {
+            fault: OrderFault::Shape,
+        });
     };
     match PoolOrder::new(alloc, numbers.amount, &numbers.cut, &numbers.returns) {
         Ok(order) => Ok(Request::ClosePool { pool, order }),

@@ -26,7 +26,7 @@ pub(crate) struct Outbox {
 impl Outbox {
     ghost use Rattle.std.specs.Prelude.{◌≡◌, ◌≤◌, [], IfOk, OnOk, OnErr, vec_len};
     ghost use Rattle.http_desk.specs.Counted.{failures_of};
-    ghost use Rattle.http_desk.specs.Outbox.{waiting, Emits, Puts};
+    ghost use Rattle.http_desk.specs.Outbox.{waiting, Emits, PutsText};
     ghost use Rattle.http_desk.specs.Text.{answer_text};
     ghost use Rattle.society_core.specs.State.{Rises};
 
@@ -54,7 +54,7 @@ impl Outbox {
 
     // Writes what waits, where there is no room for one more answer behind it.
     fn flush_if_full<W: Write>(&mut self, writer: &mut Counted<W>) -> Result<(), NotWritten>
-        ensures gathers { Puts W.contents result writer.old writer.new self.old self.new [] }
+        ensures gathers { PutsText W.contents result writer.old writer.new self.old self.new [] }
         ensures room { OnOk result (vec_len self.new.bytes ≤ 65536) }
         ensures kept { OnOk result (failures_of writer.new ≡ failures_of writer.old) }
         ensures failed { OnErr result (Rises (failures_of writer.old) (failures_of writer.new)) }
@@ -75,7 +75,7 @@ impl Outbox {
         body: &[u8],
         close: bool,
     ) -> Result<(), NotWritten>
-        ensures gathers { Puts W.contents result writer.old writer.new self.old self.new
+        ensures gathers { PutsText W.contents result writer.old writer.new self.old self.new
             (answer_text status content_type body.now close) }
         ensures kept { OnOk result (failures_of writer.new ≡ failures_of writer.old) }
         ensures failed { OnErr result (Rises (failures_of writer.old) (failures_of writer.new)) }

@@ -2,7 +2,7 @@
 ghost use Rattle.std.specs.Prelude.{◌≡◌, ◌≤◌, length, vec_capacity};
 ghost use Rattle.percent_encoding.specs.Percent.{percent_decode};
 ghost use Rattle.http_desk.specs.Parameters.{IsDecoded, IsTaken, parts_of};
-ghost use Rattle.http_desk.specs.Path.{parameter, sender_in, transmission_number_in, reporter_in, return_number_in, pool_number_in, work_number_in, account_in};
+ghost use Rattle.http_desk.specs.Path.{parameter, sender_in_path, transmission_number_in_path, reporter_in_path, return_number_in_path, pool_number_in_path, work_number_in_path, account_in_path};
 
 use crate::head::MAX_HEAD;
 use matchit::Params;
@@ -60,7 +60,7 @@ fn take_parameter(scratch: &mut Scratch, params: &Params<'_, '_>, name: &str) ->
 /// The sender in the parameters.
 pub(crate) fn sender_in_path(scratch: &mut Scratch, params: &Params<'_, '_>) -> Option<SenderKey>
     requires { IsTaken params.now }
-    ensures value { result ≡ sender_in (parts_of params.now) }
+    ensures value { result ≡ sender_in_path (parts_of params.now) }
 {
     if !take_parameter(scratch, params, "sender") {
         return None;
@@ -74,7 +74,7 @@ pub(crate) fn number_in_path(
     params: &Params<'_, '_>,
 ) -> Option<TransmissionNumber>
     requires { IsTaken params.now }
-    ensures value { result ≡ transmission_number_in (parts_of params.now) }
+    ensures value { result ≡ transmission_number_in_path (parts_of params.now) }
 {
     if !take_parameter(scratch, params, "n") {
         return None;
@@ -85,7 +85,7 @@ pub(crate) fn number_in_path(
 /// The reporter in the parameters.
 pub(crate) fn reporter_in_path(scratch: &mut Scratch, params: &Params<'_, '_>) -> Option<Reporter>
     requires { IsTaken params.now }
-    ensures value { result ≡ reporter_in (parts_of params.now) }
+    ensures value { result ≡ reporter_in_path (parts_of params.now) }
 {
     if !take_parameter(scratch, params, "reporter") {
         return None;
@@ -99,7 +99,7 @@ pub(crate) fn return_number_in_path(
     params: &Params<'_, '_>,
 ) -> Option<ReturnNumber>
     requires { IsTaken params.now }
-    ensures value { result ≡ return_number_in (parts_of params.now) }
+    ensures value { result ≡ return_number_in_path (parts_of params.now) }
 {
     if !take_parameter(scratch, params, "n") {
         return None;
@@ -110,7 +110,7 @@ pub(crate) fn return_number_in_path(
 /// The number of a pool in the parameters.
 pub(crate) fn pool_in_path(scratch: &mut Scratch, params: &Params<'_, '_>) -> Option<PoolNumber>
     requires { IsTaken params.now }
-    ensures value { result ≡ pool_number_in (parts_of params.now) }
+    ensures value { result ≡ pool_number_in_path (parts_of params.now) }
 {
     if !take_parameter(scratch, params, "pool") {
         return None;
@@ -121,7 +121,7 @@ pub(crate) fn pool_in_path(scratch: &mut Scratch, params: &Params<'_, '_>) -> Op
 /// The work number in the parameters.
 pub(crate) fn work_in_path(scratch: &mut Scratch, params: &Params<'_, '_>) -> Option<WorkNumber>
     requires { IsTaken params.now }
-    ensures value { result ≡ work_number_in (parts_of params.now) }
+    ensures value { result ≡ work_number_in_path (parts_of params.now) }
 {
     if !take_parameter(scratch, params, "work") {
         return None;
@@ -132,7 +132,7 @@ pub(crate) fn work_in_path(scratch: &mut Scratch, params: &Params<'_, '_>) -> Op
 /// The account in the parameters.
 pub(crate) fn account_in_path(scratch: &mut Scratch, params: &Params<'_, '_>) -> Option<Account>
     requires { IsTaken params.now }
-    ensures value { result ≡ account_in (parts_of params.now) }
+    ensures value { result ≡ account_in_path (parts_of params.now) }
 {
     if !take_parameter(scratch, params, "account") {
         return None;

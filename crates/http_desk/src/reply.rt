@@ -1,10 +1,11 @@
 //! Answers and endings, put among the texts that are written together.
 ghost use Rattle.std.specs.Prelude.{◌≡◌, ◌++◌, OnOk, OnErr};
 ghost use Rattle.http_desk.specs.Counted.{failures_of};
-ghost use Rattle.http_desk.specs.Outbox.{waiting, Emits, Puts};
+ghost use Rattle.http_desk.specs.Outbox.{waiting, Emits, PutsText};
 ghost use Rattle.society_core.specs.State.{Rises};
-ghost use Rattle.http_desk.specs.Told.{IsReadyToSend, told_reply};
-ghost use Rattle.http_desk.specs.Text.{arrival_status, receipt_status, refusal_status, refused_text, text, ending};
+ghost use Rattle.http_desk.specs.Told.{HasText, IsReadyToSend, told_reply};
+ghost use Rattle.society_core.specs.Requests.{showing_of};
+ghost use Rattle.http_desk.specs.Text.{arrival_status, receipt_status, refusal_status, refused_text, showing_text, showing_type, reply_text, ending};
 
 use crate::connection_end::End;
 use crate::counted::{Counted, NotWritten};
@@ -12,9 +13,10 @@ use crate::outbox::Outbox;
 use crate::short_body::ShortBody;
 use crate::status::{ContentType, Status};
 use crate::told::Told;
-use society_core::{Answer, Arrival, Receipt, Refusal, Standing};
+use society_core::{Answer, Arrival, Receipt, Refusal, Showing, Standing};
 use std::io::Write;
 
+// The status of an arrival.
 fn arrival_status(arrival: Arrival) -> Status
     ensures { result ≡ arrival_status arrival }
 {
@@ -27,6 +29,7 @@ fn arrival_status(arrival: Arrival) -> Status
     }
 }
 
+// The status of a receipt.
 fn receipt_status(receipt: Receipt) -> Status
     ensures { result ≡ receipt_status receipt }
 {
@@ -36,6 +39,7 @@ fn receipt_status(receipt: Receipt) -> Status
     }
 }
 
+// The status of a refusal.
 fn refusal_status(refusal: &Refusal) -> Status
     ensures { result ≡ refusal_status refusal.now }
 {
@@ -52,6 +56,28 @@ fn refusal_status(refusal: &Refusal) -> Status
     }
 }
 
+// The content type of what is shown.
+fn showing_type(showing: &Showing) -> ContentType
+    ensures { result ≡ showing_type (showing_of showing.now) }
+{
+    match showing {
+        Showing::Acknowledgement(_) => ContentType::File,
+        Showing::Credits(_) => ContentType::Table,
+        _ => ContentType::Json,
+    }
+}
+
+// The bytes of what is shown: those of an acknowledgement as it was looked up, else the text that was made.
+fn shown_bytes<'a>(showing: &'a Showing, text: &'a [u8]) -> &'a [u8]
+    requires { HasText (showing_of showing.now) text.now }
+    ensures { result.now ≡ showing_text (showing_of showing.now) }
+{
+    match showing {
+        Showing::Acknowledgement(bytes) => bytes,
+        _ => text,
+    }
+}
+
 // Puts a refusal behind the texts that wait.
 fn put_refusal<W: Write>(
     writer: &mut Counted<W>,
@@ -60,7 +86,7 @@ fn put_refusal<W: Write>(
     refusal: &Refusal,
     close: bool,
 ) -> Result<(), NotWritten>
-    ensures gathers { Puts W.contents result writer.old writer.new outbox.old outbox.new
+    ensures gathers { PutsText W.contents result writer.old writer.new outbox.old outbox.new
         (refused_text refusal.now close) }
     ensures kept { OnOk result (failures_of writer.new ≡ failures_of writer.old) }
     ensures failed { OnErr result (Rises (failures_of writer.old) (failures_of writer.new)) }
@@ -79,8 +105,8 @@ pub(crate) fn put_reply<W: Write>(
     close: bool,
 ) -> Result<(), NotWritten>
     requires ready { IsReadyToSend told.now }
-    ensures gathers { Puts W.contents result writer.old writer.new outbox.old outbox.new
-        (text (told_reply told.now) close) }
+    ensures gathers { PutsText W.contents result writer.old writer.new outbox.old outbox.new
+        (reply_text (told_reply told.now) close) }
     ensures kept { OnOk result (failures_of writer.new ≡ failures_of writer.old) }
     ensures failed { OnErr result (Rises (failures_of writer.old) (failures_of writer.new)) }
 {
@@ -89,9 +115,6 @@ pub(crate) fn put_reply<W: Write>(
             body.set_arrival(*arrival);
             let status = arrival_status(*arrival);
             outbox.put_answer(writer, status, ContentType::Json, body.bytes(), close)
-        }
-        Answer::Acknowledgement(bytes) => {
-            outbox.put_answer(writer, Status::Done, ContentType::File, bytes, close)
         }
         Answer::Stored(receipt) => {
             body.set_stored();
@@ -103,11 +126,9 @@ pub(crate) fn put_reply<W: Write>(
             let status = receipt_status(*receipt);
             outbox.put_answer(writer, status, ContentType::Json, body.bytes(), close)
         }
-        Answer::Sender(_) | Answer::Work(_) | Answer::Verdicts(_) | Answer::Balance(_, _) => {
-            outbox.put_answer(writer, Status::Done, ContentType::Json, &told.body, close)
-        }
-        Answer::Credits(_) => {
-            outbox.put_answer(writer, Status::Done, ContentType::Table, &told.body, close)
+        Answer::Showed(showing) => {
+            let text = shown_bytes(showing, &told.body);
+            outbox.put_answer(writer, Status::Done, showing_type(showing), text, close)
         }
         Answer::Refused(refusal) => put_refusal(writer, outbox, body, refusal, close),
     }
@@ -119,7 +140,7 @@ fn put_end<W: Write>(
     outbox: &mut Outbox,
     end: End,
 ) -> Result<(), NotWritten>
-    ensures gathers { Puts W.contents result writer.old writer.new outbox.old outbox.new (ending end) }
+    ensures gathers { PutsText W.contents result writer.old writer.new outbox.old outbox.new (ending end) }
     ensures kept { OnOk result (failures_of writer.new ≡ failures_of writer.old) }
     ensures failed { OnErr result (Rises (failures_of writer.old) (failures_of writer.new)) }
 {

@@ -5,7 +5,7 @@ ghost use Rattle.http_desk.specs.declared.routes.Route.TheVariants as route;
 ghost use Rattle.http_desk.specs.Parameters.{IsTaken, parts_of};
 ghost use Rattle.http_desk.specs.Part.{max_head};
 ghost use Rattle.http_desk.specs.Wanted.{asked_whole, asked_with};
-ghost use Rattle.http_desk.specs.Path.{office_routes, is_path_byte, is_path, asked_by_put, asked_by_get, query_for};
+ghost use Rattle.http_desk.specs.Path.{office_routes, is_path_byte, is_path, asked_by_put, inquiry_at, query_for};
 
 use crate::order_text::close_by;
 use crate::parameters::{
@@ -14,7 +14,7 @@ use crate::parameters::{
 };
 use crate::routes::Route;
 use matchit::{Params, Router};
-use society_core::{Request, ReturnKey, TransmissionKey};
+use society_core::{Inquiry, Request, ReturnKey, TransmissionKey};
 use std::alloc::{AllocError, Global};
 use std::str;
 use work_ids::PoolNumber;
@@ -35,17 +35,20 @@ pub(crate) enum WithBody {
     Return(ReturnKey),
     /// To close this pool.
     Pool(PoolNumber),
-    /// This, whatever the body.
-    Anyway(Request<'static>),
+    /// To be shown this, whatever the body.
+    Show(Inquiry),
+    /// Something that the office does not have, whatever the body.
+    Elsewhere,
 }
 
 // What is asked where a target stands for nothing that the office has.
 fn elsewhere() -> Wanted
-    ensures { result ≡ Wanted.Whole (WithBody.Anyway Request.Elsewhere) }
+    ensures { result ≡ Wanted.Whole WithBody.Elsewhere }
 {
-    Wanted::Whole(WithBody::Anyway(Request::Elsewhere))
+    Wanted::Whole(WithBody::Elsewhere)
 }
 
+// Whether a byte can stand in a path of the office.
 fn is_path_byte(byte: u8) -> bool
     ensures { result ≡ is_path_byte byte }
 {
@@ -111,90 +114,71 @@ fn put_of(route: Route, scratch: &mut Scratch, params: &Params<'_, '_>) -> Wante
         Route::Transmission => put_of_transmission(scratch, params),
         Route::Return => put_of_return(scratch, params),
         Route::Pool => put_of_pool(scratch, params),
-        Route::Acknowledgement | Route::Sender | Route::Verdicts | Route::Work | Route::Account =>
-            elsewhere(),
+        _ => elsewhere(),
     }
 }
 
-// The request of an acknowledgement.
-fn get_of_acknowledgement<'b>(scratch: &mut Scratch, params: &Params<'_, '_>) -> Request<'b>
+// The question for an acknowledgement.
+fn get_of_acknowledgement(scratch: &mut Scratch, params: &Params<'_, '_>) -> Option<Inquiry>
     requires { IsTaken params.now }
-    ensures asks { query_of result ≡ asked_by_get route.Acknowledgement (parts_of params.now) }
+    ensures asks { result ≡ inquiry_at route.Acknowledgement (parts_of params.now) }
 {
-    let Some(sender) = sender_in_path(scratch, params) else {
-        return Request::Elsewhere;
-    };
-    let Some(number) = number_in_path(scratch, params) else {
-        return Request::Elsewhere;
-    };
-    Request::Acknowledgement { sender, number }
+    let sender = sender_in_path(scratch, params)?;
+    let number = number_in_path(scratch, params)?;
+    Some(Inquiry::Acknowledgement { sender, number })
 }
 
-// The request of how a sender stands.
-fn get_of_sender<'b>(scratch: &mut Scratch, params: &Params<'_, '_>) -> Request<'b>
+// The question how a sender stands.
+fn get_of_sender(scratch: &mut Scratch, params: &Params<'_, '_>) -> Option<Inquiry>
     requires { IsTaken params.now }
-    ensures asks { query_of result ≡ asked_by_get route.Sender (parts_of params.now) }
+    ensures asks { result ≡ inquiry_at route.Sender (parts_of params.now) }
 {
-    let Some(sender) = sender_in_path(scratch, params) else {
-        return Request::Elsewhere;
-    };
-    Request::Sender { sender }
+    let sender = sender_in_path(scratch, params)?;
+    Some(Inquiry::Sender { sender })
 }
 
-// The request of the verdicts of a transmission.
-fn get_of_verdicts<'b>(scratch: &mut Scratch, params: &Params<'_, '_>) -> Request<'b>
+// The question for the verdicts of a transmission.
+fn get_of_verdicts(scratch: &mut Scratch, params: &Params<'_, '_>) -> Option<Inquiry>
     requires { IsTaken params.now }
-    ensures asks { query_of result ≡ asked_by_get route.Verdicts (parts_of params.now) }
+    ensures asks { result ≡ inquiry_at route.Verdicts (parts_of params.now) }
 {
-    let Some(sender) = sender_in_path(scratch, params) else {
-        return Request::Elsewhere;
-    };
-    let Some(number) = number_in_path(scratch, params) else {
-        return Request::Elsewhere;
-    };
-    Request::Verdicts { sender, number }
+    let sender = sender_in_path(scratch, params)?;
+    let number = number_in_path(scratch, params)?;
+    Some(Inquiry::Verdicts { sender, number })
 }
 
-// The request of a sender's work.
-fn get_of_work<'b>(scratch: &mut Scratch, params: &Params<'_, '_>) -> Request<'b>
+// The question for a sender's work.
+fn get_of_work(scratch: &mut Scratch, params: &Params<'_, '_>) -> Option<Inquiry>
     requires { IsTaken params.now }
-    ensures asks { query_of result ≡ asked_by_get route.Work (parts_of params.now) }
+    ensures asks { result ≡ inquiry_at route.Work (parts_of params.now) }
 {
-    let Some(sender) = sender_in_path(scratch, params) else {
-        return Request::Elsewhere;
-    };
-    let Some(work) = work_in_path(scratch, params) else {
-        return Request::Elsewhere;
-    };
-    Request::Work { sender, work }
+    let sender = sender_in_path(scratch, params)?;
+    let work = work_in_path(scratch, params)?;
+    Some(Inquiry::Work { sender, work })
 }
 
-// The request of an account's balance.
-fn get_of_balance<'b>(scratch: &mut Scratch, params: &Params<'_, '_>) -> Request<'b>
+// The question for an account's balance.
+fn get_of_balance(scratch: &mut Scratch, params: &Params<'_, '_>) -> Option<Inquiry>
     requires { IsTaken params.now }
-    ensures asks { query_of result ≡ asked_by_get route.Account (parts_of params.now) }
+    ensures asks { result ≡ inquiry_at route.Account (parts_of params.now) }
 {
-    let Some(account) = account_in_path(scratch, params) else {
-        return Request::Elsewhere;
-    };
-    Request::Balance { account }
+    let account = account_in_path(scratch, params)?;
+    Some(Inquiry::Balance { account })
 }
 
-// The request of a pool's table.
-fn get_of_table<'b>(scratch: &mut Scratch, params: &Params<'_, '_>) -> Request<'b>
+// The question for a pool's table.
+fn get_of_table(scratch: &mut Scratch, params: &Params<'_, '_>) -> Option<Inquiry>
     requires { IsTaken params.now }
-    ensures asks { query_of result ≡ asked_by_get route.Pool (parts_of params.now) }
+    ensures asks { result ≡ inquiry_at route.Pool (parts_of params.now) }
 {
-    let Some(pool) = pool_in_path(scratch, params) else {
-        return Request::Elsewhere;
-    };
-    Request::Credits { pool }
+    let pool = pool_in_path(scratch, params)?;
+    Some(Inquiry::Credits { pool })
 }
 
-// What a get asks of a route.
-fn get_of<'b>(route: Route, scratch: &mut Scratch, params: &Params<'_, '_>) -> Request<'b>
+// What a get asks to be shown of a route.
+fn get_of(route: Route, scratch: &mut Scratch, params: &Params<'_, '_>) -> Option<Inquiry>
     requires { IsTaken params.now }
-    ensures asks { query_of result ≡ asked_by_get route (parts_of params.now) }
+    ensures asks { result ≡ inquiry_at route (parts_of params.now) }
 {
     match route {
         Route::Acknowledgement => get_of_acknowledgement(scratch, params),
@@ -203,7 +187,7 @@ fn get_of<'b>(route: Route, scratch: &mut Scratch, params: &Params<'_, '_>) -> R
         Route::Work => get_of_work(scratch, params),
         Route::Account => get_of_balance(scratch, params),
         Route::Pool => get_of_table(scratch, params),
-        Route::Transmission | Route::Return => Request::Elsewhere,
+        Route::Transmission | Route::Return => None,
     }
 }
 
@@ -228,10 +212,11 @@ pub(crate) fn wanted_for(
         return elsewhere();
     };
     if put {
-        put_of(*found.value, scratch, &found.params)
-    } else {
-        let request = get_of(*found.value, scratch, &found.params);
-        Wanted::Whole(WithBody::Anyway(request))
+        return put_of(*found.value, scratch, &found.params);
+    }
+    match get_of(*found.value, scratch, &found.params) {
+        Some(inquiry) => Wanted::Whole(WithBody::Show(inquiry)),
+        None => elsewhere(),
     }
 }
 
@@ -247,6 +232,7 @@ pub(crate) fn request_with<'b>(
     match wanted {
         WithBody::Return(key) => Ok(Request::PutReturn { key, body }),
         WithBody::Pool(pool) => close_by(alloc, pool, body),
-        WithBody::Anyway(request) => Ok(request),
+        WithBody::Show(inquiry) => Ok(Request::Show(inquiry)),
+        WithBody::Elsewhere => Ok(Request::Elsewhere),
     }
 }

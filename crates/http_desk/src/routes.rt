@@ -59,6 +59,7 @@ pub(crate) fn routes(alloc: Global) -> Result<Router<Route>, AllocError>
     Ok(router)
 }
 
+// Adds a route, given by its text.
 fn add(router: &mut Router<Route>, text: &str, route: Route) -> Result<(), AllocError>
     ensures { OnOk result (router.new ≡ with_route text.now route router.old) }
 {

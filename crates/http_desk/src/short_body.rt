@@ -6,7 +6,7 @@ ghost use Rattle.http_desk.specs.Text.{standing_text};
 use crate::text::{put, put_number};
 use cwr_files::FileFault;
 use perf_returns::ReturnFault;
-use society_core::{Arrival, Refusal, ReturnKey, Standing};
+use society_core::{Arrival, OrderFault, Refusal, ReturnKey, Standing};
 use std::alloc::{AllocError, Global};
 use work_ids::{PoolNumber, Reporter, SenderKey};
 
@@ -20,6 +20,7 @@ pub(crate) struct ShortBody {
     ghost roomy: { 512 ≤ vec_capacity bytes },
 }
 
+// The word for whether a transmission is applied or waits.
 fn standing_name(standing: Standing) -> &'static str
     ensures value { result.now ≡ standing_text standing }
     ensures short { length result.now ≤ 8 }
@@ -138,12 +139,12 @@ impl ShortBody {
     }
 
     // Puts the body that tells an order fault into it.
-    fn set_order_fault(&mut self, fault: u8)
+    fn set_order_fault(&mut self, fault: OrderFault)
         ensures { self.new.bytes.items ≡ refusal_text (Refusal.Order fault) }
     {
         self.bytes.clear();
         self.put(b"{\"error\":\"order\",\"fault\":");
-        self.put_number(u64::from(fault));
+        self.put_number(u64::from(fault.number()));
         self.put(b"}");
     }
 

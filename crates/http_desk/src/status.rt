@@ -52,6 +52,7 @@ pub(crate) fn phrase(status: Status) -> &'static str
     phrase_in_http(status)
 }
 
+// The phrase of a status in HTTP. A call of its own for the proof: that it is short follows from which one it is.
 fn phrase_in_http(status: Status) -> &'static str
     ensures { result.now ≡ phrase_of (code_of status) }
 {

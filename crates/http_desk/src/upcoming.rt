@@ -5,7 +5,7 @@ ghost use Rattle.http_desk.specs.Head.{HasHead};
 ghost use Rattle.http_desk.specs.Input.{unread, ReadsAwaited, FailsBy};
 ghost use Rattle.http_desk.specs.Outbox.{waiting, SendsTo};
 ghost use Rattle.http_desk.specs.Reads.{Awaits};
-ghost use Rattle.http_desk.specs.Upcoming.{IsUpcomingHead, IsUpcoming, IsStopped, ended_with, is_ended};
+ghost use Rattle.http_desk.specs.Upcoming.{IsUpcomingHead, IsUpcoming, IsStopped, ended_with, is_at_end};
 
 use crate::connection_end::End;
 use crate::counted::Counted;
@@ -50,7 +50,7 @@ pub(crate) fn next_answered<R: Read, W: Write>(
     outbox: &mut Outbox,
 ) -> Result<Upcoming, FaultKind>
     ensures reads { ReadsAwaited R.remaining reader.old reader.new input.old input.new }
-    ensures met { IfOk result (λ next. MeetsEnd (is_ended next) (ends_of reader.old) (ends_of reader.new)) }
+    ensures met { IfOk result (λ next. MeetsEnd (is_at_end next) (ends_of reader.old) (ends_of reader.new)) }
     ensures unmet { OnErr result (ends_of reader.new ≡ ends_of reader.old) }
     ensures next { IfOk result (λ next.
         IsUpcomingHead next (unread input.new) (R.remaining (inner_of reader.new))) }
@@ -74,7 +74,7 @@ pub(crate) fn next_answered<R: Read, W: Write>(
 // Reads on until a head stands at the front.
 fn next_head<R: Read>(reader: &mut Counted<R>, input: &mut Input) -> Result<Upcoming, FaultKind>
     ensures reads { ReadsAwaited R.remaining reader.old reader.new input.old input.new }
-    ensures met { IfOk result (λ next. MeetsEnd (is_ended next) (ends_of reader.old) (ends_of reader.new)) }
+    ensures met { IfOk result (λ next. MeetsEnd (is_at_end next) (ends_of reader.old) (ends_of reader.new)) }
     ensures unmet { OnErr result (ends_of reader.new ≡ ends_of reader.old) }
     ensures next { IfOk result (λ next.
         IsUpcomingHead next (unread input.new) (R.remaining (inner_of reader.new))) }
@@ -115,7 +115,7 @@ pub(crate) fn whole_request<R: Read>(
 ) -> Result<Upcoming, FaultKind>
     requires { HasHead (unread input.old) head }
     ensures reads { ReadsAwaited R.remaining reader.old reader.new input.old input.new }
-    ensures met { IfOk result (λ next. MeetsEnd (is_ended next) (ends_of reader.old) (ends_of reader.new)) }
+    ensures met { IfOk result (λ next. MeetsEnd (is_at_end next) (ends_of reader.old) (ends_of reader.new)) }
     ensures unmet { OnErr result (ends_of reader.new ≡ ends_of reader.old) }
     ensures next { IfOk result (λ next.
         IsUpcoming next (unread input.new) (R.remaining (inner_of reader.new))) }

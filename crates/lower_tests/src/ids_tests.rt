@@ -1,9 +1,11 @@
 //! Identifiers: what their texts are read as, how they are printed, and the faults of other texts.
 use crate::checks::told;
+use std::process::Abort;
 use std::test::Fail;
 use work_ids::{
-    Account, IdFault, IpiName, Isrc, Iswc, PartyNumber, PoolNumber, Reporter, ReturnNumber,
-    SenderKey, TransmissionNumber, WorkNumber, check_digit,
+    Account, FileNumber, IdFault, IpiName, Isrc, Iswc, PartyNumber, PoolNumber, Reporter,
+    ReturnNumber, Segment, SegmentEnd, SegmentFault, SenderKey, SpelledNumber, TransmissionNumber,
+    WorkNumber, check_digit, dated_text, read_file_name,
 };
 
 #[test]
@@ -195,4 +197,189 @@ fn texts_of_numbers(rt: HostRuntime) {
         let pool = PoolNumber::from_text(text.as_bytes());
         told(&rt, text, pool.map(|number| number.value()), five);
     }
+}
+
+/// A rank, and the segment and the number there that have it.
+const RANKS: [(u32, Option<(Segment, u32)>); 8] = [
+    (0, None),
+    (1, Some((Segment::Plain, 1))),
+    (999_999, Some((Segment::Plain, 999_999))),
+    (1_000_000, None),
+    (1_000_001, Some((Segment::Year(0), 1))),
+    (1_260_001, Some((Segment::Year(26), 1))),
+    (1_999_999, Some((Segment::Year(99), 9_999))),
+    (2_000_001, None),
+];
+
+/// Checks that a number of a segment has this rank, and is the number with it.
+fn check_rank(rt: &impl Abort, segment: Segment, sequence: u32, rank: u32) {
+    let ranked = FileNumber::from_rank(rank);
+    told(rt, "made", FileNumber::new(segment, sequence), ranked);
+    let made = FileNumber::new(segment, sequence).map(|number| number.rank());
+    told(rt, "rank", made, Some(rank));
+}
+
+#[test]
+fn ranks_of_file_numbers(rt: HostRuntime) {
+    for (rank, wanted) in RANKS {
+        let parts = FileNumber::from_rank(rank).map(|number| (number.segment(), number.sequence()));
+        told(&rt, "parts", (rank, parts), (rank, wanted));
+        if let Some((segment, sequence)) = wanted {
+            check_rank(&rt, segment, sequence, rank);
+        }
+    }
+}
+
+#[test]
+fn order_of_file_numbers(rt: HostRuntime) {
+    let ascending = [
+        FileNumber::new(Segment::Plain, 2),
+        FileNumber::new(Segment::Plain, 999_999),
+        FileNumber::new(Segment::Year(0), 9_999),
+        FileNumber::new(Segment::Year(25), 9_999),
+        FileNumber::new(Segment::Year(26), 1),
+    ];
+    for index in 1..ascending.len() {
+        let is_less = ascending[index - 1] < ascending[index];
+        told(&rt, "order", (index, is_less), (index, true));
+    }
+}
+
+/// A text, and the year and number that it spells.
+const DATED_TEXTS: [(&str, Option<(u8, u16)>); 12] = [
+    ("26-0001", Some((26, 1))),
+    ("00-0000", Some((0, 0))),
+    ("99-9999", Some((99, 9_999))),
+    ("26-1", None),
+    ("026-0001", None),
+    ("26-00001", None),
+    ("26_0001", None),
+    ("2a-0001", None),
+    ("26-00O1", None),
+    ("1", None),
+    (" 26-001", None),
+    ("", None),
+];
+
+#[test]
+fn texts_of_years(rt: HostRuntime) {
+    for (text, wanted) in DATED_TEXTS {
+        let read = SpelledNumber::from_text(text.as_bytes());
+        let spelled = wanted.map(|(year, sequence)| SpelledNumber::Dated { year, sequence });
+        told(&rt, text, read, spelled);
+        if let Some((year, sequence)) = wanted {
+            let written = dated_text(year, sequence);
+            told(&rt, text, written.as_slice(), text.as_bytes());
+        }
+    }
+}
+
+#[test]
+fn spelled_numbers(rt: HostRuntime) {
+    for (spelled, wanted) in [
+        (SpelledNumber::Plain(0), None),
+        (SpelledNumber::Plain(1), Some(1)),
+        (SpelledNumber::Plain(999_999), Some(999_999)),
+        (SpelledNumber::Plain(1_260_001), None),
+        (SpelledNumber::Plain(4_294_967_297), None),
+        (
+            SpelledNumber::Dated {
+                year: 26,
+                sequence: 0,
+            },
+            None,
+        ),
+        (
+            SpelledNumber::Dated {
+                year: 26,
+                sequence: 1,
+            },
+            Some(1_260_001),
+        ),
+    ] {
+        let rank = spelled.number().map(|number| number.rank());
+        told(&rt, "rank", (spelled, rank), (spelled, wanted));
+    }
+}
+
+/// A name of a file that is sent to society 900, and the rank of its number.
+const NAMES: [(&str, Option<u32>); 20] = [
+    ("CW260001EXA_900.V22", Some(1_260_001)),
+    ("CW260001EXA_900.V21", Some(1_260_001)),
+    ("cw260001ex_900.v21", Some(1_260_001)),
+    ("Cw00999912_900.V22", Some(1_009_999)),
+    ("CW260000EXA_900.V22", None),
+    ("CW260001EXA_901.V22", None),
+    ("CW260001EXA_90.V22", None),
+    ("CW260001EXA_900.V20", None),
+    ("CW260001EXA_900.V23", None),
+    ("CW260001EXA_900.V30", None),
+    ("CW260001EXA_900.V2", None),
+    ("CW260001E_900.V22", None),
+    ("CW260001EXAM_900.V22", None),
+    ("CW260001E-A_900.V22", None),
+    ("CW260001EXA-900.V22", None),
+    ("CW26001EXA_900.V22", None),
+    ("CW26O001EXA_900.V22", None),
+    ("CX260001EXA_900.V22", None),
+    (" CW260001EX_900.V22", None),
+    ("", None),
+];
+
+#[test]
+fn file_names(rt: HostRuntime) {
+    for (name, wanted) in NAMES {
+        let number = read_file_name(name.as_bytes(), 900);
+        told(&rt, name, number.map(|number| number.rank()), wanted);
+    }
+    let small = read_file_name(b"CW260012EXA_007.V22", 7);
+    told(
+        &rt,
+        "007",
+        small.map(|number| number.rank()),
+        Some(1_260_012),
+    );
+}
+
+#[test]
+fn segment_ends(rt: HostRuntime) -> Result<(), Fail> {
+    for (segment, last, next, wanted) in [
+        (Segment::Plain, 1, 26, None),
+        (Segment::Plain, 0, 0, None),
+        (Segment::Plain, 999_999, 99, None),
+        (Segment::Plain, 1_000_000, 26, Some(2)),
+        (Segment::Plain, 1, 100, Some(2)),
+        (Segment::Year(26), 9_999, 27, None),
+        (Segment::Year(26), 3, 26, Some(3)),
+        (Segment::Year(26), 3, 25, Some(3)),
+        (Segment::Year(26), 10_000, 26, Some(2)),
+        (Segment::Year(99), 1, 99, Some(3)),
+        (Segment::Year(99), 1, 100, Some(2)),
+        (Segment::Year(0), 4_294_967_296, 1, Some(2)),
+    ] {
+        let fault = SegmentEnd::new(segment, last, next).err();
+        let number = fault.map(|fault| fault.number());
+        told(
+            &rt,
+            "fault",
+            (segment, last, next, number),
+            (segment, last, next, wanted),
+        );
+    }
+    let end = SegmentEnd::new(Segment::Year(26), 3, 28)?;
+    let seen = (end.segment(), end.last(), end.next());
+    told(&rt, "end", seen, (Segment::Year(26), 3, 28));
+    told(
+        &rt,
+        "same",
+        SegmentEnd::new(Segment::Year(26), 3, 28) == Ok(end),
+        true,
+    );
+    told(
+        &rt,
+        "kind",
+        SegmentEnd::new(Segment::Year(26), 3, 2).err(),
+        Some(SegmentFault::NotLater),
+    );
+    Ok(())
 }

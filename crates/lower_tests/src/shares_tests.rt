@@ -8,36 +8,36 @@ use std::test::Fail;
 use test_bodies::{EXCLUDED, REGISTERED, REVISED, changed, holders, lines, office, sender};
 use work_ids::Account;
 
-/// What is changed in the work, and how; a line of it from 0, a place there from 0, and the bytes that stand there in place of
-/// its own; and the fault.
+/// What is changed in the registration, and how; a line of it and a position there, each from 1, and the bytes that stand there in
+/// place of its own; and the fault.
 type Changed = (&'static str, usize, usize, &'static [u8], Option<u8>);
 
 const ROWS: [Changed; 13] = [
     (
         "a blank title and no work number",
-        0,
-        19,
+        3,
+        20,
         b"                                                                            ",
         Some(1),
     ),
-    ("a blank work number", 0, 81, b"  ", Some(2)),
-    ("a wrong check digit", 0, 105, b"2", Some(3)),
-    ("a share over the whole", 3, 129, b"10001", Some(4)),
-    ("ownership of 10007", 3, 129, b"05007", Some(5)),
-    ("ownership of 10006", 3, 129, b"05006", None),
-    ("a row of nobody", 2, 19, b"P2", Some(6)),
-    ("a link to nobody", 5, 19, b"P2", Some(7)),
-    ("collection of 10007", 2, 34, b"05007", Some(8)),
-    ("an IPI name number with a letter", 3, 125, b"A", Some(9)),
-    ("an ISRC with a digit for a letter", 6, 250, b"1", Some(10)),
+    ("a blank work number", 3, 82, b"  ", Some(2)),
+    ("a wrong check digit", 3, 106, b"2", Some(3)),
+    ("a share over the whole", 6, 130, b"10001", Some(4)),
+    ("ownership of 10007", 6, 130, b"05007", Some(5)),
+    ("ownership of 10006", 6, 130, b"05006", None),
+    ("a row of nobody", 5, 20, b"P2", Some(6)),
+    ("a link to nobody", 8, 20, b"P2", Some(7)),
+    ("collection of 10007", 5, 35, b"05007", Some(8)),
+    ("an IPI name number with a letter", 6, 126, b"A", Some(9)),
+    ("an ISRC with a digit for a letter", 9, 251, b"1", Some(10)),
     (
         "a number of a party that is not ASCII",
-        5,
-        101,
+        8,
+        102,
         b"\xC3",
         Some(11),
     ),
-    ("nothing changed", 6, 0, b"REC", None),
+    ("nothing changed", 9, 1, b"REC", None),
 ];
 
 /// The lines of the work of a body of one group: those between its headers and its trailers.
@@ -62,24 +62,11 @@ fn transaction<'a>(alloc: Global, lines: &[&'a [u8]]) -> Result<Transaction<'a>,
     })
 }
 
-/// Where a place of a line of the work stands in the registration.
-fn place_in_body(alloc: Global, line: usize, place: usize) -> Result<usize, AllocError> {
-    let mut at = place;
-    for before in lines(alloc, REGISTERED)?
-        .iter()
-        .take(line.saturating_add(2))
-    {
-        at = at.saturating_add(before.len()).saturating_add(2);
-    }
-    Ok(at)
-}
-
 #[test]
 fn changed_works(rt: HostRuntime) -> Result<(), Fail> {
     let alloc = rt.alloc();
-    for (row, line, place, bytes, fault) in ROWS {
-        let place = place_in_body(alloc, line, place)?;
-        let body = changed(alloc, REGISTERED, &[(place, bytes)])?;
+    for (row, line, position, bytes, fault) in ROWS {
+        let body = changed(alloc, REGISTERED, &[(line, position, bytes)])?;
         let song = transaction(alloc, &song_of(alloc, &body)?)?;
         told(&rt, row, judge(&song, &office()?), fault);
     }

@@ -3,7 +3,7 @@ use Rattle.std.proofs.Common.{◌≡◌, ℕ, ◌+◌, ◌-◌, ◌<◌, ◌≤�
 use Rattle.std.proofs.lemmas.Bool.Decides.{nat_tests}
 use Rattle.std.proofs.lemmas.List.{append_assoc}
 use Rattle.perf_returns.specs.Returns.{AnswersReturn, fault_of_records, first_row_fault, performances_of, told_at}
-use Rattle.perf_returns.specs.Rows.{Takes, fault_at, fault_in, header_fault, row_added, row_of, with_row}
+use Rattle.perf_returns.specs.Rows.{IsRowTaken, row_fault, fault_in, header_row_fault, row_added, row_of, with_row}
 use Rattle.perf_returns.specs.declared.fault.ReturnError.{ReturnError}
 use Rattle.perf_returns.specs.declared.fault.ReturnError.TheVariants.{Csv, Memory}
 use Rattle.perf_returns.specs.declared.fault.ReturnFault.{ReturnFault}
@@ -14,22 +14,22 @@ told_none row None later h = (refl, h)
 told_none row (Some n) later h = absurd cc
 
 -- the fault of the record behind those without one is the first
-fault_behind : (k : ℕ) (seen : List (List (List ℕ))) (fields : List (List ℕ)) (more : List (List (List ℕ))) (row n : ℕ) → first_row_fault k seen ≡ None → row ≡ k + length seen → fault_at row fields ≡ Some n → first_row_fault k (seen ++ fields ∷ more) ≡ Some (record { number = n; row = row })
+fault_behind : (k : ℕ) (seen : List (List (List ℕ))) (fields : List (List ℕ)) (more : List (List (List ℕ))) (row n : ℕ) → first_row_fault k seen ≡ None → row ≡ k + length seen → row_fault row fields ≡ Some n → first_row_fault k (seen ++ fields ∷ more) ≡ Some (record { number = n; row = row })
 fault_behind k [] fields more row n none place fault =
     let same : row ≡ k = omega arith in
     rw (← same, fault) refl
 fault_behind k (r ∷ seen) fields more row n none place fault =
-    let parts = told_none k (fault_at k r) (first_row_fault (k + 1) seen) none in
+    let parts = told_none k (row_fault k r) (first_row_fault (k + 1) seen) none in
     ap (λ (o : Option ℕ). told_at k o (first_row_fault (k + 1) (seen ++ fields ∷ more))) parts.0
     ∙ fault_behind (k + 1) seen fields more row n parts.1 (omega arith) fault
 
 -- a record without a fault behind such ones
-pub none_behind : (k : ℕ) (seen : List (List (List ℕ))) (fields : List (List ℕ)) (row : ℕ) → first_row_fault k seen ≡ None → row ≡ k + length seen → fault_at row fields ≡ None → first_row_fault k (seen ++ fields ∷ []) ≡ None
+pub none_behind : (k : ℕ) (seen : List (List (List ℕ))) (fields : List (List ℕ)) (row : ℕ) → first_row_fault k seen ≡ None → row ≡ k + length seen → row_fault row fields ≡ None → first_row_fault k (seen ++ fields ∷ []) ≡ None
 none_behind k [] fields row none place fault =
     let same : row ≡ k = omega arith in
     rw (← same, fault) refl
 none_behind k (r ∷ seen) fields row none place fault =
-    let parts = told_none k (fault_at k r) (first_row_fault (k + 1) seen) none in
+    let parts = told_none k (row_fault k r) (first_row_fault (k + 1) seen) none in
     ap (λ (o : Option ℕ). told_at k o (first_row_fault (k + 1) (seen ++ fields ∷ []))) parts.0
     ∙ none_behind (k + 1) seen fields row parts.1 (omega arith) fault
 
@@ -61,11 +61,11 @@ rows_more (r ∷ seen) fields row place =
     rows_append seen fields ∙ ap (λ (b : Bool). performances_of seen ++ cond b [] (with_row (row_of fields) [])) (sym later)
 
 -- a row without a fault is not one too many
-pub not_too_many : (row : ℕ) (fields : List (List ℕ)) → fault_at row fields ≡ None → row ≤ 10001
+pub not_too_many : (row : ℕ) (fields : List (List ℕ)) → row_fault row fields ≡ None → row ≤ 10001
 not_too_many row fields none =
     by_case (row == 1) (nat_lt 10000 (row - 1)) refl refl none
   where
-    by_case : (first late : Bool) → (row == 1) ≡ first → nat_lt 10000 (row - 1) ≡ late → (if first then header_fault fields else (if late then Some 6 else fault_in (row_of fields))) ≡ None → row ≤ 10001
+    by_case : (first late : Bool) → (row == 1) ≡ first → nat_lt 10000 (row - 1) ≡ late → (if first then header_row_fault fields else (if late then Some 6 else fault_in (row_of fields))) ≡ None → row ≤ 10001
     by_case true late is more e = grind (arith, nat_tests)
     by_case false true is more e = absurd cc
     by_case false false is more e = grind (arith, nat_tests)
@@ -84,7 +84,7 @@ rows_few [] = omega arith
 rows_few (r ∷ seen) = omega (arith, length-performances_of seen)
 
 -- what a row tells when it is refused is the fault of the body, where that is the row's
-pub told_by : (fault : Option ReturnFault) (rows : List Performance) (row : ℕ) (fields : List (List ℕ)) (old new : List Performance) (e : ReturnError) → Takes row fields old new (Err e) → ((n : ℕ) → fault_at row fields ≡ Some n → fault ≡ Some (record { number = n; row = row })) → AnswersReturn fault rows (Err e)
+pub told_by : (fault : Option ReturnFault) (rows : List Performance) (row : ℕ) (fields : List (List ℕ)) (old new : List Performance) (e : ReturnError) → IsRowTaken row fields old new (Err e) → ((n : ℕ) → row_fault row fields ≡ Some n → fault ≡ Some (record { number = n; row = row })) → AnswersReturn fault rows (Err e)
 told_by fault rows row fields old new (Csv told) takes first =
     let whole : Some (record { number = told.number; row = row }) ≡ Some told = ap (λ (n : ℕ). Some (record { number = told.number; row = n })) (sym takes.1) in
     first told.number takes.0 ∙ whole
@@ -96,6 +96,6 @@ none_seen [] none = refl
 none_seen (r ∷ seen) none = absurd (omega arith)
 
 -- the fault of records that begin so is that of the record behind those without one
-pub fault_of_begun : (all seen : List (List (List ℕ))) (fields : List (List ℕ)) (more : List (List (List ℕ))) (row n : ℕ) → all ≡ (seen ++ fields ∷ []) ++ more → first_row_fault 1 seen ≡ None → row ≡ 1 + length seen → fault_at row fields ≡ Some n → fault_of_records all ≡ Some (record { number = n; row = row })
+pub fault_of_begun : (all seen : List (List (List ℕ))) (fields : List (List ℕ)) (more : List (List (List ℕ))) (row n : ℕ) → all ≡ (seen ++ fields ∷ []) ++ more → first_row_fault 1 seen ≡ None → row ≡ 1 + length seen → row_fault row fields ≡ Some n → fault_of_records all ≡ Some (record { number = n; row = row })
 fault_of_begun all seen fields more row n begins none place fault =
     ap fault_of_records (begins ∙ append_assoc seen (fields ∷ []) more) ∙ fault_of_some seen fields more ∙ fault_behind 1 seen fields more row n none place fault

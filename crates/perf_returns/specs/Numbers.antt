@@ -1,11 +1,11 @@
 -- The numbers of a row: plays and seconds.
 use Rattle.std.specs.Prelude.{ℕ, Bool, List, Option, Some, None, if◌then◌else◌, length, nat_le}
-use Rattle.work_ids.specs.Digits.{number_of}
+use Rattle.work_ids.specs.Digits.{decimal_value}
 use Rattle.work_ids.specs.Numbers.{is_from_one_to, number_where}
 
 -- the number that 1 to so many decimal digits spell
 abbrev pub number_of_width : ℕ → List ℕ → Option ℕ
-number_of_width width field = if nat_le (length field) width then number_of field else None
+number_of_width width field = if nat_le (length field) width then decimal_value field else None
 
 -- a number that is there, where it passes
 abbrev pub passing : (ℕ → Bool) → Option ℕ → Option ℕ

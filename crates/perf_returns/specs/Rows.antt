@@ -12,13 +12,13 @@ abbrev pub are_header_words : List ℕ → List ℕ → List ℕ → Bool
 are_header_words first second third = bytes_eq first (codes "isrc") && bytes_eq second (codes "plays") && bytes_eq third (codes "seconds")
 
 -- whether the fields of a record are the header (profile)
-abbrev pub is_header : List (List ℕ) → Bool
-is_header (first ∷ second ∷ third ∷ []) = are_header_words first second third
-is_header _ = false
+abbrev pub is_header_row : List (List ℕ) → Bool
+is_header_row (first ∷ second ∷ third ∷ []) = are_header_words first second third
+is_header_row _ = false
 
 -- the fault of the first record: 1 where it is not the header (profile)
-abbrev pub header_fault : List (List ℕ) → Option ℕ
-header_fault fields = if is_header fields then None else Some 1
+abbrev pub header_row_fault : List (List ℕ) → Option ℕ
+header_row_fault fields = if is_header_row fields then None else Some 1
 
 -- a row of data by its three fields: 3 where the first is no text of an ISRC, 4 where the plays are wrong, 5 where the seconds are, in this order (profile)
 abbrev pub row_by : Result (List ℕ) IdFault → Option ℕ → Option ℕ → Result Performance ℕ
@@ -46,8 +46,8 @@ abbrev pub data_fault : ℕ → List (List ℕ) → Option ℕ
 data_fault row fields = if nat_lt 10000 (data_rows_to row) then Some 6 else fault_in (row_of fields)
 
 -- the fault of a row, the header being row 1 (profile)
-abbrev pub fault_at : ℕ → List (List ℕ) → Option ℕ
-fault_at row fields = if row == 1 then header_fault fields else data_fault row fields
+abbrev pub row_fault : ℕ → List (List ℕ) → Option ℕ
+row_fault row fields = if row == 1 then header_row_fault fields else data_fault row fields
 
 -- rows behind one that was read
 abbrev pub with_row : Result Performance ℕ → List Performance → List Performance
@@ -59,7 +59,7 @@ abbrev pub row_added : ℕ → List (List ℕ) → List Performance
 row_added row fields = if row == 1 then [] else with_row (row_of fields) []
 
 -- the record of a row was taken: it has no fault and joined the rows, or its fault was told; where memory ran out it has none
-abbrev pub Takes : ℕ → List (List ℕ) → List Performance → List Performance → Result ⊤ ReturnError → Type 0
-Takes row fields old new (Ok done) = (fault_at row fields ≡ None) × (new ≡ old ++ row_added row fields)
-Takes row fields old new (Err (Csv fault)) = (fault_at row fields ≡ Some fault.number) × (fault.row ≡ row)
-Takes row fields old new (Err Memory) = fault_at row fields ≡ None
+abbrev pub IsRowTaken : ℕ → List (List ℕ) → List Performance → List Performance → Result ⊤ ReturnError → Type 0
+IsRowTaken row fields old new (Ok done) = (row_fault row fields ≡ None) × (new ≡ old ++ row_added row fields)
+IsRowTaken row fields old new (Err (Csv fault)) = (row_fault row fields ≡ Some fault.number) × (fault.row ≡ row)
+IsRowTaken row fields old new (Err Memory) = row_fault row fields ≡ None

@@ -1,3 +1,4 @@
+//! Numbers of at most so many digits.
 ghost use Rattle.std.specs.Prelude.{◌≡◌, ◌≤◌};
 ghost use Rattle.perf_returns.specs.Numbers.{number_of_width};
 

@@ -1,6 +1,7 @@
+//! A row of a return.
 ghost use Rattle.std.specs.Prelude.{◌≡◌, unwrap_or, []};
 ghost use Rattle.csv.specs.Records.{field_at, fields_of};
-ghost use Rattle.perf_returns.specs.Rows.{are_header_words, header_fault, row_of};
+ghost use Rattle.perf_returns.specs.Rows.{are_header_words, header_row_fault, row_of};
 
 use crate::plays::Plays;
 use crate::seconds::Seconds;
@@ -33,14 +34,14 @@ pub struct Performance {
     pub seconds: Seconds,
 }
 
-/// The field at a place, nothing where the record has none.
+// The field at a place, nothing where the record has none.
 fn field(fields: &ByteRecord, place: usize) -> &[u8]
     ensures { result.now ≡ unwrap_or (field_at (fields_of fields.now) place) [] }
 {
     fields.get(place).unwrap_or(b"")
 }
 
-/// Whether three fields are the words of the header.
+// Whether three fields are the words of the header.
 fn are_header_words(first: &[u8], second: &[u8], third: &[u8]) -> bool
     ensures { result ≡ are_header_words first.now second.now third.now }
 {
@@ -50,7 +51,7 @@ fn are_header_words(first: &[u8], second: &[u8], third: &[u8]) -> bool
 /// The fault of the first record of a return: it has to be the header.
 #[tactic(auto, using(crate::proofs::Three::header_of_three))]
 pub fn header_fault(fields: &ByteRecord) -> Option<u8>
-    ensures { result ≡ header_fault (fields_of fields.now) }
+    ensures { result ≡ header_row_fault (fields_of fields.now) }
 {
     if fields.len() != FIELDS {
         return Some(NO_HEADER);

@@ -1,3 +1,4 @@
+//! How often a recording was played.
 ghost use Rattle.std.specs.Prelude.{◌≡◌, ◌≤◌};
 ghost use Rattle.perf_returns.specs.Numbers.{are_plays, plays_of};
 ghost use Rattle.work_ids.specs.Numbers.{number_where};

@@ -2,7 +2,7 @@
 ghost use Rattle.std.specs.Prelude.{◌≡◌, ◌∷◌, ◌++◌, [], ◌<◌, ◌+◌, ◌^◌, OnOk, IfErr, length};
 ghost use Rattle.csv.specs.Records.{fields_of};
 ghost use Rattle.csv.specs.Reading.{error_kind};
-ghost use Rattle.perf_returns.specs.Rows.{Takes};
+ghost use Rattle.perf_returns.specs.Rows.{IsRowTaken};
 ghost use Rattle.perf_returns.specs.Unread.{IsRefused};
 ghost use Rattle.perf_returns.specs.declared.fault.ReturnError.TheVariants.{Memory};
 ghost use Rattle.perf_returns.specs.Returns.{AnswersReturn, return_fault, performances_in};
@@ -25,9 +25,9 @@ const TOO_MANY_ROWS: u8 = 6;
 /// Fault: there is no header, nor any other row (profile).
 const NO_RECORD: u8 = 1;
 
-/// Takes the record of a row: one of data joins the rows. `Err` is the first fault of the row, or want of memory.
+// Takes the record of a row: one of data joins the rows. `Err` is the first fault of the row, or want of memory.
 fn take(row: usize, fields: &ByteRecord, rows: &mut Vec<Performance>) -> Result<(), ReturnError>
-    ensures { Takes row (fields_of fields.now) rows.old.items rows.new.items result }
+    ensures { IsRowTaken row (fields_of fields.now) rows.old.items rows.new.items result }
 {
     if row == HEADER_ROW {
         return match header_fault(fields) {
@@ -48,8 +48,8 @@ fn take(row: usize, fields: &ByteRecord, rows: &mut Vec<Performance>) -> Result<
     }
 }
 
-/// What a record that could not be read comes to. A reader of a slice fails for want of memory alone; records may have
-/// any number of fields, and no field has to be text.
+// What a record that could not be read comes to. A reader of a slice fails for want of memory alone; records may have
+// any number of fields, and no field has to be text.
 fn unread(error: &Error) -> ReturnError
     requires { IsRefused (error_kind error.now) }
     ensures { result ≡ Memory }

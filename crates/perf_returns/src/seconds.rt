@@ -1,3 +1,4 @@
+//! How long a recording was played.
 ghost use Rattle.std.specs.Prelude.{◌≡◌, ◌≤◌};
 ghost use Rattle.perf_returns.specs.Numbers.{are_seconds, seconds_of};
 ghost use Rattle.work_ids.specs.Numbers.{number_where};

@@ -1,4 +1,4 @@
--- A threshold of remainders: which places get a unit.
+-- Representation, not meaning: a threshold of remainders, by which the places that get a unit are found.
 use Rattle.std.specs.Prelude.{ℕ, ◌≡◌, ◌≤◌, ◌+◌, ◌-◌, ◌==◌, ◌&&◌, ◌||◌, Bool, List, count_by, get_or, if◌then◌else◌, length, map, min, nat_lt, take}
 use Rattle.std.specs.List.{range_with_len}
 use Rattle.pool_split.specs.declared.threshold.Threshold.{Threshold}

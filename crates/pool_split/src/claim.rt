@@ -1,3 +1,4 @@
+//! What a pool is split over, and what it credits.
 ghost use Rattle.std.specs.Prelude.{◌≡◌};
 
 use share_rules::Holder;

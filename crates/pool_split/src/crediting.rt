@@ -9,21 +9,21 @@ use share_rules::Holder;
 use std::alloc::{AllocError, Global};
 use work_ids::{Account, Isrc};
 
-/// The weights of holders.
+// The weights of holders.
 fn weights_in(alloc: Global, holders: &[Holder]) -> Result<Vec<u64>, AllocError>
     ensures { IfOk result (λ weights. weights.items ≡ weights_in holders.now) }
 {
     holders.iter().map(|holder| holder.weight).collect(alloc)
 }
 
-/// The points of claims.
+// The points of claims.
 fn points_claimed(alloc: Global, claims: &[Claim]) -> Result<Vec<u64>, AllocError>
     ensures { IfOk result (λ points. points.items ≡ points_claimed claims.now) }
 {
     claims.iter().map(|claim| claim.points).collect(alloc)
 }
 
-/// One credit for each holder of a recording, with its part.
+// One credit for each holder of a recording, with its part.
 fn holder_credits(
     alloc: Global,
     isrc: Isrc,
@@ -43,7 +43,7 @@ fn holder_credits(
         .collect(alloc)
 }
 
-/// One credit alone.
+// One credit alone.
 fn lone_credit(alloc: Global, isrc: Option<Isrc>, units: u64) -> Result<Vec<Credit>, AllocError>
     ensures { IfOk result (λ list. list.items ≡ lone_credit isrc units) }
 {
@@ -56,7 +56,7 @@ fn lone_credit(alloc: Global, isrc: Option<Isrc>, units: u64) -> Result<Vec<Cred
     Ok(list)
 }
 
-/// The credits of a recording that is paid so many units.
+// The credits of a recording that is paid so many units.
 fn claim_credits(alloc: Global, claim: &Claim, units: u64) -> Result<Vec<Credit>, AllocError>
     requires amount { units ≤ 1000000000000 }
     requires payable { IsPayable claim.now }
@@ -74,7 +74,7 @@ fn claim_credits(alloc: Global, claim: &Claim, units: u64) -> Result<Vec<Credit>
     }
 }
 
-/// The credits of recordings that are paid these parts.
+// The credits of recordings that are paid these parts.
 fn paid_credits(alloc: Global, claims: &[Claim], parts: &[u64]) -> Result<Vec<Credit>, AllocError>
     requires payable { All IsPayable claims.now }
     requires as_many { length parts.now ≡ length claims.now }

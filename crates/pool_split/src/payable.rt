@@ -11,14 +11,14 @@ use share_rules::Holder;
 /// The most that the points of all claims, and the weights of a claim's holders, may come to (profile).
 const GREATEST_TOTAL: u64 = 1_000_000_000_000_000_000;
 
-/// Whether the ISRC of one claim is below that of another.
+// Whether the ISRC of one claim is below that of another.
 fn is_below(earlier: &Claim, later: &Claim) -> bool
     ensures { IsTrue result ↔ (slice_cmp nat_cmp earlier.now.isrc later.now.isrc ≡ Less) }
 {
     earlier.isrc.cmp(&later.isrc).is_lt()
 }
 
-/// Whether claims ascend by ISRC: each is below the next.
+// Whether claims ascend by ISRC: each is below the next.
 fn are_ascending(claims: &[Claim]) -> bool
     ensures { IsTrue result ↔ Ascend claims.now }
 {
@@ -30,7 +30,7 @@ fn are_ascending(claims: &[Claim]) -> bool
     true
 }
 
-/// Whether the weights of holders come to something, and to no more than they may.
+// Whether the weights of holders come to something, and to no more than they may.
 fn have_weights(holders: &[Holder]) -> bool
     ensures { IsTrue result ↔ HasWeights (Some holders.now) }
 {
@@ -44,7 +44,7 @@ fn have_weights(holders: &[Holder]) -> bool
     total > 0
 }
 
-/// Whether a claim has points, and its holders, where there are some, have weights.
+// Whether a claim has points, and its holders, where there are some, have weights.
 fn is_payable(claim: &Claim) -> bool
     ensures { IsTrue result ↔ IsPayable claim.now }
 {
@@ -57,7 +57,7 @@ fn is_payable(claim: &Claim) -> bool
     }
 }
 
-/// Whether each claim can be paid by itself.
+// Whether each claim can be paid by itself.
 fn is_each_payable(claims: &[Claim]) -> bool
     ensures { IsTrue result ↔ All IsPayable claims.now }
 {
@@ -69,7 +69,7 @@ fn is_each_payable(claims: &[Claim]) -> bool
     true
 }
 
-/// Whether the points of claims come to no more than they may.
+// Whether the points of claims come to no more than they may.
 fn have_points_within(claims: &[Claim]) -> bool
     ensures { IsTrue result ↔ (sum (points_claimed claims.now) ≤ 1000000000000000000) }
 {

@@ -6,7 +6,7 @@ ghost use Rattle.pool_split.specs.Split.{IsFair, quotient, remainder, quotients,
 use crate::threshold::{Threshold, threshold_at};
 use std::alloc::{AllocError, Global};
 
-/// The whole units of a part.
+// The whole units of a part.
 fn quotient(amount: u64, total: u64, weight: u64) -> u64
     requires total { 1 ≤ total }
     requires weight { weight ≤ total }
@@ -15,7 +15,7 @@ fn quotient(amount: u64, total: u64, weight: u64) -> u64
     (u128::from(amount) * u128::from(weight) / u128::from(total)) as u64
 }
 
-/// What a part's whole units leave of amount times weight.
+// What a part's whole units leave of amount times weight.
 fn remainder(amount: u64, total: u64, weight: u64) -> u64
     requires { 1 ≤ total }
     ensures { result ≡ remainder amount total weight }
@@ -23,7 +23,7 @@ fn remainder(amount: u64, total: u64, weight: u64) -> u64
     (u128::from(amount) * u128::from(weight) % u128::from(total)) as u64
 }
 
-/// The sum of numbers.
+// The sum of numbers.
 fn sum(numbers: &[u64]) -> u64
     requires { sum numbers.now < 2 ^ 64 }
     ensures { result ≡ sum numbers.now }
@@ -35,7 +35,7 @@ fn sum(numbers: &[u64]) -> u64
     sum
 }
 
-/// The whole units of each part.
+// The whole units of each part.
 fn quotients(
     alloc: Global,
     amount: u64,
@@ -53,7 +53,7 @@ fn quotients(
     Ok(list)
 }
 
-/// What the whole units of each part leave.
+// What the whole units of each part leave.
 fn remainders(
     alloc: Global,
     amount: u64,
@@ -71,7 +71,7 @@ fn remainders(
     Ok(list)
 }
 
-/// Adds the units of a threshold to the whole units.
+// Adds the units of a threshold to the whole units.
 fn with_units(
     alloc: Global,
     quotients: &[u64],

@@ -11,7 +11,7 @@ pub struct Threshold {
     pub ties: usize,
 }
 
-/// How many remainders are above one.
+// How many remainders are above one.
 fn count_above(remainders: &[u64], remainder: u64) -> usize
     ensures { result ≡ count_by (nat_lt remainder) remainders.now }
 {

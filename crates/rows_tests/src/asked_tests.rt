@@ -4,7 +4,7 @@ ghost use Rattle.society_rows.specs.declared.fault.RowFault.TheVariants.{Memory}
 
 use crate::book::{SENDER, book, shown, write_book, write_fronts, write_works};
 use crate::checks::told;
-use society_rows::{Question, RowFault, RowFold, TableName, ask, fold_run, fold_table};
+use society_rows::{Idle, Question, RowFault, RowFold, TableName, ask, fold_run, fold_table};
 use sqlite::{Alter, Connection, MemStore, Row};
 use std::alloc::Global;
 use std::process::Abort;
@@ -30,10 +30,13 @@ impl RowFold for Count {
     }
 }
 
-fn committed(alloc: Global) -> Result<Connection<MemStore>, RowFault> {
-    let mut conn = book(alloc)?;
+fn committed(alloc: Global) -> Result<Idle<MemStore>, RowFault> {
+    let mut conn = book(alloc)?.into_connection();
     commit_book(&mut conn)?;
-    Ok(conn)
+    match Idle::new(conn) {
+        Ok(conn) => Ok(conn),
+        Err(_) => Err(RowFault::Unread),
+    }
 }
 
 fn commit_book<S: Alter>(conn: &mut Connection<S>) -> Result<(), RowFault> {
@@ -48,35 +51,29 @@ fn commit_book<S: Alter>(conn: &mut Connection<S>) -> Result<(), RowFault> {
     Ok(())
 }
 
-fn count_of<S: Alter>(conn: &mut Connection<S>, table: TableName) -> Result<u64, RowFault> {
+fn count_of<S: Alter>(conn: &mut Idle<S>, table: TableName) -> Result<u64, RowFault> {
     let mut count = Count { rows: 0 };
     fold_table(conn, table, &mut count)?;
     Ok(count.rows)
 }
 
-fn run_from<S: Alter>(conn: &mut Connection<S>, first: u32) -> Result<u64, RowFault> {
-    if !conn.is_autocommit() {
-        return Err(RowFault::Unread);
-    }
-    let mut tx = conn.transaction();
+fn run_from<S: Alter>(conn: &mut Idle<S>, first: u32) -> Result<u64, RowFault> {
+    let mut tx = conn.connection.transaction();
     let mut count = Count { rows: 0 };
     fold_run(&mut tx, SENDER, first, &mut count)?;
     Ok(count.rows)
 }
 
 fn shown_of<S: Alter>(
-    conn: &mut Connection<S>,
+    conn: &mut Idle<S>,
     alloc: Global,
     question: Question<'_>,
 ) -> Result<String, RowFault> {
-    if !conn.is_autocommit() {
-        return Err(RowFault::Unread);
-    }
     let rows = ask(conn, question)?;
     Ok(shown(alloc, rows)?)
 }
 
-fn check_counts<S: Alter>(rt: &impl Abort, conn: &mut Connection<S>) -> Result<(), Fail> {
+fn check_counts<S: Alter>(rt: &impl Abort, conn: &mut Idle<S>) -> Result<(), Fail> {
     for (row, table, wanted) in [
         ("transmissions", TableName::Transmissions, 2),
         ("fronts", TableName::Fronts, 2),
@@ -92,7 +89,7 @@ fn rows_are_taken_one_at_a_time(rt: HostRuntime) -> Result<(), Fail> {
     check_counts(&rt, &mut committed(rt.alloc())?)
 }
 
-fn check_runs<S: Alter>(rt: &impl Abort, conn: &mut Connection<S>) -> Result<(), Fail> {
+fn check_runs<S: Alter>(rt: &impl Abort, conn: &mut Idle<S>) -> Result<(), Fail> {
     for (row, first, wanted) in [
         ("from 1", 1, 2),
         ("from 2", 2, 1),
@@ -112,7 +109,7 @@ fn a_run_ends_at_the_first_gap(rt: HostRuntime) -> Result<(), Fail> {
 fn check_questions<S: Alter>(
     rt: &impl Abort,
     alloc: Global,
-    conn: &mut Connection<S>,
+    conn: &mut Idle<S>,
 ) -> Result<(), Fail> {
     for (row, question, wanted) in [
         ("front", Question::Front(SENDER), "PB000000012|2|1|;"),

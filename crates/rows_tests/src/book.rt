@@ -1,8 +1,7 @@
 //! A new book of the example society, what is written into it, and its rows as text.
-ghost use Rattle.std.specs.Prelude.{◌≡◌, false, IfOk, OnOk};
 
 use society_rows::{
-    BalanceRow, CreditRow, Found, FrontRow, OfficeRow, PoolCutRow, PoolReturnRow, PoolRow,
+    BalanceRow, CreditRow, Found, FrontRow, Idle, OfficeRow, PoolCutRow, PoolReturnRow, PoolRow,
     RecordingRow, ReturnRow, RowFault, TransmissionRow, VerdictRow, VersionRow, add_credits,
     add_pool, add_pool_cuts, add_pool_returns, add_recordings, add_returns, add_transmissions,
     add_verdicts, add_versions, create, layout_found, put_balance, put_front,
@@ -14,21 +13,15 @@ use std::alloc::{AllocError, Global};
 pub const SENDER: &[u8] = b"PB000000012";
 
 /// A new book of the example society, in memory.
-pub fn book(alloc: Global) -> Result<Connection<MemStore>, RowFault>
-    ensures { IfOk result (λ conn. conn.in_transaction ≡ false) }
-{
-    let mut conn = Connection::open_in_memory(alloc)?;
+pub fn book(alloc: Global) -> Result<Idle<MemStore>, RowFault> {
+    let connection = Connection::open_in_memory(alloc)?;
+    let mut conn = Idle { connection };
     begin(&mut conn)?;
     Ok(conn)
 }
 
 /// Makes a new book of the example society.
-pub fn begin<S: Alter>(conn: &mut Connection<S>) -> Result<(), RowFault>
-    ensures { OnOk result (conn.new.in_transaction ≡ false) }
-{
-    if !conn.is_autocommit() {
-        return Err(RowFault::Unread);
-    }
+pub fn begin<S: Alter>(conn: &mut Idle<S>) -> Result<(), RowFault> {
     match layout_found(conn) {
         Found::Nothing => create(
             conn,

@@ -7,7 +7,7 @@ use crate::book::{
 };
 use crate::checks::told;
 use crate::reads::{read_book, read_fronts, read_office, read_pools, read_verdicts, read_works};
-use society_rows::RowFault;
+use society_rows::{Idle, RowFault};
 use sqlite::{Alter, Connection, FileStore, Files, Options, Transaction};
 use sqlite_disk::Memory;
 use std::alloc::Global;
@@ -86,16 +86,15 @@ fn read_all<S: Alter>(conn: &mut Connection<S>, alloc: Global) -> Result<String,
     Ok(text)
 }
 
-fn fill<S: Alter>(conn: &mut Connection<S>) -> Result<(), RowFault> {
-    begin(conn)?;
-    write_all(conn)
-}
-
 fn written(alloc: Global) -> Result<Memory, RowFault>
     ensures { IfOk result (λ db. IsTrue (memory_is_usable db)) }
 {
-    let mut conn = open(alloc, Memory::new(alloc))?;
-    fill(&mut conn)?;
+    let Ok(mut conn) = Idle::new(open(alloc, Memory::new(alloc))?) else {
+        return Err(RowFault::Unread);
+    };
+    begin(&mut conn)?;
+    let mut conn = conn.into_connection();
+    write_all(&mut conn)?;
     close(conn)
 }
 

@@ -2,28 +2,31 @@
 
 use crate::book::book;
 use crate::checks::told;
-use society_rows::{Found, RowFault, layout_found};
+use society_rows::{Found, Idle, RowFault, layout_found};
 use sqlite::{Alter, Connection};
 use std::process::Abort;
 use std::test::Fail;
 
-fn run_text<S: Alter>(conn: &mut Connection<S>, sql: &str) -> Result<(), RowFault> {
-    conn.execute(sql, &[])?;
+// Runs a text in a transaction of its own.
+fn run_text<S: Alter>(conn: &mut Idle<S>, sql: &str) -> Result<(), RowFault> {
+    let mut tx = conn.connection.transaction();
+    tx.execute(sql, &[])?;
+    tx.commit()?;
     Ok(())
 }
 
-fn with_balances<S: Alter>(conn: &mut Connection<S>, sql: &str) -> Result<Found, RowFault> {
+fn with_balances<S: Alter>(conn: &mut Idle<S>, sql: &str) -> Result<Found, RowFault> {
     run_text(conn, "DROP TABLE balances")?;
     run_text(conn, sql)?;
     Ok(layout_found(conn))
 }
 
-fn with_more<S: Alter>(conn: &mut Connection<S>) -> Result<Found, RowFault> {
+fn with_more<S: Alter>(conn: &mut Idle<S>) -> Result<Found, RowFault> {
     run_text(conn, "CREATE TABLE more (number INTEGER NOT NULL) STRICT")?;
     Ok(layout_found(conn))
 }
 
-fn check_layouts<S: Alter>(rt: &impl Abort, conn: &mut Connection<S>) -> Result<(), Fail> {
+fn check_layouts<S: Alter>(rt: &impl Abort, conn: &mut Idle<S>) -> Result<(), Fail> {
     told(rt, "created", layout_found(conn), Found::Layout);
     for (row, sql, wanted) in [
         (
@@ -45,7 +48,8 @@ fn check_layouts<S: Alter>(rt: &impl Abort, conn: &mut Connection<S>) -> Result<
 
 #[test]
 fn only_the_layout_is_found(rt: HostRuntime) -> Result<(), Fail> {
-    let empty = Connection::open_in_memory(rt.alloc())?;
+    let connection = Connection::open_in_memory(rt.alloc())?;
+    let empty = Idle { connection };
     told(&rt, "empty", layout_found(&empty), Found::Nothing);
     check_layouts(&rt, &mut book(rt.alloc())?)
 }

@@ -37,7 +37,7 @@ enum Case {
 /// Checks a case in a transaction of a new book.
 fn check(rt: &impl Abort, alloc: Global, case: Case) -> Result<(), Fail> {
     let mut conn = book(alloc)?;
-    let mut tx = conn.transaction();
+    let mut tx = conn.connection.transaction();
     check_in(rt, alloc, &mut tx, case)
 }
 

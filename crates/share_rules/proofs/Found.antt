@@ -8,7 +8,7 @@ use Rattle.cwr_records.specs.declared.record.Record.TheVariants as kind
 use Rattle.share_rules.proofs.Blocks.{alike}
 use Rattle.share_rules.specs.Blocks.{is_link}
 use Rattle.share_rules.specs.Fault.{names_no_publisher}
-use Rattle.share_rules.specs.Parties.{is_party, party_in, party_is}
+use Rattle.share_rules.specs.Parties.{is_interested_party, party_in, party_is}
 use Rattle.share_rules.specs.declared.party.InterestedParty.{InterestedParty}
 use Rattle.share_rules.specs.declared.party.Side.{Side}
 
@@ -21,23 +21,23 @@ or_false true = refl
 or_false false = refl
 
 -- an interested party is found
-pub party_found : (t : Side) (m : List ℕ) (before : List Record) (r : Record) (party : InterestedParty) → party_in r ≡ Some party → alike party.side party.number t m ≡ true → list_any (is_party t m) (before ++ r ∷ []) ≡ true
+pub party_found : (t : Side) (m : List ℕ) (before : List Record) (r : Record) (party : InterestedParty) → party_in r ≡ Some party → alike party.side party.number t m ≡ true → list_any (is_interested_party t m) (before ++ r ∷ []) ≡ true
 party_found t m before r party is same =
-    list_any-append (is_party t m) before (r ∷ [])
-    ∙ ap (λ (b : Bool). list_any (is_party t m) before || (b || false)) (ap (party_is t m) is ∙ same)
-    ∙ or_true (list_any (is_party t m) before)
+    list_any-append (is_interested_party t m) before (r ∷ [])
+    ∙ ap (λ (b : Bool). list_any (is_interested_party t m) before || (b || false)) (ap (party_is t m) is ∙ same)
+    ∙ or_true (list_any (is_interested_party t m) before)
 
 -- another record is not
-pub other_not_found : (t : Side) (m : List ℕ) (before : List Record) (r : Record) → is_party t m r ≡ false → list_any (is_party t m) (before ++ r ∷ []) ≡ list_any (is_party t m) before
+pub other_not_found : (t : Side) (m : List ℕ) (before : List Record) (r : Record) → is_interested_party t m r ≡ false → list_any (is_interested_party t m) (before ++ r ∷ []) ≡ list_any (is_interested_party t m) before
 other_not_found t m before r other =
-    list_any-append (is_party t m) before (r ∷ [])
-    ∙ ap (λ (b : Bool). list_any (is_party t m) before || (b || false)) other
-    ∙ or_false (list_any (is_party t m) before)
+    list_any-append (is_interested_party t m) before (r ∷ [])
+    ∙ ap (λ (b : Bool). list_any (is_interested_party t m) before || (b || false)) other
+    ∙ or_false (list_any (is_interested_party t m) before)
 
-pub party_passes : (t : Side) (m : List ℕ) (before : List Record) (r : Record) (party : InterestedParty) → party_in r ≡ Some party → alike party.side party.number t m ≡ false → list_any (is_party t m) (before ++ r ∷ []) ≡ list_any (is_party t m) before
+pub party_passes : (t : Side) (m : List ℕ) (before : List Record) (r : Record) (party : InterestedParty) → party_in r ≡ Some party → alike party.side party.number t m ≡ false → list_any (is_interested_party t m) (before ++ r ∷ []) ≡ list_any (is_interested_party t m) before
 party_passes t m before r party is other = other_not_found t m before r (ap (party_is t m) is ∙ other)
 
-pub none_found : (t : Side) (m : List ℕ) (before : List Record) (r : Record) → party_in r ≡ None → list_any (is_party t m) (before ++ r ∷ []) ≡ list_any (is_party t m) before
+pub none_found : (t : Side) (m : List ℕ) (before : List Record) (r : Record) → party_in r ≡ None → list_any (is_interested_party t m) (before ++ r ∷ []) ≡ list_any (is_interested_party t m) before
 none_found t m before r is = other_not_found t m before r (ap (party_is t m) is)
 
 neither : (a b : Bool) → (a || b) ≡ false → (a ≡ false) × (b ≡ false)

@@ -7,8 +7,8 @@ use Rattle.cwr_records.specs.declared.record.Record.TheVariants as kind
 use Rattle.share_rules.proofs.Blocks.{alike}
 use Rattle.share_rules.proofs.Nearest.{collected_is, no_row_in, rows_among, up_to_next}
 use Rattle.share_rules.specs.Blocks.{counting_row_is, else_take, latest, shares_in}
-use Rattle.share_rules.specs.Parties.{collected, counts, is_party, last_counting, later_or, no_shares, party_in, party_is, row_in, shares_at, shares_by}
-use Rattle.share_rules.specs.Steps.{row_is, with_row}
+use Rattle.share_rules.specs.Parties.{collected, counts, is_interested_party, last_counting, later_or, no_shares, party_in, party_is, row_in, shares_at, shares_by}
+use Rattle.share_rules.specs.Steps.{row_is, with_matching_row}
 use Rattle.share_rules.specs.declared.office.Office.{Office}
 use Rattle.share_rules.specs.declared.party.InterestedParty.{InterestedParty}
 use Rattle.share_rules.specs.declared.party.Side.{Side}
@@ -26,18 +26,18 @@ no_party_in (kind.WriterTerritory x) row e = refl
 no_party_in _ row e = absurd cc
 
 -- no record but an interested party of the side with the number ends what was found
-latest_on : (office : Office) (t : Side) (m : List ℕ) (r : Record) (more : List Record) → is_party t m r ≡ false → latest office t m (r ∷ more) ≡ else_take (latest office t m more) (if counting_row_is office t m (row_in r) then shares_in (row_in r) else None)
+latest_on : (office : Office) (t : Side) (m : List ℕ) (r : Record) (more : List Record) → is_interested_party t m r ≡ false → latest office t m (r ∷ more) ≡ else_take (latest office t m more) (if counting_row_is office t m (row_in r) then shares_in (row_in r) else None)
 latest_on office t m r more other = ap (λ (b : Bool). if b then None else else_take (latest office t m more) (if counting_row_is office t m (row_in r) then shares_in (row_in r) else None)) other
 
 -- what stands behind an interested party is not for one before it
 pub party_ends : (office : Office) (t : Side) (m : List ℕ) (r : Record) (more : List Record) (party : InterestedParty) → party_in r ≡ Some party → alike party.side party.number t m ≡ true → latest office t m (r ∷ more) ≡ None
 party_ends office t m r more party is same =
-    let own : is_party t m r ≡ true = ap (party_is t m) is ∙ same in
+    let own : is_interested_party t m r ≡ true = ap (party_is t m) is ∙ same in
     ap (λ (b : Bool). if b then None else else_take (latest office t m more) (if counting_row_is office t m (row_in r) then shares_in (row_in r) else None)) own
 
 pub party_passes : (office : Office) (t : Side) (m : List ℕ) (r : Record) (more : List Record) (party : InterestedParty) → party_in r ≡ Some party → alike party.side party.number t m ≡ false → latest office t m (r ∷ more) ≡ latest office t m more
 party_passes office t m r more party is other =
-    let not_own : is_party t m r ≡ false = ap (party_is t m) is ∙ other in
+    let not_own : is_interested_party t m r ≡ false = ap (party_is t m) is ∙ other in
     latest_on office t m r more not_own
     ∙ ap (λ (o : Option TerritoryRow). else_take (latest office t m more) (if counting_row_is office t m o then shares_in o else None)) (no_row_in r party is)
     ∙ else_none (latest office t m more)
@@ -80,7 +80,7 @@ row_counts office t m r more row is counted same =
     ∙ ap (λ (b : Bool). else_take (latest office t m more) (if b then shares_in (Some row) else None)) counted
 
 -- the shares of the latest row, where rows are put in front of others
-with_front : (office : Office) (s : Side) (n : List ℕ) (o : Option TerritoryRow) (rows : List TerritoryRow) → else_take (shares_in (last_counting office rows)) (if counting_row_is office s n o then shares_in o else None) ≡ shares_in (last_counting office (with_row s n o rows))
+with_front : (office : Office) (s : Side) (n : List ℕ) (o : Option TerritoryRow) (rows : List TerritoryRow) → else_take (shares_in (last_counting office rows)) (if counting_row_is office s n o then shares_in o else None) ≡ shares_in (last_counting office (with_matching_row s n o rows))
 with_front office s n None rows = else_none (shares_in (last_counting office rows))
 with_front office s n (Some row) rows = by_case (row_is s n (Some row))
   where
@@ -95,7 +95,7 @@ with_front office s n (Some row) rows = by_case (row_is s n (Some row))
 
 latest_is : (office : Office) (s : Side) (n : List ℕ) (rs : List Record) → latest office s n rs ≡ shares_in (last_counting office (rows_among s n (up_to_next s n rs)))
 latest_is office s n [] = refl
-latest_is office s n (r ∷ more) = by_case (is_party s n r) (latest_is office s n more)
+latest_is office s n (r ∷ more) = by_case (is_interested_party s n r) (latest_is office s n more)
   where
     by_case : (b : Bool) → latest office s n more ≡ shares_in (last_counting office (rows_among s n (up_to_next s n more))) → (if b then None else else_take (latest office s n more) (if counting_row_is office s n (row_in r) then shares_in (row_in r) else None)) ≡ shares_in (last_counting office (rows_among s n (if b then [] else r ∷ up_to_next s n more)))
     by_case true recur = refl

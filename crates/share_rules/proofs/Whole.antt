@@ -9,7 +9,7 @@ use Rattle.cwr_files.specs.declared.transmission.Transaction.{Transaction}
 use Rattle.cwr_files.specs.Sentences.{Sentence, first_that_holds, sentence}
 use Rattle.share_rules.specs.Fault.{collects_too_much, fault_of, sentences}
 use Rattle.share_rules.specs.Parties.{Interest, collected, interests, share_in}
-use Rattle.share_rules.specs.Weights.{IsWhole, holder_of, total, unclaimed_beside, weights_of}
+use Rattle.share_rules.specs.Weights.{AreWholeWeights, holder_of, total, unclaimed_beside, weights_of}
 use Rattle.share_rules.specs.declared.holder.Holder.{Holder}
 use Rattle.share_rules.specs.declared.kind.Kind.{Kind}
 use Rattle.share_rules.specs.declared.kind.Kind.TheVariants.{Performing, Mechanical}
@@ -59,7 +59,7 @@ clean_in Performing office t e = low _ (not_one _ _ _ (clean_collects office t e
 clean_in Mechanical office t e = low _ (not_two _ _ _ (clean_collects office t e))
 
 -- a transaction without a fault has weights of the whole, or up to what is let pass
-pub clean_is_whole : (right : Kind) (sender : List ℕ) (office : Office) (t : Transaction) → fault_of office t ≡ None → IsWhole (weights_of right sender office t)
+pub clean_is_whole : (right : Kind) (sender : List ℕ) (office : Office) (t : Transaction) → fault_of office t ≡ None → AreWholeWeights (weights_of right sender office t)
 unfolding weights_of
 clean_is_whole right sender office t e =
     let holders = map (holder_of right sender office) (interests t.records) in

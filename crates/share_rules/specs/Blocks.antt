@@ -1,4 +1,4 @@
--- How the parties of many records are looked up without a search for each: their keys, the places of these in a block, and what a block keeps at each (representation).
+-- Representation, not meaning: how the parties of many records are looked up without a search for each, by keys, the places of these in a block, and what a block keeps at each.
 use Rattle.std.specs.Prelude.{ℕ, ◌≡◌, ◌+◌, ◌*◌, ◌<◌, Bool, true, false, ◌&&◌, ◌==◌, nat_le, List, [], ◌∷◌, ◌++◌, take, drop, get_or, Option, Some, None, map, if◌then◌else◌}
 use Rattle.std.specs.List.{sum, list_any}
 use Rattle.cwr_records.specs.Blanks.{trimmed}
@@ -6,7 +6,7 @@ use Rattle.cwr_records.specs.Typed.{indicator_of}
 use Rattle.cwr_records.specs.declared.record.Record.{Record}
 use Rattle.cwr_records.specs.declared.record.Record.TheVariants as kind
 use Rattle.share_rules.specs.Fault.{has_row_without_party}
-use Rattle.share_rules.specs.Parties.{collected, counts, interests, is_party, no_shares, row_in, share_in, shares_by, party_in}
+use Rattle.share_rules.specs.Parties.{collected, counts, interests, is_interested_party, no_shares, row_in, share_in, shares_by, party_in}
 use Rattle.share_rules.specs.Steps.{row_is}
 use Rattle.share_rules.specs.Weights.{account_by, holder_of}
 use Rattle.share_rules.specs.declared.holder.Holder.{Holder}
@@ -80,7 +80,7 @@ else_take None other = other
 abbrev pub latest : Office → Side → List ℕ → List Record → Option Shares
 latest office s number [] = None
 latest office s number (r ∷ more) =
-    if is_party s number r then None else else_take (latest office s number more) (if counting_row_is office s number (row_in r) then shares_in (row_in r) else None)
+    if is_interested_party s number r then None else else_take (latest office s number more) (if counting_row_is office s number (row_in r) then shares_in (row_in r) else None)
 
 -- a block keeps the latest shares of its parties
 abbrev pub AreLatest : Office → List ℕ → List (Option Shares) → List Record → Type 0
@@ -88,7 +88,7 @@ AreLatest office keys values records = AreAnswers (λ s number. latest office s 
 
 -- a block keeps whether its parties are among some records
 abbrev pub AreFound : List ℕ → List Bool → List Record → Type 0
-AreFound keys values records = AreAnswers (λ s number. list_any (is_party s number) records) keys values
+AreFound keys values records = AreAnswers (λ s number. list_any (is_interested_party s number) records) keys values
 
 -- what a block keeps as one more record is put in front of others
 abbrev pub TakesRecord : Office → List ℕ → List (Option Shares) → List (Option Shares) → Record → Type 0

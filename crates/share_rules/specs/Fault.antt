@@ -8,7 +8,7 @@ use Rattle.cwr_records.specs.declared.record.Record.TheVariants as kind
 use Rattle.cwr_files.specs.Transaction.{iswc_of_work, number_of_work, title_of}
 use Rattle.cwr_files.specs.Sentences.{Sentence, first_that_holds, sentence}
 use Rattle.cwr_files.specs.declared.transmission.Transaction.{Transaction}
-use Rattle.share_rules.specs.Parties.{collected, interests, is_party, owned, party_in, row_in}
+use Rattle.share_rules.specs.Parties.{collected, interests, is_interested_party, owned, party_in, row_in}
 use Rattle.share_rules.specs.declared.office.Office.{Office}
 use Rattle.share_rules.specs.declared.party.InterestedParty.{InterestedParty}
 use Rattle.share_rules.specs.declared.share_fields.ShareFields.{ShareFields}
@@ -65,7 +65,7 @@ owns_too_much records = exceed (map owned (interests records))
 -- a territory row has no interested party of its side with its number among the records before it
 abbrev pub is_row_without_party : List Record → Option TerritoryRow → Bool
 is_row_without_party before None = false
-is_row_without_party before (Some row) = not (list_any (is_party row.side row.number) before)
+is_row_without_party before (Some row) = not (list_any (is_interested_party row.side row.number) before)
 
 -- 6: an SPT has no SPU, or an SWT no SWR, with its IP # before it in the transaction (profile)
 abbrev pub has_row_without_party : List Record → List Record → Bool
@@ -74,7 +74,7 @@ has_row_without_party before (r ∷ more) = is_row_without_party before (row_in 
 
 -- 7: a PWR names a publisher IP # that is not blank and that no SPU of the transaction has (profile)
 abbrev pub names_no_publisher : List Record → Record → Bool
-names_no_publisher records (kind.PublisherForWriter r) = not (is_blank r.publisher_party) && not (list_any (is_party side.Publisher r.publisher_party) records)
+names_no_publisher records (kind.PublisherForWriter r) = not (is_blank r.publisher_party) && not (list_any (is_interested_party side.Publisher r.publisher_party) records)
 names_no_publisher records _ = false
 
 -- 8: the collection shares of a right at the office, over all holders, add up to more than the limit (profile)

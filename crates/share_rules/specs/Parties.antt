@@ -49,12 +49,12 @@ party_is s number None = false
 party_is s number (Some party) = same_side party.side s && same_number party.number number
 
 -- whether a record is an interested party of a side with a number
-abbrev pub is_party : Side → List ℕ → Record → Bool
-is_party s number r = party_is s number (party_in r)
+abbrev pub is_interested_party : Side → List ℕ → Record → Bool
+is_interested_party s number r = party_is s number (party_in r)
 
 -- a territory row belongs to an interested party before it that is of its side with its number, where none of the records between them is: to the nearest one (profile)
 abbrev pub belongs : InterestedParty → List Record → TerritoryRow → Bool
-belongs party between row = party_is row.side row.number (Some party) && not (list_any (is_party row.side row.number) between)
+belongs party between row = party_is row.side row.number (Some party) && not (list_any (is_interested_party row.side row.number) between)
 
 -- rows behind one, where it is there and belongs to an interested party
 abbrev pub with_own_row : InterestedParty → List Record → Option TerritoryRow → List TerritoryRow → List TerritoryRow

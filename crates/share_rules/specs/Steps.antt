@@ -1,4 +1,4 @@
--- What one more record or share changes, as the records of a transaction are gone through.
+-- Representation, not meaning: what one more record or share changes, as the records of a transaction are gone through.
 use Rattle.std.specs.Prelude.{ℕ, ◌+◌, Bool, false, ◌&&◌, ◌||◌, List, [], ◌∷◌, Option, Some, None, if◌then◌else◌, nat_lt}
 use Rattle.cwr_records.specs.Typed.{indicator_of}
 use Rattle.cwr_records.specs.declared.record.Record.{Record}
@@ -16,9 +16,9 @@ row_is s number None = false
 row_is s number (Some row) = same_side row.side s && same_number row.number number
 
 -- rows behind one, where it is there and of the side with the number
-abbrev pub with_row : Side → List ℕ → Option TerritoryRow → List TerritoryRow → List TerritoryRow
-with_row s number None rows = rows
-with_row s number (Some row) rows = if row_is s number (Some row) then row ∷ rows else rows
+abbrev pub with_matching_row : Side → List ℕ → Option TerritoryRow → List TerritoryRow → List TerritoryRow
+with_matching_row s number None rows = rows
+with_matching_row s number (Some row) rows = if row_is s number (Some row) then row ∷ rows else rows
 
 -- the shares of a row that counts, or else those of the rows before it
 abbrev pub shares_or : Shares → Option TerritoryRow → Shares
@@ -27,7 +27,7 @@ shares_or before (Some row) = shares_by (indicator_of row.indicator) row.shares
 
 -- the shares that an interested party collects by the records up to this one, where those before it give some
 abbrev pub shares_after : Office → Side → List ℕ → Shares → Record → Shares
-shares_after office side number before r = shares_or before (last_counting office (with_row side number (row_in r) []))
+shares_after office side number before r = shares_or before (last_counting office (with_matching_row side number (row_in r) []))
 
 -- the totals with one more holder's shares
 abbrev pub with_shares : Totals → Shares → Totals

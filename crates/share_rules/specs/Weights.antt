@@ -36,16 +36,16 @@ abbrev pub total : List Holder → ℕ
 total holders = sum (map (λ h. h.weight) holders)
 
 -- the whole of a right, in hundredths of a percent
-abbrev pub whole : ℕ
-whole = 10000
+abbrev pub whole_right : ℕ
+whole_right = 10000
 
 -- what nobody claims: what the weights leave of the whole (profile)
 abbrev pub unclaimed_beside : List Holder → Holder
-unclaimed_beside holders = let claimed = total holders in record { account = Unclaimed; weight = max whole claimed - claimed }
+unclaimed_beside holders = let claimed = total holders in record { account = Unclaimed; weight = max whole_right claimed - claimed }
 
 -- weights are the whole or, for what is let pass, up to 10,006 (profile)
-abbrev pub IsWhole : List Holder → Type 0
-IsWhole holders = (10000 ≤ total holders) × (total holders ≤ 10006)
+abbrev pub AreWholeWeights : List Holder → Type 0
+AreWholeWeights holders = (10000 ≤ total holders) × (total holders ≤ 10006)
 
 -- the weights of a transaction in a right: its holders in record order, and behind them what nobody claims (profile)
 unfoldable pub weights_of : Kind → List ℕ → Office → Transaction → List Holder

@@ -14,7 +14,7 @@ use cwr_records::{Fixed, Indicator, Record, TisCode};
 /// The TIS code of the world (CISAC TIS).
 const WORLD: u16 = 2_136;
 
-/// Whether a territory field names the world or the office's own territory (profile).
+// Whether a territory field names the world or the office's own territory (profile).
 fn names_territory(territory: &Fixed<'_, 4>, office: &Office) -> bool
     ensures { result ≡ names_territory office.now (territory_of territory.now) }
 {
@@ -43,7 +43,7 @@ pub(crate) fn shares_by(row: &TerritoryRow<'_>) -> Shares
     }
 }
 
-/// The shares of a line that is a counting row of the party, or else those of the rows before it.
+// The shares of a line that is a counting row of the party, or else those of the rows before it.
 fn shares_after(sought: &Sought<'_>, before: Shares, line: &Record<'_>, office: &Office) -> Shares
     ensures { result ≡ shares_after office.now sought.now.side sought.now.number before line.now }
 {

@@ -29,7 +29,7 @@ pub(crate) fn owns_too_much(records: &[Record<'_>]) -> bool
     false
 }
 
-/// The same of a few records, gone through for each party.
+// The same of a few records, gone through for each party.
 fn few_collect_too_much(records: &[Record<'_>], office: &Office) -> bool
     ensures { result ≡ collects_too_much office.now records.now }
 {
@@ -46,8 +46,8 @@ fn few_collect_too_much(records: &[Record<'_>], office: &Office) -> bool
     false
 }
 
-/// The totals with the collection shares of the records from one on to another; none where they are more than the
-/// limit.
+// The totals with the collection shares of the records from one on to another; none where they are more than the
+// limit.
 fn with_block(
     totals: Totals,
     records: &[Record<'_>],

@@ -34,7 +34,7 @@ pub(crate) fn has_wrong_iswc(transaction: &Transaction<'_>) -> bool
     transaction.iswc().is_err()
 }
 
-/// Whether a share of a party or of a territory row is neither blank nor five digits, or is over 10000 (profile).
+// Whether a share of a party or of a territory row is neither blank nor five digits, or is over 10000 (profile).
 fn has_wrong_share(record: &Record<'_>) -> bool
     ensures { result ≡ has_wrong_share «record».now }
 {
@@ -54,7 +54,7 @@ pub(crate) fn have_wrong_share(records: &[Record<'_>]) -> bool
     records.iter().any(|record| has_wrong_share(record))
 }
 
-/// The same as below of a few records, looked through for each row.
+// The same as below of a few records, looked through for each row.
 fn few_have_row_without_party(records: &[Record<'_>]) -> bool
     ensures { result ≡ has_row_without_party [] records.now }
 {
@@ -79,7 +79,7 @@ pub(crate) fn has_row_without_party(records: &[Record<'_>]) -> bool
     }
 }
 
-/// Whether a record names a publisher's number that is not blank and that no publisher among the records has (profile).
+// Whether a record names a publisher's number that is not blank and that no publisher among the records has (profile).
 fn names_no_publisher(records: &[Record<'_>], record: &Record<'_>) -> bool
     ensures { result ≡ names_no_publisher records.now «record».now }
 {
@@ -105,7 +105,7 @@ pub(crate) fn have_no_publisher(records: &[Record<'_>]) -> bool
     }
 }
 
-/// Whether the IPI name number of a party is not all digits (profile).
+// Whether the IPI name number of a party is not all digits (profile).
 fn has_wrong_ipi(record: &Record<'_>) -> bool
     ensures { result ≡ has_wrong_ipi «record».now }
 {
@@ -122,7 +122,7 @@ pub(crate) fn have_wrong_ipi(records: &[Record<'_>]) -> bool
     records.iter().any(|record| has_wrong_ipi(record))
 }
 
-/// Whether the ISRC of a recording is neither blank nor right (profile).
+// Whether the ISRC of a recording is neither blank nor right (profile).
 fn has_wrong_isrc(record: &Record<'_>) -> bool
     ensures { result ≡ has_wrong_isrc «record».now }
 {
@@ -139,14 +139,14 @@ pub(crate) fn have_wrong_isrc(records: &[Record<'_>]) -> bool
     records.iter().any(|record| has_wrong_isrc(record))
 }
 
-/// Whether the number of a party is not printable ASCII (profile).
+// Whether the number of a party is not printable ASCII (profile).
 fn is_wrong_number(number: &Fixed<'_, 9>) -> bool
     ensures { result ≡ not (is_ok (party_number_of number.now)) }
 {
     PartyNumber::from_field(&number.to_bytes()).is_err()
 }
 
-/// Whether a number of a party in a record is not printable ASCII (profile).
+// Whether a number of a party in a record is not printable ASCII (profile).
 fn has_wrong_number(record: &Record<'_>) -> bool
     ensures { result ≡ has_wrong_number «record».now }
 {

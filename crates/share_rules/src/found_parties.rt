@@ -1,7 +1,7 @@
 //! Which parties of a block are among some records.
 ghost use Rattle.std.specs.Prelude.{◌≡◌, [], length};
 ghost use Rattle.std.specs.List.{list_any};
-ghost use Rattle.share_rules.specs.Parties.{is_party};
+ghost use Rattle.share_rules.specs.Parties.{is_interested_party};
 ghost use Rattle.share_rules.specs.Blocks.{AreFound, FindsParty, FindsRecord};
 
 use crate::party::{InterestedParty, Side};
@@ -9,7 +9,8 @@ use crate::party_keys::{BLOCK, PartyKeys};
 use crate::party_search::Sought;
 use cwr_records::{Fixed, Record};
 
-/// An interested party, behind the records that were gone through.
+// Marks an interested party, behind the records that were gone through. It is a function of its own for the prover, which
+// loses what is known where branches join.
 fn mark_party(keys: &PartyKeys, found: &mut [bool], party: &InterestedParty<'_>)
     requires { length found.old ≡ BLOCK }
     ensures { FindsParty keys.now.keys found.old found.new party.now }
@@ -50,7 +51,7 @@ pub(crate) fn is_found(
 ) -> bool
     requires room { length found.now ≡ BLOCK }
     requires found { AreFound keys.now.keys found.now records.now }
-    ensures { result ≡ list_any (is_party side number.now) records.now }
+    ensures { result ≡ list_any (is_interested_party side number.now) records.now }
 {
     match keys.place(side, number) {
         Some(place) => found[place],

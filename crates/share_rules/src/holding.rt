@@ -18,8 +18,8 @@ use cwr_records::Record;
 use std::alloc::{AllocError, Global};
 use work_ids::{Account, IpiName, PartyNumber, SenderKey};
 
-/// The account of an interested party that a sender names: its IPI name number's where it has one, else that of the
-/// sender's number of it, nobody's where that is blank or wrong too (profile).
+// The account of an interested party that a sender names: its IPI name number's where it has one, else that of the
+// sender's number of it, nobody's where that is blank or wrong too (profile).
 fn account(sender: &SenderKey, party: &InterestedParty<'_>) -> Account
     ensures { result ≡ account_by sender.now (ipi_field_of party.now.ipi_name) (party_number_of party.now.number) }
 {
@@ -32,7 +32,7 @@ fn account(sender: &SenderKey, party: &InterestedParty<'_>) -> Account
     }
 }
 
-/// The holder that an interested party is with these collection shares, behind others.
+// Appends the holder that an interested party is with these collection shares.
 fn push_holder(
     holders: &mut Vec<Holder>,
     kind: Kind,
@@ -50,7 +50,7 @@ fn push_holder(
     Ok(())
 }
 
-/// The holders among a few records, which are gone through for each of them.
+// The holders among a few records, which are gone through for each of them.
 fn few_holders(
     alloc: Global,
     kind: Kind,
@@ -70,7 +70,7 @@ fn few_holders(
     Ok(holders)
 }
 
-/// The holder that a record is, where it is an interested party, behind others.
+// Appends the holder that a record is, where it is an interested party.
 fn push_record(
     holders: &mut Vec<Holder>,
     kind: Kind,
@@ -92,7 +92,7 @@ fn push_record(
     Ok(())
 }
 
-/// The holders among the records from one on to another, the last one first, behind those after them.
+// Appends the holders among the records from one on to another, the last one first, behind those after them.
 fn push_block(
     holders: &mut Vec<Holder>,
     kind: Kind,
@@ -129,7 +129,7 @@ fn push_block(
     Ok(())
 }
 
-/// The holders among many records, found block by block.
+// The holders among many records, found block by block.
 fn many_holders(
     alloc: Global,
     kind: Kind,

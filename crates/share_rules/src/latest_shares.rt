@@ -11,7 +11,8 @@ use crate::shares::Shares;
 use crate::territory_row::TerritoryRow;
 use cwr_records::Record;
 
-/// An interested party: what stands behind it belongs to it, and to none before it.
+// Notes an interested party: what stands behind it belongs to it, and to none before it. It is a function of its own for
+// the prover, which loses what is known where branches join.
 fn note_party(keys: &PartyKeys, latest: &mut [Option<Shares>], party: &InterestedParty<'_>)
     requires { length latest.old ≡ BLOCK }
     ensures { TakesParty keys.now.keys latest.old latest.new party.now }
@@ -21,7 +22,7 @@ fn note_party(keys: &PartyKeys, latest: &mut [Option<Shares>], party: &Intereste
     }
 }
 
-/// A territory row: its shares where it counts, and no later row does.
+// Notes a territory row: its shares where it counts, and no later row does.
 fn note_row(
     keys: &PartyKeys,
     latest: &mut [Option<Shares>],

@@ -11,7 +11,7 @@ use crate::party_keys::{BLOCK, PartyKeys};
 use crate::territory_row::TerritoryRow;
 use cwr_records::Record;
 
-/// Whether a record is a territory row that has no party of its side with its number before it.
+// Whether a record is a territory row that has no party of its side with its number before it.
 fn is_row_without_party(
     keys: &PartyKeys,
     found: &[bool],
@@ -28,7 +28,7 @@ fn is_row_without_party(
     }
 }
 
-/// Whether a territory row among the records from one on to another has no party of its side with its number before it.
+// Whether a territory row among the records from one on to another has no party of its side with its number before it.
 fn block_has_row_without_party(records: &[Record<'_>], start: usize, end: usize) -> bool
     requires order { start ≤ end }
     requires within { end ≤ length records.now }
@@ -61,7 +61,7 @@ pub(crate) fn many_have_row_without_party(records: &[Record<'_>]) -> bool
     false
 }
 
-/// Whether a record names a publisher's number that is not blank and that no publisher among the records has.
+// Whether a record names a publisher's number that is not blank and that no publisher among the records has.
 fn names_no_publisher(
     keys: &PartyKeys,
     found: &[bool],
@@ -81,21 +81,21 @@ fn names_no_publisher(
     }
 }
 
-/// Whether a record links a writer to a publisher.
+// Whether a record links a writer to a publisher.
 fn is_link(record: &Record<'_>) -> bool
     ensures { result ≡ is_link «record».now }
 {
     matches!(record, Record::PublisherForWriter(_))
 }
 
-/// Whether one of the records of a block links a writer to a publisher.
+// Whether one of the records of a block links a writer to a publisher.
 fn has_link(block: &[Record<'_>]) -> bool
     ensures { result ≡ list_any is_link block.now }
 {
     block.iter().any(|record| is_link(record))
 }
 
-/// Whether one of the records of a block names no publisher among all of them: only a link does.
+// Whether one of the records of a block names no publisher among all of them: only a link does.
 fn block_has_no_publisher(records: &[Record<'_>], block: &[Record<'_>]) -> bool
     ensures { result ≡ list_any (names_no_publisher records.now) block.now }
 {

@@ -26,7 +26,7 @@ pub(crate) struct PartyKeys {
     keys: [u128; BLOCK],
 }
 
-/// The key of a side and of the trimmed bytes of a number: another one for any other.
+// The key of a side and of the trimmed bytes of a number: another one for any other.
 fn key_of(side: Side, bytes: &[u8]) -> u128
     requires { length bytes.now ≤ 9 }
     ensures key { result ≡ key_of side bytes.now }
@@ -44,7 +44,7 @@ fn key_of(side: Side, bytes: &[u8]) -> u128
     key
 }
 
-/// The key of a side and of a party's number, as it is compared.
+// The key of a side and of a party's number, as it is compared.
 fn party_key(side: Side, number: &Fixed<'_, 9>) -> u128
     ensures key { result ≡ party_key side number.now }
     ensures bytes { AreBytes (trimmed number.now) }
@@ -52,8 +52,8 @@ fn party_key(side: Side, number: &Fixed<'_, 9>) -> u128
     key_of(side, number.field().trimmed())
 }
 
-/// The key of the party that a record is, is a territory row of, or names as a writer's publisher, and nobody's where
-/// it names none.
+// The key of the party that a record is, is a territory row of, or names as a writer's publisher, and nobody's where
+// it names none.
 fn named_key(record: &Record<'_>) -> u128 {
     match record {
         Record::Publisher(publisher) => party_key(Side::Publisher, &publisher.party),
@@ -93,7 +93,7 @@ impl PartyKeys {
         }
     }
 
-    /// The last place with a key that is not greater, and the first one where each is greater.
+    // The last place with a key that is not greater, and the first one where each is greater.
     fn descend(&self, key: u128) -> usize
         ensures place { result ≡ descend self.now.keys key halves 0 }
         ensures within { result < BLOCK }

@@ -2,7 +2,7 @@
 ghost use Rattle.std.specs.Prelude.{◌≡◌};
 ghost use Rattle.std.specs.List.{list_any};
 ghost use Rattle.cwr_records.specs.Blanks.{trimmed as trimmed_bytes};
-ghost use Rattle.share_rules.specs.Parties.{is_party, row_in, same_number};
+ghost use Rattle.share_rules.specs.Parties.{is_interested_party, row_in, same_number};
 ghost use Rattle.share_rules.specs.Steps.{row_is};
 
 use crate::party::Side;
@@ -31,6 +31,7 @@ impl<'a> Sought<'a> {
         }
     }
 
+    // Whether a number is that of the party.
     fn has_number(&self, number: &Fixed<'_, 9>) -> bool
         ensures { result ≡ same_number number.now self.now.number }
     {
@@ -39,7 +40,7 @@ impl<'a> Sought<'a> {
 
     /// Whether a record is this interested party.
     pub(crate) fn is_party(&self, record: &Record<'_>) -> bool
-        ensures { result ≡ is_party self.now.side self.now.number «record».now }
+        ensures { result ≡ is_interested_party self.now.side self.now.number «record».now }
     {
         match self.side {
             Side::Publisher => match record {
@@ -71,7 +72,7 @@ impl<'a> Sought<'a> {
 
     /// Whether one of the records is this interested party, the last one looked at first.
     pub(crate) fn is_among(&self, records: &[Record<'_>]) -> bool
-        ensures { result ≡ list_any (is_party self.now.side self.now.number) records.now }
+        ensures { result ≡ list_any (is_interested_party self.now.side self.now.number) records.now }
     {
         let mut end = records.len();
         while end > 0 {

@@ -1,7 +1,7 @@
 //! Who holds a work, and with which weight.
 ghost use Rattle.std.specs.Prelude.{◌≡◌, IfOk, None};
 ghost use Rattle.share_rules.specs.Fault.{fault_of};
-ghost use Rattle.share_rules.specs.Weights.{IsWhole, unclaimed_beside, weights_of};
+ghost use Rattle.share_rules.specs.Weights.{AreWholeWeights, unclaimed_beside, weights_of};
 
 use crate::holder::Holder;
 use crate::holding::holders_among;
@@ -14,7 +14,7 @@ use work_ids::{Account, SenderKey};
 /// The whole of a right, in hundredths of a percent.
 const WHOLE: u64 = 10_000;
 
-/// What nobody claims beside some holders.
+// What nobody claims beside some holders.
 fn unclaimed_beside(holders: &[Holder]) -> Holder
     ensures { result ≡ unclaimed_beside holders.now }
 {
@@ -28,28 +28,10 @@ fn unclaimed_beside(holders: &[Holder]) -> Holder
     }
 }
 
-/// The holders of a transaction, and behind them what nobody claims.
-#[tactic(auto, unfolding(crate::specs::Weights::weights_of))]
-fn weighed(
-    alloc: Global,
-    kind: Kind,
-    sender: &SenderKey,
-    transaction: &Transaction<'_>,
-    office: &Office,
-) -> Result<Vec<Holder>, AllocError>
-    ensures { IfOk result (λ holders. holders.items ≡ weights_of kind sender.now office.now transaction.now) }
-{
-    let records = transaction.records.as_slice();
-    let mut holders = holders_among(alloc, kind, sender, records, office)?;
-    let unclaimed = unclaimed_beside(holders.as_slice());
-    holders.push(unclaimed)?;
-    Ok(holders)
-}
-
 /// The holders of a transaction in record order, each with the weight of its collection share of a right at the office,
 /// and behind them what nobody claims (profile); an error where memory runs out. Without a fault the weights of either right
 /// are the whole or, for what is let pass, up to 10,006 hundredths of a percent.
-#[tactic(auto, using(crate::proofs::Whole::clean_is_whole))]
+#[tactic(auto, using(crate::proofs::Whole::clean_is_whole), unfolding(crate::specs::Weights::weights_of))]
 pub fn weights(
     alloc: Global,
     kind: Kind,
@@ -58,7 +40,11 @@ pub fn weights(
     office: &Office,
 ) -> Result<Vec<Holder>, AllocError>
     ensures weights { IfOk result (λ holders. holders.items ≡ weights_of kind sender.now office.now transaction.now) }
-    ensures total { fault_of office.now transaction.now ≡ None → IfOk result (λ holders. IsWhole holders.items) }
+    ensures total { fault_of office.now transaction.now ≡ None → IfOk result (λ holders. AreWholeWeights holders.items) }
 {
-    weighed(alloc, kind, sender, transaction, office)
+    let records = transaction.records.as_slice();
+    let mut holders = holders_among(alloc, kind, sender, records, office)?;
+    let unclaimed = unclaimed_beside(holders.as_slice());
+    holders.push(unclaimed)?;
+    Ok(holders)
 }

@@ -12,7 +12,7 @@ use Rattle.society_core.specs.declared.transmission_key.TransmissionKey.{Transmi
 use Rattle.society_rows.specs.Layout as layout
 use Rattle.society_rows.specs.Stored.{rows_in}
 use Rattle.work_ids.specs.Blanks.{fill, without_trailing_blanks}
-use Rattle.society_book.specs.Columns.{HasRows, blob_at, number_at, text_at}
+use Rattle.society_book.specs.Columns.{HasRows, blob_at, whole_number_at, text_at}
 
 -- what a key has, as one row or none
 abbrev pub row_of_some : {X : Type 0} → (X → Row) → Option X → List Row
@@ -25,7 +25,7 @@ transmission_row key body = Text key.sender ∷ Int (pos key.number) ∷ Blob bo
 
 -- the key of a row of a transmission
 abbrev pub transmission_key_of : Row → TransmissionKey
-transmission_key_of row = transmission_key (text_at 0 row) (number_at 1 row)
+transmission_key_of row = transmission_key (text_at 0 row) (whole_number_at 1 row)
 
 -- whether a row is of a transmission
 abbrev pub is_transmission_row : TransmissionKey → Row → Bool
@@ -41,7 +41,7 @@ return_row key body = Text (without_trailing_blanks key.reporter) ∷ Int (pos k
 
 -- the key of a row of a return, its reporter filled with blanks to 20 bytes
 abbrev pub return_key_of : Row → ReturnKey
-return_key_of row = return_key (fill 20 (text_at 0 row)) (number_at 1 row)
+return_key_of row = return_key (fill 20 (text_at 0 row)) (whole_number_at 1 row)
 
 -- whether a row is of a return
 abbrev pub is_return_row : ReturnKey → Row → Bool
@@ -53,7 +53,7 @@ return_rows book key = row_of_some (return_row key) (return_at book key)
 
 -- whether the number in a column is a pool's
 abbrev pub is_of_pool : ℕ → ℕ → Row → Bool
-is_of_pool at pool row = pool == number_at at row
+is_of_pool at pool row = pool == whole_number_at at row
 
 -- the row of a pool: its number and its amount
 abbrev pub pool_row : ℕ → Order → Row
@@ -102,7 +102,7 @@ return_entry row = (return_key_of row, blob_at 2 row)
 
 -- the sender and the number in a row of a cut
 abbrev pub cut_key_of : Row → TransmissionKey
-cut_key_of row = transmission_key (text_at 1 row) (number_at 2 row)
+cut_key_of row = transmission_key (text_at 1 row) (whole_number_at 2 row)
 
 -- the order of a pool, by the rows of its cut and of its returns
 abbrev pub order_in : List Row → List Row → ℕ → ℕ → Order
@@ -114,7 +114,7 @@ order_in cuts paid pool amount = record {
 
 -- a row of a pool as an entry of the book
 abbrev pub pool_entry : List Row → List Row → Row → ℕ × Order
-pool_entry cuts paid row = (number_at 0 row, order_in cuts paid (number_at 0 row) (number_at 1 row))
+pool_entry cuts paid row = (whole_number_at 0 row, order_in cuts paid (whole_number_at 0 row) (whole_number_at 1 row))
 
 -- the book that the tables stand for
 unfoldable pub book_of : Trees → Book

@@ -16,7 +16,7 @@ use Rattle.society_core.specs.Pools.{credits_of}
 use Rattle.society_book.specs.Sources.{HoldsWorks}
 use Rattle.society_book.specs.DerivedRows.{balance_rows_by}
 use Rattle.society_book.specs.Kept.{HoldsBook}
-use Rattle.society_book.specs.Shown.{AddsEach, Closes}
+use Rattle.society_book.specs.Shown.{AddsEach, AddsPool}
 use Rattle.sqlite.specs.Effect.{Database}
 use Rattle.work_ids.specs.Account.{account_text}
 
@@ -33,20 +33,20 @@ pub record AddsOrder (row : Row) (cut paid : List Row) (old new : Trees) : Type 
 
 -- these lines are there, and then these credits' units are added
 abbrev pub PaysOut : List Row → List Credit → Database → Database → Type 0
-PaysOut lines credits old new = (mid : Database) × Adds layout.credits lines old mid × AddsEach credits mid new
+PaysOut lines credits old new = (mid : Database) × Adds layout.credits_table lines old mid × AddsEach credits mid new
 
 -- the row of an account by some credits
-abbrev pub row_by : List Credit → List ℕ → List Row
-row_by credits account = balance_rows_by account (filter (λ credit. bytes_eq account (account_text credit.account)) credits)
+abbrev pub row_of_account : List Credit → List ℕ → List Row
+row_of_account credits account = balance_rows_by account (filter (λ credit. bytes_eq account (account_text credit.account)) credits)
 
 -- credits that come to the same balances, those of 0 units too
 abbrev pub ComeToTheSame : List Credit → List Credit → Type 0
-ComeToTheSame some others = (account : List ℕ) → row_by some account ≡ row_by others account
+ComeToTheSame some others = (account : List ℕ) → row_of_account some account ≡ row_of_account others account
 
 -- a pool is closed in the tables, and to balances that were as before the units are added that its credits come to
 abbrev pub ClosesWith : ℕ → Order → List Credit → Database → Database → Type 0
 ClosesWith pool order credits old new =
-    Closes pool order credits old.trees new.trees × (mid : Database) × (mid.trees layout.balances.tree ≡ old.trees layout.balances.tree) × (totals : List Credit) × ComeToTheSame totals credits × AddsEach totals mid new
+    AddsPool pool order credits old.trees new.trees × (mid : Database) × (mid.trees layout.balances.tree ≡ old.trees layout.balances.tree) × (totals : List Credit) × ComeToTheSame totals credits × AddsEach totals mid new
 
 -- tables that have what a pool is paid by, of a book in which the cut of an order is reached, pay these credits by it
 abbrev pub PaysBy : Office → Order → Trees → List Credit → Type 0

@@ -1,4 +1,4 @@
--- What the columns of a stored row say, and rows by their keys.
+-- What the columns of a stored row say, and rows by their keys (representation).
 use Rattle.std.specs.Prelude.{ℕ, pos, Bool, List, [], IsPermutation, filter}
 use Rattle.sqlite_value.specs.declared.value.Value.{Value}
 use Rattle.sqlite_value.specs.declared.value.Value.TheVariants.{Int, Text, Blob}
@@ -10,9 +10,9 @@ text_of (Text bytes) = bytes
 text_of _ = []
 
 -- a whole number from 0, and 0 of any other value
-abbrev pub number_of : Value → ℕ
-number_of (Int (pos n)) = n
-number_of _ = 0
+abbrev pub whole_number_of : Value → ℕ
+whole_number_of (Int (pos n)) = n
+whole_number_of _ = 0
 
 -- the bytes of a blob, nothing of any other value
 abbrev pub blob_of : Value → List ℕ
@@ -24,8 +24,8 @@ abbrev pub text_at : ℕ → Row → List ℕ
 text_at at row = text_of (column row at)
 
 -- the whole number in a column
-abbrev pub number_at : ℕ → Row → ℕ
-number_at at row = number_of (column row at)
+abbrev pub whole_number_at : ℕ → Row → ℕ
+whole_number_at at row = whole_number_of (column row at)
 
 -- the bytes in a column
 abbrev pub blob_at : ℕ → Row → List ℕ

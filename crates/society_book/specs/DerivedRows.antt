@@ -16,7 +16,7 @@ use Rattle.society_core.specs.Orders.{Order}
 use Rattle.society_core.specs.Pools.{all_credits, credits_of}
 use Rattle.society_rows.specs.Layout as layout
 use Rattle.society_rows.specs.Stored.{rows_in}
-use Rattle.society_book.specs.Columns.{HasRows, number_at, text_at}
+use Rattle.society_book.specs.Columns.{HasRows, whole_number_at, text_at}
 use Rattle.work_ids.specs.Account.{account_text}
 use Rattle.work_ids.specs.Blanks.{without_trailing_blanks}
 use Rattle.works_core.specs.Line.{filled_number, line_of}
@@ -122,5 +122,5 @@ pub record AreDerived (office : Office) (book : Book) (db : Trees) : Type 0 wher
   pub verdicts : HasRows is_named (told_to_front tells_verdict office book) (rows_in layout.verdicts db)
   pub versions : HasRows is_named (told_to_front tells_version office book) (rows_in layout.versions db)
   pub recordings : HasRows is_named (told_to_front tells_recordings office book) (rows_in layout.recordings db)
-  pub credits : HasRows (λ pool row. pool == number_at 0 row) (credit_rows office book) (rows_in layout.credits db)
+  pub credits : HasRows (λ pool row. pool == whole_number_at 0 row) (credit_rows office book) (rows_in layout.credits_table db)
   pub balances : HasRows is_named (balance_rows office book) (rows_in layout.balances db)

@@ -27,18 +27,18 @@ pub record HoldsBook (office : Office) (book : Book) (db : Trees) : Type 0 where
   pub numbered : AreNumbered layout.fronts db × AreNumbered layout.balances db
 
 -- the tables hold the book that they stand for
-abbrev pub Holds : Office → Trees → Type 0
-Holds office db = HoldsBook office (book_of db) db
+abbrev pub HoldsOwnBook : Office → Trees → Type 0
+HoldsOwnBook office db = HoldsBook office (book_of db) db
 
 -- the database has the tables of layout 2, and they hold a book of the office
-pub record IsKept (office : Office) (db : Database) : Type 0 where
+pub record IsOfficeBook (office : Office) (db : Database) : Type 0 where
   pub layout : HasLayout db
-  pub holds : Holds office db.trees
+  pub holds : HoldsOwnBook office db.trees
 
 -- a connection at rest shows what the last commit left, and that holds a book of the office
 pub record IsAtRest (office : Office) (s : connection.State) : Type 0 where
   pub same : s.now ≡ s.committed
-  pub kept : IsKept office s.now
+  pub kept : IsOfficeBook office s.now
 
 -- an open connection over a disk that told the truth is at rest
 abbrev pub Rests : Office → connection.State → Type 0
@@ -46,7 +46,7 @@ Rests office s = IsTrue (s.is_clean && s.is_open) → IsAtRest office s
 
 -- the books that a crash may leave; tables that hold no book leave every book, so none of them goes unseen
 abbrev pub LeftBy : Office → connection.State → Book → Type 0
-LeftBy office s book = (db : Trees) × s.may_leave db × (Holds office db → book ≡ book_of db)
+LeftBy office s book = (db : Trees) × s.may_leave db × (HoldsOwnBook office db → book ≡ book_of db)
 
 -- what a store over a connection shows of itself
 abbrev pub tables_state : Office → connection.State → ℕ → State

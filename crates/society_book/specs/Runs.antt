@@ -65,13 +65,13 @@ pub record Settled : Type 0 where
   pub verdict : Verdict
 
 -- the work number of a transaction as text, nothing where it is not clean
-abbrev pub work_in : Judged → List ℕ
-work_in judged = without_trailing_blanks (number_in judged)
+abbrev pub clean_work_number : Judged → List ℕ
+clean_work_number judged = without_trailing_blanks (number_in judged)
 
 -- the transactions of a transmission from a place on
 abbrev pub settled_from : ℕ → ℕ → List Judged → List (List (List ℕ)) → List Verdict → List Settled
 settled_from number place (judged ∷ more) (isrcs ∷ others) (verdict ∷ verdicts) =
-    record { number = number; place = place; work = work_in judged; isrcs = isrcs; verdict = verdict } ∷ settled_from number (place + 1) more others verdicts
+    record { number = number; place = place; work = clean_work_number judged; isrcs = isrcs; verdict = verdict } ∷ settled_from number (place + 1) more others verdicts
 settled_from number place _ _ _ = []
 
 -- some transactions have the one at a place of a transmission more, with this verdict
@@ -80,7 +80,7 @@ pub record AddsAt (number : ℕ) (notes : Notes) (place : ℕ) (verdict : Verdic
   pub isrcs : List (List ℕ)
   pub judged_there : slice_get notes.judged place ≡ Some judged
   pub isrcs_there : slice_get notes.isrcs place ≡ Some isrcs
-  pub more : new ≡ old ++ record { number = number; place = place; work = work_in judged; isrcs = isrcs; verdict = verdict } ∷ []
+  pub more : new ≡ old ++ record { number = number; place = place; work = clean_work_number judged; isrcs = isrcs; verdict = verdict } ∷ []
 
 -- the transactions of the transmissions from a number on, behind those before them
 abbrev pub settled_run : List Placed → ℕ → List Notes → List Settled

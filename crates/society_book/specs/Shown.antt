@@ -12,7 +12,7 @@ use Rattle.society_rows.specs.Balances.{AddsUnits}
 use Rattle.society_rows.specs.declared.fault.RowFault.{RowFault}
 use Rattle.society_rows.specs.Stored.{AreNumbered, HasLayout, KeepsOthers, put_over, rows_in}
 use Rattle.society_rows.specs.Layout as layout
-use Rattle.society_rows.specs.Layout.{all_tables, fronts, recordings, transmissions, verdicts, versions}
+use Rattle.society_rows.specs.Layout.{all_tables, fronts, recordings, transmissions, verdicts, versions, returns}
 use Rattle.std.specs.Prelude.{◌≢◌}
 use Rattle.pool_split.specs.declared.claim.Credit.{Credit}
 use Rattle.society_core.specs.Book.{Book}
@@ -22,7 +22,7 @@ use Rattle.work_ids.specs.declared.fault.IdFault.{IdFault}
 use Rattle.work_ids.specs.declared.account.Account.{Account}
 use Rattle.work_ids.specs.declared.account.Account.TheVariants.{Ipi, Party, Unclaimed}
 use Rattle.society_book.specs.BookRows.{cut_row, paid_row, pool_row}
-use Rattle.society_book.specs.Columns.{number_at, text_at}
+use Rattle.society_book.specs.Columns.{whole_number_at, text_at}
 use Rattle.society_book.specs.DerivedRows.{credit_row, verdict_row}
 use Rattle.society_book.specs.Kept.{HoldsBook}
 use Rattle.works_core.specs.declared.version.WorkVersion.{WorkVersion}
@@ -51,7 +51,7 @@ ShowKey kept rows = ((rows ≡ []) × (kept ≡ None)) ⊎ ((name : List ℕ) ×
 
 -- the version that a row is: its transmission's number, its place there, its ordinal and its revision
 abbrev pub version_shown : Row → WorkVersion
-version_shown row = record { transmission = number_at 3 row; place = number_at 4 row; ordinal = number_at 5 row; revision = number_at 2 row }
+version_shown row = record { transmission = whole_number_at 3 row; place = whole_number_at 4 row; ordinal = whole_number_at 5 row; revision = whole_number_at 2 row }
 
 -- the rows of a work's last version: one row that ends with its revision, its transmission's number, its place there and its ordinal, or none
 abbrev pub ShowVersion : Option WorkVersion → List Row → Type 0
@@ -64,7 +64,19 @@ pub record Comes (table : Table) (more : List Row) (old new : Trees) : Type 0 wh
   pub rows : IsPermutation (more ++ rows_in table old) (rows_in table new)
   pub others : KeepsOthers table old new
 
--- What an addition in a transaction of its own does to a connection that is in none: this change, committed, with an answer of which this
+-- the tables have this row of a return more
+abbrev pub ReturnComes : Row → Trees → Trees → Type 0
+ReturnComes row = Comes returns (row ∷ [])
+
+-- over layout 2 an answer says that the tables changed so
+abbrev pub Changes : {X : Type 0} → (Trees → Trees → Type 0) → Result X RowFault → State → State → Type 0
+Changes Change result old new = HasCleanDisk new → HasLayout old.now → OnOk result (Change old.now.trees new.now.trees × HasLayout new.now)
+
+-- a crash leaves what it left before, or, of a connection that was open, the tables changed so
+abbrev pub SurvivesChange : (Trees → Trees → Type 0) → State → State → Type 0
+SurvivesChange Change old new = Survives old new (λ db. IsTrue old.is_open × (HasLayout old.now → Change old.now.trees db))
+
+-- What an addition in a transaction of its own does to a connection at rest: this change, committed, with an answer of which this
 -- holds, or nothing; and a crash leaves what it left before, or the tables with this change.
 pub record AddsAlone {X : Type 0} (Change : Trees → Trees → Type 0) (Says : Trees → X → Type 0) (old new : State) (result : Result X RowFault) : Type 0 where
   pub changed : HasCleanDisk new → HasLayout old.now → OnOk result (Change old.now.trees new.now.trees × HasLayout new.now)
@@ -91,15 +103,15 @@ ShowPayer payer rows = ((rows ≡ []) × (payer ≡ None)) ⊎ ((reporter : List
 -- the verdict that a row has: a fault, or an ordinal from 1 and a revision
 abbrev pub verdict_in : Row → Option Verdict
 verdict_in row =
-    if number_at 3 row == 0 then (if number_at 4 row == 0 then None else Some (Accepted (number_at 4 row) (number_at 5 row))) else Some (Rejected (number_at 3 row))
+    if whole_number_at 3 row == 0 then (if whole_number_at 4 row == 0 then None else Some (Accepted (whole_number_at 4 row) (whole_number_at 5 row))) else Some (Rejected (whole_number_at 3 row))
 
 -- the rows of a transmission's verdicts, each at its place
 abbrev pub ShowVerdicts : List Verdict → List Row → Type 0
 ShowVerdicts verdicts rows = (sender : List ℕ) × (number : ℕ) × (rows ≡ map (λ line. verdict_row sender number line.0 line.1) (enumerate_from 0 verdicts))
 
 -- the ISRC of a credit by its text, none where that is a dash
-abbrev pub isrc_in : List ℕ → Option (List ℕ)
-isrc_in text = if bytes_eq text (45 ∷ []) then None else Some text
+abbrev pub credit_isrc : List ℕ → Option (List ℕ)
+credit_isrc text = if bytes_eq text (45 ∷ []) then None else Some text
 
 -- a credit by the account that its text says, where it says one
 abbrev pub credit_by : Option (List ℕ) → Result Account IdFault → ℕ → Option Credit
@@ -108,7 +120,7 @@ credit_by isrc (Err fault) units = None
 
 -- the credit that a row has
 abbrev pub credit_in : Row → Option Credit
-credit_in row = credit_by (isrc_in (text_at 2 row)) (account_of (text_at 3 row)) (number_at 4 row)
+credit_in row = credit_by (credit_isrc (text_at 2 row)) (account_of (text_at 3 row)) (whole_number_at 4 row)
 
 -- an ISRC has twelve characters, where there is one
 abbrev pub HasIsrc : Option (List ℕ) → Type 0
@@ -158,7 +170,7 @@ abbrev pub KeepsUntold : Trees → Trees → Type 0
 KeepsUntold old new = AllByRecursion (λ t. t.tree ≢ verdicts.tree → t.tree ≢ versions.tree → t.tree ≢ recordings.tree → new t.tree ≡ old t.tree) all_tables
 
 -- the tables have these rows of verdicts, of versions and of recordings more; the other tables are as they were
-pub record Tells (judged told named : List Row) (old new : Trees) : Type 0 where
+pub record AddsTold (judged told named : List Row) (old new : Trees) : Type 0 where
   pub verdicts : IsPermutation (judged ++ rows_in verdicts old) (rows_in verdicts new)
   pub versions : IsPermutation (told ++ rows_in versions old) (rows_in versions new)
   pub recordings : IsPermutation (named ++ rows_in recordings old) (rows_in recordings new)
@@ -172,12 +184,12 @@ AddsEach (credit ∷ credits) old new = (mid : Database) × AddsUnits (account_t
 -- every table but those of the pools and of what they pay is as it was
 abbrev pub KeepsLines : Trees → Trees → Type 0
 KeepsLines old new =
-    AllByRecursion (λ t. t.tree ≢ layout.pools.tree → t.tree ≢ layout.pool_cuts.tree → t.tree ≢ layout.pool_returns.tree → t.tree ≢ layout.credits.tree → t.tree ≢ layout.balances.tree → new t.tree ≡ old t.tree) all_tables
+    AllByRecursion (λ t. t.tree ≢ layout.pools.tree → t.tree ≢ layout.pool_cuts.tree → t.tree ≢ layout.pool_returns.tree → t.tree ≢ layout.credits_table.tree → t.tree ≢ layout.balances.tree → new t.tree ≡ old t.tree) all_tables
 
 -- the tables have the rows of a pool more, with its cut, the returns that it pays and the lines of its credits; but for the balances the other tables are as they were
-pub record Closes (pool : ℕ) (order : Order) (paid_out : List Credit) (old new : Trees) : Type 0 where
+pub record AddsPool (pool : ℕ) (order : Order) (paid_out : List Credit) (old new : Trees) : Type 0 where
   pub pools : IsPermutation ((pool_row pool order ∷ []) ++ rows_in layout.pools old) (rows_in layout.pools new)
   pub cuts : IsPermutation (map (cut_row pool) order.cut ++ rows_in layout.pool_cuts old) (rows_in layout.pool_cuts new)
   pub paid : IsPermutation (map (paid_row pool) order.returns ++ rows_in layout.pool_returns old) (rows_in layout.pool_returns new)
-  pub lines : IsPermutation (map (λ line. credit_row pool line.0 line.1) (enumerate_from 0 paid_out) ++ rows_in layout.credits old) (rows_in layout.credits new)
+  pub lines : IsPermutation (map (λ line. credit_row pool line.0 line.1) (enumerate_from 0 paid_out) ++ rows_in layout.credits_table old) (rows_in layout.credits_table new)
   pub others : KeepsLines old new

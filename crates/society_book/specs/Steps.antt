@@ -1,4 +1,4 @@
--- What several statements of one transaction do together.
+-- What several statements of one transaction do together (representation).
 use Rattle.std.specs.Prelude.{ℕ, pos, ◌≡◌, ◌⊎◌, List, [], ◌∷◌, None, Result, IsTrue, IfOk, OnOk}
 use Rattle.share_rules.specs.declared.office.Office.{Office}
 use Rattle.sqlite.specs.Effect.{Database}
@@ -25,6 +25,14 @@ pub record Does {X : Type 0} (old new : State) (result : Result X RowFault) (Say
 pub record DoesOpen {X : Type 0} (old new : State) (result : Result X RowFault) (Says : Database → Database → X → Type 0) : Type 0 where
   pub does : Does old new result Says
   pub answered : HasCleanDisk new → IsTrue old.in_transaction → OnOk result (IsTrue old.is_open)
+
+-- readings whose answer comes from an open connection alone: the database is as it was, and its rows say this
+abbrev pub LooksOpen : {X : Type 0} → State → State → Result X RowFault → (Trees → X → Type 0) → Type 0
+LooksOpen old new result Says = DoesOpen old new result (λ before after x. (after ≡ before) × Says before.trees x)
+
+-- what is made of the rows, whatever is answered
+abbrev pub Makes : {X : Type 0} → (Trees → Trees → Type 0) → Database → Database → X → Type 0
+Makes Change before after _ = Change before.trees after.trees
 
 -- readings: the database is as it was, and its rows say this
 abbrev pub Looks : {X : Type 0} → State → State → Result X RowFault → (Trees → X → Type 0) → Type 0

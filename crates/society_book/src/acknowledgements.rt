@@ -1,19 +1,20 @@
 //! The acknowledgement of a transmission.
-ghost use Rattle.std.specs.Prelude.{◌≡◌, ◌⊎◌, List, ℕ, [], Option, Some, false, IfErr, IfOk, option_map, unwrap_or};
-ghost use Rattle.ack_files.specs.Acknowledgement.{acknowledgement};
+ghost use Rattle.std.specs.Prelude.{◌≡◌, ◌⊎◌, List, ℕ, Option, Some, IfErr, IfOk};
 ghost use Rattle.cwr_files.specs.Contents.{transmission_in};
-ghost use Rattle.sqlite.specs.Held.{state};
 ghost use Rattle.society_core.specs.Book.{ack, body_at};
 ghost use Rattle.society_rows.specs.Questions.{Asks};
 ghost use Rattle.society_rows.specs.declared.fault.RowFault.TheVariants.{Memory, Unread};
 ghost use Rattle.society_book.specs.Shown.{ByBook, ByOwnBook, ShowBody};
+ghost use Rattle.society_rows.specs.Between.{between};
+ghost use Rattle.society_book.specs.Items.{items_of};
+ghost use Rattle.society_book.specs.AnswersShown.{IsAcknowledged};
 
 use crate::senders::verdicts_of;
 use ack_files::write_ack;
 use cwr_files::{ReadFault, Transmission, read_transmission};
 use share_rules::Office;
-use society_rows::{Question, RowFault, TransmissionRow, ask};
-use sqlite::{Alter, Connection, Row};
+use society_rows::{Idle, Question, RowFault, TransmissionRow, ask};
+use sqlite::{Alter, Row};
 use std::alloc::Global;
 use work_ids::SenderKey;
 use works_core::Verdict;
@@ -34,8 +35,8 @@ pub(crate) fn read<'a>(
     }
 }
 
-/// The acknowledgement of the transmission that rows show, with these verdicts; `Unread` where they are not one row, or its
-/// body is no transmission of the sender.
+// The acknowledgement of the transmission that rows show, with these verdicts; `Unread` where they are not one row, or its
+// body is no transmission of the sender.
 fn written(
     alloc: Global,
     office: &Office,
@@ -43,8 +44,7 @@ fn written(
     rows: &[Row],
     verdicts: &[Verdict],
 ) -> Result<Option<Vec<u8>>, RowFault>
-    ensures { (kept : Option (List ℕ)) → ShowBody kept rows.now → IfOk result (λ text. option_map (λ bytes. bytes.items) text
-        ≡ Some (acknowledgement office.now sender.now (transmission_in (unwrap_or kept [])) verdicts.now)) }
+    ensures { (kept : Option (List ℕ)) → ShowBody kept rows.now → IfOk result (IsAcknowledged office.now sender.now verdicts.now kept) }
 {
     let [row] = rows else {
         return Err(RowFault::Unread);
@@ -55,20 +55,16 @@ fn written(
     Ok(Some(text))
 }
 
-/// The acknowledgement of a sender's transmission with these verdicts.
+// The acknowledgement of a sender's transmission with these verdicts.
 fn written_of<S: Alter>(
     alloc: Global,
-    conn: &mut Connection<S>,
+    conn: &mut Idle<S>,
     office: &Office,
     sender: &SenderKey,
     number: u32,
     verdicts: &[Verdict],
 ) -> Result<Option<Vec<u8>>, RowFault>
-    requires { conn.old.in_transaction ≡ false }
-    ensures asked { Asks (state S.Store conn.old) (state S.Store conn.new) result
-        (ByBook (λ _ book text. option_map (λ bytes. bytes.items) text
-        ≡ Some (acknowledgement office.now sender.now (transmission_in (unwrap_or (body_at book sender.now number) [])) verdicts.now))) }
-    ensures idle { conn.new.in_transaction ≡ false }
+    ensures asked { between S.Store conn.old conn.new Asks result (ByBook (λ _ book text. IsAcknowledged office.now sender.now verdicts.now (body_at book sender.now number) text)) }
 {
     let rows = ask(conn, Question::Transmission(sender.as_bytes(), number))?;
     written(alloc, office, sender, rows.as_slice(), verdicts)
@@ -77,17 +73,13 @@ fn written_of<S: Alter>(
 /// The acknowledgement of a sender's transmission at this office, none where its number is above the sender's front.
 pub fn ack_of<S: Alter>(
     alloc: Global,
-    conn: &mut Connection<S>,
+    conn: &mut Idle<S>,
     office: &Office,
     sender: &SenderKey,
     number: u32,
 ) -> Result<Option<Vec<u8>>, RowFault>
-    requires { conn.old.in_transaction ≡ false }
-    ensures asked { Asks (state S.Store conn.old) (state S.Store conn.new) result
-        (ByOwnBook office.now (λ book text. option_map (λ bytes. bytes.items) text ≡ ack office.now book sender.now number)) }
-    ensures idle { conn.new.in_transaction ≡ false }
+    ensures asked { between S.Store conn.old conn.new Asks result (ByOwnBook office.now (λ book text. items_of text ≡ ack office.now book sender.now number)) }
 {
-    let _settled = conn.is_autocommit();
     let Some(verdicts) = verdicts_of(alloc, conn, sender.as_bytes(), number)? else {
         return Ok(None);
     };

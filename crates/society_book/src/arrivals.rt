@@ -1,27 +1,22 @@
 //! What is added of a sender.
-ghost use Rattle.std.specs.Prelude.{◌≡◌, ◌+◌, ◌||◌, [], Bool, List, ℕ, None, bytes_eq, false, flat_map, map, true, IfOk};
+ghost use Rattle.std.specs.Prelude.{◌≡◌, ◌+◌, [], ℕ, None, map, IfOk};
 ghost use Rattle.cwr_files.specs.FileFault.{file_fault};
-ghost use Rattle.share_rules.specs.declared.office.Office.{Office as OfficeValue};
-ghost use Rattle.sqlite.specs.Held.{state};
-ghost use Rattle.society_core.specs.Book.{Book, body_at, front, is_entry, with_transmission};
+ghost use Rattle.society_core.specs.Book.{front};
 ghost use Rattle.society_rows.specs.Rows.{front_values, recording_values, transmission_values, verdict_values, version_values};
-ghost use Rattle.society_book.specs.DerivedRows.{works_to};
-ghost use Rattle.society_book.specs.Kept.{HoldsBook};
-ghost use Rattle.society_book.specs.Outcomes.{settled};
-ghost use Rattle.society_book.specs.Runs.{EndsReady, GoesOnBy, is_among, line_at_front, settled_recordings, settled_verdict, settled_version};
-ghost use Rattle.society_book.specs.Shown.{AddsAlone, ByBook, Runs, Tells, Waits};
-ghost use Rattle.society_book.specs.Steps.{Arrives, ArrivesTo, Does, DoesOpen, HasReached, Looks, ShowReached};
-ghost use Rattle.works_core.specs.Ends.{EndsAt};
+ghost use Rattle.society_book.specs.Shown.{AddsAlone, ByBook, AddsTold, Waits};
+ghost use Rattle.society_book.specs.Steps.{Arrives, ArrivesTo, Does, DoesOpen, HasReached, Looks, ShowReached, LooksOpen, Makes};
+ghost use Rattle.society_rows.specs.Between.{between, within};
+ghost use Rattle.society_book.specs.Arriving.{NotesRun, LearnsWork, LearnsWorks, EndsAtFront, WritesRun, AppliesRun, ArrivesWith};
 
 use crate::outcomes::{Outcome, column_of, recording_rows, settle_run, verdict_rows, version_rows};
 use crate::run::{Noted, Run, ascending_works};
 use crate::works::last_version;
 use share_rules::Office;
 use society_rows::{
-    FrontRow, Question, RecordingRow, RowFault, TransmissionRow, VerdictRow, VersionRow,
+    FrontRow, Idle, Question, RecordingRow, RowFault, TransmissionRow, VerdictRow, VersionRow,
     add_recordings, add_transmission, add_verdicts, add_versions, answer, fold_run, put_front,
 };
-use sqlite::{Alter, Connection, Row, Transaction};
+use sqlite::{Alter, Row, Transaction};
 use std::alloc::Global;
 use work_ids::{SenderKey, TransmissionNumber, WorkNumber};
 use works_core::LineEnd;
@@ -33,7 +28,7 @@ pub(crate) struct Reached {
     works: u64,
 }
 
-/// How far a sender came by the rows of its front; `Unread` where they are more than one.
+// How far a sender came by the rows of its front; `Unread` where they are more than one.
 fn shown_reached(rows: &[Row]) -> Result<Reached, RowFault>
     ensures { (n w : ℕ) → ShowReached n w rows.now → IfOk result (λ reached. (reached.front ≡ n) × (reached.works ≡ w)) }
 {
@@ -53,17 +48,16 @@ fn shown_reached(rows: &[Row]) -> Result<Reached, RowFault>
     }
 }
 
-/// How far a sender came.
+// How far a sender came.
 fn reached_in<S: Alter>(tx: &mut Transaction<'_, S>, sender: &[u8]) -> Result<Reached, RowFault>
     ensures same_reference { tx.new.conn.ghost_name ≡ tx.old.conn.ghost_name }
-    ensures looks { DoesOpen (state S.Store tx.old.conn.now) (state S.Store tx.new.conn.now) result
-        (λ before after x. (after ≡ before) × ByBook (λ office book reached. HasReached office book sender.now reached.front reached.works) before.trees x) }
+    ensures looks { within S.Store tx.old tx.new LooksOpen result (ByBook (λ office book reached. HasReached office book sender.now reached.front reached.works)) }
 {
     let rows = answer(tx, Question::Front(sender))?;
     shown_reached(rows.as_slice())
 }
 
-/// The run with which a sender's front goes on from this one when a transmission comes: none where that is not the next one.
+// The run with which a sender's front goes on from this one when a transmission comes: none where that is not the next one.
 fn run_from<S: Alter>(
     alloc: Global,
     tx: &mut Transaction<'_, S>,
@@ -75,9 +69,7 @@ fn run_from<S: Alter>(
 ) -> Result<Run, RowFault>
     requires right { file_fault sender.now body.now ≡ None }
     ensures same_reference { tx.new.conn.ghost_name ≡ tx.old.conn.ghost_name }
-    ensures looks { Looks (state S.Store tx.old.conn.now) (state S.Store tx.new.conn.now) result
-        (λ db run. (book : Book) → HoldsBook office.now book db → reached ≡ front book sender.now → body_at book sender.now number ≡ None
-        → GoesOnBy office.now book (with_transmission book sender.now number body.now) sender.now run.notes) }
+    ensures looks { within S.Store tx.old tx.new Looks result (λ db run. NotesRun office.now sender.now number body.now reached db run.notes) }
 {
     if number.value() - 1 != reached {
         return Ok(Run::new(alloc, office, sender));
@@ -87,7 +79,7 @@ fn run_from<S: Alter>(
     Ok(run)
 }
 
-/// Learns the last version of a work at a sender's front.
+// Learns the last version of a work at a sender's front.
 fn learn_work<S: Alter>(
     tx: &mut Transaction<'_, S>,
     sender: &SenderKey,
@@ -95,9 +87,7 @@ fn learn_work<S: Alter>(
     end: &mut LineEnd,
 ) -> Result<(), RowFault>
     ensures same_reference { tx.new.conn.ghost_name ≡ tx.old.conn.ghost_name }
-    ensures looks { Looks (state S.Store tx.old.conn.now) (state S.Store tx.new.conn.now) result
-        (λ db _. (office : OfficeValue) (book : Book) (known : List ℕ → Bool) → HoldsBook office book db → EndsAt known (line_at_front office book sender.now) end.old
-        → EndsAt (λ other. known other || bytes_eq work.now other) (line_at_front office book sender.now) end.new) }
+    ensures looks { within S.Store tx.old tx.new Looks result (λ db _. LearnsWork sender.now work.now end.old end.new db) }
 {
     let rows = answer(
         tx,
@@ -108,7 +98,7 @@ fn learn_work<S: Alter>(
     Ok(())
 }
 
-/// Learns the last versions of works at a sender's front.
+// Learns the last versions of works at a sender's front.
 fn learn_all<S: Alter>(
     tx: &mut Transaction<'_, S>,
     sender: &SenderKey,
@@ -116,9 +106,7 @@ fn learn_all<S: Alter>(
     end: &mut LineEnd,
 ) -> Result<(), RowFault>
     ensures same_reference { tx.new.conn.ghost_name ≡ tx.old.conn.ghost_name }
-    ensures looks { Looks (state S.Store tx.old.conn.now) (state S.Store tx.new.conn.now) result
-        (λ db _. (office : OfficeValue) (book : Book) → HoldsBook office book db → EndsAt (λ _. false) (line_at_front office book sender.now) end.old
-        → EndsAt (is_among works.now) (line_at_front office book sender.now) end.new) }
+    ensures looks { within S.Store tx.old tx.new Looks result (λ db _. LearnsWorks sender.now works.now end.old end.new db) }
 {
     for work in works {
         learn_work(tx, sender, work, end)?;
@@ -126,7 +114,7 @@ fn learn_all<S: Alter>(
     Ok(())
 }
 
-/// The end of a sender's line up to its front, at which the works of a run are known.
+// The end of a sender's line up to its front, at which the works of a run are known.
 fn end_at_front<S: Alter>(
     alloc: Global,
     tx: &mut Transaction<'_, S>,
@@ -135,9 +123,7 @@ fn end_at_front<S: Alter>(
     run: &[Noted],
 ) -> Result<LineEnd, RowFault>
     ensures same_reference { tx.new.conn.ghost_name ≡ tx.old.conn.ghost_name }
-    ensures looks { Looks (state S.Store tx.old.conn.now) (state S.Store tx.new.conn.now) result
-        (λ db end. (office : OfficeValue) (book : Book) → HoldsBook office book db → works ≡ works_to office book sender.now
-        → EndsReady office book sender.now run.now end) }
+    ensures looks { within S.Store tx.old tx.new Looks result (EndsAtFront sender.now works run.now) }
 {
     let asked = ascending_works(alloc, run)?;
     let mut end = LineEnd::new(alloc, works);
@@ -145,29 +131,27 @@ fn end_at_front<S: Alter>(
     Ok(end)
 }
 
-/// Adds a transmission, and puts its sender's front.
+// Adds a transmission, and puts its sender's front.
 fn put_line<S: Alter>(
     tx: &mut Transaction<'_, S>,
     row: &TransmissionRow<'_>,
     front: &FrontRow<'_>,
 ) -> Result<(), RowFault>
     ensures same_reference { tx.new.conn.ghost_name ≡ tx.old.conn.ghost_name }
-    ensures does { Does (state S.Store tx.old.conn.now) (state S.Store tx.new.conn.now) result
-        (λ before after _. Waits (transmission_values row.now) (front_values front.now) before.trees after.trees) }
+    ensures does { within S.Store tx.old tx.new Does result (Makes (Waits (transmission_values row.now) (front_values front.now))) }
 {
     add_transmission(tx, row)?;
     put_front(tx, front)
 }
 
-/// Adds versions and recordings.
+// Adds versions and recordings.
 fn add_works<S: Alter>(
     tx: &mut Transaction<'_, S>,
     versions: &[VersionRow<'_>],
     recordings: &[RecordingRow<'_>],
 ) -> Result<(), RowFault>
     ensures same_reference { tx.new.conn.ghost_name ≡ tx.old.conn.ghost_name }
-    ensures does { Does (state S.Store tx.old.conn.now) (state S.Store tx.new.conn.now) result
-        (λ before after _. Tells [] (map version_values versions.now) (map recording_values recordings.now) before.trees after.trees) }
+    ensures does { within S.Store tx.old tx.new Does result (Makes (AddsTold [] (map version_values versions.now) (map recording_values recordings.now))) }
 {
     add_versions(tx, versions)?;
     add_recordings(tx, recordings)
@@ -181,14 +165,13 @@ pub fn add_told<S: Alter>(
     recordings: &[RecordingRow<'_>],
 ) -> Result<(), RowFault>
     ensures same_reference { tx.new.conn.ghost_name ≡ tx.old.conn.ghost_name }
-    ensures does { Does (state S.Store tx.old.conn.now) (state S.Store tx.new.conn.now) result
-        (λ before after _. Tells (map verdict_values verdicts.now) (map version_values versions.now) (map recording_values recordings.now) before.trees after.trees) }
+    ensures does { within S.Store tx.old tx.new Does result (Makes (AddsTold (map verdict_values verdicts.now) (map version_values versions.now) (map recording_values recordings.now))) }
 {
     add_verdicts(tx, verdicts)?;
     add_works(tx, versions, recordings)
 }
 
-/// Adds a transmission, puts its sender's front, and adds what the transactions of the run tell.
+// Adds a transmission, puts its sender's front, and adds what the transactions of the run tell.
 fn write_run<S: Alter>(
     alloc: Global,
     tx: &mut Transaction<'_, S>,
@@ -197,12 +180,7 @@ fn write_run<S: Alter>(
     outcomes: &[Outcome<'_>],
 ) -> Result<(), RowFault>
     ensures same_reference { tx.new.conn.ghost_name ≡ tx.old.conn.ghost_name }
-    ensures does { Does (state S.Store tx.old.conn.now) (state S.Store tx.new.conn.now) result
-        (λ before after _. Runs (transmission_values row.now) (front_values front.now)
-        (map (λ x. settled_verdict row.now.sender.now (settled x)) outcomes.now)
-        (flat_map (λ x. settled_version row.now.sender.now (settled x)) outcomes.now)
-        (flat_map (λ x. settled_recordings row.now.sender.now (settled x)) outcomes.now)
-        before.trees after.trees) }
+    ensures does { within S.Store tx.old tx.new Does result (Makes (WritesRun (transmission_values row.now) (front_values front.now) row.now.sender.now outcomes.now)) }
 {
     let verdicts = verdict_rows(alloc, row.sender, outcomes)?;
     let versions = version_rows(alloc, row.sender, outcomes)?;
@@ -216,7 +194,7 @@ fn write_run<S: Alter>(
     )
 }
 
-/// A front that goes on by so many transmissions; `Overflow` where it has no room.
+// A front that goes on by so many transmissions; `Overflow` where it has no room.
 fn front_after(reached: u32, count: usize) -> Result<u32, RowFault>
     ensures { IfOk result (λ n. n ≡ reached + count) }
 {
@@ -229,7 +207,7 @@ fn front_after(reached: u32, count: usize) -> Result<u32, RowFault>
     }
 }
 
-/// Adds a transmission with which its sender's front goes on from this one by a run, which may be empty; tells the front then.
+// Adds a transmission with which its sender's front goes on from this one by a run, which may be empty; tells the front then.
 fn apply_run<S: Alter>(
     alloc: Global,
     tx: &mut Transaction<'_, S>,
@@ -240,10 +218,7 @@ fn apply_run<S: Alter>(
     run: &[Noted],
 ) -> Result<u32, RowFault>
     ensures same_reference { tx.new.conn.ghost_name ≡ tx.old.conn.ghost_name }
-    ensures does { Does (state S.Store tx.old.conn.now) (state S.Store tx.new.conn.now) result
-        (λ before after then. (office : OfficeValue) (book : Book) → HoldsBook office book before.trees → HasReached office book sender.now reached.front reached.works
-        → body_at book sender.now number ≡ None → is_entry sender.now number body.now ≡ true → GoesOnBy office book (with_transmission book sender.now number body.now) sender.now run.now
-        → HoldsBook office (with_transmission book sender.now number body.now) after.trees × (then ≡ front (with_transmission book sender.now number body.now) sender.now)) }
+    ensures does { within S.Store tx.old tx.new Does result (λ before after then. AppliesRun sender.now number body.now reached.front reached.works run.now before.trees after.trees then) }
 {
     let mut end = end_at_front(alloc, tx, sender, reached.works, run)?;
     let outcomes = settle_run(alloc, &mut end, reached.front, run)?;
@@ -262,7 +237,7 @@ fn apply_run<S: Alter>(
     Ok(then)
 }
 
-/// Adds a transmission to a transaction, and tells its sender's front then.
+// Adds a transmission to a transaction, and tells its sender's front then.
 fn arrive_inside<S: Alter>(
     alloc: Global,
     tx: &mut Transaction<'_, S>,
@@ -273,8 +248,7 @@ fn arrive_inside<S: Alter>(
 ) -> Result<u32, RowFault>
     requires right { file_fault sender.now body.now ≡ None }
     ensures same_reference { tx.new.conn.ghost_name ≡ tx.old.conn.ghost_name }
-    ensures does { DoesOpen (state S.Store tx.old.conn.now) (state S.Store tx.new.conn.now) result
-        (λ before after then. Arrives office.now sender.now number body.now before.trees after.trees × ArrivesTo office.now sender.now number body.now before.trees then) }
+    ensures does { within S.Store tx.old tx.new DoesOpen result (λ before after then. ArrivesWith office.now sender.now number body.now before.trees after.trees then) }
 {
     // The number's limits are part of what a sound book says.
     let _number = number.value();
@@ -286,18 +260,16 @@ fn arrive_inside<S: Alter>(
 /// Adds a transmission in a transaction of its own, and tells its sender's front then.
 pub fn arrive<S: Alter>(
     alloc: Global,
-    conn: &mut Connection<S>,
+    conn: &mut Idle<S>,
     office: &Office,
     sender: &SenderKey,
     number: TransmissionNumber,
     body: &[u8],
 ) -> Result<u32, RowFault>
-    requires idle { conn.old.in_transaction ≡ false }
     requires right { file_fault sender.now body.now ≡ None }
-    ensures added { AddsAlone (Arrives office.now sender.now number body.now) (ArrivesTo office.now sender.now number body.now) (state S.Store conn.old) (state S.Store conn.new) result }
-    ensures idle { conn.new.in_transaction ≡ false }
+    ensures added { between S.Store conn.old conn.new (AddsAlone (Arrives office.now sender.now number body.now) (ArrivesTo office.now sender.now number body.now)) result }
 {
-    let mut tx = conn.transaction();
+    let mut tx = conn.connection.transaction();
     let then = arrive_inside(alloc, &mut tx, office, sender, number, body)?;
     tx.commit()?;
     Ok(then)

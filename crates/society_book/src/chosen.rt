@@ -1,19 +1,18 @@
 //! The versions that works have at a sender's cut.
-ghost use Rattle.std.specs.Prelude.{◌==◌, ◌≡◌, ◌||◌, Bool, List, Some, ℕ, false, IfOk, OnOk, bytes_eq, find, if◌then◌else◌, nat_le, option_map, reverse, true};
+ghost use Rattle.std.specs.Prelude.{◌==◌, ◌≡◌, ◌||◌, List, Some, ℕ, false, IfOk, OnOk, bytes_eq, find, nat_le, option_map, reverse, if◌then◌else◌};
 ghost use Rattle.std.specs.BTreeSet.{contains};
-ghost use Rattle.std.specs.List.{list_any};
 ghost use Rattle.std.specs.List.Sorted.{IsStrictlySortedBy};
 ghost use Rattle.std.specs.Ordering.{nat_cmp};
 ghost use Rattle.share_rules.specs.declared.office.Office.{Office as OfficeValue};
-ghost use Rattle.sqlite.specs.Held.{state};
-ghost use Rattle.society_core.specs.Book.{Book, is_applied, version_in};
+ghost use Rattle.society_core.specs.Book.{Book};
 ghost use Rattle.society_core.specs.Owners.{is_at};
 ghost use Rattle.society_core.specs.declared.transmission_key.TransmissionKey.{TransmissionKey as KeyValue};
-ghost use Rattle.society_book.specs.Columns.{number_at};
+ghost use Rattle.society_book.specs.Columns.{whole_number_at};
 ghost use Rattle.society_book.specs.CutWorks.{Chooses, chosen_at};
-ghost use Rattle.society_book.specs.Sources.{HoldsWorks};
 ghost use Rattle.society_book.specs.Shown.{version_shown};
 ghost use Rattle.society_book.specs.Steps.{Looks};
+ghost use Rattle.society_rows.specs.Between.{within};
+ghost use Rattle.society_book.specs.Choosing.{ChoosesMore, ChoosesWork, ChoosesWorks, IsVersionAtCut};
 
 use crate::works::version_of;
 use society_core::TransmissionKey;
@@ -24,10 +23,10 @@ use std::collections::{BTreeMap, BTreeSet};
 use work_ids::{TransmissionNumber, WorkNumber};
 use works_core::WorkVersion;
 
-/// The last of the versions that rows show whose transmission is up to a cut, none where all are above it; `Unread` where a
-/// row shows none.
+// The last of the versions that rows show whose transmission is up to a cut, none where all are above it; `Unread` where a
+// row shows none.
 fn last_up_to(rows: &[Row], cut: TransmissionNumber) -> Result<Option<WorkVersion>, RowFault>
-    ensures { IfOk result (λ version. version ≡ option_map version_shown (find (λ row. nat_le (number_at 3 row) cut) (reverse rows.now))) }
+    ensures { IfOk result (λ version. version ≡ option_map version_shown (find (λ row. nat_le (whole_number_at 3 row) cut) (reverse rows.now))) }
 {
     let mut last = None;
     for row in rows {
@@ -39,16 +38,14 @@ fn last_up_to(rows: &[Row], cut: TransmissionNumber) -> Result<Option<WorkVersio
     Ok(last)
 }
 
-/// The version that a sender's work has at the sender's cut, none where it has none.
+// The version that a sender's work has at the sender's cut, none where it has none.
 fn version_at<S: Alter>(
     tx: &mut Transaction<'_, S>,
     key: &TransmissionKey,
     work: &WorkNumber,
 ) -> Result<Option<WorkVersion>, RowFault>
     ensures same_reference { tx.new.conn.ghost_name ≡ tx.old.conn.ghost_name }
-    ensures looks { Looks (state S.Store tx.old.conn.now) (state S.Store tx.new.conn.now) result
-        (λ db version. (office : OfficeValue) (book : Book) → HoldsWorks office book db → is_applied book key.now ≡ true
-        → version ≡ version_in office book key.now.sender work.now key.now.number) }
+    ensures looks { within S.Store tx.old tx.new Looks result (IsVersionAtCut key.now work.now) }
 {
     let rows = answer(
         tx,
@@ -65,7 +62,7 @@ pub(crate) struct Chosen {
 }
 
 impl Chosen {
-    /// No versions.
+    // No versions.
     fn new(alloc: Global) -> Chosen
         ensures { (office : OfficeValue) (book : Book) (key : KeyValue) → Chooses office book key (λ _. false) result }
     {
@@ -75,7 +72,7 @@ impl Chosen {
         }
     }
 
-    /// Chooses a version of a work.
+    // Chooses a version of a work.
     fn keep(&mut self, work: WorkNumber, version: WorkVersion) -> Result<(), AllocError>
         ensures versions { OnOk result ((other : List ℕ) → chosen_at self.new other ≡ (if bytes_eq work other then Some version else chosen_at self.old other)) }
         ensures transmissions { OnOk result ((number : ℕ) → contains nat_cmp self.new.transmissions number ≡ (version.transmission == number || contains nat_cmp self.old.transmissions number)) }
@@ -86,10 +83,9 @@ impl Chosen {
         Ok(())
     }
 
-    /// Chooses the version of a work at the cut, none where it has none.
+    // Chooses the version of a work at the cut, none where it has none.
     fn choose(&mut self, work: WorkNumber, version: Option<WorkVersion>) -> Result<(), AllocError>
-        ensures { (office : OfficeValue) (book : Book) (key : KeyValue) (known : List ℕ → Bool) → Chooses office book key known self.old
-            → version ≡ version_in office book key.sender work key.number → OnOk result (Chooses office book key (λ other. known other || bytes_eq work other) self.new) }
+        ensures { ChoosesMore work version self.old result self.new }
     {
         match version {
             Some(version) => self.keep(work, version),
@@ -116,7 +112,7 @@ impl Chosen {
     }
 }
 
-/// Chooses the version that a sender's work has at the sender's cut.
+// Chooses the version that a sender's work has at the sender's cut.
 fn choose_work<S: Alter>(
     tx: &mut Transaction<'_, S>,
     key: &TransmissionKey,
@@ -124,9 +120,7 @@ fn choose_work<S: Alter>(
     chosen: &mut Chosen,
 ) -> Result<(), RowFault>
     ensures same_reference { tx.new.conn.ghost_name ≡ tx.old.conn.ghost_name }
-    ensures looks { Looks (state S.Store tx.old.conn.now) (state S.Store tx.new.conn.now) result
-        (λ db _. (office : OfficeValue) (book : Book) (known : List ℕ → Bool) → HoldsWorks office book db → is_applied book key.now ≡ true
-        → Chooses office book key.now known chosen.old → Chooses office book key.now (λ other. known other || bytes_eq work.now other) chosen.new) }
+    ensures looks { within S.Store tx.old tx.new Looks result (λ db _. ChoosesWork key.now work.now chosen.old chosen.new db) }
 {
     let version = version_at(tx, key, work)?;
     chosen.choose(*work, version)?;
@@ -141,9 +135,7 @@ pub(crate) fn chosen_of<S: Alter>(
     works: &[WorkNumber],
 ) -> Result<Chosen, RowFault>
     ensures same_reference { tx.new.conn.ghost_name ≡ tx.old.conn.ghost_name }
-    ensures looks { Looks (state S.Store tx.old.conn.now) (state S.Store tx.new.conn.now) result
-        (λ db chosen. (office : OfficeValue) (book : Book) → HoldsWorks office book db → is_applied book key.now ≡ true
-        → Chooses office book key.now (λ work. list_any (bytes_eq work) works.now) chosen) }
+    ensures looks { within S.Store tx.old tx.new Looks result (ChoosesWorks key.now works.now) }
 {
     let mut chosen = Chosen::new(alloc);
     for work in works {

@@ -1,14 +1,15 @@
 //! What is written when a pool is closed.
 ghost use Rattle.std.specs.Prelude.{◌≡◌, ◌∷◌, ◌++◌, [], map, unwrap_or, IfOk, OnOk};
 ghost use Rattle.std.specs.List.{enumerate_from};
-ghost use Rattle.sqlite.specs.Held.{state};
 ghost use Rattle.society_rows.specs.Rows.{credit_values, pool_cut_values, pool_return_values, pool_values};
 ghost use Rattle.society_book.specs.BookRows.{cut_row, paid_row};
 ghost use Rattle.society_book.specs.Closings.{AddsOrder, ClosesWith, PaysOut};
 ghost use Rattle.society_book.specs.DerivedRows.{credit_row};
 ghost use Rattle.work_ids.specs.Account.{account_text};
 ghost use Rattle.society_book.specs.Shown.{AddsEach};
-ghost use Rattle.society_book.specs.Steps.{Does, DoesOpen};
+ghost use Rattle.society_book.specs.Steps.{Does, DoesOpen, Makes};
+ghost use Rattle.society_rows.specs.Between.{within};
+ghost use Rattle.society_book.specs.Items.{bytes_of_each, account_texts};
 
 use crate::outcomes::column_of;
 use crate::pools::{NO_ISRC, text_of};
@@ -23,7 +24,7 @@ use sqlite::{Alter, Transaction};
 use std::alloc::Global;
 use work_ids::Isrc;
 
-/// The rows of a pool's cut.
+// The rows of a pool's cut.
 fn cut_rows<'a>(
     alloc: Global,
     pool: u32,
@@ -42,7 +43,7 @@ fn cut_rows<'a>(
     Ok(rows)
 }
 
-/// The rows of the returns that a pool pays.
+// The rows of the returns that a pool pays.
 fn paid_rows<'a>(
     alloc: Global,
     pool: u32,
@@ -61,9 +62,9 @@ fn paid_rows<'a>(
     Ok(rows)
 }
 
-/// The texts of the accounts of some credits.
+// The texts of the accounts of some credits.
 fn texts_of(alloc: Global, credits: &[Credit]) -> Result<Vec<Vec<u8>>, RowFault>
-    ensures { IfOk result (λ texts. map (λ t. t.items) texts.items ≡ map (λ x. account_text x.account) credits.now) }
+    ensures { IfOk result (λ texts. bytes_of_each texts.items ≡ account_texts credits.now) }
 {
     let mut texts = Vec::with_capacity(alloc, credits.len())?;
     for credit in credits {
@@ -73,7 +74,7 @@ fn texts_of(alloc: Global, credits: &[Credit]) -> Result<Vec<Vec<u8>>, RowFault>
     Ok(texts)
 }
 
-/// The ISRC of a credit as text, a dash where it is of no recording.
+// The ISRC of a credit as text, a dash where it is of no recording.
 fn isrc_text(isrc: &Option<Isrc>) -> &[u8]
     ensures { result.now ≡ unwrap_or isrc.now (45 ∷ []) }
 {
@@ -83,7 +84,7 @@ fn isrc_text(isrc: &Option<Isrc>) -> &[u8]
     }
 }
 
-/// Appends the row of a credit at its line, under the text of its account.
+// Appends the row of a credit at its line, under the text of its account.
 fn append_line<'a>(
     pool: u32,
     line: usize,
@@ -106,14 +107,14 @@ fn append_line<'a>(
     Ok(rows.push(row)?)
 }
 
-/// The rows of a pool's credits, each at its line, under the texts of their accounts.
+// The rows of a pool's credits, each at its line, under the texts of their accounts.
 fn line_rows<'a>(
     alloc: Global,
     pool: u32,
     credits: &'a [Credit],
     texts: &'a [Vec<u8>],
 ) -> Result<Vec<CreditRow<'a>>, RowFault>
-    ensures { IfOk result (λ rows. map (λ t. t.items) texts.now ≡ map (λ x. account_text x.account) credits.now → map credit_values rows.items ≡ map (λ line. credit_row pool line.0 line.1) (enumerate_from 0 credits.now)) }
+    ensures { IfOk result (λ rows. bytes_of_each texts.now ≡ account_texts credits.now → map credit_values rows.items ≡ map (λ line. credit_row pool line.0 line.1) (enumerate_from 0 credits.now)) }
 {
     let mut rows = Vec::with_capacity(alloc, credits.len())?;
     for (line, credit) in credits.iter().enumerate() {
@@ -125,15 +126,14 @@ fn line_rows<'a>(
     Ok(rows)
 }
 
-/// Adds the units of credits to the balances of their accounts.
+// Adds the units of credits to the balances of their accounts.
 fn add_balances<S: Alter>(
     alloc: Global,
     tx: &mut Transaction<'_, S>,
     credits: &[Credit],
 ) -> Result<(), RowFault>
     ensures same_reference { tx.new.conn.ghost_name ≡ tx.old.conn.ghost_name }
-    ensures does { Does (state S.Store tx.old.conn.now) (state S.Store tx.new.conn.now) result
-        (λ before after _. AddsEach credits.now before after) }
+    ensures does { within S.Store tx.old tx.new Does result (λ before after _. AddsEach credits.now before after) }
 {
     for credit in credits {
         let account = text_of(alloc, &credit.account)?;
@@ -142,21 +142,20 @@ fn add_balances<S: Alter>(
     Ok(())
 }
 
-/// Adds a pool with its cut.
+// Adds a pool with its cut.
 fn add_cut<S: Alter>(
     tx: &mut Transaction<'_, S>,
     pool: &PoolRow,
     cuts: &[PoolCutRow<'_>],
 ) -> Result<(), RowFault>
     ensures same_reference { tx.new.conn.ghost_name ≡ tx.old.conn.ghost_name }
-    ensures does { DoesOpen (state S.Store tx.old.conn.now) (state S.Store tx.new.conn.now) result
-        (λ before after _. AddsOrder (pool_values pool.now) (map pool_cut_values cuts.now) [] before.trees after.trees) }
+    ensures does { within S.Store tx.old tx.new DoesOpen result (Makes (AddsOrder (pool_values pool.now) (map pool_cut_values cuts.now) [])) }
 {
     add_pool(tx, pool)?;
     add_pool_cuts(tx, cuts)
 }
 
-/// Adds a pool with its cut and the returns that it pays.
+// Adds a pool with its cut and the returns that it pays.
 fn add_order<S: Alter>(
     tx: &mut Transaction<'_, S>,
     pool: &PoolRow,
@@ -164,14 +163,13 @@ fn add_order<S: Alter>(
     paid: &[PoolReturnRow<'_>],
 ) -> Result<(), RowFault>
     ensures same_reference { tx.new.conn.ghost_name ≡ tx.old.conn.ghost_name }
-    ensures does { DoesOpen (state S.Store tx.old.conn.now) (state S.Store tx.new.conn.now) result
-        (λ before after _. AddsOrder (pool_values pool.now) (map pool_cut_values cuts.now) (map pool_return_values paid.now) before.trees after.trees) }
+    ensures does { within S.Store tx.old tx.new DoesOpen result (Makes (AddsOrder (pool_values pool.now) (map pool_cut_values cuts.now) (map pool_return_values paid.now))) }
 {
     add_cut(tx, pool, cuts)?;
     add_pool_returns(tx, paid)
 }
 
-/// Adds the lines of credits, and the units that they come to, as credits, to the balances of their accounts.
+// Adds the lines of credits, and the units that they come to, as credits, to the balances of their accounts.
 fn pay_out<S: Alter>(
     alloc: Global,
     tx: &mut Transaction<'_, S>,
@@ -179,8 +177,7 @@ fn pay_out<S: Alter>(
     credits: &[Credit],
 ) -> Result<(), RowFault>
     ensures same_reference { tx.new.conn.ghost_name ≡ tx.old.conn.ghost_name }
-    ensures does { Does (state S.Store tx.old.conn.now) (state S.Store tx.new.conn.now) result
-        (λ before after _. PaysOut (map credit_values lines.now) credits.now before after) }
+    ensures does { within S.Store tx.old tx.new Does result (λ before after _. PaysOut (map credit_values lines.now) credits.now before after) }
 {
     add_credits(tx, lines)?;
     add_balances(alloc, tx, credits)
@@ -195,8 +192,7 @@ pub fn write_pool<S: Alter>(
     credits: &[Credit],
 ) -> Result<(), RowFault>
     ensures same_reference { tx.new.conn.ghost_name ≡ tx.old.conn.ghost_name }
-    ensures does { DoesOpen (state S.Store tx.old.conn.now) (state S.Store tx.new.conn.now) result
-        (λ before after _. ClosesWith pool order.now credits.now before after) }
+    ensures does { within S.Store tx.old tx.new DoesOpen result (λ before after _. ClosesWith pool order.now credits.now before after) }
 {
     let cuts = cut_rows(alloc, pool, order.cut())?;
     let paid = paid_rows(alloc, pool, order.returns())?;

@@ -1,18 +1,10 @@
 //! The candidates for the recordings of a pool, out of the tables: the works of its cut, each by the version that it has there.
-ghost use Rattle.std.specs.Prelude.{◌≡◌, ◌≤◌, ◌+◌, List, ℕ, [], Option, true, IfOk, OnOk, flat_map, unwrap_or};
-ghost use Rattle.std.specs.List.{list_all};
-ghost use Rattle.cwr_files.specs.Contents.{transactions_of, transmission_in};
-ghost use Rattle.cwr_files.specs.Transaction.{number_of_work};
-ghost use Rattle.sqlite.specs.Held.{state};
-ghost use Rattle.society_core.specs.Book.{Book, is_applied};
-ghost use Rattle.society_core.specs.Candidates.{Adds, ReachesCut, StandFor, transactions_sent, work_where};
-ghost use Rattle.society_core.specs.Owners.{versions_at_cut, versions_of_transmission, works_of_cut};
-ghost use Rattle.society_core.specs.Points.{is_tallied};
-ghost use Rattle.society_core.specs.Pools.{holders_of};
-ghost use Rattle.society_book.specs.CutWorks.{ChoosesNaming, NotesRecordings, is_chosen, notes_of_sender, works_chosen};
-ghost use Rattle.society_book.specs.Sources.{HoldsWorks};
-ghost use Rattle.society_book.specs.Shown.{ShowBody};
+ghost use Rattle.std.specs.Prelude.{◌≡◌, ◌+◌, IfOk, OnOk};
+ghost use Rattle.cwr_files.specs.Contents.{transactions_of};
+ghost use Rattle.society_book.specs.CutWorks.{works_chosen};
 ghost use Rattle.society_book.specs.Steps.{Looks};
+ghost use Rattle.society_rows.specs.Between.{within};
+ghost use Rattle.society_book.specs.Choosing.{AddsWorks, AddsOfTransmission, AddsChosen, AddsOfSender, AreForCut, AreForOrder, AddsShown, work_chosen};
 
 use crate::acknowledgements::read;
 use crate::chosen::{Chosen, chosen_of};
@@ -25,7 +17,7 @@ use sqlite::{Alter, Row};
 use std::alloc::{AllocError, Global};
 use work_ids::{SenderKey, TransmissionNumber};
 
-/// Adds the candidates of a transaction, where it is the version that is chosen of its work.
+// Adds the candidates of a transaction, where it is the version that is chosen of its work.
 fn add_transaction(
     alloc: Global,
     kind: Kind,
@@ -38,7 +30,7 @@ fn add_transaction(
     transaction: &Transaction<'_>,
     candidates: &mut Vec<Candidate>,
 ) -> Result<(), AllocError>
-    ensures { OnOk result (Adds (holders_of kind office.now) (is_tallied tally.now) (work_where (is_chosen chosen.now number place (number_of_work transaction.now)) sender.now transaction.now) candidates.old.items candidates.new.items) }
+    ensures { OnOk result (AddsWorks kind office.now tally.now (work_chosen chosen.now sender.now number place transaction.now) candidates.old.items candidates.new.items) }
 {
     let Some(work) = transaction.work_number() else {
         return Ok(());
@@ -58,7 +50,7 @@ fn add_transaction(
     )
 }
 
-/// The place behind so many transactions; `Overflow` where it has no room.
+// The place behind so many transactions; `Overflow` where it has no room.
 fn place_after(place: usize, count: usize) -> Result<usize, RowFault>
     ensures { IfOk result (λ after. after ≡ place + count) }
 {
@@ -68,7 +60,7 @@ fn place_after(place: usize, count: usize) -> Result<usize, RowFault>
     }
 }
 
-/// Adds the candidates of the transactions of a group, which begin at a place.
+// Adds the candidates of the transactions of a group, which begin at a place.
 fn add_group(
     alloc: Global,
     kind: Kind,
@@ -81,7 +73,7 @@ fn add_group(
     transactions: &[Transaction<'_>],
     candidates: &mut Vec<Candidate>,
 ) -> Result<(), RowFault>
-    ensures { OnOk result (Adds (holders_of kind office.now) (is_tallied tally.now) (works_chosen chosen.now sender.now number first transactions.now) candidates.old.items candidates.new.items) }
+    ensures { OnOk result (AddsWorks kind office.now tally.now (works_chosen chosen.now sender.now number first transactions.now) candidates.old.items candidates.new.items) }
 {
     for (index, transaction) in transactions.iter().enumerate() {
         let place = place_after(first, index)?;
@@ -101,7 +93,7 @@ fn add_group(
     Ok(())
 }
 
-/// Adds the candidates of a transmission: of those of its transactions that are chosen.
+// Adds the candidates of a transmission: of those of its transactions that are chosen.
 fn add_groups(
     alloc: Global,
     kind: Kind,
@@ -113,7 +105,7 @@ fn add_groups(
     transmission: &Transmission<'_>,
     candidates: &mut Vec<Candidate>,
 ) -> Result<(), RowFault>
-    ensures { OnOk result (Adds (holders_of kind office.now) (is_tallied tally.now) (works_chosen chosen.now sender.now number 0 (transactions_of transmission.now)) candidates.old.items candidates.new.items) }
+    ensures { OnOk result (AddsWorks kind office.now tally.now (works_chosen chosen.now sender.now number 0 (transactions_of transmission.now)) candidates.old.items candidates.new.items) }
 {
     let mut place: usize = 0;
     for group in transmission.groups.as_slice() {
@@ -135,8 +127,8 @@ fn add_groups(
     Ok(())
 }
 
-/// Adds the candidates of the transmission that rows show; `Unread` where they are not one row, or its body is no transmission
-/// of the sender.
+// Adds the candidates of the transmission that rows show; `Unread` where they are not one row, or its body is no transmission
+// of the sender.
 fn add_shown(
     alloc: Global,
     kind: Kind,
@@ -148,8 +140,7 @@ fn add_shown(
     rows: &[Row],
     candidates: &mut Vec<Candidate>,
 ) -> Result<(), RowFault>
-    ensures { (kept : Option (List ℕ)) → ShowBody kept rows.now
-        → OnOk result (Adds (holders_of kind office.now) (is_tallied tally.now) (works_chosen chosen.now sender.now number 0 (transactions_of (transmission_in (unwrap_or kept [])))) candidates.old.items candidates.new.items) }
+    ensures { AddsShown kind office.now tally.now rows.now sender.now number chosen.now candidates.old.items candidates.new.items result }
 {
     let [row] = rows else {
         return Err(RowFault::Unread);
@@ -169,7 +160,7 @@ fn add_shown(
     )
 }
 
-/// Adds the candidates of a sender's transmission: of those of its transactions that are versions at the sender's cut.
+// Adds the candidates of a sender's transmission: of those of its transactions that are versions at the sender's cut.
 fn add_transmission<S: Alter>(
     alloc: Global,
     kind: Kind,
@@ -182,9 +173,7 @@ fn add_transmission<S: Alter>(
     candidates: &mut Vec<Candidate>,
 ) -> Result<(), RowFault>
     ensures same_reference { tx.new.conn.ghost_name ≡ tx.old.conn.ghost_name }
-    ensures looks { Looks (state S.Store tx.old.conn.now) (state S.Store tx.new.conn.now) result
-        (λ db _. (book : Book) → HoldsWorks office.now book db → number ≤ key.now.number → ChoosesNaming office.now book key.now (is_tallied tally.now) chosen.now
-        → Adds (holders_of kind office.now) (is_tallied tally.now) (versions_of_transmission office.now book key.now number (transactions_sent book key.now.sender number)) candidates.old.items candidates.new.items) }
+    ensures looks { within S.Store tx.old tx.new Looks result (λ db _. AddsOfTransmission kind office.now tally.now key.now number chosen.now candidates.old.items candidates.new.items db) }
 {
     let rows = answer(
         tx,
@@ -203,8 +192,8 @@ fn add_transmission<S: Alter>(
     )
 }
 
-/// Adds the candidates of a sender by the versions that are chosen of its works. Only transmissions that have one of these are
-/// read: no other has a candidate.
+// Adds the candidates of a sender by the versions that are chosen of its works. Only transmissions that have one of these are
+// read: no other has a candidate.
 fn add_transmissions<S: Alter>(
     alloc: Global,
     kind: Kind,
@@ -216,9 +205,7 @@ fn add_transmissions<S: Alter>(
     candidates: &mut Vec<Candidate>,
 ) -> Result<(), RowFault>
     ensures same_reference { tx.new.conn.ghost_name ≡ tx.old.conn.ghost_name }
-    ensures looks { Looks (state S.Store tx.old.conn.now) (state S.Store tx.new.conn.now) result
-        (λ db _. (book : Book) → HoldsWorks office.now book db → ChoosesNaming office.now book key.now (is_tallied tally.now) chosen.now
-        → Adds (holders_of kind office.now) (is_tallied tally.now) (versions_at_cut office.now book key.now) candidates.old.items candidates.new.items) }
+    ensures looks { within S.Store tx.old tx.new Looks result (λ db _. AddsChosen kind office.now tally.now key.now chosen.now candidates.old.items candidates.new.items db) }
 {
     let numbers = chosen.transmissions(alloc)?;
     for number in numbers.as_slice() {
@@ -229,7 +216,7 @@ fn add_transmissions<S: Alter>(
     Ok(())
 }
 
-/// Adds the candidates of a sender: its works that are noted, as they are at its cut.
+// Adds the candidates of a sender: its works that are noted, as they are at its cut.
 fn add_sender<S: Alter>(
     alloc: Global,
     kind: Kind,
@@ -241,16 +228,14 @@ fn add_sender<S: Alter>(
     candidates: &mut Vec<Candidate>,
 ) -> Result<(), RowFault>
     ensures same_reference { tx.new.conn.ghost_name ≡ tx.old.conn.ghost_name }
-    ensures looks { Looks (state S.Store tx.old.conn.now) (state S.Store tx.new.conn.now) result
-        (λ db _. (book : Book) → HoldsWorks office.now book db → NotesRecordings db (is_tallied tally.now) named.now → notes_of_sender named.now key.now.sender ≡ true → is_applied book key.now ≡ true
-        → Adds (holders_of kind office.now) (is_tallied tally.now) (versions_at_cut office.now book key.now) candidates.old.items candidates.new.items) }
+    ensures looks { within S.Store tx.old tx.new Looks result (λ db _. AddsOfSender kind office.now tally.now key.now named.now candidates.old.items candidates.new.items db) }
 {
     let works = named.works_of(alloc, &key.sender)?;
     let chosen = chosen_of(alloc, tx, key, works.as_slice())?;
     add_transmissions(alloc, kind, tx, office, tally, key, &chosen, candidates)
 }
 
-/// The candidates of the senders of a cut.
+// The candidates of the senders of a cut.
 fn candidates_of<S: Alter>(
     alloc: Global,
     kind: Kind,
@@ -261,10 +246,7 @@ fn candidates_of<S: Alter>(
     named: &NamedWorks,
 ) -> Result<Vec<Candidate>, RowFault>
     ensures same_reference { tx.new.conn.ghost_name ≡ tx.old.conn.ghost_name }
-    ensures looks { Looks (state S.Store tx.old.conn.now) (state S.Store tx.new.conn.now) result
-        (λ db candidates. (book : Book) → HoldsWorks office.now book db → NotesRecordings db (is_tallied tally.now) named.now
-        → list_all (λ key. notes_of_sender named.now key.sender) cut.now ≡ true → list_all (is_applied book) cut.now ≡ true
-        → StandFor (holders_of kind office.now) (is_tallied tally.now) (flat_map (versions_at_cut office.now book) cut.now) candidates.items) }
+    ensures looks { within S.Store tx.old tx.new Looks result (λ db candidates. AreForCut kind office.now tally.now cut.now named.now db candidates.items) }
 {
     let mut candidates = Vec::new(alloc);
     for key in cut {
@@ -283,9 +265,7 @@ pub fn candidates_in<S: Alter>(
     order: &PoolOrder,
 ) -> Result<Vec<Candidate>, RowFault>
     ensures same_reference { tx.new.conn.ghost_name ≡ tx.old.conn.ghost_name }
-    ensures looks { Looks (state S.Store tx.old.conn.now) (state S.Store tx.new.conn.now) result
-        (λ db candidates. (book : Book) → HoldsWorks office.now book db → ReachesCut book order.now
-        → StandFor (holders_of kind office.now) (is_tallied tally.now) (works_of_cut office.now book order.now) candidates.items) }
+    ensures looks { within S.Store tx.old tx.new Looks result (λ db candidates. AreForOrder kind office.now tally.now order.now db candidates.items) }
 {
     let recordings = tally.recordings(alloc)?;
     let named = named_works(alloc, tx, recordings.as_slice(), order.cut())?;

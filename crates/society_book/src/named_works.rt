@@ -4,9 +4,10 @@ ghost use Rattle.std.specs.BTreeSet.{IsFromIterResult, contains};
 ghost use Rattle.std.specs.List.{AllByRecursion, list_any};
 ghost use Rattle.society_core.specs.Keys.{bytes_cmp};
 ghost use Rattle.society_rows.specs.Rows.{recording_values};
-ghost use Rattle.sqlite.specs.Held.{state};
-ghost use Rattle.society_book.specs.CutWorks.{IsNoted, NotesMore, NotesRecordings, NotesWanted, is_noted, notes_of_sender};
+ghost use Rattle.society_book.specs.CutWorks.{IsNoted, NotesMore, NotesWanted, is_noted, notes_of_sender};
 ghost use Rattle.society_book.specs.Steps.{Looks};
+ghost use Rattle.society_rows.specs.Between.{within};
+ghost use Rattle.society_book.specs.Choosing.{NotesCut};
 
 use crate::run::distinct_isrcs;
 use society_core::TransmissionKey;
@@ -23,7 +24,7 @@ pub(crate) struct NamedWorks {
 }
 
 impl NamedWorks {
-    /// No work, of the senders of a cut.
+    // No work, of the senders of a cut.
     fn of_cut(alloc: Global, cut: &[TransmissionKey]) -> Result<NamedWorks, AllocError>
         ensures { IfOk result (λ named. (sender : List ℕ) → notes_of_sender named sender ≡ list_any (λ key. bytes_eq key.sender sender) cut.now) }
     {
@@ -34,7 +35,7 @@ impl NamedWorks {
         Ok(NamedWorks { by_sender })
     }
 
-    /// Notes a work, where works of its sender are noted at all.
+    // Notes a work, where works of its sender are noted at all.
     fn note(&mut self, sender: &SenderKey, work: WorkNumber) -> Result<(), AllocError>
         ensures more { OnOk result (NotesMore self.old self.new) }
         ensures noted { OnOk result (notes_of_sender self.old sender.now ≡ true → is_noted self.new sender.now work ≡ true) }
@@ -45,7 +46,7 @@ impl NamedWorks {
         Ok(())
     }
 
-    /// Notes the work of a recording; `Unread` where it has no sender or no work number.
+    // Notes the work of a recording; `Unread` where it has no sender or no work number.
     fn note_recording(&mut self, row: &RecordingRow<'_>) -> Result<(), RowFault>
         ensures more { OnOk result (NotesMore self.old self.new) }
         ensures noted { OnOk result (IsNoted self.new (recording_values row.now)) }
@@ -60,7 +61,7 @@ impl NamedWorks {
         Ok(())
     }
 
-    /// Notes the work of a row of a recording that is wanted; `Unread` where it has no sender or no work number.
+    // Notes the work of a row of a recording that is wanted; `Unread` where it has no sender or no work number.
     fn note_row(&mut self, row: &Row, wanted: &BTreeSet<Isrc>) -> Result<(), RowFault>
         ensures more { OnOk result (NotesMore self.old self.new) }
         ensures noted { OnOk result (NotesWanted wanted.now self.new row.now) }
@@ -72,7 +73,7 @@ impl NamedWorks {
         self.note_recording(&row)
     }
 
-    /// Notes the works of those rows of recordings that are wanted; `Unread` where one has no sender or no work number.
+    // Notes the works of those rows of recordings that are wanted; `Unread` where one has no sender or no work number.
     fn note_rows(&mut self, rows: &[Row], wanted: &BTreeSet<Isrc>) -> Result<(), RowFault>
         ensures more { OnOk result (NotesMore self.old self.new) }
         ensures noted { OnOk result (AllByRecursion (NotesWanted wanted.now self.new) rows.now) }
@@ -98,7 +99,7 @@ impl NamedWorks {
     }
 }
 
-/// The set of some recordings.
+// The set of some recordings.
 fn set_of(alloc: Global, recordings: &[Isrc]) -> Result<BTreeSet<Isrc>, AllocError>
     ensures { IfOk result (IsFromIterResult bytes_cmp recordings.now) }
 {
@@ -106,7 +107,7 @@ fn set_of(alloc: Global, recordings: &[Isrc]) -> Result<BTreeSet<Isrc>, AllocErr
     distinct_isrcs(alloc, list)
 }
 
-/// Whether a text may be one of these recordings: it is one of them, or is no ISRC as the tables keep it.
+// Whether a text may be one of these recordings: it is one of them, or is no ISRC as the tables keep it.
 fn may_be(wanted: &BTreeSet<Isrc>, text: &[u8]) -> bool
     ensures { contains bytes_cmp wanted.now text.now ≡ true → result ≡ true }
 {
@@ -124,9 +125,7 @@ pub(crate) fn named_works<S: Alter>(
     cut: &[TransmissionKey],
 ) -> Result<NamedWorks, RowFault>
     ensures same_reference { tx.new.conn.ghost_name ≡ tx.old.conn.ghost_name }
-    ensures looks { Looks (state S.Store tx.old.conn.now) (state S.Store tx.new.conn.now) result
-        (λ db named. ((sender : List ℕ) → notes_of_sender named sender ≡ list_any (λ key. bytes_eq key.sender sender) cut.now)
-        × NotesRecordings db (λ isrc. list_any (bytes_eq isrc) recordings.now) named) }
+    ensures looks { within S.Store tx.old tx.new Looks result (NotesCut cut.now recordings.now) }
 {
     let mut named = NamedWorks::of_cut(alloc, cut)?;
     let wanted = set_of(alloc, recordings)?;

@@ -1,21 +1,22 @@
 //! What is asked of the order that closed a pool.
-ghost use Rattle.std.specs.Prelude.{◌≡◌, Option, Some, false, map, option_map, IfOk};
-ghost use Rattle.sqlite.specs.Held.{state};
+ghost use Rattle.std.specs.Prelude.{◌≡◌, Option, Some, map, option_map, IfOk};
 ghost use Rattle.society_core.specs.Answers.{pool_known_as, pool_known_by};
-ghost use Rattle.society_core.specs.Book.{order_at};
-ghost use Rattle.society_core.specs.Keys.{ascending, return_cmp, return_key, transmission_cmp, transmission_key};
+ghost use Rattle.society_core.specs.Keys.{return_key, transmission_key};
 ghost use Rattle.society_core.specs.Orders.{Order, order_of};
 ghost use Rattle.society_rows.specs.Questions.{Asks};
 ghost use Rattle.society_book.specs.BookRows.{cut_key_of, return_key_of};
 ghost use Rattle.society_book.specs.Shown.{ByBook, ShowPool};
+ghost use Rattle.society_rows.specs.Between.{between};
+ghost use Rattle.society_book.specs.Items.{transmission_keys, return_keys};
+ghost use Rattle.society_book.specs.OrderShown.{IsAmount, IsCutOf, AreReturnsOf};
 
 use society_core::{Known, OrderError, PoolOrder};
-use society_rows::{PoolCutRow, PoolReturnRow, PoolRow, Question, RowFault, ask};
-use sqlite::{Alter, Connection, Row};
+use society_rows::{Idle, PoolCutRow, PoolReturnRow, PoolRow, Question, RowFault, ask};
+use sqlite::{Alter, Row};
 use std::alloc::Global;
 use work_ids::{Reporter, SenderKey};
 
-/// The amount that the rows of a pool show, none where it is not closed; `Unread` where they are more than one, or below 0.
+// The amount that the rows of a pool show, none where it is not closed; `Unread` where they are more than one, or below 0.
 fn shown_amount(rows: &[Row]) -> Result<Option<u64>, RowFault>
     ensures { (kept : Option Order) → ShowPool kept rows.now → IfOk result (λ amount. amount ≡ option_map (λ order. order.amount) kept) }
 {
@@ -29,18 +30,15 @@ fn shown_amount(rows: &[Row]) -> Result<Option<u64>, RowFault>
     }
 }
 
-/// The amount of a pool, none where it is not closed.
-fn amount_of<S: Alter>(conn: &mut Connection<S>, pool: u32) -> Result<Option<u64>, RowFault>
-    requires { conn.old.in_transaction ≡ false }
-    ensures asked { Asks (state S.Store conn.old) (state S.Store conn.new) result
-        (ByBook (λ _ book amount. amount ≡ option_map (λ order. order.amount) (order_at book pool))) }
-    ensures idle { conn.new.in_transaction ≡ false }
+// The amount of a pool, none where it is not closed.
+fn amount_of<S: Alter>(conn: &mut Idle<S>, pool: u32) -> Result<Option<u64>, RowFault>
+    ensures asked { between S.Store conn.old conn.new Asks result (ByBook (λ _ book amount. IsAmount pool book amount)) }
 {
     let rows = ask(conn, Question::Pool(pool))?;
     shown_amount(rows.as_slice())
 }
 
-/// The sender and the number of a row of a cut; `Unread` where it has no sender.
+// The sender and the number of a row of a cut; `Unread` where it has no sender.
 fn cut_in(row: &Row) -> Result<(SenderKey, u64), RowFault>
     ensures { IfOk result (λ key. transmission_key key.0 key.1 ≡ cut_key_of row.now) }
 {
@@ -51,9 +49,9 @@ fn cut_in(row: &Row) -> Result<(SenderKey, u64), RowFault>
     }
 }
 
-/// The senders and the numbers of rows of a cut, in their order.
+// The senders and the numbers of rows of a cut, in their order.
 fn cuts_in(alloc: Global, rows: &[Row]) -> Result<Vec<(SenderKey, u64)>, RowFault>
-    ensures { IfOk result (λ list. map (λ key. transmission_key key.0 key.1) list.items ≡ map cut_key_of rows.now) }
+    ensures { IfOk result (λ list. transmission_keys list.items ≡ map cut_key_of rows.now) }
 {
     let mut list = Vec::with_capacity(alloc, rows.len())?;
     for row in rows {
@@ -62,18 +60,15 @@ fn cuts_in(alloc: Global, rows: &[Row]) -> Result<Vec<(SenderKey, u64)>, RowFaul
     Ok(list)
 }
 
-/// The cut of a pool.
-fn cut_of<S: Alter>(conn: &mut Connection<S>, pool: u32) -> Result<Vec<(SenderKey, u64)>, RowFault>
-    requires { conn.old.in_transaction ≡ false }
-    ensures asked { Asks (state S.Store conn.old) (state S.Store conn.new) result
-        (ByBook (λ _ book list. (order : Order) → order_at book pool ≡ Some order → ascending transmission_cmp (map (λ key. transmission_key key.0 key.1) list.items) ≡ order.cut)) }
-    ensures idle { conn.new.in_transaction ≡ false }
+// The cut of a pool.
+fn cut_of<S: Alter>(conn: &mut Idle<S>, pool: u32) -> Result<Vec<(SenderKey, u64)>, RowFault>
+    ensures asked { between S.Store conn.old conn.new Asks result (ByBook (λ _ book list. IsCutOf pool book list.items)) }
 {
     let rows = ask(conn, Question::Cuts(pool))?;
     cuts_in(*rows.allocator(), rows.as_slice())
 }
 
-/// The reporter and the number of a row of a return that is paid; `Unread` where it has no reporter.
+// The reporter and the number of a row of a return that is paid; `Unread` where it has no reporter.
 fn return_in(row: &Row) -> Result<(Reporter, u64), RowFault>
     ensures { IfOk result (λ key. return_key key.0 key.1 ≡ return_key_of row.now) }
 {
@@ -84,9 +79,9 @@ fn return_in(row: &Row) -> Result<(Reporter, u64), RowFault>
     }
 }
 
-/// The reporters and the numbers of rows of returns that are paid, in their order.
+// The reporters and the numbers of rows of returns that are paid, in their order.
 fn returns_in(alloc: Global, rows: &[Row]) -> Result<Vec<(Reporter, u64)>, RowFault>
-    ensures { IfOk result (λ list. map (λ key. return_key key.0 key.1) list.items ≡ map return_key_of rows.now) }
+    ensures { IfOk result (λ list. return_keys list.items ≡ map return_key_of rows.now) }
 {
     let mut list = Vec::with_capacity(alloc, rows.len())?;
     for row in rows {
@@ -95,21 +90,15 @@ fn returns_in(alloc: Global, rows: &[Row]) -> Result<Vec<(Reporter, u64)>, RowFa
     Ok(list)
 }
 
-/// The returns that a pool pays.
-fn returns_of<S: Alter>(
-    conn: &mut Connection<S>,
-    pool: u32,
-) -> Result<Vec<(Reporter, u64)>, RowFault>
-    requires { conn.old.in_transaction ≡ false }
-    ensures asked { Asks (state S.Store conn.old) (state S.Store conn.new) result
-        (ByBook (λ _ book list. (order : Order) → order_at book pool ≡ Some order → ascending return_cmp (map (λ key. return_key key.0 key.1) list.items) ≡ order.returns)) }
-    ensures idle { conn.new.in_transaction ≡ false }
+// The returns that a pool pays.
+fn returns_of<S: Alter>(conn: &mut Idle<S>, pool: u32) -> Result<Vec<(Reporter, u64)>, RowFault>
+    ensures asked { between S.Store conn.old conn.new Asks result (ByBook (λ _ book list. AreReturnsOf pool book list.items)) }
 {
     let rows = ask(conn, Question::PaidBy(pool))?;
     returns_in(*rows.allocator(), rows.as_slice())
 }
 
-/// Whether an amount, a cut and returns are an order's; `Unread` where they are no order's at all.
+// Whether an amount, a cut and returns are an order's; `Unread` where they are no order's at all.
 fn compared(
     alloc: Global,
     amount: Option<u64>,
@@ -135,52 +124,41 @@ fn compared(
     }
 }
 
-/// Whether a pool of this amount and cut was closed by an order.
+// Whether a pool of this amount and cut was closed by an order.
 fn known_with_cut<S: Alter>(
-    conn: &mut Connection<S>,
+    conn: &mut Idle<S>,
     pool: u32,
     amount: Option<u64>,
     cut: &[(SenderKey, u64)],
     order: &PoolOrder,
 ) -> Result<Known, RowFault>
-    requires { conn.old.in_transaction ≡ false }
-    ensures asked { Asks (state S.Store conn.old) (state S.Store conn.new) result
-        (ByBook (λ _ book known. amount ≡ option_map (λ order. order.amount) (order_at book pool) → ((kept : Order) → order_at book pool ≡ Some kept → ascending transmission_cmp (map (λ key. transmission_key key.0 key.1) cut.now) ≡ kept.cut) → known ≡ pool_known_as book pool order.now)) }
-    ensures idle { conn.new.in_transaction ≡ false }
+    ensures asked { between S.Store conn.old conn.new Asks result (ByBook (λ _ book known. IsAmount pool book amount → IsCutOf pool book cut.now → known ≡ pool_known_as book pool order.now)) }
 {
     let returns = returns_of(conn, pool)?;
     compared(*returns.allocator(), amount, cut, returns.as_slice(), order)
 }
 
-/// Whether a pool of this amount was closed by an order.
+// Whether a pool of this amount was closed by an order.
 fn known_with_amount<S: Alter>(
-    conn: &mut Connection<S>,
+    conn: &mut Idle<S>,
     pool: u32,
     amount: Option<u64>,
     order: &PoolOrder,
 ) -> Result<Known, RowFault>
-    requires { conn.old.in_transaction ≡ false }
-    ensures asked { Asks (state S.Store conn.old) (state S.Store conn.new) result
-        (ByBook (λ _ book known. amount ≡ option_map (λ order. order.amount) (order_at book pool) → known ≡ pool_known_as book pool order.now)) }
-    ensures idle { conn.new.in_transaction ≡ false }
+    ensures asked { between S.Store conn.old conn.new Asks result (ByBook (λ _ book known. IsAmount pool book amount → known ≡ pool_known_as book pool order.now)) }
 {
-    let _settled = conn.is_autocommit();
     let cut = cut_of(conn, pool)?;
     known_with_cut(conn, pool, amount, cut.as_slice(), order)
 }
 
 /// Whether the book has an order, another one under its pool, or none.
 pub fn known_pool_of<S: Alter>(
-    conn: &mut Connection<S>,
+    conn: &mut Idle<S>,
     pool: u32,
     order: &PoolOrder,
 ) -> Result<Known, RowFault>
-    requires { conn.old.in_transaction ≡ false }
-    ensures asked { Asks (state S.Store conn.old) (state S.Store conn.new) result
-        (ByBook (λ _ book known. known ≡ pool_known_as book pool order.now)) }
-    ensures idle { conn.new.in_transaction ≡ false }
+    ensures asked { between S.Store conn.old conn.new Asks result (ByBook (λ _ book known. known ≡ pool_known_as book pool order.now)) }
 {
-    let _settled = conn.is_autocommit();
     let amount = amount_of(conn, pool)?;
     known_with_amount(conn, pool, amount, order)
 }

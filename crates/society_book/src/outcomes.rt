@@ -1,15 +1,15 @@
 //! What the transactions of a run are answered, and the rows that tell it.
-ghost use Rattle.std.specs.Prelude.{◌≡◌, ◌+◌, ◌∷◌, ◌++◌, [], Bool, List, ℕ, flat_map, map, pos, FitsSigned, IfOk, OnOk};
+ghost use Rattle.std.specs.Prelude.{◌≡◌, ◌+◌, ◌∷◌, ◌++◌, [], flat_map, map, pos, FitsSigned, IfOk, OnOk};
 ghost use Rattle.std.specs.Int.{w64};
 ghost use Rattle.sqlite_value.specs.declared.value.Value.TheVariants.{Int, Text};
 ghost use Rattle.society_rows.specs.Rows.{recording_values, verdict_values, version_values};
-ghost use Rattle.society_book.specs.Outcomes.{settled};
-ghost use Rattle.society_book.specs.Runs.{AddsAt, KnowsRun, behind_run, settled_from, settled_recordings, settled_run, settled_verdict, settled_version};
+ghost use Rattle.society_book.specs.Outcomes.{settled, FromEnd, FromEndOf, AddsSettled, settled_behind};
+ghost use Rattle.society_book.specs.Runs.{AddsAt, behind_run, settled_from, settled_recordings, settled_run, settled_verdict, settled_version};
 ghost use Rattle.work_ids.specs.Blanks.{without_trailing_blanks};
-ghost use Rattle.works_core.specs.Ends.{EndsAt, KnowsWorks};
+ghost use Rattle.works_core.specs.Ends.{EndsAt};
 ghost use Rattle.works_core.specs.Tracks.{number_in};
 ghost use Rattle.works_core.specs.Verdicts.{verdicts_from};
-ghost use Rattle.works_core.specs.Versions.{Placed, judged_of, placed_behind};
+ghost use Rattle.works_core.specs.Versions.{judged_of, placed_behind};
 
 use crate::run::Noted;
 use society_rows::{RecordingRow, RowFault, VerdictRow, VersionRow};
@@ -27,17 +27,15 @@ pub struct Outcome<'a> {
     pub verdict: Verdict,
 }
 
-/// The verdicts of the next transmission's transactions, behind which the line then ends.
+// The verdicts of the next transmission's transactions, behind which the line then ends.
 fn verdicts_next(
     alloc: Global,
     end: &mut LineEnd,
     number: TransmissionNumber,
     judged: &[Judged],
 ) -> Result<Vec<Verdict>, RowFault>
-    ensures verdicts { (known : List ℕ → Bool) (past : List Placed) → EndsAt known past end.old → KnowsWorks known judged.now
-        → IfOk result (λ verdicts. verdicts.items ≡ verdicts_from (judged_of past) judged.now) }
-    ensures ends { (known : List ℕ → Bool) (past : List Placed) → EndsAt known past end.old → KnowsWorks known judged.now
-        → OnOk result (EndsAt known (placed_behind past number 0 judged.now) end.new) }
+    ensures verdicts { FromEnd end.old judged.now (λ known past. IfOk result (λ verdicts. verdicts.items ≡ verdicts_from (judged_of past) judged.now)) }
+    ensures ends { FromEnd end.old judged.now (λ known past. OnOk result (EndsAt known (placed_behind past number 0 judged.now) end.new)) }
 {
     match end.apply(alloc, number, judged) {
         Ok(verdicts) => Ok(verdicts),
@@ -46,7 +44,7 @@ fn verdicts_next(
     }
 }
 
-/// The work number of a transaction, no bytes where it is not clean.
+// The work number of a transaction, no bytes where it is not clean.
 fn work_of(judged: &Judged) -> &[u8]
     ensures { result.now ≡ without_trailing_blanks (number_in judged.now) }
 {
@@ -56,7 +54,7 @@ fn work_of(judged: &Judged) -> &[u8]
     }
 }
 
-/// Appends the outcome of the transaction at a place; `Unread` where the transmission has none there.
+// Appends the outcome of the transaction at a place; `Unread` where the transmission has none there.
 fn append_outcome<'a>(
     number: TransmissionNumber,
     noted: &'a Noted,
@@ -85,14 +83,14 @@ fn append_outcome<'a>(
     Ok(list.push(outcome)?)
 }
 
-/// Appends the outcomes of a transmission's transactions; `Unread` where one of them lacks a part.
+// Appends the outcomes of a transmission's transactions; `Unread` where one of them lacks a part.
 fn append_outcomes<'a>(
     number: TransmissionNumber,
     noted: &'a Noted,
     verdicts: &[Verdict],
     list: &mut Vec<Outcome<'a>>,
 ) -> Result<(), RowFault>
-    ensures { OnOk result (map settled list.new.items ≡ map settled list.old.items ++ settled_from number 0 noted.now.judged noted.now.isrcs verdicts.now) }
+    ensures { OnOk result (AddsSettled (settled_from number 0 noted.now.judged noted.now.isrcs verdicts.now) list.old.items list.new.items) }
 {
     for (at, verdict) in verdicts.iter().enumerate() {
         append_outcome(number, noted, at, *verdict, list)?;
@@ -100,7 +98,7 @@ fn append_outcomes<'a>(
     Ok(())
 }
 
-/// Appends the outcomes of the next transmission's transactions, behind which the line then ends.
+// Appends the outcomes of the next transmission's transactions, behind which the line then ends.
 fn settle_next<'a>(
     alloc: Global,
     end: &mut LineEnd,
@@ -108,10 +106,8 @@ fn settle_next<'a>(
     noted: &'a Noted,
     list: &mut Vec<Outcome<'a>>,
 ) -> Result<(), RowFault>
-    ensures settled { (known : List ℕ → Bool) (past : List Placed) → EndsAt known past end.old → KnowsWorks known noted.now.judged
-        → OnOk result (map settled list.new.items ≡ map settled list.old.items ++ settled_from number 0 noted.now.judged noted.now.isrcs (verdicts_from (judged_of past) noted.now.judged)) }
-    ensures ends { (known : List ℕ → Bool) (past : List Placed) → EndsAt known past end.old → KnowsWorks known noted.now.judged
-        → OnOk result (EndsAt known (placed_behind past number 0 noted.now.judged) end.new) }
+    ensures settled { FromEnd end.old noted.now.judged (λ known past. OnOk result (AddsSettled (settled_behind past number noted.now) list.old.items list.new.items)) }
+    ensures ends { FromEnd end.old noted.now.judged (λ known past. OnOk result (EndsAt known (placed_behind past number 0 noted.now.judged) end.new)) }
 {
     let Some(number) = TransmissionNumber::from_u32(number) else {
         return Err(RowFault::Unread);
@@ -127,10 +123,8 @@ pub fn settle_run<'a>(
     reached: u32,
     run: &'a [Noted],
 ) -> Result<Vec<Outcome<'a>>, RowFault>
-    ensures settled { (known : List ℕ → Bool) (past : List Placed) → EndsAt known past end.old → KnowsRun known run.now
-        → IfOk result (λ list. map settled list.items ≡ settled_run past (reached + 1) run.now) }
-    ensures ends { (known : List ℕ → Bool) (past : List Placed) → EndsAt known past end.old → KnowsRun known run.now
-        → OnOk result (EndsAt known (behind_run past (reached + 1) run.now) end.new) }
+    ensures settled { FromEndOf end.old run.now (λ known past. IfOk result (λ list. map settled list.items ≡ settled_run past (reached + 1) run.now)) }
+    ensures ends { FromEndOf end.old run.now (λ known past. OnOk result (EndsAt known (behind_run past (reached + 1) run.now) end.new)) }
 {
     let mut list = Vec::new(alloc);
     let mut number = reached;
@@ -155,7 +149,7 @@ pub fn column_of(count: u64) -> Result<i64, RowFault>
     }
 }
 
-/// The row of a transaction's verdict.
+// The row of a transaction's verdict.
 fn verdict_row<'a>(sender: &'a [u8], outcome: &Outcome<'_>) -> Result<VerdictRow<'a>, RowFault>
     ensures { IfOk result (λ row. verdict_values row ≡ settled_verdict sender.now (settled outcome.now)) }
 {
@@ -189,7 +183,7 @@ pub fn verdict_rows<'a>(
     Ok(rows)
 }
 
-/// Appends the row of the version that a transaction is, where it is accepted.
+// Appends the row of the version that a transaction is, where it is accepted.
 fn append_version<'a>(
     sender: &'a [u8],
     outcome: &'a Outcome<'_>,
@@ -228,7 +222,7 @@ pub fn version_rows<'a>(
     Ok(rows)
 }
 
-/// Appends the rows of a version's recordings.
+// Appends the rows of a version's recordings.
 fn append_isrcs<'a>(
     sender: &'a [u8],
     work: &'a [u8],
@@ -249,7 +243,7 @@ fn append_isrcs<'a>(
     Ok(())
 }
 
-/// Appends the rows of a transaction's recordings, where it is accepted.
+// Appends the rows of a transaction's recordings, where it is accepted.
 fn append_recordings<'a>(
     sender: &'a [u8],
     outcome: &'a Outcome<'_>,

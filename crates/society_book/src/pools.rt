@@ -1,26 +1,27 @@
 //! What is asked of pools and of accounts.
-ghost use Rattle.std.specs.Prelude.{◌≡◌, ◌++◌, ◌∷◌, [], List, ℕ, None, Option, Some, false, if◌then◌else◌, is_some, map, option_map, IfOk, OnOk};
+ghost use Rattle.std.specs.Prelude.{◌≡◌, ◌++◌, ◌∷◌, [], ℕ, None, Option, Some, false, is_some, map, option_map, IfOk, OnOk, if◌then◌else◌};
 ghost use Rattle.std.specs.List.{sum_by};
-ghost use Rattle.sqlite.specs.Held.{state};
 ghost use Rattle.pool_split.specs.Credits.{units_of};
 ghost use Rattle.society_core.specs.Book.{order_at};
 ghost use Rattle.society_core.specs.Orders.{Order};
-ghost use Rattle.society_core.specs.Pools.{balance, credits_of};
+ghost use Rattle.society_core.specs.Pools.{balance};
 ghost use Rattle.society_rows.specs.Questions.{Asks};
 ghost use Rattle.society_book.specs.DerivedRows.{credits_to};
-ghost use Rattle.society_book.specs.Shown.{ByBook, IsFilled, ShowPool, ShowUnits, credit_in, isrc_in};
+ghost use Rattle.society_book.specs.Shown.{ByBook, IsFilled, ShowPool, ShowUnits, credit_in, credit_isrc};
 ghost use Rattle.work_ids.specs.Account.{account_text};
+ghost use Rattle.society_rows.specs.Between.{between};
+ghost use Rattle.society_book.specs.AnswersShown.{AreCredits};
 
 use pool_split::Credit;
-use society_rows::{BalanceRow, CreditRow, Question, RowFault, ask};
-use sqlite::{Alter, Connection, Row};
+use society_rows::{BalanceRow, CreditRow, Idle, Question, RowFault, ask};
+use sqlite::{Alter, Row};
 use std::alloc::{AllocError, Global};
 use work_ids::{Account, Isrc};
 
 /// What stands in place of an ISRC where a credit is of no recording.
 pub(crate) const NO_ISRC: &[u8] = b"-";
 
-/// The units that the rows of a balance show; `Unread` where they are more than one, or below 0.
+// The units that the rows of a balance show; `Unread` where they are more than one, or below 0.
 fn shown_units(rows: &[Row]) -> Result<u64, RowFault>
     ensures { (n : ℕ) → ShowUnits n rows.now → IfOk result (λ units. units ≡ n) }
 {
@@ -31,12 +32,9 @@ fn shown_units(rows: &[Row]) -> Result<u64, RowFault>
     }
 }
 
-/// The units under the text of an account.
-fn units_under<S: Alter>(conn: &mut Connection<S>, account: &[u8]) -> Result<u64, RowFault>
-    requires { conn.old.in_transaction ≡ false }
-    ensures asked { Asks (state S.Store conn.old) (state S.Store conn.new) result
-        (ByBook (λ office book units. units ≡ sum_by units_of (credits_to office book account.now))) }
-    ensures idle { conn.new.in_transaction ≡ false }
+// The units under the text of an account.
+fn units_under<S: Alter>(conn: &mut Idle<S>, account: &[u8]) -> Result<u64, RowFault>
+    ensures asked { between S.Store conn.old conn.new Asks result (ByBook (λ office book units. units ≡ sum_by units_of (credits_to office book account.now))) }
 {
     let rows = ask(conn, Question::Balance(account))?;
     shown_units(rows.as_slice())
@@ -54,7 +52,7 @@ pub(crate) fn text_of(alloc: Global, account: &Account) -> Result<Vec<u8>, Alloc
     Ok(text)
 }
 
-/// What an account says of the lengths of its parts.
+// Does nothing: it tells a proof how long the parts of an account are.
 fn see_lengths(account: &Account)
     ensures { IsFilled account.now }
 {
@@ -66,24 +64,21 @@ fn see_lengths(account: &Account)
 /// The balance of an account.
 pub fn balance_of<S: Alter>(
     alloc: Global,
-    conn: &mut Connection<S>,
+    conn: &mut Idle<S>,
     account: &Account,
 ) -> Result<u64, RowFault>
-    requires { conn.old.in_transaction ≡ false }
-    ensures asked { Asks (state S.Store conn.old) (state S.Store conn.new) result
-        (ByBook (λ office book units. units ≡ balance office book account.now)) }
-    ensures idle { conn.new.in_transaction ≡ false }
+    ensures asked { between S.Store conn.old conn.new Asks result (ByBook (λ office book units. units ≡ balance office book account.now)) }
 {
     see_lengths(account);
-    // A connection of which nothing is asked shows its last commit.
-    let _settled = conn.is_autocommit();
+    // Where the text gets no memory nothing is asked.
+    conn.see_last_commit();
     let text = text_of(alloc, account)?;
     units_under(conn, text.as_slice())
 }
 
-/// The ISRC of a credit by its text, none where that is a dash; `Unread` where it is no ISRC.
+// The ISRC of a credit by its text, none where that is a dash; `Unread` where it is no ISRC.
 fn isrc_of(text: &[u8]) -> Result<Option<Isrc>, RowFault>
-    ensures { IfOk result (λ isrc. isrc ≡ isrc_in text.now) }
+    ensures { IfOk result (λ isrc. isrc ≡ credit_isrc text.now) }
 {
     if text == NO_ISRC {
         return Ok(None);
@@ -94,7 +89,7 @@ fn isrc_of(text: &[u8]) -> Result<Option<Isrc>, RowFault>
     }
 }
 
-/// The credit that a row is; `Unread` where it is none.
+// The credit that a row is; `Unread` where it is none.
 fn credit_of(row: &Row) -> Result<Credit, RowFault>
     ensures { IfOk result (λ credit. Some credit ≡ credit_in row.now) }
 {
@@ -111,7 +106,7 @@ fn credit_of(row: &Row) -> Result<Credit, RowFault>
     })
 }
 
-/// Adds the credit that a row is to a list.
+// Adds the credit that a row is to a list.
 fn push_credit(list: &mut Vec<Credit>, row: &Row) -> Result<(), RowFault>
     ensures { OnOk result (map Some list.new.items ≡ map Some list.old.items ++ credit_in row.now ∷ []) }
 {
@@ -129,7 +124,7 @@ fn push_credit(list: &mut Vec<Credit>, row: &Row) -> Result<(), RowFault>
     Ok(())
 }
 
-/// The credits that rows are, in their order, where the pool is closed.
+// The credits that rows are, in their order, where the pool is closed.
 fn credits_in(alloc: Global, rows: &[Row], is_closed: bool) -> Result<Option<Vec<Credit>>, RowFault>
     ensures { IfOk result (λ shown. option_map (λ list. map Some list.items) shown ≡ (if is_closed then Some (map credit_in rows.now) else None)) }
 {
@@ -143,7 +138,7 @@ fn credits_in(alloc: Global, rows: &[Row], is_closed: bool) -> Result<Option<Vec
     Ok(Some(list))
 }
 
-/// Whether the rows of a pool show that it is closed; `Unread` where they are more than one.
+// Whether the rows of a pool show that it is closed; `Unread` where they are more than one.
 fn shown_closed(rows: &[Row]) -> Result<bool, RowFault>
     ensures { (kept : Option Order) → ShowPool kept rows.now → IfOk result (λ closed. closed ≡ is_some kept) }
 {
@@ -154,28 +149,22 @@ fn shown_closed(rows: &[Row]) -> Result<bool, RowFault>
     }
 }
 
-/// Whether a pool is closed.
-fn is_closed<S: Alter>(conn: &mut Connection<S>, pool: u32) -> Result<bool, RowFault>
-    requires { conn.old.in_transaction ≡ false }
-    ensures asked { Asks (state S.Store conn.old) (state S.Store conn.new) result
-        (ByBook (λ _ book closed. closed ≡ is_some (order_at book pool))) }
-    ensures idle { conn.new.in_transaction ≡ false }
+// Whether a pool is closed.
+fn is_closed<S: Alter>(conn: &mut Idle<S>, pool: u32) -> Result<bool, RowFault>
+    ensures asked { between S.Store conn.old conn.new Asks result (ByBook (λ _ book closed. closed ≡ is_some (order_at book pool))) }
 {
     let rows = ask(conn, Question::Pool(pool))?;
     shown_closed(rows.as_slice())
 }
 
-/// The credits of a pool, by whether it is closed.
+// The credits of a pool, by whether it is closed.
 fn credits_where<S: Alter>(
     alloc: Global,
-    conn: &mut Connection<S>,
+    conn: &mut Idle<S>,
     pool: u32,
     closed: bool,
 ) -> Result<Option<Vec<Credit>>, RowFault>
-    requires { conn.old.in_transaction ≡ false }
-    ensures asked { Asks (state S.Store conn.old) (state S.Store conn.new) result
-        (ByBook (λ office book credits. closed ≡ is_some (order_at book pool) → option_map (λ list. list.items) credits ≡ option_map (credits_of office book) (order_at book pool))) }
-    ensures idle { conn.new.in_transaction ≡ false }
+    ensures asked { between S.Store conn.old conn.new Asks result (ByBook (λ office book credits. closed ≡ is_some (order_at book pool) → AreCredits office book pool credits)) }
 {
     let rows = ask(conn, Question::Credits(pool))?;
     credits_in(alloc, rows.as_slice(), closed)
@@ -184,15 +173,11 @@ fn credits_where<S: Alter>(
 /// The credits of a pool, none where it is not closed.
 pub fn pool_credits<S: Alter>(
     alloc: Global,
-    conn: &mut Connection<S>,
+    conn: &mut Idle<S>,
     pool: u32,
 ) -> Result<Option<Vec<Credit>>, RowFault>
-    requires { conn.old.in_transaction ≡ false }
-    ensures asked { Asks (state S.Store conn.old) (state S.Store conn.new) result
-        (ByBook (λ office book credits. option_map (λ list. list.items) credits ≡ option_map (credits_of office book) (order_at book pool))) }
-    ensures idle { conn.new.in_transaction ≡ false }
+    ensures asked { between S.Store conn.old conn.new Asks result (ByBook (λ office book credits. AreCredits office book pool credits)) }
 {
-    let _settled = conn.is_autocommit();
     let closed = is_closed(conn, pool)?;
     credits_where(alloc, conn, pool, closed)
 }

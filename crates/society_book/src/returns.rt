@@ -1,22 +1,20 @@
 //! What is asked of a return.
-ghost use Rattle.std.specs.Prelude.{◌≡◌, ◌∷◌, [], List, ℕ, Option, false, if◌then◌else◌, is_some, IfOk, IsTrue, OnOk, OnErr};
-ghost use Rattle.sqlite.specs.Held.{state};
+ghost use Rattle.std.specs.Prelude.{◌≡◌, [], List, ℕ, Option, false, is_some, IfOk, IsTrue, OnOk, OnErr, if◌then◌else◌};
 ghost use Rattle.society_core.specs.Answers.{known_by, paid_by, payer, payment_in, return_known_as};
 ghost use Rattle.society_core.specs.Book.{return_at};
 ghost use Rattle.society_core.specs.declared.store.Payment.TheVariants.{Unknown};
-ghost use Rattle.sqlite.specs.State.{HasCleanDisk, Survives};
-ghost use Rattle.society_rows.specs.Layout.{returns};
+ghost use Rattle.sqlite.specs.State.{HasCleanDisk};
 ghost use Rattle.society_rows.specs.Questions.{Asks};
 ghost use Rattle.society_rows.specs.Rows.{return_values};
-ghost use Rattle.society_rows.specs.Stored.{HasLayout};
-ghost use Rattle.society_book.specs.Shown.{ByBook, Comes, ShowBody, ShowKey, ShowPayer};
+ghost use Rattle.society_book.specs.Shown.{ByBook, Changes, ReturnComes, ShowBody, ShowKey, ShowPayer, SurvivesChange};
+ghost use Rattle.society_rows.specs.Between.{between};
 
 use society_core::{Known, Payment, ReturnKey};
-use society_rows::{PoolReturnRow, Question, ReturnRow, RowFault, add_return, ask};
-use sqlite::{Alter, Connection, Row};
+use society_rows::{Idle, PoolReturnRow, Question, ReturnRow, RowFault, add_return, ask};
+use sqlite::{Alter, Row};
 use work_ids::PoolNumber;
 
-/// Whether the rows of a return show these bytes, others, or none; `Unread` where they are more than one.
+// Whether the rows of a return show these bytes, others, or none; `Unread` where they are more than one.
 fn compared(rows: &[Row], body: &[u8]) -> Result<Known, RowFault>
     ensures { (kept : Option (List ℕ)) → ShowBody kept rows.now → IfOk result (λ known. known ≡ known_by body.now kept) }
 {
@@ -35,14 +33,11 @@ fn compared(rows: &[Row], body: &[u8]) -> Result<Known, RowFault>
 
 /// Whether the book has a return, another one under its key, or none.
 pub fn known_return_of<S: Alter>(
-    conn: &mut Connection<S>,
+    conn: &mut Idle<S>,
     key: &ReturnKey,
     body: &[u8],
 ) -> Result<Known, RowFault>
-    requires { conn.old.in_transaction ≡ false }
-    ensures asked { Asks (state S.Store conn.old) (state S.Store conn.new) result
-        (ByBook (λ _ book known. known ≡ return_known_as book key.now body.now)) }
-    ensures idle { conn.new.in_transaction ≡ false }
+    ensures asked { between S.Store conn.old conn.new Asks result (ByBook (λ _ book known. known ≡ return_known_as book key.now body.now)) }
 {
     let rows = ask(
         conn,
@@ -51,7 +46,7 @@ pub fn known_return_of<S: Alter>(
     compared(rows.as_slice(), body)
 }
 
-/// Whether the keys of returns show one; `Unread` where they are more than one.
+// Whether the keys of returns show one; `Unread` where they are more than one.
 fn shown_there(rows: &[Row]) -> Result<bool, RowFault>
     ensures { (kept : Option (List ℕ)) → ShowKey kept rows.now → IfOk result (λ there. there ≡ is_some kept) }
 {
@@ -62,12 +57,9 @@ fn shown_there(rows: &[Row]) -> Result<bool, RowFault>
     }
 }
 
-/// Whether the book has a return.
-fn is_there<S: Alter>(conn: &mut Connection<S>, key: &ReturnKey) -> Result<bool, RowFault>
-    requires { conn.old.in_transaction ≡ false }
-    ensures asked { Asks (state S.Store conn.old) (state S.Store conn.new) result
-        (ByBook (λ _ book there. there ≡ is_some (return_at book key.now))) }
-    ensures idle { conn.new.in_transaction ≡ false }
+// Whether the book has a return.
+fn is_there<S: Alter>(conn: &mut Idle<S>, key: &ReturnKey) -> Result<bool, RowFault>
+    ensures asked { between S.Store conn.old conn.new Asks result (ByBook (λ _ book there. there ≡ is_some (return_at book key.now))) }
 {
     let rows = ask(
         conn,
@@ -76,7 +68,7 @@ fn is_there<S: Alter>(conn: &mut Connection<S>, key: &ReturnKey) -> Result<bool,
     shown_there(rows.as_slice())
 }
 
-/// The pool that the rows of a return that is paid show; `Unread` where that is no pool's number.
+// The pool that the rows of a return that is paid show; `Unread` where that is no pool's number.
 fn shown_payer(rows: &[Row]) -> Result<Option<PoolNumber>, RowFault>
     ensures { (payer : Option ℕ) → ShowPayer payer rows.now → IfOk result (λ pool. pool ≡ payer) }
 {
@@ -89,15 +81,9 @@ fn shown_payer(rows: &[Row]) -> Result<Option<PoolNumber>, RowFault>
     }
 }
 
-/// The pool that pays a return.
-fn payer_of<S: Alter>(
-    conn: &mut Connection<S>,
-    key: &ReturnKey,
-) -> Result<Option<PoolNumber>, RowFault>
-    requires { conn.old.in_transaction ≡ false }
-    ensures asked { Asks (state S.Store conn.old) (state S.Store conn.new) result
-        (ByBook (λ _ book pool. pool ≡ payer book key.now)) }
-    ensures idle { conn.new.in_transaction ≡ false }
+// The pool that pays a return.
+fn payer_of<S: Alter>(conn: &mut Idle<S>, key: &ReturnKey) -> Result<Option<PoolNumber>, RowFault>
+    ensures asked { between S.Store conn.old conn.new Asks result (ByBook (λ _ book pool. pool ≡ payer book key.now)) }
 {
     let rows = ask(
         conn,
@@ -106,16 +92,13 @@ fn payer_of<S: Alter>(
     shown_payer(rows.as_slice())
 }
 
-/// Whether a return is paid, by whether it is there.
+// Whether a return is paid, by whether it is there.
 fn payment_with<S: Alter>(
-    conn: &mut Connection<S>,
+    conn: &mut Idle<S>,
     key: &ReturnKey,
     there: bool,
 ) -> Result<Payment, RowFault>
-    requires { conn.old.in_transaction ≡ false }
-    ensures asked { Asks (state S.Store conn.old) (state S.Store conn.new) result
-        (ByBook (λ _ book payment. payment ≡ (if there then paid_by (payer book key.now) else Unknown))) }
-    ensures idle { conn.new.in_transaction ≡ false }
+    ensures asked { between S.Store conn.old conn.new Asks result (ByBook (λ _ book payment. payment ≡ (if there then paid_by (payer book key.now) else Unknown))) }
 {
     let payer = payer_of(conn, key)?;
     Ok(match (there, payer) {
@@ -126,31 +109,22 @@ fn payment_with<S: Alter>(
 }
 
 /// Whether a return is there, and which pool pays it.
-pub fn payment_of<S: Alter>(conn: &mut Connection<S>, key: &ReturnKey) -> Result<Payment, RowFault>
-    requires { conn.old.in_transaction ≡ false }
-    ensures asked { Asks (state S.Store conn.old) (state S.Store conn.new) result
-        (ByBook (λ _ book payment. payment ≡ payment_in book key.now)) }
-    ensures idle { conn.new.in_transaction ≡ false }
+pub fn payment_of<S: Alter>(conn: &mut Idle<S>, key: &ReturnKey) -> Result<Payment, RowFault>
+    ensures asked { between S.Store conn.old conn.new Asks result (ByBook (λ _ book payment. payment ≡ payment_in book key.now)) }
 {
-    let _settled = conn.is_autocommit();
     let there = is_there(conn, key)?;
     payment_with(conn, key, there)
 }
 
 /// Adds a return in a transaction of its own.
-pub fn write_return<S: Alter>(conn: &mut Connection<S>, row: &ReturnRow<'_>) -> Result<(), RowFault>
-    requires { conn.old.in_transaction ≡ false }
-    ensures changed { HasCleanDisk (state S.Store conn.new) → HasLayout (state S.Store conn.old).now
-        → OnOk result (Comes returns (return_values row.now ∷ []) (state S.Store conn.old).now.trees (state S.Store conn.new).now.trees × HasLayout (state S.Store conn.new).now) }
-    ensures settled { HasCleanDisk (state S.Store conn.new) → OnOk result (IsTrue (state S.Store conn.old).is_open × ((state S.Store conn.new).now ≡ (state S.Store conn.new).committed)) }
-    ensures was_open { HasCleanDisk (state S.Store conn.new) → IsTrue (state S.Store conn.new).is_open → IsTrue (state S.Store conn.old).is_open }
-    ensures neither { HasCleanDisk (state S.Store conn.new) → IsTrue (state S.Store conn.new).is_open
-        → OnErr result (((state S.Store conn.new).now ≡ (state S.Store conn.old).committed) × ((state S.Store conn.new).committed ≡ (state S.Store conn.old).committed)) }
-    ensures survives { Survives (state S.Store conn.old) (state S.Store conn.new)
-        (λ db. IsTrue (state S.Store conn.old).is_open × (HasLayout (state S.Store conn.old).now → Comes returns (return_values row.now ∷ []) (state S.Store conn.old).now.trees db)) }
-    ensures idle { conn.new.in_transaction ≡ false }
+pub fn write_return<S: Alter>(conn: &mut Idle<S>, row: &ReturnRow<'_>) -> Result<(), RowFault>
+    ensures changed { between S.Store conn.old conn.new (Changes (ReturnComes (return_values row.now)) result) }
+    ensures settled { between S.Store conn.old conn.new (λ old new. HasCleanDisk new → OnOk result (IsTrue old.is_open × (new.now ≡ new.committed))) }
+    ensures was_open { between S.Store conn.old conn.new (λ old new. HasCleanDisk new → IsTrue new.is_open → IsTrue old.is_open) }
+    ensures neither { between S.Store conn.old conn.new (λ old new. HasCleanDisk new → IsTrue new.is_open → OnErr result ((new.now ≡ old.committed) × (new.committed ≡ old.committed))) }
+    ensures survives { between S.Store conn.old conn.new (SurvivesChange (ReturnComes (return_values row.now))) }
 {
-    let mut tx = conn.transaction();
+    let mut tx = conn.connection.transaction();
     add_return(&mut tx, row)?;
     tx.commit()?;
     Ok(())

@@ -42,7 +42,7 @@ pub(crate) fn distinct_isrcs(alloc: Global, list: Vec<Isrc>) -> Result<BTreeSet<
     list.into_iter().collect(alloc)
 }
 
-/// The ISRCs of a transaction, ascending, each once.
+// The ISRCs of a transaction, ascending, each once.
 fn ascending_isrcs(alloc: Global, transaction: &Transaction<'_>) -> Result<Vec<Isrc>, AllocError>
     ensures { IfOk result (λ list. list.items ≡ ascending bytes_cmp (isrcs_of transaction.now)) }
 {
@@ -50,7 +50,7 @@ fn ascending_isrcs(alloc: Global, transaction: &Transaction<'_>) -> Result<Vec<I
     set.iter().copied().collect(alloc)
 }
 
-/// Appends the ISRCs of each of these transactions.
+// Appends the ISRCs of each of these transactions.
 fn append_isrcs(
     alloc: Global,
     transactions: &[Transaction<'_>],
@@ -65,7 +65,7 @@ fn append_isrcs(
     Ok(())
 }
 
-/// The ISRCs of each transaction of all groups, in the order of the file.
+// The ISRCs of each transaction of all groups, in the order of the file.
 fn isrcs_of_groups(alloc: Global, groups: &[Group<'_>]) -> Result<Vec<Vec<Isrc>>, AllocError>
     ensures { IfOk result (λ list. map (λ l. l.items) list.items ≡ map (λ x. ascending bytes_cmp (isrcs_of x)) (flat_map (λ g. g.transactions) groups.now)) }
 {
@@ -76,7 +76,7 @@ fn isrcs_of_groups(alloc: Global, groups: &[Group<'_>]) -> Result<Vec<Vec<Isrc>>
     Ok(list)
 }
 
-/// Appends the work numbers of the clean ones of these transactions.
+// Appends the work numbers of the clean ones of these transactions.
 fn append_works(judged: &[Judged], works: &mut Vec<WorkNumber>) -> Result<(), AllocError>
     ensures { OnOk result (works.new.items ≡ works.old.items ++ clean_works judged.now) }
 {
@@ -89,7 +89,7 @@ fn append_works(judged: &[Judged], works: &mut Vec<WorkNumber>) -> Result<(), Al
     Ok(())
 }
 
-/// The work numbers of the clean transactions of a run, in order.
+// The work numbers of the clean transactions of a run, in order.
 fn works_of(alloc: Global, run: &[Noted]) -> Result<Vec<WorkNumber>, AllocError>
     ensures { IfOk result (λ works. works.items ≡ flat_map (λ x. clean_works x.judged) run.now) }
 {
@@ -100,7 +100,7 @@ fn works_of(alloc: Global, run: &[Noted]) -> Result<Vec<WorkNumber>, AllocError>
     Ok(works)
 }
 
-/// The set of some work numbers.
+// The set of some work numbers.
 fn distinct_works(alloc: Global, list: Vec<WorkNumber>) -> Result<BTreeSet<WorkNumber>, AllocError>
     ensures { IfOk result (IsFromIterResult bytes_cmp list.items) }
 {
@@ -116,7 +116,7 @@ pub fn ascending_works(alloc: Global, run: &[Noted]) -> Result<Vec<WorkNumber>, 
 }
 
 impl Noted {
-    /// What is noted of a transmission.
+    // What is noted of a transmission.
     fn of(
         alloc: Global,
         transmission: &Transmission<'_>,

@@ -1,17 +1,20 @@
 //! What is asked of a sender.
-ghost use Rattle.std.specs.Prelude.{◌≡◌, List, ℕ, None, Option, Some, false, if◌then◌else◌, map, option_map, IfOk};
-ghost use Rattle.sqlite.specs.Held.{state};
+ghost use Rattle.std.specs.Prelude.{◌≡◌, List, ℕ, None, Option, Some, map, IfOk, if◌then◌else◌};
 ghost use Rattle.society_core.specs.Answers.{known_as, known_by, known_with_front};
+ghost use Rattle.society_core.specs.declared.store.Known.TheVariants.{Same};
 ghost use Rattle.society_core.specs.Book.{front, held, is_one_of, numbers_to, shown_verdicts};
 ghost use Rattle.society_rows.specs.Questions.{Asks};
-ghost use Rattle.society_book.specs.Columns.{number_at};
+ghost use Rattle.society_book.specs.Columns.{whole_number_at};
 ghost use Rattle.society_book.specs.Shown.{ByBook, ShowBody, ShowFront, ShowVerdicts, verdict_in};
+ghost use Rattle.society_rows.specs.Between.{between};
+ghost use Rattle.society_book.specs.Items.{items_of};
+ghost use Rattle.society_book.specs.AnswersShown.{IsStanding};
 
 use society_core::{Known, KnownTransmission, SenderStatus};
 use society_rows::{
-    FrontRow, Question, RowFault, TransmissionKeyRow, TransmissionRow, VerdictRow, ask,
+    FrontRow, Idle, Question, RowFault, TransmissionKeyRow, TransmissionRow, VerdictRow, ask,
 };
-use sqlite::{Alter, Connection, Row};
+use sqlite::{Alter, Row};
 use std::alloc::Global;
 use work_ids::TransmissionNumber;
 use works_core::Verdict;
@@ -28,17 +31,14 @@ pub fn shown_front(rows: &[Row]) -> Result<u32, RowFault>
 }
 
 /// A sender's front.
-pub fn front_of<S: Alter>(conn: &mut Connection<S>, sender: &[u8]) -> Result<u32, RowFault>
-    requires { conn.old.in_transaction ≡ false }
-    ensures asked { Asks (state S.Store conn.old) (state S.Store conn.new) result
-        (ByBook (λ _ book n. n ≡ front book sender.now)) }
-    ensures idle { conn.new.in_transaction ≡ false }
+pub fn front_of<S: Alter>(conn: &mut Idle<S>, sender: &[u8]) -> Result<u32, RowFault>
+    ensures asked { between S.Store conn.old conn.new Asks result (ByBook (λ _ book n. n ≡ front book sender.now)) }
 {
     let rows = ask(conn, Question::Front(sender))?;
     shown_front(rows.as_slice())
 }
 
-/// Whether the rows of a transmission show these bytes, others, or none; `Unread` where they are more than one.
+// Whether the rows of a transmission show these bytes, others, or none; `Unread` where they are more than one.
 fn compared(rows: &[Row], body: &[u8]) -> Result<Known, RowFault>
     ensures { (kept : Option (List ℕ)) → ShowBody kept rows.now → IfOk result (λ known. known ≡ known_by body.now kept) }
 {
@@ -55,59 +55,48 @@ fn compared(rows: &[Row], body: &[u8]) -> Result<Known, RowFault>
     }
 }
 
-/// Whether the book has a transmission, another one under its number, or none.
+// Whether the book has a transmission, another one under its number, or none.
 fn compared_with_kept<S: Alter>(
-    conn: &mut Connection<S>,
+    conn: &mut Idle<S>,
     sender: &[u8],
     number: u32,
     body: &[u8],
 ) -> Result<Known, RowFault>
-    requires { conn.old.in_transaction ≡ false }
-    ensures asked { Asks (state S.Store conn.old) (state S.Store conn.new) result
-        (ByBook (λ _ book known. known ≡ known_as book sender.now number body.now)) }
-    ensures idle { conn.new.in_transaction ≡ false }
+    ensures asked { between S.Store conn.old conn.new Asks result (ByBook (λ _ book known. known ≡ known_as book sender.now number body.now)) }
 {
     let rows = ask(conn, Question::Transmission(sender, number))?;
     compared(rows.as_slice(), body)
 }
 
-/// A sender's front, where what is known of its transmission is the same bytes.
-fn with_front<S: Alter>(
-    conn: &mut Connection<S>,
+// What is known of a transmission that the book has, with its sender's front.
+fn same_with_front<S: Alter>(
+    conn: &mut Idle<S>,
     sender: &[u8],
-    known: Known,
 ) -> Result<KnownTransmission, RowFault>
-    requires { conn.old.in_transaction ≡ false }
-    ensures asked { Asks (state S.Store conn.old) (state S.Store conn.new) result
-        (ByBook (λ _ book found. found ≡ known_with_front (front book sender.now) known)) }
-    ensures idle { conn.new.in_transaction ≡ false }
+    ensures asked { between S.Store conn.old conn.new Asks result (ByBook (λ _ book found. found ≡ known_with_front (front book sender.now) Same)) }
 {
     let front = front_of(conn, sender)?;
-    Ok(match known {
-        Known::Absent => KnownTransmission::Absent,
-        Known::Same => KnownTransmission::Same(front),
-        Known::Other => KnownTransmission::Other,
-    })
+    Ok(KnownTransmission::Same(front))
 }
 
-/// What the book has under a transmission's number, with the sender's front where it is these bytes.
+/// What the book has under a transmission's number, with the sender's front where it is these bytes. The front of any other
+/// is not asked for: an arrival reads it in its own transaction.
 pub fn known_of<S: Alter>(
-    conn: &mut Connection<S>,
+    conn: &mut Idle<S>,
     sender: &[u8],
     number: u32,
     body: &[u8],
 ) -> Result<KnownTransmission, RowFault>
-    requires { conn.old.in_transaction ≡ false }
-    ensures asked { Asks (state S.Store conn.old) (state S.Store conn.new) result
-        (ByBook (λ _ book found. found ≡ known_with_front (front book sender.now) (known_as book sender.now number body.now))) }
-    ensures idle { conn.new.in_transaction ≡ false }
+    ensures asked { between S.Store conn.old conn.new Asks result (ByBook (λ _ book found. found ≡ known_with_front (front book sender.now) (known_as book sender.now number body.now))) }
 {
-    let _settled = conn.is_autocommit();
-    let known = compared_with_kept(conn, sender, number, body)?;
-    with_front(conn, sender, known)
+    match compared_with_kept(conn, sender, number, body)? {
+        Known::Absent => Ok(KnownTransmission::Absent),
+        Known::Same => same_with_front(conn, sender),
+        Known::Other => Ok(KnownTransmission::Other),
+    }
 }
 
-/// The verdict that a row is; `Unread` where it is none: an accepted one has an ordinal from 1.
+// The verdict that a row is; `Unread` where it is none: an accepted one has an ordinal from 1.
 fn verdict_of(row: &Row) -> Result<Verdict, RowFault>
     ensures { IfOk result (λ verdict. Some verdict ≡ verdict_in row.now) }
 {
@@ -128,7 +117,7 @@ fn verdict_of(row: &Row) -> Result<Verdict, RowFault>
     Ok(Verdict::Accepted { ordinal, revision })
 }
 
-/// The verdicts that rows are, in their order.
+// The verdicts that rows are, in their order.
 fn verdicts_in(alloc: Global, rows: &[Row]) -> Result<Vec<Verdict>, RowFault>
     ensures { IfOk result (λ list. map Some list.items ≡ map verdict_in rows.now) }
 {
@@ -139,20 +128,20 @@ fn verdicts_in(alloc: Global, rows: &[Row]) -> Result<Vec<Verdict>, RowFault>
     Ok(list)
 }
 
-/// Whether a number is in a line up to a front.
+// Whether a number is in a line up to a front.
 fn is_up_to(number: u32, front: u32) -> bool
     ensures { result ≡ is_one_of (numbers_to front) number }
 {
     1 <= number && number <= front
 }
 
-/// The verdicts that rows show, where there are to be some.
+// The verdicts that rows show, where there are to be some.
 fn shown_where(
     alloc: Global,
     rows: &[Row],
     is_applied: bool,
 ) -> Result<Option<Vec<Verdict>>, RowFault>
-    ensures { (verdicts : List Verdict) → ShowVerdicts verdicts rows.now → IfOk result (λ shown. option_map (λ list. list.items) shown ≡ (if is_applied then Some verdicts else None)) }
+    ensures { (verdicts : List Verdict) → ShowVerdicts verdicts rows.now → IfOk result (λ shown. items_of shown ≡ (if is_applied then Some verdicts else None)) }
 {
     if !is_applied {
         return Ok(None);
@@ -161,18 +150,15 @@ fn shown_where(
     Ok(Some(list))
 }
 
-/// The verdicts of a transmission whose sender has come to a front.
+// The verdicts of a transmission whose sender has come to a front.
 fn judged_to<S: Alter>(
     alloc: Global,
-    conn: &mut Connection<S>,
+    conn: &mut Idle<S>,
     sender: &[u8],
     number: u32,
     reached: u32,
 ) -> Result<Option<Vec<Verdict>>, RowFault>
-    requires { conn.old.in_transaction ≡ false }
-    ensures asked { Asks (state S.Store conn.old) (state S.Store conn.new) result
-        (ByBook (λ office book shown. reached ≡ front book sender.now → option_map (λ list. list.items) shown ≡ shown_verdicts office book sender.now number)) }
-    ensures idle { conn.new.in_transaction ≡ false }
+    ensures asked { between S.Store conn.old conn.new Asks result (ByBook (λ office book shown. reached ≡ front book sender.now → items_of shown ≡ shown_verdicts office book sender.now number)) }
 {
     let rows = ask(conn, Question::Verdicts(sender, number))?;
     shown_where(alloc, rows.as_slice(), is_up_to(number, reached))
@@ -181,23 +167,19 @@ fn judged_to<S: Alter>(
 /// The verdicts of a transmission, none where its number is not in its sender's line.
 pub fn verdicts_of<S: Alter>(
     alloc: Global,
-    conn: &mut Connection<S>,
+    conn: &mut Idle<S>,
     sender: &[u8],
     number: u32,
 ) -> Result<Option<Vec<Verdict>>, RowFault>
-    requires { conn.old.in_transaction ≡ false }
-    ensures asked { Asks (state S.Store conn.old) (state S.Store conn.new) result
-        (ByBook (λ office book shown. option_map (λ list. list.items) shown ≡ shown_verdicts office book sender.now number)) }
-    ensures idle { conn.new.in_transaction ≡ false }
+    ensures asked { between S.Store conn.old conn.new Asks result (ByBook (λ office book shown. items_of shown ≡ shown_verdicts office book sender.now number)) }
 {
-    let _settled = conn.is_autocommit();
     let reached = front_of(conn, sender)?;
     judged_to(alloc, conn, sender, number, reached)
 }
 
-/// The number that the key of a transmission has; `Unread` where it is no transmission's number.
+// The number that the key of a transmission has; `Unread` where it is no transmission's number.
 fn number_of(row: &Row) -> Result<TransmissionNumber, RowFault>
-    ensures { IfOk result (λ number. number ≡ number_at 1 row.now) }
+    ensures { IfOk result (λ number. number ≡ whole_number_at 1 row.now) }
 {
     match TransmissionNumber::from_u32(TransmissionKeyRow::from_row(row)?.number) {
         Some(number) => Ok(number),
@@ -205,9 +187,9 @@ fn number_of(row: &Row) -> Result<TransmissionNumber, RowFault>
     }
 }
 
-/// The numbers that keys of transmissions have, in their order.
+// The numbers that keys of transmissions have, in their order.
 fn numbers_in(alloc: Global, rows: &[Row]) -> Result<Vec<TransmissionNumber>, RowFault>
-    ensures { IfOk result (λ list. list.items ≡ map (number_at 1) rows.now) }
+    ensures { IfOk result (λ list. list.items ≡ map (whole_number_at 1) rows.now) }
 {
     let mut list = Vec::with_capacity(alloc, rows.len())?;
     for row in rows {
@@ -216,9 +198,9 @@ fn numbers_in(alloc: Global, rows: &[Row]) -> Result<Vec<TransmissionNumber>, Ro
     Ok(list)
 }
 
-/// How a sender stands with a front and the keys of its transmissions above it.
+// How a sender stands with a front and the keys of its transmissions above it.
 fn status_in(alloc: Global, rows: &[Row], reached: u32) -> Result<SenderStatus, RowFault>
-    ensures { IfOk result (λ status. (status.front ≡ reached) × (status.held.items ≡ map (number_at 1) rows.now)) }
+    ensures { IfOk result (λ status. (status.front ≡ reached) × (status.held.items ≡ map (whole_number_at 1) rows.now)) }
 {
     let held = numbers_in(alloc, rows)?;
     Ok(SenderStatus {
@@ -227,17 +209,14 @@ fn status_in(alloc: Global, rows: &[Row], reached: u32) -> Result<SenderStatus, 
     })
 }
 
-/// How a sender stands that has come to a front.
+// How a sender stands that has come to a front.
 fn status_at<S: Alter>(
     alloc: Global,
-    conn: &mut Connection<S>,
+    conn: &mut Idle<S>,
     sender: &[u8],
     reached: u32,
 ) -> Result<SenderStatus, RowFault>
-    requires { conn.old.in_transaction ≡ false }
-    ensures asked { Asks (state S.Store conn.old) (state S.Store conn.new) result
-        (ByBook (λ _ book status. reached ≡ front book sender.now → (status.front ≡ front book sender.now) × (status.held.items ≡ held book sender.now))) }
-    ensures idle { conn.new.in_transaction ≡ false }
+    ensures asked { between S.Store conn.old conn.new Asks result (ByBook (λ _ book status. reached ≡ front book sender.now → IsStanding book sender.now status)) }
 {
     let rows = ask(conn, Question::NumbersAbove(sender, reached))?;
     status_in(alloc, rows.as_slice(), reached)
@@ -246,15 +225,11 @@ fn status_at<S: Alter>(
 /// How a sender stands: its front, and the numbers of its held transmissions, ascending.
 pub fn status_of<S: Alter>(
     alloc: Global,
-    conn: &mut Connection<S>,
+    conn: &mut Idle<S>,
     sender: &[u8],
 ) -> Result<SenderStatus, RowFault>
-    requires { conn.old.in_transaction ≡ false }
-    ensures asked { Asks (state S.Store conn.old) (state S.Store conn.new) result
-        (ByBook (λ _ book status. (status.front ≡ front book sender.now) × (status.held.items ≡ held book sender.now))) }
-    ensures idle { conn.new.in_transaction ≡ false }
+    ensures asked { between S.Store conn.old conn.new Asks result (ByBook (λ _ book status. IsStanding book sender.now status)) }
 {
-    let _settled = conn.is_autocommit();
     let reached = front_of(conn, sender)?;
     status_at(alloc, conn, sender, reached)
 }

@@ -7,14 +7,14 @@ use society_rows::RowFault;
 use std::alloc::{AllocError, Global};
 use work_ids::Account;
 
-/// Whether two accounts are one.
+// Whether two accounts are one.
 fn is_same(account: &Account, other: &Account) -> bool
     ensures { IsTrue result → account.now ≡ other.now }
 {
     account == other
 }
 
-/// A total with the units of a credit, where that is of its account; else the total is appended, and the credit is the next one.
+// A total with the units of a credit, where that is of its account; else the total is appended, and the credit is the next one.
 fn next_total(total: Credit, credit: &Credit, totals: &mut Vec<Credit>) -> Result<Credit, RowFault>
     ensures { IfOk result (λ next. ComeToTheSame (totals.new.items ++ next ∷ []) (totals.old.items ++ total ∷ credit.now ∷ [])) }
 {
@@ -32,7 +32,7 @@ fn next_total(total: Credit, credit: &Credit, totals: &mut Vec<Credit>) -> Resul
     Ok(*credit)
 }
 
-/// The totals of credits, one for each run of credits of one account.
+// The totals of credits, one for each run of credits of one account.
 fn totals_of_runs(alloc: Global, credits: &[Credit]) -> Result<Vec<Credit>, RowFault>
     ensures { IfOk result (λ totals. ComeToTheSame totals.items credits.now) }
 {
@@ -48,7 +48,7 @@ fn totals_of_runs(alloc: Global, credits: &[Credit]) -> Result<Vec<Credit>, RowF
     Ok(totals)
 }
 
-/// Credits in the order of their accounts.
+// Credits in the order of their accounts.
 fn by_account(alloc: Global, credits: &[Credit]) -> Result<Vec<Credit>, AllocError>
     ensures { IfOk result (λ sorted. IsPermutation credits.now sorted.items) }
 {

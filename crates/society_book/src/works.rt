@@ -1,20 +1,19 @@
 //! A work as its version at the front shows it.
-ghost use Rattle.std.specs.Prelude.{◌≡◌, [], List, ℕ, Option, false, IfOk, option_map, unwrap_or};
-ghost use Rattle.std.specs.List.{slice_get};
-ghost use Rattle.cwr_files.specs.Contents.{transactions_of, transmission_in};
-ghost use Rattle.sqlite.specs.Held.{state};
-ghost use Rattle.society_core.specs.Answers.{shown_by, shown_in, shown_version};
+ghost use Rattle.std.specs.Prelude.{◌≡◌, [], List, ℕ, Option, IfOk, option_map};
+ghost use Rattle.society_core.specs.Answers.{shown_in, shown_version};
 ghost use Rattle.society_core.specs.Book.{front, version_in};
 ghost use Rattle.society_core.specs.Requests.{shown_of};
 ghost use Rattle.society_rows.specs.Questions.{Asks};
 ghost use Rattle.society_book.specs.Shown.{ByBook, ByOwnBook, ShowBody, ShowVersion, version_shown};
 ghost use Rattle.works_core.specs.declared.version.WorkVersion.{WorkVersion as Version};
+ghost use Rattle.society_rows.specs.Between.{between};
+ghost use Rattle.society_book.specs.AnswersShown.{shown_of_kept};
 
 use crate::acknowledgements::read;
 use share_rules::Office;
 use society_core::{Work, show};
-use society_rows::{Question, RowFault, TransmissionRow, VersionRow, ask};
-use sqlite::{Alter, Connection, Row};
+use society_rows::{Idle, Question, RowFault, TransmissionRow, VersionRow, ask};
+use sqlite::{Alter, Row};
 use std::alloc::Global;
 use work_ids::{SenderKey, TransmissionNumber, WorkNumber};
 use works_core::WorkVersion;
@@ -53,16 +52,13 @@ pub(crate) fn last_version(rows: &[Row]) -> Result<Option<WorkVersion>, RowFault
     }
 }
 
-/// The version of a sender's work at the sender's front.
+// The version of a sender's work at the sender's front.
 fn version_at_front<S: Alter>(
-    conn: &mut Connection<S>,
+    conn: &mut Idle<S>,
     sender: &SenderKey,
     work: &WorkNumber,
 ) -> Result<Option<WorkVersion>, RowFault>
-    requires { conn.old.in_transaction ≡ false }
-    ensures asked { Asks (state S.Store conn.old) (state S.Store conn.new) result
-        (ByBook (λ office book version. version ≡ version_in office book sender.now work.now (front book sender.now))) }
-    ensures idle { conn.new.in_transaction ≡ false }
+    ensures asked { between S.Store conn.old conn.new Asks result (ByBook (λ office book version. version ≡ version_in office book sender.now work.now (front book sender.now))) }
 {
     let rows = ask(
         conn,
@@ -71,8 +67,8 @@ fn version_at_front<S: Alter>(
     last_version(rows.as_slice())
 }
 
-/// What a version of a work shows, by the rows of its transmission; `Unread` where these are not one row, or its body is no
-/// transmission of the sender.
+// What a version of a work shows, by the rows of its transmission; `Unread` where these are not one row, or its body is no
+// transmission of the sender.
 fn shown(
     alloc: Global,
     office: &Office,
@@ -81,8 +77,7 @@ fn shown(
     version: WorkVersion,
     rows: &[Row],
 ) -> Result<Option<Work>, RowFault>
-    ensures { (kept : Option (List ℕ)) → ShowBody kept rows.now → IfOk result (λ shown. option_map shown_of shown
-        ≡ option_map (shown_by office.now sender.now work.now version) (slice_get (transactions_of (transmission_in (unwrap_or kept []))) version.place)) }
+    ensures { (kept : Option (List ℕ)) → ShowBody kept rows.now → IfOk result (λ shown. option_map shown_of shown ≡ shown_of_kept office.now sender.now work.now version kept) }
 {
     let [row] = rows else {
         return Err(RowFault::Unread);
@@ -98,19 +93,16 @@ fn shown(
     }
 }
 
-/// What a version of a sender's work shows.
+// What a version of a sender's work shows.
 fn shown_at<S: Alter>(
     alloc: Global,
-    conn: &mut Connection<S>,
+    conn: &mut Idle<S>,
     office: &Office,
     sender: &SenderKey,
     work: &WorkNumber,
     version: WorkVersion,
 ) -> Result<Option<Work>, RowFault>
-    requires { conn.old.in_transaction ≡ false }
-    ensures asked { Asks (state S.Store conn.old) (state S.Store conn.new) result
-        (ByBook (λ _ book shown. option_map shown_of shown ≡ shown_version office.now book sender.now work.now version)) }
-    ensures idle { conn.new.in_transaction ≡ false }
+    ensures asked { between S.Store conn.old conn.new Asks result (ByBook (λ _ book shown. option_map shown_of shown ≡ shown_version office.now book sender.now work.now version)) }
 {
     let rows = ask(
         conn,
@@ -122,17 +114,13 @@ fn shown_at<S: Alter>(
 /// A sender's work at this office as its version at the sender's front shows it, none where it has none.
 pub fn work_of<S: Alter>(
     alloc: Global,
-    conn: &mut Connection<S>,
+    conn: &mut Idle<S>,
     office: &Office,
     sender: &SenderKey,
     work: &WorkNumber,
 ) -> Result<Option<Work>, RowFault>
-    requires { conn.old.in_transaction ≡ false }
-    ensures asked { Asks (state S.Store conn.old) (state S.Store conn.new) result
-        (ByOwnBook office.now (λ book shown. option_map shown_of shown ≡ shown_in office.now book sender.now work.now)) }
-    ensures idle { conn.new.in_transaction ≡ false }
+    ensures asked { between S.Store conn.old conn.new Asks result (ByOwnBook office.now (λ book shown. option_map shown_of shown ≡ shown_in office.now book sender.now work.now)) }
 {
-    let _settled = conn.is_autocommit();
     let Some(version) = version_at_front(conn, sender, work)? else {
         return Ok(None);
     };

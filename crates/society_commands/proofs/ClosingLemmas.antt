@@ -11,9 +11,9 @@ use Rattle.sqlite_disk.specs.declared.Files.{Files}
 use Rattle.sqlite_store.specs.declared.store.FileStore.{FileStore}
 use Rattle.share_rules.specs.declared.office.Office.{Office}
 use Rattle.society_core.specs.PlainMaps.{coded_book}
-use Rattle.society_book.proofs.AskLemmas.{both_true, is_clean}
+use Rattle.society_book.proofs.shown.AskLemmas.{both_true, is_clean}
 use Rattle.society_book.specs.BookRows.{book_of}
-use Rattle.society_book.specs.Kept.{Holds, Rests}
+use Rattle.society_book.specs.Kept.{HoldsOwnBook, Rests}
 use Rattle.society_commands.specs.Closing.{HoldsBookAlone}
 
 -- what was copied of tables at rest is their book
@@ -25,6 +25,6 @@ copied_book {g = g} office c files rests copied =
       trees = (file_state c).committed.trees;
       seen = copied.seen;
       left = copied.left;
-      holds = ∥∥₁_map rests (λ r. subst (λ (db : Database). Holds office db.trees) (r live).same (r live).kept.holds);
+      holds = ∥∥₁_map rests (λ r. subst (λ (db : Database). HoldsOwnBook office db.trees) (r live).same (r live).kept.holds);
       same = ∥∥₁_elim rests (Coded-set coded_book _ _) (λ r. ap (λ (db : Database). book_of db.trees) (r live).same);
     }

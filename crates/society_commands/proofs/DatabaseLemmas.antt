@@ -8,11 +8,11 @@ use Rattle.society_core.specs.Book.{empty_book}
 use Rattle.society_rows.specs.Effects.{MayFail}
 use Rattle.society_rows.specs.NewBook.{IsBare}
 use Rattle.society_rows.specs.Stored.{HasLayout}
-use Rattle.society_book.proofs.AskLemmas.{clean_is, first_true, second_true}
+use Rattle.society_book.proofs.shown.AskLemmas.{clean_is, first_true, second_true}
 use Rattle.society_book.specs.BookRows.{book_of}
 use Rattle.society_book.specs.Kept.{tables_state}
 use Rattle.society_tables.specs.Existing.{WhenOpen}
-use Rattle.society_tables.specs.Opening.{HoldsOne, IsOpenable, ShowsAs, SurvivesOpening, Tells}
+use Rattle.society_tables.specs.Opening.{HoldsOne, IsOpenable, ShowsAs, SurvivesOpening, TellsDatabase}
 use Rattle.society_tables.specs.declared.open_fault.OpenFault.{OpenFault}
 use Rattle.society_tables.specs.declared.open_fault.OpenFault.TheVariants.{Empty, Store}
 use Rattle.society_commands.specs.Connections.{IsNotOpened, IsOver}
@@ -67,7 +67,7 @@ module _ {T C : Type 0} (office : Office) (found : connection.State) (held : T �
   over_existing P (Err e) same empty kept = tt
 
   -- what was not opened, where a book may begin
-  pub not_any : (r : Result T (OpenFault × C)) → IfErr r (λ e. connection.HasCleanDisk (left e.1) → IsTrue found.is_open → Tells office found.committed e.0)
+  pub not_any : (r : Result T (OpenFault × C)) → IfErr r (λ e. connection.HasCleanDisk (left e.1) → IsTrue found.is_open → TellsDatabase office found.committed e.0)
       → IfErr r (λ e. WhenOpen found (left e.1) (HasLayout found.committed → e.0 ≡ Store → MayFail found (left e.1)))
       → IfErr r (λ e. connection.HasCleanDisk (left e.1) → ShowsAs found.committed (left e.1))
       → MatchResult r (λ t. SurvivesOpening office found (shown t)) (λ e. SurvivesOpening office found (left e.1))
@@ -76,7 +76,7 @@ module _ {T C : Type 0} (office : Office) (found : connection.State) (held : T �
   not_any (Err e) told failed unchanged crash = record { fault = e.0; told = told; empty = λ existing. absurd (false≢true existing); failed = failed; unchanged = unchanged; crash = crash }
 
   -- and where none may
-  pub not_existing : (X : OpenFault × C → Type 0) (r : Result T (OpenFault × C)) → IfErr r (λ e. connection.HasCleanDisk (left e.1) → IsTrue found.is_open → Tells office found.committed e.0)
+  pub not_existing : (X : OpenFault × C → Type 0) (r : Result T (OpenFault × C)) → IfErr r (λ e. connection.HasCleanDisk (left e.1) → IsTrue found.is_open → TellsDatabase office found.committed e.0)
       → (IsTrue found.is_open → IsBare found.committed → IsErrAnd r (λ e. (e.0 ≡ Empty) × X e))
       → IfErr r (λ e. WhenOpen found (left e.1) (HasLayout found.committed → e.0 ≡ Store → MayFail found (left e.1)))
       → IfErr r (λ e. connection.HasCleanDisk (left e.1) → ShowsAs found.committed (left e.1))

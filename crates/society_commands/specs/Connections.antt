@@ -9,9 +9,13 @@ use Rattle.http_desk.specs.declared.connection.Served.{Served}
 use Rattle.http_desk.specs.declared.counted.Counted.{Counted}
 use Rattle.http_desk.specs.declared.fault.DeskFault.{DeskFault}
 use Rattle.share_rules.specs.declared.office.Office.{Office}
+use Rattle.sqlite.specs.Files.{file_state}
+use Rattle.sqlite.specs.Held.{Held}
 use Rattle.sqlite.specs.Start.{FindsIn}
 use Rattle.sqlite.specs.State as connection
 use Rattle.sqlite.specs.Recovery.{Image}
+use Rattle.sqlite_disk.specs.declared.Disk.{Ghosts}
+use Rattle.sqlite_store.specs.declared.store.FileStore.{FileStore}
 use Rattle.society_core.specs.Book.{empty_book}
 use Rattle.society_core.specs.Requests.{Reply}
 use Rattle.society_core.specs.State.{Rises, State}
@@ -20,10 +24,12 @@ use Rattle.society_rows.specs.NewBook.{IsBare}
 use Rattle.society_rows.specs.Stored.{HasLayout}
 use Rattle.society_book.specs.BookRows.{book_of}
 use Rattle.society_tables.specs.Existing.{FindsOffice, WhenOpen}
-use Rattle.society_tables.specs.Opening.{HoldsOne, IsOpenable, ShowsAs, SurvivesOpening, Tells}
+use Rattle.society_tables.specs.Opening.{HoldsOne, IsOpenable, ShowsAs, SurvivesOpening, TellsDatabase}
 use Rattle.society_tables.specs.declared.open_fault.OpenFault.{OpenFault}
 use Rattle.society_tables.specs.declared.open_fault.OpenFault.TheVariants.{Empty, Store}
+use Rattle.society_commands.specs.Closing.{IsLeftClosed}
 use Rattle.society_commands.specs.Replays.{fault_name}
+use Rattle.society_words.specs.Words.{Serving}
 
 -- how many requests a connection brought, by what it came to
 abbrev pub requests_of : Result Served DeskFault → ℕ
@@ -123,7 +129,7 @@ LeavesOpening false office found left = SurvivesOpening office found left
 -- of the store is told only where there may have been one.
 pub record IsNotOpened (office : Office) (existing : Bool) (found left : connection.State) : Type 0 where
   pub fault : OpenFault
-  pub told : connection.HasCleanDisk left → IsTrue found.is_open → Tells office found.committed fault
+  pub told : connection.HasCleanDisk left → IsTrue found.is_open → TellsDatabase office found.committed fault
   pub empty : IsTrue existing → IsTrue found.is_open → IsBare found.committed → fault ≡ Empty
   pub failed : WhenOpen found left (HasLayout found.committed → fault ≡ Store → MayFail found left)
   pub unchanged : connection.HasCleanDisk left → ShowsAs found.committed left
@@ -134,10 +140,12 @@ pub record IsSoundDatabase (office : Office) (found left : connection.State) : T
   pub sound : FindsOffice office found left
   pub crash : connection.Survives found left (λ db. ⊥)
 
--- a database that was opened so was audited and is sound, and `sound` was printed
-abbrev pub FindsSound : {C W : Type 0} → (C → connection.State) → (connection.State → Type 0) → Office → (W → Option (List ℕ)) → Counted W → Counted W → Type 0
-FindsSound {C} show MayOpen office contents out new_out =
-    (conn : C) × MayOpen (show conn) × ((left : C) × IsSoundDatabase office (show conn) (show left)) × Prints contents out new_out (codes "sound\n")
+-- a database in files that was opened so was audited and is sound, and `sound` was printed
+abbrev pub FindsSound : {D W : Type 0} (g : Ghosts D) → (connection.State → Type 0) → Office → (W → Option (List ℕ)) → Counted W → Counted W → Type 0
+FindsSound {D = D} g MayOpen office contents out new_out =
+    (conn : Held (FileStore D g)) × MayOpen (file_state conn)
+    × ((left : Held (FileStore D g)) × IsSoundDatabase office (file_state conn) (file_state left))
+    × Prints contents out new_out (codes "sound\n")
 
 -- so many connections were served over a store that was opened over what a connection was found with, and this is the store behind them
 abbrev pub ServesDatabase : {S W : Type 0} → (S → State) → Office → Bool → connection.State → S → (W → Option (List ℕ)) → Counted W → Counted W → ℕ → Type 0
@@ -162,16 +170,20 @@ LeavesBroken show state office existing found (Ok ended) contents out new_out co
 LeavesBroken show state office existing found (Err left) contents out new_out connections =
     IsNotOpened office existing found (show left) × (new_out ≡ out)
 
--- so many connections were served over a database that was opened so, and its store was closed as they left it
-abbrev pub ServesOpened : {C S W : Type 0} → (C → connection.State) → (connection.State → Type 0) → (S → State) → (Result S C → Type 0) → Office → Bool → (W → Option (List ℕ)) → Counted W → Counted W → ℕ → Type 0
-ServesOpened {C} {S} show MayOpen state IsClosed office existing contents out new_out count =
-    (conn : C) × MayOpen (show conn) × ((left : Result S C) × LeavesServed state office existing (show conn) left contents out new_out count × IsClosed left)
+-- as many connections as were asked for were served over a database in files that was opened so, and its store was closed as they left it
+abbrev pub ServesOpened : {D S W : Type 0} {g : Ghosts D} → (S → State) → (S → Held (FileStore D g)) → (List ℕ → connection.State → Type 0) → Serving → (W → Option (List ℕ)) → Counted W → Counted W → Type 0
+ServesOpened {D = D} {S = S} {g = g} state conn_of MayOpen s contents out new_out =
+    (conn : Held (FileStore D g)) × MayOpen s.path (file_state conn)
+    × ((left : Result S (Held (FileStore D g))) × LeavesServed state s.office s.existing (file_state conn) left contents out new_out s.place.connections
+    × IsLeftClosed state conn_of left)
 
 -- serving so ended early: no database could be had, and nothing was printed; or this was left of it, and closed where it is a store
-abbrev pub StopsServingOpened : {C S W : Type 0} → (C → connection.State) → (connection.State → Type 0) → (S → State) → (Result S C → Type 0) → Office → Bool → (W → Option (List ℕ)) → Counted W → Counted W → ℕ → Type 0
-StopsServingOpened {C} {S} show MayOpen state IsClosed office existing contents out new_out connections =
+abbrev pub StopsServingOpened : {D S W : Type 0} {g : Ghosts D} → (S → State) → (S → Held (FileStore D g)) → (List ℕ → connection.State → Type 0) → Serving → (W → Option (List ℕ)) → Counted W → Counted W → Type 0
+StopsServingOpened {D = D} {S = S} {g = g} state conn_of MayOpen s contents out new_out =
     (new_out ≡ out)
-    ⊎ ((conn : C) × MayOpen (show conn) × ((left : Result S C) × LeavesBroken show state office existing (show conn) left contents out new_out connections × IsClosed left))
+    ⊎ ((conn : Held (FileStore D g)) × MayOpen s.path (file_state conn)
+    × ((left : Result S (Held (FileStore D g))) × LeavesBroken file_state state s.office s.existing (file_state conn) left contents out new_out s.place.connections
+    × IsLeftClosed state conn_of left))
 
 -- fewer connections than were asked for were served
 abbrev pub StopsEarly : {S W : Type 0} → (S → State) → S → S → (W → Option (List ℕ)) → Counted W → Counted W → ℕ → Type 0

@@ -4,7 +4,7 @@ use Rattle.std.specs.Io.KnownBytes.{Appends}
 use Rattle.http_desk.specs.Counted.{inner_of}
 use Rattle.http_desk.specs.Part.{Part}
 use Rattle.http_desk.specs.Path.{request_of}
-use Rattle.http_desk.specs.Reads.{Reads}
+use Rattle.http_desk.specs.Reads.{ReadsAsRequests}
 use Rattle.http_desk.specs.Serves.{CausedBy, Written}
 use Rattle.http_desk.specs.Text.{texts, ending}
 use Rattle.http_desk.specs.declared.connection_end.End.{End}
@@ -36,7 +36,7 @@ pub record Replays {R W : Type 0} (office : Office) (remaining : R → Option (L
   pub parts : List Part
   pub replies : List Reply
   pub end : End
-  pub reads : Reads bytes parts end
+  pub reads : ReadsAsRequests bytes parts end
   pub answers : AnswersFromNothing office parts replies
   pub written : Appends (contents (inner_of out)) (contents (inner_of new_out)) (texts parts replies ++ ending end)
 

@@ -1,6 +1,5 @@
 //! Whether a database holds an office's book: told without a word to it.
 ghost use Rattle.std.specs.Prelude.{◌≡◌, ◌⊎◌, codes, false, true};
-ghost use Rattle.sqlite.specs.Files.{file_state};
 ghost use Rattle.sqlite.specs.Held.{state};
 ghost use Rattle.society_commands.specs.Connections.{FindsSound, IsNotOpened, IsSoundDatabase, Prints};
 
@@ -8,10 +7,10 @@ use crate::connections::print;
 use crate::host::OpenDatabase;
 use crate::opening::open_fault;
 use crate::replaying::SERVED;
-use crate::words::Database;
 use http_desk::Counted;
 use share_rules::Office;
 use society_tables::Tables;
+use society_words::Database;
 use sqlite::{Alter, Connection};
 use std::alloc::Global;
 use std::io::Write;
@@ -28,7 +27,7 @@ pub fn audit_file<H: OpenDatabase, W: Write, E: Write>(
 ) -> u8
     ensures status { (result ≡ 0) ⊎ (result ≡ 1) }
     ensures sound { result ≡ 0
-        → FindsSound (file_state {g = H.File.Disk}) (H.may_open path.now) office.now W.contents out.old out.new }
+        → FindsSound H.File.Disk (H.may_open path.now) office.now W.contents out.old out.new }
     ensures fault { result ≡ 1 → out.new ≡ out.old }
 {
     let database = Database {

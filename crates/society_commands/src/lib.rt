@@ -4,14 +4,12 @@
 
 mod auditing;
 mod closing;
-mod command_line;
 mod connections;
 mod host;
 mod opening;
 mod replaying;
 mod serving;
 mod starting;
-mod words;
 
 pub use auditing::{audit_database, audit_file};
 pub use connections::{AcceptFault, serve_connections};
@@ -20,4 +18,3 @@ pub use opening::{open_fault, serve_file};
 pub use replaying::{BROKEN_OFF, SERVED, TURNS, replay, report};
 pub use serving::serve_store;
 pub use starting::{NoWords, ended, start, why_no_words};
-pub use words::{Database, Place, Words, words_in};

@@ -1,20 +1,19 @@
 //! The office over a database: how one is opened, and what is said where it is not.
 ghost use Rattle.std.specs.Prelude.{◌≡◌, ◌⊎◌, IfErr, IfOk, false};
-ghost use Rattle.sqlite.specs.Files.{file_state};
 ghost use Rattle.sqlite.specs.Held.{state};
-ghost use Rattle.society_commands.specs.Closing.{IsLeftClosed};
 ghost use Rattle.society_commands.specs.Connections.{IsNotOpened, IsOver, LeavesBroken, LeavesServed, ServesOpened, StopsServingOpened};
 ghost use Rattle.society_commands.specs.Refusals.{database_fault};
+ghost use Rattle.society_words.specs.Words.{serving_of};
 
 use crate::closing::close_left;
 use crate::host::OpenDatabase;
 use crate::replaying::BROKEN_OFF;
 use crate::serving::serve_store;
-use crate::words::{Database, Place};
 use http_desk::Counted;
 use share_rules::Office;
 use society_core::{Desk, Store};
 use society_tables::{OpenFault, Tables};
+use society_words::{Database, Place};
 use sqlite::{Alter, Connection, FileStore};
 use std::alloc::Global;
 use std::io::Write;
@@ -37,14 +36,12 @@ pub fn serve_file<
     err: &mut E,
 ) -> u8
     ensures status { (result ≡ 0) ⊎ (result ≡ 1) }
-    ensures served { result ≡ 0 → ServesOpened (file_state {g = H.File.Disk}) (H.may_open database.entry.path.now) ⟦<Tables<FileStore<H::File>> as Store>⟧.state
-        (IsLeftClosed ⟦<Tables<FileStore<H::File>> as Store>⟧.state (λ t. t.conn))
-        office.now database.entry.existing W.contents out.old out.new place.connections }
+    ensures served { result ≡ 0 → ServesOpened ⟦<Tables<FileStore<H::File>> as Store>⟧.state (λ t. t.conn) H.may_open
+        (serving_of database.entry place office.now) W.contents out.old out.new }
     // Nothing is printed where the database is not opened, or nothing can be listened on; else fewer connections came. In each case
     // the clause names what is left of the database.
-    ensures broken_off { result ≡ 1 → StopsServingOpened (file_state {g = H.File.Disk}) (H.may_open database.entry.path.now) ⟦<Tables<FileStore<H::File>> as Store>⟧.state
-        (IsLeftClosed ⟦<Tables<FileStore<H::File>> as Store>⟧.state (λ t. t.conn))
-        office.now database.entry.existing W.contents out.old out.new place.connections }
+    ensures broken_off { result ≡ 1 → StopsServingOpened ⟦<Tables<FileStore<H::File>> as Store>⟧.state (λ t. t.conn) H.may_open
+        (serving_of database.entry place office.now) W.contents out.old out.new }
 {
     match host.open_database(database) {
         Ok(connection) => {

@@ -4,9 +4,9 @@ ghost use Rattle.society_commands.specs.Connections.{ServesStore, StopsServingSt
 
 use crate::connections::{AcceptFault, print, serve_connections};
 use crate::replaying::{BROKEN_OFF, SERVED};
-use crate::words::Place;
 use http_desk::Counted;
 use society_core::{Desk, Store};
+use society_words::Place;
 use std::alloc::Global;
 use std::io::Write;
 use std::net::{Ipv4Addr, Net, TcpListener, TcpStream};

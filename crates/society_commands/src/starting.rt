@@ -1,26 +1,24 @@
 //! What the program does, by its words.
-ghost use Rattle.std.specs.Prelude.{◌≡◌, ◌≢◌, ◌⊎◌, IfErr, IfOk, IsErr, OnErr, map, string_bytes};
+ghost use Rattle.std.specs.Prelude.{◌≡◌, ◌≢◌, ◌⊎◌, IfErr, IfOk, IsErr, OnErr};
 ghost use Rattle.std.specs.IoError.{error_kind};
 ghost use Rattle.clap.specs.Words.{kind_of};
 ghost use Rattle.clap.specs.declared.error.kind.ErrorKind.TheVariants.{DisplayHelp, OutOfMemory};
-ghost use Rattle.sqlite.specs.Files.{file_state};
-ghost use Rattle.society_commands.specs.Closing.{IsLeftClosed};
 ghost use Rattle.society_commands.specs.Connections.{FindsSound, ServesOpened, StopsServingOpened};
 ghost use Rattle.society_commands.specs.Replays.{Replays, BreaksOff};
 ghost use Rattle.society_commands.specs.Refusals.{status_after, no_words_by, status_without};
-ghost use Rattle.society_commands.specs.Words.{IsWrong, StartsAudit, StartsReplay, StartsServing, AsksHelp, asked};
+ghost use Rattle.society_words.specs.Words.{AsksHelp, EndsAudit, EndsReplay, EndsServing, IsWrong, asks};
 
 use crate::auditing::audit_file;
 use crate::connections::print;
 use crate::host::OpenDatabase;
 use crate::opening::serve_file;
 use crate::replaying::{BROKEN_OFF, SERVED, replay, report};
-use crate::words::{Words, words_in};
 use clap::Error;
 use clap::error::ErrorKind as ClapKind;
 use http_desk::{Counted, DeskFault, FaultKind};
 use society_core::Store;
 use society_tables::Tables;
+use society_words::{Words, words_in};
 use sqlite::FileStore;
 use std::alloc::Global;
 use std::io::{self, ErrorKind, Read, Write};
@@ -57,27 +55,21 @@ pub fn start<
 ) -> Result<u8, NoWords>
     ensures err { OnErr result ((reader.new ≡ reader.old) × (out.new ≡ out.old)) }
     ensures memory { IfErr result (λ why. why ≡ NoWords.Memory) }
-    ensures wrong { IsWrong (asked (map string_bytes words.now))
+    ensures wrong { IsWrong (asks words.now)
         → IfOk result (λ status. (status ≡ 2) × (reader.new ≡ reader.old) × (out.new ≡ out.old)) }
-    ensures help { asked (map string_bytes words.now) ≡ AsksHelp
-        → IfOk result (λ status. (status ≡ 0) × (reader.new ≡ reader.old)) }
-    ensures status { IfOk result (λ status.
-        (status ≡ 0) ⊎ ((status ≡ 1) ⊎ ((status ≡ 2) × IsWrong (asked (map string_bytes words.now))))) }
-    ensures served { IfOk result (λ status. status ≡ 0 → (asked (map string_bytes words.now) ≡ AsksHelp)
-        ⊎ (StartsReplay (asked (map string_bytes words.now)) (λ office.
-        Replays office R.remaining W.contents reader.old out.old out.new)
-        ⊎ (StartsServing (asked (map string_bytes words.now)) (λ database place office.
-        ServesOpened (file_state {g = H.File.Disk}) (H.may_open database.path.now) ⟦<Tables<FileStore<H::File>> as Store>⟧.state
-        (IsLeftClosed ⟦<Tables<FileStore<H::File>> as Store>⟧.state (λ t. t.conn)) office database.existing W.contents out.old out.new place.connections)
-        ⊎ StartsAudit (asked (map string_bytes words.now)) (λ path office.
-        FindsSound (file_state {g = H.File.Disk}) (H.may_open path) office W.contents out.old out.new)))) }
-    ensures broken_off { IfOk result (λ status. status ≡ 1
-        → StartsReplay (asked (map string_bytes words.now)) (λ office.
-        BreaksOff office R.remaining W.contents reader.old reader.new out.old out.new)
-        ⊎ (StartsServing (asked (map string_bytes words.now)) (λ database place office.
-        StopsServingOpened (file_state {g = H.File.Disk}) (H.may_open database.path.now) ⟦<Tables<FileStore<H::File>> as Store>⟧.state
-        (IsLeftClosed ⟦<Tables<FileStore<H::File>> as Store>⟧.state (λ t. t.conn)) office database.existing W.contents out.old out.new place.connections)
-        ⊎ StartsAudit (asked (map string_bytes words.now)) (λ path office. out.new ≡ out.old))) }
+    ensures help { asks words.now ≡ AsksHelp → IfOk result (λ status. (status ≡ 0) × (reader.new ≡ reader.old)) }
+    ensures status { IfOk result (λ status. (status ≡ 0) ⊎ ((status ≡ 1) ⊎ ((status ≡ 2) × IsWrong (asks words.now)))) }
+    ensures replayed { EndsReplay (asks words.now) 0 result (λ office.
+        Replays office R.remaining W.contents reader.old out.old out.new) }
+    ensures broken_off { EndsReplay (asks words.now) 1 result (λ office.
+        BreaksOff office R.remaining W.contents reader.old reader.new out.old out.new) }
+    ensures served { EndsServing (asks words.now) 0 result (λ s.
+        ServesOpened ⟦<Tables<FileStore<H::File>> as Store>⟧.state (λ t. t.conn) H.may_open s W.contents out.old out.new) }
+    ensures stopped { EndsServing (asks words.now) 1 result (λ s.
+        StopsServingOpened ⟦<Tables<FileStore<H::File>> as Store>⟧.state (λ t. t.conn) H.may_open s W.contents out.old out.new) }
+    ensures sound { EndsAudit (asks words.now) 0 result (λ path office.
+        FindsSound H.File.Disk (H.may_open path) office W.contents out.old out.new) }
+    ensures unsound { EndsAudit (asks words.now) 1 result (λ path office. out.new ≡ out.old) }
 {
     match words_in(alloc, words) {
         Ok(Words::Replay(office)) => Ok(replay(alloc, &office, reader, out, err)),

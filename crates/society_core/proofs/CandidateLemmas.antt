@@ -23,7 +23,7 @@ use Rattle.cwr_files.specs.declared.transmission.Transmission.{Transmission}
 use Rattle.share_rules.specs.declared.holder.Holder.{Holder}
 use Rattle.share_rules.specs.declared.office.Office.{Office}
 use Rattle.society_core.specs.Book.{Book, body_at, is_applied, is_one_of, numbers_to, sent_under, transmissions_to}
-use Rattle.society_core.specs.Candidates.{Adds, ListsOnce, ReachesCut, StandFor, candidate_with, holders_among, holders_naming, is_version_by, transactions_sent, work_where}
+use Rattle.society_core.specs.Candidates.{AddsCandidates, ListsOnce, ReachesCut, StandFor, candidate_with, holders_among, holders_naming, is_version_by, transactions_sent, work_where}
 use Rattle.society_core.specs.Claims.{is_candidate_for}
 use Rattle.society_core.proofs.LineNumbers.{one_of_first, one_of_within}
 use Rattle.society_core.proofs.Lines.{judged_under, line_has, line_push, line_to, sent_push}
@@ -42,7 +42,7 @@ both false b e = absurd (false≢true e)
 
 module _ (weigh : CutWork → List Holder) (of_these : List ℕ → Bool) where
   -- candidates that have the holders of more works stand for these too
-  pub adds_by : (more : List CutWork) (old new : List Candidate) → ((isrc : List ℕ) → of_these isrc ≡ true → holders_among new isrc ≡ holders_among old isrc ++ holders_naming weigh more isrc) → Adds weigh of_these more old new
+  pub adds_by : (more : List CutWork) (old new : List Candidate) → ((isrc : List ℕ) → of_these isrc ≡ true → holders_among new isrc ≡ holders_among old isrc ++ holders_naming weigh more isrc) → AddsCandidates weigh of_these more old new
   adds_by more old new e = λ works stand. record {
     same = λ isrc is.
         e isrc is
@@ -51,11 +51,11 @@ module _ (weigh : CutWork → List Holder) (of_these : List ℕ → Bool) where
   }
 
   -- nothing more
-  pub adds_none : (old : List Candidate) → Adds weigh of_these [] old old
+  pub adds_none : (old : List Candidate) → AddsCandidates weigh of_these [] old old
   adds_none old = λ works stand. subst (λ (ws : List CutWork). StandFor weigh of_these ws old) (sym (append-nil works)) stand
 
   -- some works, and then others
-  pub adds_then : (a b : List CutWork) (old mid new : List Candidate) → Adds weigh of_these a old mid → Adds weigh of_these b mid new → Adds weigh of_these (a ++ b) old new
+  pub adds_then : (a b : List CutWork) (old mid new : List Candidate) → AddsCandidates weigh of_these a old mid → AddsCandidates weigh of_these b mid new → AddsCandidates weigh of_these (a ++ b) old new
   adds_then a b old mid new first second = λ works stand. subst (λ (ws : List CutWork). StandFor weigh of_these ws new) (append_assoc works a b) (second (works ++ a) (first works stand))
 
 same_bytes : (a b : List ℕ) → bytes_eq a b ≡ true → a ≡ b
@@ -92,7 +92,7 @@ holders_more cs sender work holders isrcs x =
 
 -- a work adds one candidate for each of these recordings that it names
 pub work_adds : (weigh : CutWork → List Holder) (of_these : List ℕ → Bool) (sender work : List ℕ) (t : Transaction) (listed : List (List ℕ)) (old : List Candidate) → ListsOnce of_these (isrcs_of t) listed →
-    Adds weigh of_these (cut_work sender t ∷ []) old (old ++ map (candidate_with sender work (weigh (cut_work sender t))) listed)
+    AddsCandidates weigh of_these (cut_work sender t ∷ []) old (old ++ map (candidate_with sender work (weigh (cut_work sender t))) listed)
 work_adds weigh of_these sender work t listed old once_each =
     adds_by weigh of_these (cut_work sender t ∷ []) old (old ++ map (candidate_with sender work (weigh (cut_work sender t))) listed)
     (λ x is. holders_more old sender work (weigh (cut_work sender t)) listed x
@@ -104,17 +104,17 @@ work_adds weigh of_these sender work t listed old once_each =
 
 -- once these candidates are appended
 pub added_by : {X E : Type 0} (weigh : CutWork → List Holder) (of_these : List ℕ → Bool) (sender work : List ℕ) (t : Transaction) (listed : List (List ℕ)) (holders : List Holder) (isrcs : List (List ℕ)) (old new : List Candidate) (result : Result X E) → ListsOnce of_these (isrcs_of t) listed → holders ≡ weigh (cut_work sender t) → isrcs ≡ listed →
-    OnOk result (new ≡ old ++ map (candidate_with sender work holders) isrcs) → OnOk result (Adds weigh of_these (cut_work sender t ∷ []) old new)
+    OnOk result (new ≡ old ++ map (candidate_with sender work holders) isrcs) → OnOk result (AddsCandidates weigh of_these (cut_work sender t ∷ []) old new)
 added_by weigh of_these sender work t listed holders isrcs old new (Err e) once_each same these appended = tt
 added_by weigh of_these sender work t listed holders isrcs old new (Ok x) once_each same these appended =
-    subst (Adds weigh of_these (cut_work sender t ∷ []) old)
+    subst (AddsCandidates weigh of_these (cut_work sender t ∷ []) old)
     (sym (appended ∙ ap (λ (hs : List Holder). old ++ map (candidate_with sender work hs) isrcs) same ∙ ap (λ (is : List (List ℕ)). old ++ map (candidate_with sender work (weigh (cut_work sender t))) is) these))
     (work_adds weigh of_these sender work t listed old once_each)
 
 -- so it does where it names none of them
-pub work_adds_none : (weigh : CutWork → List Holder) (of_these : List ℕ → Bool) (sender : List ℕ) (t : Transaction) (old : List Candidate) → ListsOnce of_these (isrcs_of t) [] → Adds weigh of_these (cut_work sender t ∷ []) old old
+pub work_adds_none : (weigh : CutWork → List Holder) (of_these : List ℕ → Bool) (sender : List ℕ) (t : Transaction) (old : List Candidate) → ListsOnce of_these (isrcs_of t) [] → AddsCandidates weigh of_these (cut_work sender t ∷ []) old old
 work_adds_none weigh of_these sender t old once_each =
-    subst (λ (cs : List Candidate). Adds weigh of_these (cut_work sender t ∷ []) old cs) (append-nil old) (work_adds weigh of_these sender [] t [] old once_each)
+    subst (λ (cs : List Candidate). AddsCandidates weigh of_these (cut_work sender t ∷ []) old cs) (append-nil old) (work_adds weigh of_these sender [] t [] old once_each)
 
 -- whether a recording is among some
 abbrev pub is_among : List ℕ → List (List ℕ) → Bool

@@ -13,10 +13,10 @@ use Rattle.share_rules.specs.declared.office.Office.{Office}
 use Rattle.society_core.specs.Answers.{added_answer, added_book, answer, close_answer, close_book, close_refusal, closed_answer, closed_book, known_by, next, pool_known_by, put_answer, put_book, return_answer, return_book, stored_answer, stored_book}
 use Rattle.society_core.specs.Book.{Book, body_at, order_at, return_at, with_pool, with_return, with_transmission}
 use Rattle.society_core.specs.Entries.{Accepts, Entry, Transmission, Return, Pool, IsIn, entry_of, is_acceptance}
-use Rattle.society_core.specs.Headline.{Brings}
+use Rattle.society_core.specs.Headline.{BringsEntry}
 use Rattle.society_core.specs.Keys.{transmission_key}
 use Rattle.society_core.specs.Orders.{Order, same_order}
-use Rattle.society_core.specs.Requests.{Query, Puts, PutsReturn, Closes, ClosesFaulty, AsksAck, AsksSender, AsksWork, AsksVerdicts, AsksCredits, AsksBalance, AsksElsewhere, Reply, Refused}
+use Rattle.society_core.specs.Requests.{Query, Puts, PutsReturn, Closes, ClosesFaulty, Inquires, AsksElsewhere, Reply, Refused}
 use Rattle.society_core.specs.Runs.{Step}
 use Rattle.society_core.specs.declared.refusal.Refusal.{Refusal}
 use Rattle.society_core.specs.declared.refusal.Refusal.TheVariants.{Unavailable}
@@ -96,7 +96,7 @@ pub record Stays (b : Book) (q : Query) (r : Reply) (c : Book) : Type 0 where
 -- one entry comes, which the request brought and which is accepted
 pub record Adds (b : Book) (q : Query) (r : Reply) (c : Book) : Type 0 where
   pub entry : Entry
-  pub brings : Brings q r entry
+  pub brings : BringsEntry q r entry
   pub accepts : Accepts q r entry
   pub free : IsFree b entry
   pub unrefused : IsUnrefused b entry
@@ -159,12 +159,7 @@ next_changes o b (Puts s n y) = put_changes b s n y (body_at b s n) refl
 next_changes o b (PutsReturn key y) = return_changes b key y (return_at b key) refl
 next_changes o b (Closes p order) = close_changes b p order (order_at b p) refl
 next_changes o b (ClosesFaulty f) = inl (asks_nothing b (ClosesFaulty f) (answer o b (ClosesFaulty f)) refl)
-next_changes o b (AsksAck s n) = inl (asks_nothing b (AsksAck s n) (answer o b (AsksAck s n)) refl)
-next_changes o b (AsksSender s) = inl (asks_nothing b (AsksSender s) (answer o b (AsksSender s)) refl)
-next_changes o b (AsksWork s w) = inl (asks_nothing b (AsksWork s w) (answer o b (AsksWork s w)) refl)
-next_changes o b (AsksVerdicts s n) = inl (asks_nothing b (AsksVerdicts s n) (answer o b (AsksVerdicts s n)) refl)
-next_changes o b (AsksCredits p) = inl (asks_nothing b (AsksCredits p) (answer o b (AsksCredits p)) refl)
-next_changes o b (AsksBalance a) = inl (asks_nothing b (AsksBalance a) (answer o b (AsksBalance a)) refl)
+next_changes o b (Inquires i) = inl (asks_nothing b (Inquires i) (answer o b (Inquires i)) refl)
 next_changes o b AsksElsewhere = inl (asks_nothing b AsksElsewhere (answer o b AsksElsewhere) refl)
 
 -- a step leaves the book, or adds one entry

@@ -14,7 +14,7 @@ use Rattle.work_ids.specs.Numbers.{is_pool_number}
 use Rattle.work_ids.specs.declared.fault.IdFault.{IdFault}
 use Rattle.works_core.specs.Line.{NumberedTransmission, line_of}
 use Rattle.works_core.specs.Versions.{work_at}
-use Rattle.society_core.specs.Answers.{answer, credits_answer}
+use Rattle.society_core.specs.Answers.{answer, shown_answer}
 use Rattle.society_core.specs.Book.{Book, IsSound, body_at, front, is_applied, is_in_line, is_pool_entry, order_at, return_at, transmissions_to}
 use Rattle.society_core.specs.Entries as entries
 use Rattle.society_core.specs.Entries.{Entry, IsIn}
@@ -22,7 +22,8 @@ use Rattle.society_core.specs.Orders.{Order}
 use Rattle.society_core.specs.Owners.{CutWork, cut_work, is_at, is_version_at, names_recording, sole, versions_at_cut, versions_of_transmission, works_of_cut}
 use Rattle.society_core.specs.Points.{points_by_recording, rows_named}
 use Rattle.society_core.specs.Pools.{credits_of, holders_of}
-use Rattle.society_core.specs.Requests.{AsksCredits, Credited, Query, Reply}
+use Rattle.society_core.specs.Requests.{Inquires, Credited, Query, Reply, Showed}
+use Rattle.society_core.specs.declared.inquiry.Inquiry.TheVariants as inquiries
 use Rattle.society_core.specs.Runs.{Run}
 use Rattle.society_core.specs.declared.return_key.ReturnKey.{ReturnKey}
 use Rattle.society_core.specs.declared.transmission_key.TransmissionKey.{TransmissionKey}
@@ -108,11 +109,15 @@ credits_same o a b pool order alike entry =
     claim_by : List CutWork → List ℕ × ℕ → Claim
     claim_by ws played = record { isrc = played.0; points = played.1; holders = option_map (holders_of Performing o) (sole (filter (names_recording played.0) ws)) }
 
+-- what is answered of the credits of a pool, by its order
+abbrev pub credits_shown : Office → Book → Option Order → Reply
+credits_shown o b order = shown_answer (option_map (λ (x : Order). Credited (credits_of o b x)) order)
+
 -- in every book that a run leads to
-pub closed_pool_stays : (o : Office) (before : Book) (qs : List Query) (rs : List Reply) (after : Book) → Run o before qs rs after → IsSound before → (pool : ℕ) (order : Order) → order_at before pool ≡ Some order → answer o after (AsksCredits pool) ≡ answer o before (AsksCredits pool)
+pub closed_pool_stays : (o : Office) (before : Book) (qs : List Query) (rs : List Reply) (after : Book) → Run o before qs rs after → IsSound before → (pool : ℕ) (order : Order) → order_at before pool ≡ Some order → answer o after (Inquires (inquiries.Credits pool)) ≡ answer o before (Inquires (inquiries.Credits pool))
 closed_pool_stays o before qs rs after run sound pool order closed =
     let keeps : Keeps before after = record { kept = λ e there. run_keeps o before qs rs after run e there } in
     let still : order_at after pool ≡ Some order = keeps.kept (entries.Pool pool order) closed in
-    ap (credits_answer o after) still
-    ∙ ap (λ (cs : List Credit). Credited cs) (sym (credits_same o before after pool order (kept_pays before after keeps) (sound.pools pool order closed)))
-    ∙ sym (ap (credits_answer o before) closed)
+    ap (credits_shown o after) still
+    ∙ ap (λ (cs : List Credit). Showed (Credited cs)) (sym (credits_same o before after pool order (kept_pays before after keeps) (sound.pools pool order closed)))
+    ∙ sym (ap (credits_shown o before) closed)

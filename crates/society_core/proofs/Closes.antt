@@ -4,7 +4,7 @@ use Rattle.std.specs.FinMap as finite
 use Rattle.std.specs.List.{find, list_all, list_any}
 use Rattle.std.specs.Ordering.{eq_by_cmp, nat_cmp}
 use Rattle.std.proofs.lemmas.Bool.{cases_Bool, false≢true}
-use Rattle.society_core.specs.Answers.{close_refusal, cut_refusal, first_of, first_refusal, payer, payment_by, payment_refusal, pool_of, return_refusal}
+use Rattle.society_core.specs.Answers.{close_refusal, cut_refusal, refusal_or_later, first_refusal, payer, payment_by, payment_refusal, pool_of, return_refusal}
 use Rattle.society_core.specs.Book.{Book, front, is_applied, is_pool_entry, order_at, return_at}
 use Rattle.society_core.specs.Orders.{Order, names_return, same_return_key}
 use Rattle.society_core.specs.declared.refusal.Refusal.{Refusal}
@@ -19,11 +19,11 @@ some_none : {X : Type 0} (x : X) → ◌≡◌ {A = Option X} (Some x) None → 
 some_none x e = cc
 
 -- neither of two refusals
-first_none : (a b : Option Refusal) → first_of a b ≡ None → a ≡ None
+first_none : (a b : Option Refusal) → refusal_or_later a b ≡ None → a ≡ None
 first_none (Some r) b e = absurd (some_none r e)
 first_none None b e = refl
 
-second_none : (a b : Option Refusal) → first_of a b ≡ None → b ≡ None
+second_none : (a b : Option Refusal) → refusal_or_later a b ≡ None → b ≡ None
 second_none (Some r) b e = absurd (some_none r e)
 second_none None b e = e
 
@@ -70,14 +70,14 @@ pub next_due : {X : Type 0} (f : X → Option Refusal) (xs : List X) (i : ℕ) (
 next_due f xs i x within is none =
     let at : drop i xs ≡ x ∷ drop (suc i) xs = rw (drop-cons xs i x) (ap (λ z. z ∷ drop (suc i) xs) (sym is)) in
     ap (first_refusal f) at
-    ∙ ap (λ (o : Option Refusal). first_of o (first_refusal f (drop (suc i) xs))) none
+    ∙ ap (λ (o : Option Refusal). refusal_or_later o (first_refusal f (drop (suc i) xs))) none
     ∙ ap (λ (k : ℕ). first_refusal f (drop k xs)) (sym (add-one i))
 
 -- an element that gives rise to a refusal is the first
 pub due_here : {X : Type 0} (f : X → Option Refusal) (xs : List X) (i : ℕ) (x : X) (r : Refusal) → i < length xs → x ≡ get_or xs i x → f x ≡ Some r → first_refusal f (drop i xs) ≡ Some r
 due_here f xs i x r within is due =
     let at : drop i xs ≡ x ∷ drop (suc i) xs = rw (drop-cons xs i x) (ap (λ z. z ∷ drop (suc i) xs) (sym is)) in
-    ap (first_refusal f) at ∙ ap (λ (o : Option Refusal). first_of o (first_refusal f (drop (suc i) xs))) due
+    ap (first_refusal f) at ∙ ap (λ (o : Option Refusal). refusal_or_later o (first_refusal f (drop (suc i) xs))) due
 
 -- a cut that is in its sender's line is not refused
 pub cut_free : (b : Book) (key : TransmissionKey) → is_applied b key ≡ true → cut_refusal b key ≡ None

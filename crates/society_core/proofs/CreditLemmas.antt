@@ -46,12 +46,9 @@ abbrev pub is_clean : Judged → Bool
 is_clean (Clean kind number) = true
 is_clean (Faulty fault) = false
 
-accepted_clean : (work : List ℕ) (past : List Placed) (t : Placed) → is_version work past t ≡ true → is_clean t.judged ≡ true
-accepted_clean work past t e = by_case t.judged (both (is_accepted (judged_of past) t.judged) (concerns work t.judged) e).1
-  where
-    by_case : (j : Judged) → concerns work j ≡ true → is_clean j ≡ true
-    by_case (Clean kind number) h = refl
-    by_case (Faulty fault) h = absurd (false≢true h)
+concerns_clean : (work : List ℕ) (j : Judged) → concerns work j ≡ true → is_clean j ≡ true
+concerns_clean work (Clean kind number) h = refl
+concerns_clean work (Faulty fault) h = absurd (false≢true h)
 
 module _ (P : Placed → Type 0) where
   stand_behind : (past : List Placed) (n p : ℕ) (js : List Judged) → AllByRecursion P past → ((k : ℕ) → k < length js → P (placed_at n (p + k) (get_or js k (Faulty 0)))) → AllByRecursion P (placed_behind past n p js)
@@ -64,23 +61,23 @@ module _ (P : Placed → Type 0) where
 
 module _ (office : Office) (book : Book) (sender : List ℕ) where
   -- what is judged of a transaction of a sender by its place in its transmission
-  abbrev judged_there : ℕ → ℕ → Judged
+  abbrev pub judged_there : ℕ → ℕ → Judged
   judged_there number place = get_or (judged_in office (transmission_in (unwrap_or (body_at book sender number) []))) place (Faulty 0)
 
   -- a transaction stands where its number and place say
   abbrev Stands : Placed → Type 0
   Stands t = judged_there t.transmission t.place ≡ t.judged
 
-  -- the last version of a work is a clean transaction where it stands
-  version_clean : (work : List ℕ) (past : List Placed) (v : WorkVersion) → AllByRecursion Stands past → last_version work past ≡ Some v → is_clean (judged_there v.transmission v.place) ≡ true
-  version_clean work [] v all e = absurd (cc)
-  version_clean work (t ∷ past) v all e = by_case (is_version work past t) refl e (version_clean work past v all.1)
+  -- the last version of a work is a clean transaction of the work where it stands
+  version_concerns : (work : List ℕ) (past : List Placed) (v : WorkVersion) → AllByRecursion Stands past → last_version work past ≡ Some v → concerns work (judged_there v.transmission v.place) ≡ true
+  version_concerns work [] v all e = absurd (cc)
+  version_concerns work (t ∷ past) v all e = by_case (is_version work past t) refl e (version_concerns work past v all.1)
     where
-      by_case : (b : Bool) → is_version work past t ≡ b → cond b (Some (version_of work past t)) (last_version work past) ≡ Some v → (last_version work past ≡ Some v → is_clean (judged_there v.transmission v.place) ≡ true) → is_clean (judged_there v.transmission v.place) ≡ true
+      by_case : (b : Bool) → is_version work past t ≡ b → cond b (Some (version_of work past t)) (last_version work past) ≡ Some v → (last_version work past ≡ Some v → concerns work (judged_there v.transmission v.place) ≡ true) → concerns work (judged_there v.transmission v.place) ≡ true
       by_case false is told later = later told
       by_case true is told later =
           let same : version_of work past t ≡ v = cc in
-          ap (λ (w : WorkVersion). is_clean (judged_there w.transmission w.place)) (sym same) ∙ ap is_clean all.0 ∙ accepted_clean work past t is
+          ap (λ (w : WorkVersion). concerns work (judged_there w.transmission w.place)) (sym same) ∙ ap (concerns work) all.0 ∙ (both (is_accepted (judged_of past) t.judged) (concerns work t.judged) is).1
 
   -- each transaction of the line up to a number stands there
   line_stands : (n : ℕ) → AllByRecursion Stands (placed_line (line_to office book sender n))
@@ -92,11 +89,11 @@ module _ (office : Office) (book : Book) (sender : List ℕ) where
       (stand_behind Stands (placed_line line) (suc n) 0 next.judged (line_stands n)
       (λ k below. let place : 0 + k ≡ k = omega arith in ap (λ (i : ℕ). get_or next.judged i (Faulty 0)) place))
 
-  -- the version of a work at a cut is a clean transaction where it stands
-  version_at_clean : (work : List ℕ) (cut : ℕ) (v : WorkVersion) → work_at (line_to office book sender cut) work cut ≡ Some v → is_clean (judged_there v.transmission v.place) ≡ true
+  -- the version of a work at a cut is a clean transaction of the work where it stands
+  pub version_at_concerns : (work : List ℕ) (cut : ℕ) (v : WorkVersion) → work_at (line_to office book sender cut) work cut ≡ Some v → concerns work (judged_there v.transmission v.place) ≡ true
   unfolding work_at
-  version_at_clean work cut v e =
-      version_clean work (placed_line (line_to office book sender cut)) v (line_stands cut)
+  version_at_concerns work cut v e =
+      version_concerns work (placed_line (line_to office book sender cut)) v (line_stands cut)
       (ap (λ (l : List JudgedTransmission). last_version work (placed_line l)) (sym (line_up_to office book sender cut cut (omega arith))) ∙ e)
 
 clean_fault : (office : Office) (t : Transaction) → is_clean (judged office t) ≡ true → fault_of office t ≡ None
@@ -111,11 +108,28 @@ get_mapped office [] place t e = absurd (cc)
 get_mapped office (x ∷ ts) zero t e = let same : x ≡ t = cc in ap (judged office) same
 get_mapped office (x ∷ ts) (suc place) t e = get_mapped office ts place t e
 
-sent_clean : (office : Office) (sent : Transmission) (place : ℕ) (t : Transaction) → slice_get (transactions_of sent) place ≡ Some t → get_or (judged_in office sent) place (Faulty 0) ≡ judged office t
+pub sent_clean : (office : Office) (sent : Transmission) (place : ℕ) (t : Transaction) → slice_get (transactions_of sent) place ≡ Some t → get_or (judged_in office sent) place (Faulty 0) ≡ judged office t
 unfolding judged_in
 sent_clean office sent place t e = get_mapped office (transactions_of sent) place t e
 
-same_number : (a b : ℕ) → (a == b) ≡ true → a ≡ b
+get_none : (office : Office) (ts : List Transaction) (place : ℕ) → slice_get ts place ≡ None → get_or (map (judged office) ts) place (Faulty 0) ≡ Faulty 0
+get_none office [] zero none = refl
+get_none office [] (suc place) none = refl
+get_none office (x ∷ ts) zero none = absurd (cc)
+get_none office (x ∷ ts) (suc place) none = get_none office ts place none
+
+sent_none : (office : Office) (sent : Transmission) (place : ℕ) → slice_get (transactions_of sent) place ≡ None → get_or (judged_in office sent) place (Faulty 0) ≡ Faulty 0
+unfolding judged_in
+sent_none office sent place none = get_none office (transactions_of sent) place none
+
+-- a version of a work is a transaction that is there
+pub version_there : (office : Office) (book : Book) (sender work : List ℕ) (cut : ℕ) (v : WorkVersion) → work_at (line_to office book sender cut) work cut ≡ Some v → slice_get (transactions_sent book sender v.transmission) v.place ≡ None → ⊥
+version_there office book sender work cut v its none =
+    false≢true
+    (sym (ap (concerns work) (sent_none office (transmission_in (unwrap_or (body_at book sender v.transmission) [])) v.place none))
+    ∙ version_at_concerns office book sender work cut v its)
+
+pub same_number : (a b : ℕ) → (a == b) ≡ true → a ≡ b
 same_number a b e = (unsigned_Decides a b).0 e
 
 -- a transaction that is a version at a cut has no fault
@@ -132,7 +146,7 @@ version_has_no_fault office book key n place t there e = by_work (number_of_work
         ap (λ (k : ℕ). judged_there office book key.sender k v.place) number
         ∙ ap (judged_there office book key.sender n) at
         ∙ sent_clean office (transmission_in (unwrap_or (body_at book key.sender n) [])) place t there in
-        clean_fault office t (ap is_clean (sym its) ∙ version_at_clean office book key.sender work key.number v is)
+        clean_fault office t (ap is_clean (sym its) ∙ concerns_clean work (judged_there office book key.sender v.transmission v.place) (version_at_concerns office book key.sender work key.number v is))
 
     by_work : (r : Result (List ℕ) IdFault) → is_version_at office book key n place r ≡ true → fault_of office t ≡ None
     by_work (Ok work) h = by_version work (work_at (line_to office book key.sender key.number) work key.number) refl h
@@ -170,7 +184,7 @@ pub works_clean : (office : Office) (book : Book) (keys : List TransmissionKey) 
 works_clean office book [] = tt
 works_clean office book (key ∷ keys) = all_append (HasNoFault office) (versions_at_cut office book key) (flat_map (versions_at_cut office book) keys) (sender_clean office book key key.number) (works_clean office book keys)
 
-filter_all : {X : Type 0} (P : X → Type 0) (p : X → Bool) (xs : List X) → AllByRecursion P xs → AllByRecursion P (filter p xs)
+pub filter_all : {X : Type 0} (P : X → Type 0) (p : X → Bool) (xs : List X) → AllByRecursion P xs → AllByRecursion P (filter p xs)
 filter_all P p [] all = tt
 filter_all P p (x ∷ xs) all = by_case (p x) (filter_all P p xs all.1)
   where

@@ -12,10 +12,12 @@ use Rattle.works_core.specs.Numbered.{IsRising, JudgedTransmission, up_to}
 use Rattle.works_core.specs.Versions.{Placed, is_version, last_version, placed_at, placed_behind, placed_behind_all, placed_line, version_of, work_at}
 use Rattle.works_core.specs.declared.judged.Judged as judgement
 use Rattle.works_core.specs.declared.version.WorkVersion.{WorkVersion}
-use Rattle.society_core.specs.Answers.{answer, judged_answer, shown_ack, shown_by, shown_version, work_answer}
+use Rattle.society_core.specs.Answers.{answer, shown_answer, shown_by, shown_version}
 use Rattle.society_core.specs.Book.{Book, ack, body_at, front, is_in_line, is_one_of, line, numbers_to, sent_under, shown_verdicts, transmissions_to, verdicts_in, version_in}
 use Rattle.society_core.specs.Headline.{AlikeToTheGap}
-use Rattle.society_core.specs.Requests.{AsksAck, AsksVerdicts, AsksWork}
+use Rattle.works_core.specs.declared.verdict.Verdict.{Verdict}
+use Rattle.society_core.specs.Requests.{Acknowledged, Described, Inquires, Judged, Shown}
+use Rattle.society_core.specs.declared.inquiry.Inquiry.TheVariants as inquiries
 use Rattle.society_core.proofs.LineNumbers.{is_first, is_later, longer_line, one_of_by, one_of_within, same_front}
 use Rattle.society_core.proofs.Lines.{line_rises}
 
@@ -96,9 +98,9 @@ shown_alike o a b s work (Some v) alike e =
     alike.same_bodies v.transmission (one_of_by (front a s) v.transmission place.0 place.1))
 
 -- what is asked of a work is answered alike
-pub works_alike : (o : Office) (a b : Book) (s work : List ℕ) → AlikeToTheGap a b s → answer o a (AsksWork s work) ≡ answer o b (AsksWork s work)
+pub works_alike : (o : Office) (a b : Book) (s work : List ℕ) → AlikeToTheGap a b s → answer o a (Inquires (inquiries.Work s work)) ≡ answer o b (Inquires (inquiries.Work s work))
 works_alike o a b s work alike =
-    ap work_answer
+    ap (λ (shown : Option Shown). shown_answer (option_map Described shown))
     (shown_alike o a b s work (version_in o a s work (front a s)) alike refl
     ∙ ap (option_and_then (shown_version o b s work)) (version_alike o a b s work alike))
 
@@ -114,8 +116,8 @@ shown_verdicts_alike o a b s n alike =
     ∙ ap (λ (ns : List ℕ). cond (is_one_of ns n) (Some (verdicts_in o b s n)) None) alike.same_line
 
 -- and so are the verdicts of a transmission
-pub verdicts_alike : (o : Office) (a b : Book) (s : List ℕ) (n : ℕ) → AlikeToTheGap a b s → answer o a (AsksVerdicts s n) ≡ answer o b (AsksVerdicts s n)
-verdicts_alike o a b s n alike = ap judged_answer (shown_verdicts_alike o a b s n alike)
+pub verdicts_alike : (o : Office) (a b : Book) (s : List ℕ) (n : ℕ) → AlikeToTheGap a b s → answer o a (Inquires (inquiries.Verdicts s n)) ≡ answer o b (Inquires (inquiries.Verdicts s n))
+verdicts_alike o a b s n alike = ap (λ (verdicts : Option (List Verdict)). shown_answer (option_map Judged verdicts)) (shown_verdicts_alike o a b s n alike)
 
 ack_alike : (o : Office) (a b : Book) (s : List ℕ) (n : ℕ) → AlikeToTheGap a b s → ack o a s n ≡ ack o b s n
 ack_alike o a b s n alike =
@@ -125,5 +127,5 @@ ack_alike o a b s n alike =
     ∙ ap (λ (ns : List ℕ). cond (is_one_of ns n) (text (body_at b s n) (transmissions_to b s n)) None) alike.same_line
 
 -- and its acknowledgement
-pub acks_alike : (o : Office) (a b : Book) (s : List ℕ) (n : ℕ) → AlikeToTheGap a b s → answer o a (AsksAck s n) ≡ answer o b (AsksAck s n)
-acks_alike o a b s n alike = ap shown_ack (ack_alike o a b s n alike)
+pub acks_alike : (o : Office) (a b : Book) (s : List ℕ) (n : ℕ) → AlikeToTheGap a b s → answer o a (Inquires (inquiries.Acknowledgement s n)) ≡ answer o b (Inquires (inquiries.Acknowledgement s n))
+acks_alike o a b s n alike = ap (λ (text : Option (List ℕ)). shown_answer (option_map Acknowledged text)) (ack_alike o a b s n alike)

@@ -12,11 +12,11 @@ use Rattle.perf_returns.specs.declared.fault.ReturnFault.{ReturnFault}
 use Rattle.share_rules.specs.declared.office.Office.{Office}
 use Rattle.society_core.specs.Answers.{added_book, answer, known_by, next, put_book, return_book, stored_book}
 use Rattle.society_core.specs.Book.{Book, body_at, order_at, return_at}
-use Rattle.society_core.specs.Entries.{Accepts, BookOf, Entry, Transmission, Return, Pool, Holds, IsAccepted, IsIn, entry_of}
-use Rattle.society_core.specs.Headline.{AcceptedAlike, Brings, BroughtAlike, Came, HoldsWhatCame, IsBrought, OneContent, TellsWhatCame}
+use Rattle.society_core.specs.Entries.{Accepts, BookOf, Entry, Transmission, Return, Pool, HoldsExactly, IsAccepted, IsIn, entry_of}
+use Rattle.society_core.specs.Headline.{AcceptedAlike, BringsEntry, BroughtAlike, Came, HoldsWhatCame, IsBrought, OneContent, TellsWhatCame}
 use Rattle.society_core.specs.Keys.{return_cmp, transmission_cmp}
 use Rattle.society_core.specs.Orders.{Order}
-use Rattle.society_core.specs.Requests.{Query, Puts, PutsReturn, Closes, ClosesFaulty, AsksAck, AsksSender, AsksWork, AsksVerdicts, AsksCredits, AsksBalance, AsksElsewhere, Reply, Refused, query_of, reply_of}
+use Rattle.society_core.specs.Requests.{Query, Puts, PutsReturn, Closes, ClosesFaulty, Inquires, AsksElsewhere, Reply, Refused, query_of, reply_of}
 use Rattle.society_core.specs.Runs.{Step, Run, AppendsRun}
 use Rattle.society_core.specs.declared.answers.Answer.{Answer}
 use Rattle.society_core.specs.declared.refusal.Refusal.TheVariants.{Unavailable}
@@ -36,13 +36,13 @@ step_keeps o b q r c step e there =
     (step_changes o b q r c step)
 
 -- what is there after a step was there, or was brought and accepted
-step_from : (o : Office) (b : Book) (q : Query) (r : Reply) (c : Book) → Step o b q r c → (e : Entry) → IsIn c e → IsIn b e ⊎ (Brings q r e × Accepts q r e)
+step_from : (o : Office) (b : Book) (q : Query) (r : Reply) (c : Book) → Step o b q r c → (e : Entry) → IsIn c e → IsIn b e ⊎ (BringsEntry q r e × Accepts q r e)
 step_from o b q r c step e there =
     ⊎_elim
     (λ (stays : Stays b q r c). inl (subst (λ (d : Book). IsIn d e) stays.same there))
     (λ (adds : Adds b q r c).
     ⊎_elim
-    (λ (now : adds.entry ≡ e). inr (subst (λ (f : Entry). Brings q r f × Accepts q r f) now (adds.brings, adds.accepts)))
+    (λ (now : adds.entry ≡ e). inr (subst (λ (f : Entry). BringsEntry q r f × Accepts q r f) now (adds.brings, adds.accepts)))
     (λ (before : IsIn b e). inl before)
     (entry_from b adds.entry e (subst (λ (d : Book). IsIn d e) adds.next there)))
     (step_changes o b q r c step)
@@ -74,7 +74,7 @@ run_from o b (q ∷ qs) (r ∷ rs) c run e there =
     (λ (before : IsIn run.0 e).
     ⊎_elim
     (λ (first : IsIn b e). inl first)
-    (λ (came : Brings q r e × Accepts q r e). inr (inl came.1))
+    (λ (came : BringsEntry q r e × Accepts q r e). inr (inl came.1))
     (step_from o b q r run.0 run.1 e before))
     (λ (later : IsAccepted qs rs e). inr (inr later))
     (run_from o run.0 qs rs c run.2 e there)
@@ -92,7 +92,7 @@ run_there o b (q ∷ qs) (r ∷ rs) c run e accepted =
 run_there o b (q ∷ qs) [] c run e accepted = absurd run
 
 -- the book after a run is the opening book and what was accepted
-pub holds_what_was_accepted : (o : Office) (b : Book) (qs : List Query) (rs : List Reply) (c : Book) → Run o b qs rs c → Holds c (BookOf b qs rs)
+pub holds_what_was_accepted : (o : Office) (b : Book) (qs : List Query) (rs : List Reply) (c : Book) → Run o b qs rs c → HoldsExactly c (BookOf b qs rs)
 holds_what_was_accepted o b qs rs c run e = (
   run_from o b qs rs c run e,
   ⊎_elim (λ (first : IsIn b e). run_keeps o b qs rs c run e first) (λ (accepted : IsAccepted qs rs e). run_there o b qs rs c run e accepted),
@@ -106,7 +106,7 @@ run_came o b (q ∷ qs) (r ∷ rs) c run e there =
     (λ (before : IsIn run.0 e).
     ⊎_elim
     (λ (first : IsIn b e). inl first)
-    (λ (came : Brings q r e × Accepts q r e). inr (inl came.0))
+    (λ (came : BringsEntry q r e × Accepts q r e). inr (inl came.0))
     (step_from o b q r run.0 run.1 e before))
     (λ (later : IsBrought qs rs e). inr (inr later))
     (run_came o run.0 qs rs c run.2 e there)
@@ -162,12 +162,7 @@ next_put b (Closes p o) s n x e = absurd (apart (one_entry (Pool p o) (Transmiss
     apart : Pool p o ≡ Transmission s n x → ⊥
     apart h = cc
 next_put b (ClosesFaulty f) s n x e = absurd (some_entry (Transmission s n x) e)
-next_put b (AsksAck t m) s n x e = absurd (some_entry (Transmission s n x) e)
-next_put b (AsksSender t) s n x e = absurd (some_entry (Transmission s n x) e)
-next_put b (AsksWork t w) s n x e = absurd (some_entry (Transmission s n x) e)
-next_put b (AsksVerdicts t m) s n x e = absurd (some_entry (Transmission s n x) e)
-next_put b (AsksCredits p) s n x e = absurd (some_entry (Transmission s n x) e)
-next_put b (AsksBalance a) s n x e = absurd (some_entry (Transmission s n x) e)
+next_put b (Inquires i) s n x e = absurd (some_entry (Transmission s n x) e)
 next_put b AsksElsewhere s n x e = absurd (some_entry (Transmission s n x) e)
 
 -- what is known of a return's entry
@@ -189,16 +184,11 @@ next_return b (Closes p o) key x e = absurd (apart (one_entry (Pool p o) (Return
     apart : Pool p o ≡ Return key x → ⊥
     apart h = cc
 next_return b (ClosesFaulty f) key x e = absurd (some_entry (Return key x) e)
-next_return b (AsksAck t m) key x e = absurd (some_entry (Return key x) e)
-next_return b (AsksSender t) key x e = absurd (some_entry (Return key x) e)
-next_return b (AsksWork t w) key x e = absurd (some_entry (Return key x) e)
-next_return b (AsksVerdicts t m) key x e = absurd (some_entry (Return key x) e)
-next_return b (AsksCredits p) key x e = absurd (some_entry (Return key x) e)
-next_return b (AsksBalance a) key x e = absurd (some_entry (Return key x) e)
+next_return b (Inquires i) key x e = absurd (some_entry (Return key x) e)
 next_return b AsksElsewhere key x e = absurd (some_entry (Return key x) e)
 
 -- under the number of what was brought something is there after the step
-step_brought : (o : Office) (b : Book) (q : Query) (r : Reply) (c : Book) → Step o b q r c → (e : Entry) → Brings q r e → (z : List ℕ) × IsIn c (with_content e z)
+step_brought : (o : Office) (b : Book) (q : Query) (r : Reply) (c : Book) → Step o b q r c → (e : Entry) → BringsEntry q r e → (z : List ℕ) × IsIn c (with_content e z)
 step_brought o b q r c step (Transmission s n x) brings =
     ⊎_elim
     (λ (done : (r ≡ answer o b q) × (c ≡ next b q)).
@@ -219,7 +209,7 @@ run_brought : (o : Office) (b : Book) (qs : List Query) (rs : List Reply) (c : B
 run_brought o b [] rs c run e brought = absurd brought
 run_brought o b (q ∷ qs) (r ∷ rs) c run e brought =
     ⊎_elim
-    (λ (now : Brings q r e).
+    (λ (now : BringsEntry q r e).
     let there = step_brought o b q r run.0 run.1 e now in
     (there.0, run_keeps o run.0 qs rs c run.2 (with_content e there.0) there.1))
     (λ (later : IsBrought qs rs e). run_brought o run.0 qs rs c run.2 e later)

@@ -29,3 +29,4 @@ pub mod Lines
 pub mod Numbers
 pub mod FedLemmas
 mod Worked
+pub mod OwnerLemmas

@@ -9,10 +9,10 @@ use Rattle.std.proofs.lemmas.List.Sorted.{IsPermutation-map, length_permutation,
 use Rattle.std.proofs.lemmas.List.Sums.{sum_by-cons}
 use Rattle.std.proofs.lemmas.Map.Views.{tells_apart}
 use Rattle.std.proofs.lemmas.Slice.Eq.{bytes_eq-Decides}
-use Rattle.cwr_files.specs.Sentences.{first_that_holds, sentence}
 use Rattle.work_ids.specs.Numbers.{is_return_number, is_transmission_number}
 use Rattle.society_core.specs.Keys.{ascending, return_cmp, return_key, transmission_cmp, transmission_key}
 use Rattle.society_core.specs.Orders.{has_repeat, is_out_of_range, is_too_long, names_twice, order_fault, return_pair, same_numbered, same_sender, sent_pair}
+use Rattle.society_core.specs.declared.order_fault.OrderFault.TheVariants.{OutOfRange, TooLong, NamedTwice}
 use Rattle.society_core.specs.declared.return_key.ReturnKey.{ReturnKey}
 use Rattle.society_core.specs.declared.transmission_key.TransmissionKey.{TransmissionKey}
 use Rattle.society_core.proofs.Ascending.{ascending_permutes}
@@ -123,11 +123,11 @@ numbered_alike x y z h =
     ((Decides-eqb x.1 y.1).0 (second_holds (bytes_eq x.0 y.0) (x.1 == y.1) h))
 
 -- no fault is told: the first test fails, and no later one is told either
-pub told_none : (holds : Bool) (fault : ℕ) (later : Option ℕ) → cond holds (Some fault) later ≡ None → (holds ≡ false) × (later ≡ None)
+pub told_none : {X : Type 0} (holds : Bool) (fault : X) (later : Option X) → cond holds (Some fault) later ≡ None → (holds ≡ false) × (later ≡ None)
 told_none true fault later h = absurd (false≢true (ap is_none h))
 told_none false fault later h = (refl, h)
 
-none_told : (a b c : Bool) → a ≡ false → b ≡ false → c ≡ false → first_that_holds (sentence 2 a ∷ sentence 3 b ∷ sentence 4 c ∷ []) ≡ None
+none_told : (a b c : Bool) → a ≡ false → b ≡ false → c ≡ false → cond a (Some OutOfRange) (cond b (Some TooLong) (cond c (Some NamedTwice) None)) ≡ None
 none_told true b c h k l = absurd (false≢true (sym h))
 none_told false true c h k l = absurd (false≢true (sym k))
 none_told false false true h k l = absurd (false≢true (sym l))
@@ -136,9 +136,9 @@ none_told false false false h k l = refl
 -- an order has no fault in whatever order its members are named
 pub fault_permutes : (amount : ℕ) (cut returns cut′ returns′ : List (List ℕ × ℕ)) → IsPermutation cut cut′ → IsPermutation returns returns′ → order_fault amount cut returns ≡ None → order_fault amount cut′ returns′ ≡ None
 fault_permutes amount cut returns cut′ returns′ cuts pays none =
-    let in_range = told_none (is_out_of_range amount cut returns) 2 _ none in
-    let short = told_none (is_too_long cut returns) 3 _ in_range.1 in
-    let once = told_none (names_twice cut returns) 4 _ short.1 in
+    let in_range = told_none (is_out_of_range amount cut returns) OutOfRange _ none in
+    let short = told_none (is_too_long cut returns) TooLong _ in_range.1 in
+    let once = told_none (names_twice cut returns) NamedTwice _ short.1 in
     let each = neither_holds (has_repeat same_sender cut) (has_repeat same_numbered returns) once.0 in
     none_told (is_out_of_range amount cut′ returns′) (is_too_long cut′ returns′) (names_twice cut′ returns′)
     (ap₂ (λ (a b : Bool). nat_lt 1000000000000 amount || not a || not b) (sym (all_permuted (λ c. is_transmission_number c.1) cut cut′ cuts)) (sym (all_permuted (λ r. is_return_number r.1) returns returns′ pays)) ∙ in_range.0)

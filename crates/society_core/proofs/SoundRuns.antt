@@ -5,28 +5,29 @@ use Rattle.std.specs.List.{AllByRecursion, flat_map}
 use Rattle.pool_split.specs.declared.claim.Credit.{Credit}
 use Rattle.share_rules.specs.declared.office.Office.{Office}
 use Rattle.work_ids.specs.declared.account.Account.{Account}
-use Rattle.society_core.specs.Answers.{answer, credits_answer}
+use Rattle.society_core.specs.Answers.{answer}
 use Rattle.cwr_files.specs.FileFault.{file_fault}
 use Rattle.perf_returns.specs.Returns.{return_fault}
 use Rattle.work_ids.specs.Numbers.{is_return_number, is_transmission_number}
 use Rattle.work_ids.specs.SenderKey.{is_sender_key}
 use Rattle.society_core.specs.Book.{Book, IsSound, is_reporter, order_at}
 use Rattle.society_core.specs.Entries.{Entry, Transmission, Return, Pool}
-use Rattle.society_core.specs.Headline.{Brings}
+use Rattle.society_core.specs.Headline.{BringsEntry}
 use Rattle.society_core.specs.Headline.{AlikeToTheGaps, AllAskRightly, AsksRightly, HasRightKey}
 use Rattle.society_core.specs.Orders.{Order}
 use Rattle.society_core.specs.Pools.{credits_of, units_to}
-use Rattle.society_core.specs.Requests.{AsksBalance, AsksCredits, Credited, Owed, Query, Reply}
+use Rattle.society_core.specs.Requests.{Inquires, Credited, Owed, Query, Reply, Showed}
+use Rattle.society_core.specs.declared.inquiry.Inquiry.TheVariants as inquiries
 use Rattle.society_core.specs.Runs.{Run, Step}
 use Rattle.society_core.proofs.Books.{sound_with, sound_with_pool, sound_with_return}
 use Rattle.society_core.proofs.Changes.{Adds, IsFree, IsUnrefused, Stays, step_changes, with_entry}
 use Rattle.society_core.proofs.Closes.{entry_of_close, no_payer}
-use Rattle.society_core.proofs.ClosedPools.{PaysAlike, credits_same}
+use Rattle.society_core.proofs.ClosedPools.{PaysAlike, credits_same, credits_shown}
 use Rattle.society_core.proofs.Fronts.{both_hold}
 use Rattle.society_core.proofs.Gaps.{alike_to}
 use Rattle.society_core.proofs.PoolLemmas.{IsPool, each_pool}
 
-sound_entry : (b : Book) (q : Query) (r : Reply) (e : Entry) → IsSound b → HasRightKey e → IsFree b e → IsUnrefused b e → Brings q r e → IsSound (with_entry b e)
+sound_entry : (b : Book) (q : Query) (r : Reply) (e : Entry) → IsSound b → HasRightKey e → IsFree b e → IsUnrefused b e → BringsEntry q r e → IsSound (with_entry b e)
 sound_entry b q r (Transmission s n x) sound key free unrefused brings =
     sound_with b s n x sound free
     (both_hold (is_sender_key s && is_transmission_number n) (is_none (file_fault s x)) (both_hold (is_sender_key s) (is_transmission_number n) key.0 key.1) (ap is_none brings.1))
@@ -60,13 +61,13 @@ gaps_pay a b alike = record {
 }
 
 -- so their pools have the same credits
-pub held_credits : (o : Office) (a b : Book) (pool : ℕ) → IsSound a → AlikeToTheGaps a b → answer o a (AsksCredits pool) ≡ answer o b (AsksCredits pool)
+pub held_credits : (o : Office) (a b : Book) (pool : ℕ) → IsSound a → AlikeToTheGaps a b → answer o a (Inquires (inquiries.Credits pool)) ≡ answer o b (Inquires (inquiries.Credits pool))
 held_credits o a b pool sound alike =
-    by_case (order_at a pool) refl ∙ ap (credits_answer o b) (ap (λ m. finite.get m pool) alike.pools)
+    by_case (order_at a pool) refl ∙ ap (credits_shown o b) (ap (λ m. finite.get m pool) alike.pools)
   where
-    by_case : (x : Option Order) → order_at a pool ≡ x → credits_answer o a x ≡ credits_answer o b x
+    by_case : (x : Option Order) → order_at a pool ≡ x → credits_shown o a x ≡ credits_shown o b x
     by_case None is = refl
-    by_case (Some order) is = ap (λ (cs : List Credit). Credited cs) (credits_same o a b pool order (gaps_pay a b alike) (sound.pools pool order is))
+    by_case (Some order) is = ap (λ (cs : List Credit). Showed (Credited cs)) (credits_same o a b pool order (gaps_pay a b alike) (sound.pools pool order is))
 
 same_credits : (o : Office) (a b : Book) → IsSound a → AlikeToTheGaps a b → (es : List (ℕ × Order)) → AllByRecursion (IsPool a) es → flat_map (credits_of o a) (map (λ e. e.1) es) ≡ flat_map (credits_of o b) (map (λ e. e.1) es)
 same_credits o a b sound alike [] there = refl
@@ -75,7 +76,7 @@ same_credits o a b sound alike (e ∷ es) there =
     ∙ ap (λ (cs : List Credit). credits_of o b e.1 ++ cs) (same_credits o a b sound alike es there.1)
 
 -- and all accounts the same balances
-pub held_balances : (o : Office) (a b : Book) (account : Account) → IsSound a → AlikeToTheGaps a b → answer o a (AsksBalance account) ≡ answer o b (AsksBalance account)
+pub held_balances : (o : Office) (a b : Book) (account : Account) → IsSound a → AlikeToTheGaps a b → answer o a (Inquires (inquiries.Balance account)) ≡ answer o b (Inquires (inquiries.Balance account))
 held_balances o a b account sound alike =
-    ap (λ (cs : List Credit). Owed account (units_to account cs))
+    ap (λ (cs : List Credit). Showed (Owed account (units_to account cs)))
     (same_credits o a b sound alike (finite.entries a.pools) (each_pool a) ∙ ap (λ m. flat_map (credits_of o b) (finite.values m)) alike.pools)

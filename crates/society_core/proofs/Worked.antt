@@ -1,11 +1,12 @@
 -- Worked values of the book's numbers and of what a put is answered.
 use Rattle.std.specs.Prelude.{ℕ, ◌≡◌, false, true, [], ◌∷◌, Some, None, nat_le, refl, codes}
 use Rattle.std.proofs.Common.{Less, Greater}
-use Rattle.society_core.specs.Answers.{arrival_at, known_by, put_answer, shown_ack}
+use Rattle.society_core.specs.Answers.{arrival_at, known_by, put_answer, shown_answer}
 use Rattle.society_core.specs.Book.{empty_book, greatest_of, greatest_to, is_one_of, numbers_to}
 use Rattle.society_core.specs.Orders.{order_fault}
 use Rattle.society_core.specs.Owners.{sole}
 use Rattle.society_core.specs.Requests.{Refused}
+use Rattle.society_core.specs.declared.order_fault.OrderFault.TheVariants.{NamedTwice, OutOfRange}
 use Rattle.society_core.specs.declared.refusal.Refusal.TheVariants.{Reused, Unknown}
 use Rattle.society_core.specs.Keys.{transmission_cmp, transmission_key}
 use Rattle.society_core.specs.declared.answers.Standing.TheVariants.{Applied, Held}
@@ -49,8 +50,8 @@ another = refl
 reused : put_answer empty_book (codes "PB000000012") 3 (codes "B") Other ≡ Refused Reused
 reused = refl
 
--- a text that is not there is unknown
-not_there : shown_ack None ≡ Refused Unknown
+-- what is not there is unknown
+not_there : shown_answer None ≡ Refused Unknown
 not_there = refl
 
 -- the greatest number of some keys, whoever sent them
@@ -65,16 +66,16 @@ by_sender : transmission_cmp (transmission_key (codes "PB000000034") 1) (transmi
 by_sender = refl
 
 -- numbers of an order: an amount past the limit goes before a sender named twice
-out_of_range : order_fault 1000000000001 ((codes "PB000000012", 1) ∷ (codes "PB000000012", 2) ∷ []) [] ≡ Some 2
+out_of_range : order_fault 1000000000001 ((codes "PB000000012", 1) ∷ (codes "PB000000012", 2) ∷ []) [] ≡ Some OutOfRange
 out_of_range = refl
 
-twice : order_fault 5 ((codes "PB000000012", 1) ∷ (codes "PB000000012", 2) ∷ []) [] ≡ Some 4
+twice : order_fault 5 ((codes "PB000000012", 1) ∷ (codes "PB000000012", 2) ∷ []) [] ≡ Some NamedTwice
 twice = refl
 
-named_twice : order_fault 5 [] ((codes "RADIO1", 1) ∷ (codes "RADIO2", 1) ∷ (codes "RADIO1", 1) ∷ []) ≡ Some 4
+named_twice : order_fault 5 [] ((codes "RADIO1", 1) ∷ (codes "RADIO2", 1) ∷ (codes "RADIO1", 1) ∷ []) ≡ Some NamedTwice
 named_twice = refl
 
-cut_of_nothing : order_fault 5 ((codes "PB000000012", 0) ∷ []) [] ≡ Some 2
+cut_of_nothing : order_fault 5 ((codes "PB000000012", 0) ∷ []) [] ≡ Some OutOfRange
 cut_of_nothing = refl
 
 an_order : order_fault 1000000000000 ((codes "PB000000012", 999999) ∷ []) ((codes "RADIO1", 1) ∷ (codes "RADIO1", 2) ∷ []) ≡ None

@@ -1,5 +1,5 @@
 -- The answer to each request over a book, and the book after it.
-use Rattle.std.specs.Prelude.{ℕ, Bool, true, false, List, [], ◌∷◌, Option, Some, None, if◌then◌else◌, option_map}
+use Rattle.std.specs.Prelude.{ℕ, ◌≡◌, Bool, true, false, List, [], ◌∷◌, Option, Some, None, if◌then◌else◌, option_map}
 use Rattle.std.specs.Option.{option_and_then}
 use Rattle.std.specs.FinMap as finite
 use Rattle.std.specs.List.{find}
@@ -17,11 +17,13 @@ use Rattle.share_rules.specs.declared.office.Office.{Office}
 use Rattle.society_core.specs.Book.{Book, ack, body_at, front, held, is_applied, is_one_of, numbers_to, order_at, return_at, shown_verdicts, transaction_at, version_in, with_pool, with_return, with_transmission}
 use Rattle.society_core.specs.Orders.{Order, names_return, same_order}
 use Rattle.society_core.specs.Pools.{balance, credits_of}
-use Rattle.society_core.specs.Requests.{Query, Puts, PutsReturn, Closes, ClosesFaulty, AsksAck, AsksSender, AsksWork, AsksVerdicts, AsksCredits, AsksBalance, AsksElsewhere, Reply, Arrived, Stored, Closed, Acknowledged, Stands, Shown, Shows, Judged, Credited, Owed, Refused}
+use Rattle.society_core.specs.Requests.{Query, Puts, PutsReturn, Closes, ClosesFaulty, Inquires, AsksElsewhere, Reply, Arrived, Stored, Closed, Showed, Refused, Showing, Acknowledged, Stands, Described, Judged, Credited, Owed, Shown}
 use Rattle.society_core.specs.declared.answers.Arrival.{Arrival}
 use Rattle.society_core.specs.declared.answers.Receipt.TheVariants.{New, Repeated}
 use Rattle.society_core.specs.declared.answers.Standing.{Standing}
 use Rattle.society_core.specs.declared.answers.Standing.TheVariants.{Applied, Held}
+use Rattle.society_core.specs.declared.inquiry.Inquiry.{Inquiry}
+use Rattle.society_core.specs.declared.inquiry.Inquiry.TheVariants as inquiries
 use Rattle.society_core.specs.declared.refusal.Refusal.{Refusal}
 use Rattle.society_core.specs.declared.refusal.Refusal.TheVariants.{Reused, File, Csv, Unknown}
 use Rattle.society_core.specs.declared.refusal.Refusal.TheVariants as refusals
@@ -34,7 +36,6 @@ use Rattle.society_core.specs.declared.store.Payment.{Payment}
 use Rattle.society_core.specs.declared.store.Payment.TheVariants as payments
 use Rattle.society_core.specs.declared.transmission_key.TransmissionKey.{TransmissionKey}
 use Rattle.works_core.specs.Recordings.{isrcs_of, right_one}
-use Rattle.works_core.specs.declared.verdict.Verdict.{Verdict}
 use Rattle.works_core.specs.declared.version.WorkVersion.{WorkVersion}
 
 -- a transmission is applied where its number is in a line up to a front, else it is held (profile)
@@ -86,16 +87,6 @@ put_book book sender number body Same = book
 put_book book sender number body Other = book
 put_book book sender number body Absent = added_book book sender number body (file_fault sender body)
 
--- a text that is there is shown, else it is unknown
-abbrev pub shown_ack : Option (List ℕ) → Reply
-shown_ack (Some text) = Acknowledged text
-shown_ack None = Refused Unknown
-
--- verdicts that are there are shown, else they are unknown
-abbrev pub judged_answer : Option (List Verdict) → Reply
-judged_answer (Some verdicts) = Judged verdicts
-judged_answer None = Refused Unknown
-
 -- what is shown of a version: the title without the blanks at its end, the ISWC where there is one, the ISRCs in order, and the holders with their weights in the performing right (profile)
 abbrev pub shown_by : Office → List ℕ → List ℕ → WorkVersion → Transaction → Shown
 shown_by office sender work version transaction = record {
@@ -115,11 +106,6 @@ shown_version office book sender work version =
 -- what is shown of a work: its version at the sender's front, if there is one (profile)
 abbrev pub shown_in : Office → Book → List ℕ → List ℕ → Option Shown
 shown_in office book sender work = option_and_then (shown_version office book sender work) (version_in office book sender work (front book sender))
-
--- a work that is there is shown, else it is unknown
-abbrev pub work_answer : Option Shown → Reply
-work_answer (Some shown) = Shows shown
-work_answer None = Refused Unknown
 
 -- whether the book has this return, another one under its key, or none
 abbrev pub return_known_as : Book → ReturnKey → List ℕ → Known
@@ -148,14 +134,14 @@ return_book book key body Other = book
 return_book book key body Absent = stored_book book key body (return_fault body)
 
 -- a refusal, or else a later one
-abbrev pub first_of : Option Refusal → Option Refusal → Option Refusal
-first_of (Some refused) later = Some refused
-first_of None later = later
+abbrev pub refusal_or_later : Option Refusal → Option Refusal → Option Refusal
+refusal_or_later (Some refused) later = Some refused
+refusal_or_later None later = later
 
 -- the first refusal that a list gives rise to
 abbrev pub first_refusal : {X : Type 0} → (X → Option Refusal) → List X → Option Refusal
 first_refusal refusal [] = None
-first_refusal refusal (x ∷ xs) = first_of (refusal x) (first_refusal refusal xs)
+first_refusal refusal (x ∷ xs) = refusal_or_later (refusal x) (first_refusal refusal xs)
 
 -- a cut whose number is not in its sender's line is refused, with the sender's front (profile)
 abbrev pub cut_refusal : Book → TransmissionKey → Option Refusal
@@ -196,7 +182,7 @@ return_refusal book key = payment_refusal key (payment_in book key)
 
 -- why a pool is not closed by an order: its first cut that is not in its sender's line, else its first return that is unknown or paid (profile)
 abbrev pub close_refusal : Book → Order → Option Refusal
-close_refusal book order = first_of (first_refusal (cut_refusal book) order.cut) (first_refusal (return_refusal book) order.returns)
+close_refusal book order = refusal_or_later (first_refusal (cut_refusal book) order.cut) (first_refusal (return_refusal book) order.returns)
 
 -- whether what the book has under a pool is this order
 abbrev pub pool_known_by : Order → Option Order → Known
@@ -229,10 +215,19 @@ close_book book pool order Same = book
 close_book book pool order Other = book
 close_book book pool order Absent = closed_book book pool order (close_refusal book order)
 
--- the credits of a pool that is closed, else it is unknown
-abbrev pub credits_answer : Office → Book → Option Order → Reply
-credits_answer office book (Some order) = Credited (credits_of office book order)
-credits_answer office book None = Refused Unknown
+-- what a book shows to a question, where it is there (profile)
+abbrev pub showing : Office → Book → Inquiry → Option Showing
+showing office book (inquiries.Acknowledgement sender number) = option_map Acknowledged (ack office book sender number)
+showing office book (inquiries.Sender sender) = Some (Stands (front book sender) (held book sender))
+showing office book (inquiries.Work sender work) = option_map Described (shown_in office book sender work)
+showing office book (inquiries.Verdicts sender number) = option_map Judged (shown_verdicts office book sender number)
+showing office book (inquiries.Credits pool) = option_map (λ order. Credited (credits_of office book order)) (order_at book pool)
+showing office book (inquiries.Balance account) = Some (Owed account (balance office book account))
+
+-- what is there is shown, else it is unknown
+abbrev pub shown_answer : Option Showing → Reply
+shown_answer (Some shown) = Showed shown
+shown_answer None = Refused Unknown
 
 -- the answer to a request over a book (profile)
 abbrev pub answer : Office → Book → Query → Reply
@@ -240,12 +235,7 @@ answer office book (Puts sender number body) = put_answer book sender number bod
 answer office book (PutsReturn key body) = return_answer body (return_known_as book key body)
 answer office book (Closes pool order) = close_answer book pool order (pool_known_as book pool order)
 answer office book (ClosesFaulty fault) = Refused (refusals.Order fault)
-answer office book (AsksAck sender number) = shown_ack (ack office book sender number)
-answer office book (AsksSender sender) = Stands (front book sender) (held book sender)
-answer office book (AsksWork sender work) = work_answer (shown_in office book sender work)
-answer office book (AsksVerdicts sender number) = judged_answer (shown_verdicts office book sender number)
-answer office book (AsksCredits pool) = credits_answer office book (order_at book pool)
-answer office book (AsksBalance account) = Owed account (balance office book account)
+answer office book (Inquires inquiry) = shown_answer (showing office book inquiry)
 answer office book AsksElsewhere = Refused Unknown
 
 -- the book after a request: another one only for what is accepted, and then by that one entry (profile)
@@ -254,10 +244,9 @@ next book (Puts sender number body) = put_book book sender number body (known_as
 next book (PutsReturn key body) = return_book book key body (return_known_as book key body)
 next book (Closes pool order) = close_book book pool order (pool_known_as book pool order)
 next book (ClosesFaulty fault) = book
-next book (AsksAck sender number) = book
-next book (AsksSender sender) = book
-next book (AsksWork sender work) = book
-next book (AsksVerdicts sender number) = book
-next book (AsksCredits pool) = book
-next book (AsksBalance account) = book
+next book (Inquires inquiry) = book
 next book AsksElsewhere = book
+
+-- two books answer a request alike
+abbrev pub AnswersAlike : Office → Book → Book → Query → Type 0
+AnswersAlike office a b query = answer office a query ≡ answer office b query

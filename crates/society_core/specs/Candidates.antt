@@ -1,4 +1,4 @@
--- Candidates for the recordings of a pool, and the works that they stand for.
+-- Representation, not meaning: candidates for the recordings of a pool, and the works that they stand for.
 use Rattle.std.specs.Prelude.{ℕ, ◌≡◌, ◌++◌, ◌∷◌, Bool, false, if◌then◌else◌, List, [], Result, Ok, Err, map, is_some, bytes_eq, true, unwrap_or}
 use Rattle.std.specs.List.{filter, list_all, list_any}
 use Rattle.cwr_files.specs.Contents.{transactions_of, transmission_in}
@@ -29,8 +29,8 @@ pub record StandFor (weigh : CutWork → List Holder) (of_these : List ℕ → B
   pub same : (isrc : List ℕ) → of_these isrc ≡ true → holders_among candidates isrc ≡ holders_naming weigh works isrc
 
 -- candidates for these recordings are added that stand for some works more
-abbrev pub Adds : (CutWork → List Holder) → (List ℕ → Bool) → List CutWork → List Candidate → List Candidate → Type 0
-Adds weigh of_these more old new = (works : List CutWork) → StandFor weigh of_these works old → StandFor weigh of_these (works ++ more) new
+abbrev pub AddsCandidates : (CutWork → List Holder) → (List ℕ → Bool) → List CutWork → List Candidate → List Candidate → Type 0
+AddsCandidates weigh of_these more old new = (works : List CutWork) → StandFor weigh of_these works old → StandFor weigh of_these (works ++ more) new
 
 -- each of these recordings that is named stands once in a list, and none that is not named
 abbrev pub ListsOnce : (List ℕ → Bool) → List (List ℕ) → List (List ℕ) → Type 0

@@ -1,4 +1,4 @@
--- The claims of a pool, by the works that may own its recordings.
+-- Representation, not meaning: the claims of a pool, by the candidates for its recordings.
 use Rattle.std.specs.Prelude.{ℕ, ◌≡◌, Bool, List, [], ◌∷◌, Option, Some, None, bytes_eq, map, option_map}
 use Rattle.std.specs.BTreeMap as tree
 use Rattle.std.specs.BTreeMap.{BTreeMap}

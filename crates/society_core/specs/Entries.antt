@@ -2,7 +2,7 @@
 use Rattle.std.specs.Prelude.{ℕ, Bool, true, false, List, [], ◌∷◌, ◌≡◌, ◌⊎◌, Option, Some, None}
 use Rattle.society_core.specs.Book.{Book, body_at, order_at, return_at}
 use Rattle.society_core.specs.Orders.{Order}
-use Rattle.society_core.specs.Requests.{Query, Puts, PutsReturn, Closes, ClosesFaulty, AsksAck, AsksSender, AsksWork, AsksVerdicts, AsksCredits, AsksBalance, AsksElsewhere, Reply, Arrived, Stored, Closed, Acknowledged, Stands, Shows, Judged, Credited, Owed, Refused}
+use Rattle.society_core.specs.Requests.{Query, Puts, PutsReturn, Closes, ClosesFaulty, Inquires, AsksElsewhere, Reply, Arrived, Stored, Closed, Showed, Refused}
 use Rattle.society_core.specs.declared.return_key.ReturnKey.{ReturnKey}
 
 -- an entry: a transmission of a sender under its number, a return under its key, or a pool with its order
@@ -23,12 +23,7 @@ entry_of (Puts sender number body) = Some (Transmission sender number body)
 entry_of (PutsReturn key body) = Some (Return key body)
 entry_of (Closes pool order) = Some (Pool pool order)
 entry_of (ClosesFaulty fault) = None
-entry_of (AsksAck sender number) = None
-entry_of (AsksSender sender) = None
-entry_of (AsksWork sender work) = None
-entry_of (AsksVerdicts sender number) = None
-entry_of (AsksCredits pool) = None
-entry_of (AsksBalance account) = None
+entry_of (Inquires inquiry) = None
 entry_of AsksElsewhere = None
 
 -- whether an answer says that what was sent is in the book (200, 201 or 202 of a put or a close)
@@ -36,12 +31,7 @@ abbrev pub is_acceptance : Reply → Bool
 is_acceptance (Arrived arrival) = true
 is_acceptance (Stored receipt) = true
 is_acceptance (Closed receipt pool) = true
-is_acceptance (Acknowledged text) = false
-is_acceptance (Stands front held) = false
-is_acceptance (Shows shown) = false
-is_acceptance (Judged verdicts) = false
-is_acceptance (Credited credits) = false
-is_acceptance (Owed account units) = false
+is_acceptance (Showed showing) = false
 is_acceptance (Refused refusal) = false
 
 -- a request was answered as accepted with this entry
@@ -59,5 +49,5 @@ abbrev pub BookOf : Book → List Query → List Reply → Entry → Type 0
 BookOf book queries replies entry = IsIn book entry ⊎ IsAccepted queries replies entry
 
 -- a book has exactly these entries
-abbrev pub Holds : Book → (Entry → Type 0) → Type 0
-Holds book Entries = (entry : Entry) → (IsIn book entry → Entries entry) × (Entries entry → IsIn book entry)
+abbrev pub HoldsExactly : Book → (Entry → Type 0) → Type 0
+HoldsExactly book Entries = (entry : Entry) → (IsIn book entry → Entries entry) × (Entries entry → IsIn book entry)

@@ -6,7 +6,7 @@ use Rattle.perf_returns.specs.Returns.{return_fault}
 use Rattle.work_ids.specs.Numbers.{is_pool_number, is_return_number, is_transmission_number}
 use Rattle.work_ids.specs.SenderKey.{is_sender_key}
 use Rattle.society_core.specs.Book.{Book, body_at, is_in_line, is_reporter, line}
-use Rattle.society_core.specs.Entries.{Accepts, BookOf, Entry, Transmission, Return, Pool, Holds, IsIn, entry_of}
+use Rattle.society_core.specs.Entries.{Accepts, BookOf, Entry, Transmission, Return, Pool, HoldsExactly, IsIn, entry_of}
 use Rattle.society_core.specs.Orders.{IsOrder}
 use Rattle.society_core.specs.Requests.{Query, Reply, Refused, query_of, reply_of}
 use Rattle.society_core.specs.declared.answers.Answer.{Answer}
@@ -15,17 +15,17 @@ use Rattle.society_core.specs.declared.request.Request.{Request}
 use Rattle.society_core.specs.declared.return_key.ReturnKey.{ReturnKey}
 
 -- a request brought an entry: a put without a file or return fault that was not answered as unavailable, or a close that was accepted
-abbrev pub Brings : Query → Reply → Entry → Type 0
-Brings query reply (Transmission sender number body) =
+abbrev pub BringsEntry : Query → Reply → Entry → Type 0
+BringsEntry query reply (Transmission sender number body) =
     (entry_of query ≡ Some (Transmission sender number body)) × (file_fault sender body ≡ None) × (reply ≢ Refused Unavailable)
-Brings query reply (Return key body) = (entry_of query ≡ Some (Return key body)) × (return_fault body ≡ None) × (reply ≢ Refused Unavailable)
-Brings query reply (Pool pool order) = Accepts query reply (Pool pool order)
+BringsEntry query reply (Return key body) = (entry_of query ≡ Some (Return key body)) × (return_fault body ≡ None) × (reply ≢ Refused Unavailable)
+BringsEntry query reply (Pool pool order) = Accepts query reply (Pool pool order)
 
 -- some request of a list brought an entry
 abbrev pub IsBrought : List Query → List Reply → Entry → Type 0
 IsBrought [] replies entry = ⊥
 IsBrought (query ∷ queries) [] entry = ⊥
-IsBrought (query ∷ queries) (reply ∷ replies) entry = Brings query reply entry ⊎ IsBrought queries replies entry
+IsBrought (query ∷ queries) (reply ∷ replies) entry = BringsEntry query reply entry ⊎ IsBrought queries replies entry
 
 -- an entry came: it stands in the opening book, or some request of the list brought it
 abbrev pub Came : Book → List Query → List Reply → Entry → Type 0
@@ -38,7 +38,7 @@ pub record OneContent (book : Book) (queries : List Query) (replies : List Reply
 
 -- the book holds exactly what came
 abbrev pub HoldsWhatCame : Book → List Query → List Reply → Book → Type 0
-HoldsWhatCame book queries replies after = Holds after (Came book queries replies)
+HoldsWhatCame book queries replies after = HoldsExactly after (Came book queries replies)
 
 -- two lists were accepted with the same entries over one book, in whatever order and however often
 abbrev pub AcceptedAlike : Book → List Query → List Reply → List Query → List Reply → Type 0

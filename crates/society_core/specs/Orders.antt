@@ -1,14 +1,15 @@
 -- Orders that close a pool: an amount, a cut of each sender's works, and the returns that are paid.
-use Rattle.std.specs.Prelude.{ℕ, Bool, true, false, not, List, [], ◌∷◌, ◌==◌, ◌&&◌, ◌||◌, ◌≡◌, Option, Some, None, is_none, Result, Ok, Err, bytes_eq, length, map, nat_lt, nat_le, refl}
+use Rattle.std.specs.Prelude.{ℕ, Bool, true, false, not, List, [], ◌∷◌, ◌==◌, ◌&&◌, ◌||◌, ◌≡◌, Option, Some, None, is_none, if◌then◌else◌, Result, Ok, Err, bytes_eq, length, map, nat_lt, nat_le, refl}
 use Rattle.std.specs.Cmp.Lexicographic.{pointwise}
 use Rattle.std.specs.Coded.{Coded, code_by, coded×, coded_ℕ, coded_list}
 use Rattle.std.specs.List.{list_any, list_all}
-use Rattle.cwr_files.specs.Sentences.{first_that_holds, sentence}
 use Rattle.work_ids.specs.Numbers.{is_return_number, is_transmission_number}
 use Rattle.work_ids.specs.SenderKey.{is_sender_key}
 use Rattle.society_core.specs.Keys.{ascending, coded_return_key, coded_transmission_key, return_cmp, return_key, transmission_cmp, transmission_key}
 use Rattle.society_core.specs.declared.order.OrderError.{OrderError}
 use Rattle.society_core.specs.declared.order.OrderError.TheVariants as errors
+use Rattle.society_core.specs.declared.order_fault.OrderFault.{OrderFault}
+use Rattle.society_core.specs.declared.order_fault.OrderFault.TheVariants.{Shape, OutOfRange, TooLong, NamedTwice}
 use Rattle.society_core.specs.declared.return_key.ReturnKey.{ReturnKey}
 use Rattle.society_core.specs.declared.transmission_key.TransmissionKey.{TransmissionKey}
 
@@ -52,6 +53,13 @@ same_sender a b = bytes_eq a.0 b.0
 abbrev pub same_numbered : List ℕ × ℕ → List ℕ × ℕ → Bool
 same_numbered a b = bytes_eq a.0 b.0 && a.1 == b.1
 
+-- the number of an order fault (profile)
+abbrev pub order_fault_number : OrderFault → ℕ
+order_fault_number Shape = 1
+order_fault_number OutOfRange = 2
+order_fault_number TooLong = 3
+order_fault_number NamedTwice = 4
+
 -- order fault 2: a number is out of its range (profile)
 abbrev pub is_out_of_range : ℕ → List (List ℕ × ℕ) → List (List ℕ × ℕ) → Bool
 is_out_of_range amount cut returns =
@@ -66,9 +74,10 @@ abbrev pub names_twice : List (List ℕ × ℕ) → List (List ℕ × ℕ) → B
 names_twice cut returns = has_repeat same_sender cut || has_repeat same_numbered returns
 
 -- the least fault of the numbers of an order, none where they make one (profile)
-abbrev pub order_fault : ℕ → List (List ℕ × ℕ) → List (List ℕ × ℕ) → Option ℕ
+abbrev pub order_fault : ℕ → List (List ℕ × ℕ) → List (List ℕ × ℕ) → Option OrderFault
 order_fault amount cut returns =
-    first_that_holds (sentence 2 (is_out_of_range amount cut returns) ∷ sentence 3 (is_too_long cut returns) ∷ sentence 4 (names_twice cut returns) ∷ [])
+    if is_out_of_range amount cut returns then Some OutOfRange
+    else (if is_too_long cut returns then Some TooLong else (if names_twice cut returns then Some NamedTwice else None))
 
 -- the order that these numbers make (profile)
 abbrev pub order_of : ℕ → List (List ℕ × ℕ) → List (List ℕ × ℕ) → Order

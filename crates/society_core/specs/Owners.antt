@@ -1,5 +1,5 @@
 -- Whose a recording is at a cut: the only work of the cut whose version there names it.
-use Rattle.std.specs.Prelude.{ℕ, ◌==◌, ◌&&◌, Bool, false, List, [], ◌∷◌, Option, Some, None, Result, Ok, Err, bytes_eq, map}
+use Rattle.std.specs.Prelude.{ℕ, ◌≡◌, ◌==◌, ◌&&◌, Any, Bool, true, false, List, [], ◌∷◌, Option, Some, None, Result, Ok, Err, bytes_eq, map}
 use Rattle.std.specs.List.{enumerate_from, filter, flat_map, list_any}
 use Rattle.cwr_files.specs.Contents.{transactions_of}
 use Rattle.cwr_files.specs.Transaction.{number_of_work}
@@ -8,7 +8,7 @@ use Rattle.share_rules.specs.declared.office.Office.{Office}
 use Rattle.work_ids.specs.declared.fault.IdFault.{IdFault}
 use Rattle.works_core.specs.Recordings.{isrcs_of}
 use Rattle.works_core.specs.declared.version.WorkVersion.{WorkVersion}
-use Rattle.society_core.specs.Book.{Book, transmissions_to, version_in}
+use Rattle.society_core.specs.Book.{Book, transaction_at, transmissions_to, version_in}
 use Rattle.society_core.specs.Orders.{Order}
 use Rattle.society_core.specs.declared.transmission_key.TransmissionKey.{TransmissionKey}
 
@@ -64,3 +64,25 @@ sole (x ∷ y ∷ more) = None
 -- the owner of a recording: the only work of the cut whose version there has a REC with its ISRC, none where there is none or more than one (profile)
 abbrev pub owner : Office → Book → Order → List ℕ → Option CutWork
 owner office book order isrc = sole (filter (names_recording isrc) (works_of_cut office book order))
+
+-- a sender's work owns a recording
+abbrev pub Owns : Office → Book → Order → List ℕ → List ℕ → List ℕ → Type 0
+Owns office book order isrc sender work =
+    (owned : CutWork) × (owner office book order isrc ≡ Some owned) × (owned.sender ≡ sender) × (owned.work ≡ work)
+
+-- the version of a work at its sender's cut names a recording
+pub record NamesAt (office : Office) (book : Book) (isrc work : List ℕ) (key : TransmissionKey) : Type 0 where
+  pub version : WorkVersion
+  pub its : version_in office book key.sender work key.number ≡ Some version
+  pub transaction : Transaction
+  pub there : transaction_at book key.sender version.transmission version.place ≡ Some transaction
+  pub names : list_any (bytes_eq isrc) (isrcs_of transaction) ≡ true
+
+-- the version of a sender's work at the cut of an order names a recording
+abbrev pub NamesAtCut : Office → Book → Order → List ℕ → List ℕ → List ℕ → Type 0
+NamesAtCut office book order isrc sender work = Any (λ key. (key.sender ≡ sender) × NamesAt office book isrc work key) order.cut
+
+-- a sender's work is the only one whose version at the cut names a recording
+pub record NamesAlone (office : Office) (book : Book) (order : Order) (isrc sender work : List ℕ) : Type 0 where
+  pub names : NamesAtCut office book order isrc sender work
+  pub alone : (other another : List ℕ) → NamesAtCut office book order isrc other another → (other ≡ sender) × (another ≡ work)

@@ -1,4 +1,4 @@
--- A store in memory that keeps the maps of the book alone.
+-- Representation, not meaning: what a store in memory, which keeps the maps of the book alone, shows of itself.
 use Rattle.std.specs.Prelude.{true}
 use Rattle.share_rules.specs.declared.office.Office.{Office}
 use Rattle.society_core.specs.Book.{Book}

@@ -1,4 +1,4 @@
--- The book of maps that lie in memory (a representation).
+-- Representation, not meaning: the book of maps that lie in memory.
 use Rattle.std.specs.Prelude.{ℕ, ◌≡◌, List, Vec, map, refl, unwrap_or}
 use Rattle.std.specs.BTreeMap as tree
 use Rattle.std.specs.BTreeMap.{BTreeMap}

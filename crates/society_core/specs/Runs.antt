@@ -1,12 +1,13 @@
 -- Steps and runs: what is answered to a list of requests, one after another.
-use Rattle.std.specs.Prelude.{List, [], ◌∷◌, ◌++◌, ◌≡◌, ◌⊎◌, map, length, IsTrue, Bool, Option, Some, None, Result, Ok, Err, ⊤}
+use Rattle.std.specs.Prelude.{List, [], ◌∷◌, ◌++◌, ◌≡◌, ◌⊎◌, map, length, IsTrue, Bool, true, false, Option, Some, None, Result, Ok, Err, ⊤}
 use Rattle.share_rules.specs.declared.office.Office.{Office}
 use Rattle.society_core.specs.Book.{Book}
-use Rattle.society_core.specs.Requests.{Query, Reply, Refused, query_of, reply_of}
+use Rattle.society_core.specs.Requests.{Query, ClosesFaulty, Inquires, AsksElsewhere, Reply, Refused, query_of, reply_of}
 use Rattle.society_core.specs.Answers.{answer, next}
-use Rattle.society_core.specs.State.{Asks, Goes, State}
+use Rattle.society_core.specs.State.{ChangesNothing, Goes, State}
+use Rattle.society_core.specs.declared.inquiry.Inquiry.{Inquiry}
 use Rattle.society_core.specs.declared.refusal.Refusal.{Refusal}
-use Rattle.society_core.specs.declared.refusal.Refusal.TheVariants.{Unavailable}
+use Rattle.society_core.specs.declared.refusal.Refusal.TheVariants.{Unavailable, Unknown}
 use Rattle.society_core.specs.declared.request.Request.{Request}
 use Rattle.society_core.specs.declared.answers.Answer.{Answer}
 
@@ -20,10 +21,23 @@ pub record Proceeds (old new : State) (query : Query) (reply : Reply) : Type 0 w
   pub step : IsTrue new.is_clean → Step old.office old.book query reply new.book
   pub goes : Goes old new (λ book. book ≡ next old.book query)
 
--- a call that asks: a step where the store is clean when it ends, and nothing changed
-pub record Inquires (old new : State) (query : Query) (reply : Reply) : Type 0 where
-  pub step : IsTrue new.is_clean → Step old.office old.book query reply new.book
-  pub asks : Asks old new
+-- whether a request asks the store: one for nothing that the office has does not, nor does an order at fault
+abbrev pub asks_store : Query → Bool
+asks_store (ClosesFaulty fault) = false
+asks_store AsksElsewhere = false
+asks_store other = true
+
+-- A request was answered by a call that led the store on. One that asks nothing of the store leaves it untouched; one for nothing that
+-- the office has asks no memory either, so it is told that this is unknown, and never that the office is unavailable.
+pub record Calls {S : Type 0} (state : S → State) (desk new_desk : S) (query : Query) (reply : Reply) : Type 0 where
+  pub proceeds : Proceeds (state desk) (state new_desk) query reply
+  pub untouched : asks_store query ≡ false → new_desk ≡ desk
+  pub unknown : query ≡ AsksElsewhere → reply ≡ Refused Unknown
+
+-- a call that looks up what a question asks for: a step where the store is clean when it ends, and nothing changed
+pub record LooksUp (old new : State) (inquiry : Inquiry) (reply : Reply) : Type 0 where
+  pub step : IsTrue new.is_clean → Step old.office old.book (Inquires inquiry) reply new.book
+  pub asks : ChangesNothing old new
 
 -- a check refuses as is due, or where the office is unavailable
 abbrev pub RefusesBy : Option Refusal → Result ⊤ Refusal → Type 0

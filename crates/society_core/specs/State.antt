@@ -30,7 +30,7 @@ pub record Goes (old new : State) (Commits : Book → Type 0) : Type 0 where
   pub crash : IsTrue new.is_honest → (book : Book) → new.left book → old.left book ⊎ (IsTrue old.is_clean × Commits book)
 
 -- a question changes nothing
-pub record Asks (old new : State) : Type 0 where
+pub record ChangesNothing (old new : State) : Type 0 where
   pub goes : Goes old new (λ _. ⊥)
   pub same : IsTrue new.is_clean → new.book ≡ old.book
 
@@ -46,7 +46,7 @@ HasCause old new Refused = Rises old.failures new.failures
 -- what every question promises: an answer by the office and the book, nothing changed, a cause for a refusal, and refusal once the count of failures is at its greatest
 pub record Question {T : Type 0} (old new : State) (result : Result T StoreFault) (IsAnswer : T → Type 0) : Type 0 where
   pub answer : IsTrue new.is_clean → IfOk result IsAnswer
-  pub asks : Asks old new
+  pub asks : ChangesNothing old new
   pub cause : IfErr result (HasCause old new)
   pub refuses : old.failures ≡ 2 ^ 64 - 1 → result ≡ Err Refused
 

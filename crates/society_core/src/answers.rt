@@ -1,9 +1,9 @@
 //! What the office answers.
+use crate::inquiry::Showing;
 use crate::refusal::Refusal;
-use pool_split::Credit;
 use share_rules::Holder;
-use work_ids::{Account, Isrc, Iswc, PoolNumber, TransmissionNumber, WorkNumber};
-use works_core::{Verdict, WorkVersion};
+use work_ids::{Isrc, Iswc, PoolNumber, TransmissionNumber, WorkNumber};
+use works_core::WorkVersion;
 
 /// Whether a transmission counts: applied where its number is at most its sender's front, else held.
 #[derive(Clone, Copy, Debug, PartialEq, Eq)]
@@ -62,18 +62,8 @@ pub enum Answer {
     Stored(Receipt),
     /// A pool is closed.
     Closed(Receipt, PoolNumber),
-    /// The bytes of an acknowledgement.
-    Acknowledgement(Vec<u8>),
-    /// How a sender stands.
-    Sender(SenderStatus),
-    /// What is shown of a work.
-    Work(Work),
-    /// One verdict for each NWR and REV transaction, in the order of the file.
-    Verdicts(Vec<Verdict>),
-    /// The credits of a pool.
-    Credits(Vec<Credit>),
-    /// The units of money that an account has come to.
-    Balance(Account, u64),
+    /// What a question asked for is shown.
+    Showed(Showing),
     /// Why the request is refused.
     Refused(Refusal),
 }

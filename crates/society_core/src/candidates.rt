@@ -3,7 +3,7 @@ ghost use Rattle.std.specs.Prelude.{◌≡◌, ◌&&◌, ◌++◌, ◌∷◌, []
 ghost use Rattle.std.specs.BTreeSet.{contains};
 ghost use Rattle.cwr_files.specs.Transaction.{number_of_work};
 ghost use Rattle.society_core.specs.Book.{IsSound, is_applied, is_one_of, is_there, numbers_to, transmissions_to};
-ghost use Rattle.society_core.specs.Candidates.{Adds, ListsOnce, ReachesCut, StandFor, candidate_with, is_version_by, transactions_sent, work_where};
+ghost use Rattle.society_core.specs.Candidates.{AddsCandidates, ListsOnce, ReachesCut, StandFor, candidate_with, is_version_by, transactions_sent, work_where};
 ghost use Rattle.society_core.specs.Keys.{bytes_cmp};
 ghost use Rattle.society_core.specs.Owners.{cut_work, is_at, versions_at_cut, versions_of_transmission, works_of_cut};
 ghost use Rattle.society_core.specs.Points.{is_tallied};
@@ -27,14 +27,14 @@ use std::collections::BTreeSet;
 use work_ids::{Isrc, SenderKey, TransmissionNumber, WorkNumber};
 use works_core::{SenderLine, isrcs};
 
-/// Whether a recording is one of a tally and was not seen before.
+// Whether a recording is one of a tally and was not seen before.
 fn is_due(tally: &Tally, seen: &BTreeSet<Isrc>, isrc: &Isrc) -> bool
     ensures { result ≡ (is_tallied tally.now isrc.now && not (contains bytes_cmp seen.now isrc.now)) }
 {
     tally.has(isrc) && !seen.contains(isrc)
 }
 
-/// The recordings of a tally that a transaction names, each once, however often it names them.
+// The recordings of a tally that a transaction names, each once, however often it names them.
 fn tallied_isrcs(
     alloc: Global,
     tally: &Tally,
@@ -54,7 +54,7 @@ fn tallied_isrcs(
     Ok(list)
 }
 
-/// Adds the candidates that a work makes for these recordings, each with these holders.
+// Adds the candidates that a work makes for these recordings, each with these holders.
 fn append_candidates(
     alloc: Global,
     sender: &SenderKey,
@@ -89,7 +89,7 @@ pub fn add_candidates(
     transaction: &Transaction<'_>,
     candidates: &mut Vec<Candidate>,
 ) -> Result<(), AllocError>
-    ensures { OnOk result (Adds (holders_of kind office.now) (is_tallied tally.now) (cut_work sender.now transaction.now ∷ []) candidates.old.items candidates.new.items) }
+    ensures { OnOk result (AddsCandidates (holders_of kind office.now) (is_tallied tally.now) (cut_work sender.now transaction.now ∷ []) candidates.old.items candidates.new.items) }
 {
     let named = tallied_isrcs(alloc, tally, transaction)?;
     if named.is_empty() {
@@ -99,7 +99,7 @@ pub fn add_candidates(
     append_candidates(alloc, sender, work, &holders, &named, candidates)
 }
 
-/// Whether the version that a work has at a cut is the transaction at this place of this transmission.
+// Whether the version that a work has at a cut is the transaction at this place of this transmission.
 fn is_version_at(
     line: &SenderLine,
     cut: TransmissionNumber,
@@ -115,7 +115,7 @@ fn is_version_at(
     }
 }
 
-/// Adds the candidates of a transaction, where it is the version that its work has at the sender's cut.
+// Adds the candidates of a transaction, where it is the version that its work has at the sender's cut.
 fn add_transaction(
     alloc: Global,
     kind: Kind,
@@ -128,7 +128,7 @@ fn add_transaction(
     transaction: &Transaction<'_>,
     candidates: &mut Vec<Candidate>,
 ) -> Result<(), AllocError>
-    ensures { OnOk result (Adds (holders_of kind office.now) (is_tallied tally.now) (work_where (is_version_by line.now.transmissions key.now.number number place (number_of_work transaction.now)) key.now.sender transaction.now) candidates.old.items candidates.new.items) }
+    ensures { OnOk result (AddsCandidates (holders_of kind office.now) (is_tallied tally.now) (work_where (is_version_by line.now.transmissions key.now.number number place (number_of_work transaction.now)) key.now.sender transaction.now) candidates.old.items candidates.new.items) }
 {
     let Some(work) = transaction.work_number() else {
         return Ok(());
@@ -148,7 +148,7 @@ fn add_transaction(
     )
 }
 
-/// Adds the candidates of a sender's transmission: of those of its transactions that are versions at the sender's cut.
+// Adds the candidates of a sender's transmission: of those of its transactions that are versions at the sender's cut.
 fn add_versions(
     alloc: Global,
     kind: Kind,
@@ -164,7 +164,7 @@ fn add_versions(
     requires line { line.now.transmissions ≡ line_of office.now (transmissions_to book.now key.now.sender key.now.number) }
     requires within { is_one_of (numbers_to key.now.number) number ≡ true }
     requires there { is_there book.now key.now.sender number ≡ true }
-    ensures { OnOk result (Adds (holders_of kind office.now) (is_tallied tally.now) (versions_of_transmission office.now book.now key.now number (transactions_sent book.now key.now.sender number)) candidates.old.items candidates.new.items) }
+    ensures { OnOk result (AddsCandidates (holders_of kind office.now) (is_tallied tally.now) (versions_of_transmission office.now book.now key.now number (transactions_sent book.now key.now.sender number)) candidates.old.items candidates.new.items) }
 {
     let transmission = transmission_of(alloc, book, &key.sender, number)?;
     let Some(verdicts) = line.verdicts(number) else {
@@ -190,7 +190,7 @@ fn add_versions(
     Ok(())
 }
 
-/// Adds the candidates of a sender: its works as they are at its cut.
+// Adds the candidates of a sender: its works as they are at its cut.
 fn add_sender(
     alloc: Global,
     kind: Kind,
@@ -202,7 +202,7 @@ fn add_sender(
 ) -> Result<(), AllocError>
     requires sound { IsSound book.now }
     requires applied { is_applied book.now key.now ≡ true }
-    ensures { OnOk result (Adds (holders_of kind office.now) (is_tallied tally.now) (versions_at_cut office.now book.now key.now) candidates.old.items candidates.new.items) }
+    ensures { OnOk result (AddsCandidates (holders_of kind office.now) (is_tallied tally.now) (versions_at_cut office.now book.now key.now) candidates.old.items candidates.new.items) }
 {
     let line = line_to(alloc, office, book, &key.sender, key.number.value())?;
     let numbers = numbers_up_to(alloc, key.number.value())?;

@@ -25,7 +25,7 @@ enum Found {
     Several,
 }
 
-/// The candidates of each recording, found in one pass over them all.
+// The candidates of each recording, found in one pass over them all.
 fn found_by_isrc(
     alloc: Global,
     candidates: &[Candidate],
@@ -44,7 +44,7 @@ fn found_by_isrc(
     Ok(found)
 }
 
-/// The only candidate for a recording, none where there is none or more than one (profile).
+// The only candidate for a recording, none where there is none or more than one (profile).
 fn sole_candidate<'a>(
     found: &BTreeMap<Isrc, Found>,
     candidates: &'a [Candidate],
@@ -60,7 +60,7 @@ fn sole_candidate<'a>(
     }
 }
 
-/// The claim of a recording with its points.
+// The claim of a recording with its points.
 fn claim_among(
     alloc: Global,
     found: &BTreeMap<Isrc, Found>,

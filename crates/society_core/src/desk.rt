@@ -2,11 +2,13 @@
 ghost use Rattle.std.specs.Prelude.{◌≡◌, ℕ, List, IfOk, IsTrue};
 ghost use Rattle.cwr_files.specs.Fed.{WasFed};
 ghost use Rattle.society_core.specs.Answers.{arrival_at, cut_refusal, first_refusal, return_refusal};
-ghost use Rattle.society_core.specs.Requests.{told, Puts, PutsReturn, Closes, AsksAck, AsksSender, AsksVerdicts, AsksWork, AsksCredits, AsksBalance, Arrived, Stored, Closed, Acknowledged, Judged, Credited, Owed, Shows, shown_of, standing_of};
-ghost use Rattle.society_core.specs.Runs.{Inquires, Proceeds, RefusesBy};
-ghost use Rattle.society_core.specs.State.{Asks};
+ghost use Rattle.society_core.specs.Requests.{Puts, PutsReturn, Closes, Arrived, Stored, Closed, Acknowledged, Described, Judged, Credited, Owed, shown_of, shown_to, showing_of, standing_of, told};
+ghost use Rattle.society_core.specs.Runs.{LooksUp, Proceeds, RefusesBy};
+ghost use Rattle.society_core.specs.State.{ChangesNothing};
+ghost use Rattle.society_core.specs.declared.inquiry.Inquiry.TheVariants as inquiries;
 
 use crate::answers::{Arrival, Receipt, SenderStatus, Standing, Work};
+use crate::inquiry::{Inquiry, Showing};
 use crate::line::is_up_to;
 use crate::order::PoolOrder;
 use crate::refusal::Refusal;
@@ -35,7 +37,7 @@ impl<S: Store> Model for Desk<S> {
     ghost view = { λ desk. desk.store };
 }
 
-/// How a transmission stands under its sender's front, and whether it came again.
+// How a transmission stands under its sender's front, and whether it came again.
 fn arrival(known: bool, number: TransmissionNumber, front: u32) -> Arrival
     ensures { result ≡ arrival_at known number front }
 {
@@ -50,7 +52,7 @@ fn arrival(known: bool, number: TransmissionNumber, front: u32) -> Arrival
     }
 }
 
-/// A reader that was fed a whole body.
+// A reader that was fed a whole body.
 fn fed(alloc: Global, sender: &SenderKey, body: &[u8]) -> Result<FileReader, AllocError>
     ensures { IfOk result (λ reader. (reader.sender ≡ sender.now) × WasFed reader body.now) }
 {
@@ -108,7 +110,8 @@ impl<S: Store> Desk<S> {
         self.put_kept(alloc, sender, number, reader)
     }
 
-    // Puts the bytes that a reader keeps.
+    // Puts the bytes that a reader keeps. A call of its own for the proof: its clause is about these bytes alone, and from it
+    // follows what `put_fed` says of all that were fed.
     fn put_kept(
         &mut self,
         alloc: Global,
@@ -153,9 +156,9 @@ impl<S: Store> Desk<S> {
         }
     }
 
-    /// Refuses the first key of a cut that is not in its sender's line.
+    // Refuses the first key of a cut that is not in its sender's line.
     fn check_cut(&mut self, cut: &[TransmissionKey]) -> Result<(), Refusal>
-        ensures asks { Asks (S.state self.old) (S.state self.new) }
+        ensures asks { ChangesNothing (S.state self.old) (S.state self.new) }
         ensures refusal { IsTrue (S.state self.new).is_clean → RefusesBy (first_refusal (cut_refusal (S.state self.old).book) cut.now) result }
     {
         for key in cut {
@@ -170,9 +173,9 @@ impl<S: Store> Desk<S> {
         Ok(())
     }
 
-    /// Refuses the first return that is unknown, or that a pool has paid.
+    // Refuses the first return that is unknown, or that a pool has paid.
     fn check_returns(&mut self, returns: &[ReturnKey]) -> Result<(), Refusal>
-        ensures asks { Asks (S.state self.old) (S.state self.new) }
+        ensures asks { ChangesNothing (S.state self.old) (S.state self.new) }
         ensures refusal { IsTrue (S.state self.new).is_clean → RefusesBy (first_refusal (return_refusal (S.state self.old).book) returns.now) result }
     {
         for key in returns {
@@ -216,7 +219,7 @@ impl<S: Store> Desk<S> {
         sender: &SenderKey,
         number: TransmissionNumber,
     ) -> Result<Vec<u8>, Refusal>
-        ensures { Inquires (S.state self.old) (S.state self.new) (AsksAck sender.now number) (told (λ text. Acknowledged text.items) result) }
+        ensures { LooksUp (S.state self.old) (S.state self.new) (inquiries.Acknowledgement sender.now number) (shown_to (λ text. Acknowledged text.items) result) }
     {
         match self.store.ack(alloc, sender, number)? {
             Some(text) => Ok(text),
@@ -227,7 +230,7 @@ impl<S: Store> Desk<S> {
     /// How a sender stands: its front and its held numbers; `Unavailable` for want of memory or where the store
     /// refuses. A sender of whom nothing came has front 0.
     pub fn sender(&mut self, alloc: Global, sender: &SenderKey) -> Result<SenderStatus, Refusal>
-        ensures { Inquires (S.state self.old) (S.state self.new) (AsksSender sender.now) (told standing_of result) }
+        ensures { LooksUp (S.state self.old) (S.state self.new) (inquiries.Sender sender.now) (shown_to standing_of result) }
     {
         Ok(self.store.standing(alloc, sender)?)
     }
@@ -241,7 +244,7 @@ impl<S: Store> Desk<S> {
         sender: &SenderKey,
         number: TransmissionNumber,
     ) -> Result<Vec<Verdict>, Refusal>
-        ensures { Inquires (S.state self.old) (S.state self.new) (AsksVerdicts sender.now number) (told (λ verdicts. Judged verdicts.items) result) }
+        ensures { LooksUp (S.state self.old) (S.state self.new) (inquiries.Verdicts sender.now number) (shown_to (λ verdicts. Judged verdicts.items) result) }
     {
         match self.store.verdicts(alloc, sender, number)? {
             Some(verdicts) => Ok(verdicts),
@@ -257,7 +260,7 @@ impl<S: Store> Desk<S> {
         sender: &SenderKey,
         work: &WorkNumber,
     ) -> Result<Work, Refusal>
-        ensures { Inquires (S.state self.old) (S.state self.new) (AsksWork sender.now work.now) (told (λ work. Shows (shown_of work)) result) }
+        ensures { LooksUp (S.state self.old) (S.state self.new) (inquiries.Work sender.now work.now) (shown_to (λ work. Described (shown_of work)) result) }
     {
         match self.store.work(alloc, sender, work)? {
             Some(shown) => Ok(shown),
@@ -268,7 +271,7 @@ impl<S: Store> Desk<S> {
     /// The credits of a pool: `Unknown` where it is not closed, `Unavailable` for want of memory or where the store
     /// refuses.
     pub fn credits(&mut self, alloc: Global, pool: PoolNumber) -> Result<Vec<Credit>, Refusal>
-        ensures { Inquires (S.state self.old) (S.state self.new) (AsksCredits pool) (told (λ credits. Credited credits.items) result) }
+        ensures { LooksUp (S.state self.old) (S.state self.new) (inquiries.Credits pool) (shown_to (λ credits. Credited credits.items) result) }
     {
         match self.store.credits(alloc, pool)? {
             Some(credits) => Ok(credits),
@@ -279,8 +282,41 @@ impl<S: Store> Desk<S> {
     /// The units of money that an account has come to over all pools, 0 where it has no credit; `Unavailable` for want of
     /// memory or where the store refuses.
     pub fn balance(&mut self, alloc: Global, account: &Account) -> Result<u64, Refusal>
-        ensures { Inquires (S.state self.old) (S.state self.new) (AsksBalance account.now) (told (Owed account.now) result) }
+        ensures { LooksUp (S.state self.old) (S.state self.new) (inquiries.Balance account.now) (shown_to (Owed account.now) result) }
     {
         Ok(self.store.balance(alloc, account)?)
+    }
+
+    /// What is shown to a question: `Unknown` where it is not there, `Unavailable` for want of memory or where the store
+    /// refuses.
+    pub fn look_up(&mut self, alloc: Global, inquiry: &Inquiry) -> Result<Showing, Refusal>
+        ensures { LooksUp (S.state self.old) (S.state self.new) inquiry.now (shown_to showing_of result) }
+    {
+        match inquiry {
+            Inquiry::Acknowledgement { sender, number } => {
+                let text = self.ack(alloc, sender, *number)?;
+                Ok(Showing::Acknowledgement(text))
+            }
+            Inquiry::Sender { sender } => {
+                let status = self.sender(alloc, sender)?;
+                Ok(Showing::Sender(status))
+            }
+            Inquiry::Work { sender, work } => {
+                let shown = self.work(alloc, sender, work)?;
+                Ok(Showing::Work(shown))
+            }
+            Inquiry::Verdicts { sender, number } => {
+                let verdicts = self.verdicts(alloc, sender, *number)?;
+                Ok(Showing::Verdicts(verdicts))
+            }
+            Inquiry::Credits { pool } => {
+                let credits = self.credits(alloc, *pool)?;
+                Ok(Showing::Credits(credits))
+            }
+            Inquiry::Balance { account } => {
+                let units = self.balance(alloc, account)?;
+                Ok(Showing::Balance(*account, units))
+            }
+        }
     }
 }

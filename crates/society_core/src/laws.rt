@@ -1,28 +1,29 @@
-ghost use Rattle.std.specs.Prelude.{◌≡◌, ◌≢◌, ◌≤◌, ◌+◌, ◌&&◌, ℕ, List, Some, true, false, map, nat_le, not, sum};
+//! Laws of every run of requests, whichever store is under the desk: each is the contract of a function that does nothing,
+//! over the same definitions that `run` and `answer` are proved to meet.
+ghost use Rattle.std.specs.Prelude.{◌≡◌, ◌≢◌, ◌≤◌, ◌↔◌, ◌+◌, ◌&&◌, ℕ, List, Some, true, false, map, nat_le, not, sum};
 ghost use Rattle.std.specs.List.Sorted.{IsStrictlySortedBy};
 ghost use Rattle.std.specs.Ordering.{nat_cmp};
 ghost use Rattle.std.specs.FinMap.{values};
 ghost use Rattle.pool_split.specs.Credits.{units_of};
 ghost use Rattle.share_rules.specs.declared.office.Office.{Office};
-ghost use Rattle.society_core.specs.Answers.{answer};
+ghost use Rattle.society_core.specs.Answers.{AnswersAlike, answer};
 ghost use Rattle.society_core.specs.Book.{Book, IsSound, body_at, front, held, is_in_line, is_one_of, is_there, order_at};
-ghost use Rattle.society_core.specs.Entries.{BookOf, Entry, Holds, IsIn};
+ghost use Rattle.society_core.specs.Entries.{BookOf, Entry, HoldsExactly, IsIn};
 ghost use Rattle.society_core.specs.Headline.{AcceptedAlike, AlikeToTheGap, AlikeToTheGaps, AllAskRightly, Came, OneContent, HoldsWhatCame, BroughtAlike};
 ghost use Rattle.society_core.specs.Keys.{ascending, return_cmp};
-ghost use Rattle.society_core.specs.Orders.{Order, names_return};
+ghost use Rattle.society_core.specs.Orders.{IsOrder, Order, names_return};
+ghost use Rattle.society_core.specs.Owners.{NamesAlone, Owns};
 ghost use Rattle.society_core.specs.Pools.{AreAllAccounts, balance, credits_of};
 ghost use Rattle.society_core.specs.declared.return_key.ReturnKey.{ReturnKey};
 ghost use Rattle.work_ids.specs.declared.account.Account.{Account};
-ghost use Rattle.society_core.specs.Requests.{AsksAck, AsksBalance, AsksCredits, AsksVerdicts, AsksWork, Puts, Query, Refused, Reply};
+ghost use Rattle.society_core.specs.Requests.{Inquires, Puts, Query, Refused, Reply};
 ghost use Rattle.society_core.specs.Runs.{Run};
+ghost use Rattle.society_core.specs.declared.inquiry.Inquiry.TheVariants.{Acknowledgement, Balance, Credits, Verdicts, Work};
 ghost use Rattle.society_core.specs.declared.refusal.Refusal.TheVariants.{Reused};
 
-/// Laws of every run of requests, whichever store is under the desk: each is the contract of a function that
-/// does nothing, over the same definitions that `run` and `answer` are proved to meet.
-///
 /// The book after any list of requests has the entries of the opening book and those that were accepted, whatever came.
 pub fn book_is_what_was_accepted()
-    ensures { (office : Office) (before : Book) (queries : List Query) (replies : List Reply) (after : Book) → Run office before queries replies after → Holds after (BookOf before queries replies) }
+    ensures { (office : Office) (before : Book) (queries : List Query) (replies : List Reply) (after : Book) → Run office before queries replies after → HoldsExactly after (BookOf before queries replies) }
 {}
 
 /// Where no number came with two contents, the book after any list of requests holds exactly what came.
@@ -51,21 +52,21 @@ pub fn front_is_the_first_gap()
 pub fn order_of_arrival_is_free()
     ensures accepted { (office : Office) (before : Book) (queries : List Query) (replies : List Reply) (after : Book) (others : List Query) (answers : List Reply) (end : Book) → Run office before queries replies after → Run office before others answers end → AcceptedAlike before queries replies others answers → after ≡ end }
     ensures same_book { (office : Office) (before : Book) (queries : List Query) (replies : List Reply) (after : Book) (others : List Query) (answers : List Reply) (end : Book) → Run office before queries replies after → Run office before others answers end → OneContent before queries replies → BroughtAlike before queries replies others answers → after ≡ end }
-    ensures same_answers { (office : Office) (before : Book) (queries : List Query) (replies : List Reply) (after : Book) (others : List Query) (answers : List Reply) (end : Book) → Run office before queries replies after → Run office before others answers end → AcceptedAlike before queries replies others answers → (query : Query) → answer office after query ≡ answer office end query }
+    ensures same_answers { (office : Office) (before : Book) (queries : List Query) (replies : List Reply) (after : Book) (others : List Query) (answers : List Reply) (end : Book) → Run office before queries replies after → Run office before others answers end → AcceptedAlike before queries replies others answers → (query : Query) → AnswersAlike office after end query }
 {}
 
 /// What waits behind a sender's first gap is unapplied: two books with the same transmissions of a sender up to the
 /// gap answer alike whatever is asked of its works, verdicts and acknowledgements.
 pub fn what_waits_is_unapplied()
-    ensures works { (office : Office) (a b : Book) (sender work : List ℕ) → AlikeToTheGap a b sender → answer office a (AsksWork sender work) ≡ answer office b (AsksWork sender work) }
-    ensures verdicts { (office : Office) (a b : Book) (sender : List ℕ) (n : ℕ) → AlikeToTheGap a b sender → answer office a (AsksVerdicts sender n) ≡ answer office b (AsksVerdicts sender n) }
-    ensures acks { (office : Office) (a b : Book) (sender : List ℕ) (n : ℕ) → AlikeToTheGap a b sender → answer office a (AsksAck sender n) ≡ answer office b (AsksAck sender n) }
+    ensures works { (office : Office) (a b : Book) (sender work : List ℕ) → AlikeToTheGap a b sender → AnswersAlike office a b (Inquires (Work sender work)) }
+    ensures verdicts { (office : Office) (a b : Book) (sender : List ℕ) (n : ℕ) → AlikeToTheGap a b sender → AnswersAlike office a b (Inquires (Verdicts sender n)) }
+    ensures acks { (office : Office) (a b : Book) (sender : List ℕ) (n : ℕ) → AlikeToTheGap a b sender → AnswersAlike office a b (Inquires (Acknowledgement sender n)) }
 {}
 
 /// A closed pool is closed for good: whatever comes after, a revision too, its credits are answered as before; what
 /// counts in them are the transmissions up to the cut and the returns that it names.
 pub fn closed_pools_stay()
-    ensures { (office : Office) (before : Book) (queries : List Query) (replies : List Reply) (after : Book) → Run office before queries replies after → IsSound before → (pool : ℕ) (order : Order) → order_at before pool ≡ Some order → answer office after (AsksCredits pool) ≡ answer office before (AsksCredits pool) }
+    ensures { (office : Office) (before : Book) (queries : List Query) (replies : List Reply) (after : Book) → Run office before queries replies after → IsSound before → (pool : ℕ) (order : Order) → order_at before pool ≡ Some order → AnswersAlike office after before (Inquires (Credits pool)) }
 {}
 
 /// The held numbers of a sender are those under which something is there that is not in its line, ascending.
@@ -82,6 +83,12 @@ pub fn pools_are_whole()
     ensures apart { (book : Book) (pool other : ℕ) (order another : Order) (key : ReturnKey) → IsSound book → order_at book pool ≡ Some order → order_at book other ≡ Some another → names_return key order ≡ true → names_return key another ≡ true → pool ≡ other }
 {}
 
+/// Some work owns a recording exactly where it is the only pair of a sender and a work of the cut whose version there names
+/// the recording: what only one names is owned, and what several name, or none, is nobody's (profile).
+pub fn owners_are_alone()
+    ensures { (office : Office) (book : Book) (order : Order) (isrc sender work : List ℕ) → IsOrder order → Owns office book order isrc sender work ↔ NamesAlone office book order isrc sender work }
+{}
+
 /// The balances of all accounts add up to the amounts of all pools.
 pub fn balances_add_up()
     ensures { (office : Office) (book : Book) (accounts : List Account) → AreAllAccounts office book accounts → sum (map (balance office book) accounts) ≡ sum (map (λ (order : Order). order.amount) (values book.pools)) }
@@ -95,6 +102,6 @@ pub fn runs_keep_books_sound()
 /// What is held pays nothing: two books that are alike up to each sender's first gap, with the same returns and pools, give
 /// the same credits and balances.
 pub fn what_is_held_pays_nothing()
-    ensures credits { (office : Office) (a b : Book) (pool : ℕ) → IsSound a → AlikeToTheGaps a b → answer office a (AsksCredits pool) ≡ answer office b (AsksCredits pool) }
-    ensures balances { (office : Office) (a b : Book) (account : Account) → IsSound a → AlikeToTheGaps a b → answer office a (AsksBalance account) ≡ answer office b (AsksBalance account) }
+    ensures credits { (office : Office) (a b : Book) (pool : ℕ) → IsSound a → AlikeToTheGaps a b → AnswersAlike office a b (Inquires (Credits pool)) }
+    ensures balances { (office : Office) (a b : Book) (account : Account) → IsSound a → AlikeToTheGaps a b → AnswersAlike office a b (Inquires (Balance account)) }
 {}

@@ -5,9 +5,11 @@ mod answers;
 mod candidates;
 mod claim_list;
 mod desk;
+mod inquiry;
 mod laws;
 mod line;
 mod order;
+mod order_fault;
 mod plain_book;
 mod plain_lines;
 mod plain_pools;
@@ -25,13 +27,15 @@ pub use answers::{Answer, Arrival, Receipt, SenderStatus, Standing, Work};
 pub use candidates::add_candidates;
 pub use claim_list::{Candidate, claims};
 pub use desk::Desk;
+pub use inquiry::{Inquiry, Showing};
 pub use laws::{
     balances_add_up, book_holds_what_came, book_is_what_was_accepted, closed_pools_stay,
-    front_is_the_first_gap, held_numbers_wait, order_of_arrival_is_free, pools_are_whole,
-    runs_keep_books_sound, what_is_accepted_stays, what_is_held_pays_nothing,
+    front_is_the_first_gap, held_numbers_wait, order_of_arrival_is_free, owners_are_alone,
+    pools_are_whole, runs_keep_books_sound, what_is_accepted_stays, what_is_held_pays_nothing,
     what_waits_is_unapplied,
 };
 pub use order::{OrderError, PoolOrder, orders_are_sets};
+pub use order_fault::OrderFault;
 pub use plain_store::PlainStore;
 pub use points::Tally;
 pub use refusal::Refusal;

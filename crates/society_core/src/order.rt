@@ -9,6 +9,7 @@ ghost use Rattle.society_core.specs.declared.transmission_key.TransmissionKey.{T
 ghost use Rattle.work_ids.specs.Numbers.{is_return_number, is_transmission_number, number_where};
 ghost use Rattle.work_ids.specs.SenderKey.{is_sender_key};
 
+use crate::order_fault::OrderFault;
 use crate::return_key::ReturnKey;
 use crate::transmission_key::TransmissionKey;
 use std::alloc::{AllocError, AllocFailed, Global};
@@ -25,19 +26,12 @@ const MOST_SENDERS: usize = 200;
 
 const MOST_RETURNS: usize = 1_000;
 
-/// Faults of an order's numbers; fault 1, another shape, is that of the text that spells it (profile).
-const OUT_OF_RANGE: u8 = 2;
-
-const TOO_LONG: u8 = 3;
-
-const NAMED_TWICE: u8 = 4;
-
-/// Why numbers make no order: the least fault that holds, 2 to 4, or memory ran out.
+/// Why numbers make no order: the least fault that holds, or memory ran out.
 #[derive(Clone, Copy, Debug, PartialEq, Eq, Error)]
 pub enum OrderError {
-    /// 2 a number out of its range, 3 too many senders or returns, 4 a sender or a return named twice.
+    /// A number out of its range, too many senders or returns, or a sender or a return named twice.
     #[error("order fault")]
-    Order(u8),
+    Order(OrderFault),
     /// Memory was refused.
     #[error("out of memory")]
     Memory,
@@ -82,7 +76,7 @@ impl Model for PoolOrder {
     ghost invariant = { λ o. IsOrder (record { amount = o.amount; cut = o.cut.items; returns = o.returns.items }) };
 }
 
-/// The number of a transmission, where it is within its limits.
+// The number of a transmission, where it is within its limits.
 fn transmission_number(number: u64) -> Option<TransmissionNumber>
     ensures { result ≡ number_where is_transmission_number number }
 {
@@ -90,7 +84,7 @@ fn transmission_number(number: u64) -> Option<TransmissionNumber>
     TransmissionNumber::from_u32(number)
 }
 
-/// The number of a return, where it is within its limits.
+// The number of a return, where it is within its limits.
 fn return_number(number: u64) -> Option<ReturnNumber>
     ensures { result ≡ number_where is_return_number number }
 {
@@ -98,14 +92,14 @@ fn return_number(number: u64) -> Option<ReturnNumber>
     ReturnNumber::from_u32(number)
 }
 
-/// Whether a sender of a cut stands among others.
+// Whether a sender of a cut stands among others.
 fn has_sender(sender: &(SenderKey, u64), others: &[(SenderKey, u64)]) -> bool
     ensures { result ≡ list_any (same_sender sender.now) others.now }
 {
     others.iter().any(|other| sender.0 == other.0)
 }
 
-/// Whether a sender stands twice in a cut. At most 200 of them are compared with each other.
+// Whether a sender stands twice in a cut. At most 200 of them are compared with each other.
 fn has_repeated_sender(cut: &[(SenderKey, u64)]) -> bool
     ensures { result ≡ has_repeat same_sender cut.now }
 {
@@ -119,7 +113,7 @@ fn has_repeated_sender(cut: &[(SenderKey, u64)]) -> bool
     false
 }
 
-/// Whether a return stands among others.
+// Whether a return stands among others.
 fn has_return(named: &(Reporter, u64), others: &[(Reporter, u64)]) -> bool
     ensures { result ≡ list_any (same_numbered named.now) others.now }
 {
@@ -128,7 +122,7 @@ fn has_return(named: &(Reporter, u64), others: &[(Reporter, u64)]) -> bool
         .any(|other| named.0 == other.0 && named.1 == other.1)
 }
 
-/// Whether a return is named twice. At most 1,000 of them are compared with each other.
+// Whether a return is named twice. At most 1,000 of them are compared with each other.
 fn has_repeated_return(returns: &[(Reporter, u64)]) -> bool
     ensures { result ≡ has_repeat same_numbered returns.now }
 {
@@ -142,44 +136,48 @@ fn has_repeated_return(returns: &[(Reporter, u64)]) -> bool
     false
 }
 
-/// Whether the numbers of a cut are all within their limits.
+// Whether the numbers of a cut are all within their limits.
 fn are_transmission_numbers(cut: &[(SenderKey, u64)]) -> bool
     ensures { result ≡ list_all (λ c. is_transmission_number c.1) cut.now }
 {
     cut.iter().all(|key| transmission_number(key.1).is_some())
 }
 
-/// Whether the numbers of returns are all within their limits.
+// Whether the numbers of returns are all within their limits.
 fn are_return_numbers(returns: &[(Reporter, u64)]) -> bool
     ensures { result ≡ list_all (λ r. is_return_number r.1) returns.now }
 {
     returns.iter().all(|key| return_number(key.1).is_some())
 }
 
-/// Whether a number is out of its range.
+// Whether a number is out of its range.
 fn is_out_of_range(amount: u64, cut: &[(SenderKey, u64)], returns: &[(Reporter, u64)]) -> bool
     ensures { result ≡ is_out_of_range amount cut.now returns.now }
 {
     amount > GREATEST_AMOUNT || !are_transmission_numbers(cut) || !are_return_numbers(returns)
 }
 
-/// The least fault of an order's numbers. It takes no memory.
-fn order_fault(amount: u64, cut: &[(SenderKey, u64)], returns: &[(Reporter, u64)]) -> Option<u8>
+// The least fault of an order's numbers. It takes no memory.
+fn order_fault(
+    amount: u64,
+    cut: &[(SenderKey, u64)],
+    returns: &[(Reporter, u64)],
+) -> Option<OrderFault>
     ensures { result ≡ order_fault amount cut.now returns.now }
 {
     if is_out_of_range(amount, cut, returns) {
-        return Some(OUT_OF_RANGE);
+        return Some(OrderFault::OutOfRange);
     }
     if cut.len() > MOST_SENDERS || returns.len() > MOST_RETURNS {
-        return Some(TOO_LONG);
+        return Some(OrderFault::TooLong);
     }
     if has_repeated_sender(cut) || has_repeated_return(returns) {
-        return Some(NAMED_TWICE);
+        return Some(OrderFault::NamedTwice);
     }
     None
 }
 
-/// The key of a sender's transmission.
+// The key of a sender's transmission.
 fn transmission_key(sender: SenderKey, number: u64) -> TransmissionKey
     requires { is_transmission_number number ≡ true }
     ensures key { result ≡ transmission_key sender number }
@@ -193,7 +191,7 @@ fn transmission_key(sender: SenderKey, number: u64) -> TransmissionKey
     TransmissionKey { sender, number }
 }
 
-/// The keys of a cut, in the order in which it was given.
+// The keys of a cut, in the order in which it was given.
 fn transmission_keys(
     alloc: Global,
     cut: &[(SenderKey, u64)],
@@ -209,7 +207,7 @@ fn transmission_keys(
     Ok(keys)
 }
 
-/// The set of some keys of transmissions.
+// The set of some keys of transmissions. A call of its own for the proof, which cites what it collects.
 fn distinct_transmissions(
     alloc: Global,
     keys: Vec<TransmissionKey>,
@@ -219,7 +217,7 @@ fn distinct_transmissions(
     keys.into_iter().collect(alloc)
 }
 
-/// The keys of a cut, ascending.
+// The keys of a cut, ascending.
 fn ascending_cut(
     alloc: Global,
     cut: &[(SenderKey, u64)],
@@ -232,7 +230,7 @@ fn ascending_cut(
     keys.iter().copied().collect(alloc)
 }
 
-/// The key of a reporter's return.
+// The key of a reporter's return.
 fn return_key(reporter: Reporter, number: u64) -> ReturnKey
     requires { is_return_number number ≡ true }
     ensures { result ≡ return_key reporter number }
@@ -243,7 +241,7 @@ fn return_key(reporter: Reporter, number: u64) -> ReturnKey
     ReturnKey { reporter, number }
 }
 
-/// The keys of returns, in the order in which they were given.
+// The keys of returns, in the order in which they were given.
 fn return_keys(alloc: Global, returns: &[(Reporter, u64)]) -> Result<Vec<ReturnKey>, AllocError>
     requires { list_all (λ r. is_return_number r.1) returns.now ≡ true }
     ensures { IfOk result (λ keys. keys.items ≡ map (λ r. return_key r.0 r.1) returns.now) }
@@ -255,14 +253,14 @@ fn return_keys(alloc: Global, returns: &[(Reporter, u64)]) -> Result<Vec<ReturnK
     Ok(keys)
 }
 
-/// The set of some keys of returns.
+// The set of some keys of returns. A call of its own for the proof, which cites what it collects.
 fn distinct_returns(alloc: Global, keys: Vec<ReturnKey>) -> Result<BTreeSet<ReturnKey>, AllocError>
     ensures { IfOk result (IsFromIterResult return_cmp keys.items) }
 {
     keys.into_iter().collect(alloc)
 }
 
-/// The keys of returns, ascending.
+// The keys of returns, ascending.
 fn ascending_returns(
     alloc: Global,
     returns: &[(Reporter, u64)],
@@ -275,8 +273,8 @@ fn ascending_returns(
 }
 
 impl PoolOrder {
-    /// The order that these numbers make; else the least fault of them all, 2 to 4. Memory may run out only where they
-    /// make an order.
+    /// The order that these numbers make; else the least fault of them all. Memory may run out only where they make an
+    /// order.
     pub fn new(
         alloc: Global,
         amount: u64,

@@ -45,7 +45,8 @@ impl Model for PlainBook {
     ghost invariant = { λ b. HasFronts b.fronts (finite.from_entries (bodies_of b.transmissions.entries)) };
 }
 
-/// The numbers that are in no line up to a front under which a sender has entries; entries are in the order of their keys.
+// The numbers that are in no line up to a front under which a sender has entries; entries are in the order of their keys.
+// A call of its own for the proof: a clause of a method sees the book, and not the map.
 fn numbers_past(
     alloc: Global,
     entries: &BTreeMap<TransmissionKey, Vec<u8>>,
@@ -62,7 +63,8 @@ fn numbers_past(
         .collect(alloc)
 }
 
-/// The pool of the first order that names a return; entries are in the order of their pools.
+// The pool of the first order that names a return; entries are in the order of their pools. A call of its own for the
+// proof: a clause of a method sees the book, and not the map.
 fn payer_in(entries: &BTreeMap<PoolNumber, PoolOrder>, key: &ReturnKey) -> Option<PoolNumber>
     ensures pool { result ≡ pool_of (find (λ entry. names_return key.now entry.1) entries.now.entries) }
     ensures ordered { IsOrdered nat_cmp entries.now }
@@ -76,7 +78,8 @@ fn payer_in(entries: &BTreeMap<PoolNumber, PoolOrder>, key: &ReturnKey) -> Optio
     payer
 }
 
-/// The orders of all pools; entries are in the order of their pools.
+// The orders of all pools; entries are in the order of their pools. A call of its own for the proof: a clause of a method
+// sees the book, and not the map.
 fn orders_in(
     alloc: Global,
     entries: &BTreeMap<PoolNumber, PoolOrder>,
@@ -87,7 +90,7 @@ fn orders_in(
     entries.values().collect(alloc)
 }
 
-/// A sender's front among these entries, of which 1 to `reached` are there and none is past 999,999.
+// A sender's front among these entries, of which 1 to `reached` are there and none is past 999,999.
 fn front_from(entries: &BTreeMap<TransmissionKey, Vec<u8>>, sender: &SenderKey, reached: u32) -> u32
     requires reached { has_all_in (transmissions_of entries.now) sender.now reached ≡ true }
     requires within { reached ≤ 999999 }
@@ -108,7 +111,7 @@ fn front_from(entries: &BTreeMap<TransmissionKey, Vec<u8>>, sender: &SenderKey, 
     front
 }
 
-/// Keeps a front of 0 for a sender that has none, so that its front can be raised without memory.
+// Keeps a front of 0 for a sender that has none, so that its front can be raised without memory.
 fn keep_front(fronts: &mut BTreeMap<SenderKey, u32>, sender: SenderKey) -> Result<(), AllocError>
     ensures same { (s : List ℕ) → unwrap_or (tree.get bytes_cmp fronts.new s) 0 ≡ unwrap_or (tree.get bytes_cmp fronts.old s) 0 }
     ensures there { OnOk result (is_some (tree.get bytes_cmp fronts.new sender) ≡ true) }
@@ -119,8 +122,8 @@ fn keep_front(fronts: &mut BTreeMap<SenderKey, u32>, sender: SenderKey) -> Resul
     Ok(())
 }
 
-/// Keeps a body among transmissions whose fronts are kept beside them, and tells its sender's front then; nothing is added
-/// for want of memory.
+// Keeps a body among transmissions whose fronts are kept beside them, and tells its sender's front then; nothing is added
+// for want of memory. A call of its own for the proof: a clause of a method sees the book, and not the maps.
 fn insert_with_front(
     transmissions: &mut BTreeMap<TransmissionKey, Vec<u8>>,
     fronts: &mut BTreeMap<SenderKey, u32>,

@@ -99,7 +99,7 @@ pub(crate) fn verdicts_of(
     }
 }
 
-/// A sender's line up to a transmission of it, which is read already.
+// A sender's line up to a transmission of it, which is read already.
 fn line_with(
     alloc: Global,
     office: &Office,
@@ -143,7 +143,7 @@ pub(crate) fn ack_of(
     }
 }
 
-/// The version of a sender's work at the sender's front.
+// The version of a sender's work at the sender's front.
 fn version_of(
     alloc: Global,
     office: &Office,
@@ -177,11 +177,9 @@ pub(crate) fn work_of(
         return Ok(None);
     };
     let transmission = transmission_of(alloc, book, sender, version.transmission)?;
-    match transmission.transaction(version.place) {
-        None => Ok(None),
-        Some(transaction) => {
-            let shown = show(alloc, office, sender, work, version, transaction)?;
-            Ok(Some(shown))
-        }
-    }
+    let Some(transaction) = transmission.transaction(version.place) else {
+        unreachable!();
+    };
+    let shown = show(alloc, office, sender, work, version, transaction)?;
+    Ok(Some(shown))
 }

@@ -67,7 +67,7 @@ pub(crate) fn payment_of(book: &PlainBook, key: &ReturnKey) -> Payment
     }
 }
 
-/// Adds the performances of a return that is there to a tally of at most 9,990,000 performances.
+// Adds the performances of a return that is there to a tally of at most 9,990,000 performances.
 fn add_return(
     alloc: Global,
     book: &PlainBook,
@@ -89,7 +89,7 @@ fn add_return(
     }
 }
 
-/// The tally of all performances of the returns that an order names, at most 10,000,000.
+// The tally of all performances of the returns that an order names, at most 10,000,000.
 fn tally_of(alloc: Global, book: &PlainBook, order: &PoolOrder) -> Result<Tally, AllocError>
     requires sound { IsSound book.now }
     requires there { HasReturns book.now order.now }
@@ -103,7 +103,7 @@ fn tally_of(alloc: Global, book: &PlainBook, order: &PoolOrder) -> Result<Tally,
     Ok(tally)
 }
 
-/// The credits of a pool with this order.
+// The credits of a pool with this order.
 fn credits_by(
     alloc: Global,
     office: &Office,
@@ -139,7 +139,7 @@ pub(crate) fn credits_of_pool(
     }
 }
 
-/// Whether two accounts are one.
+// Whether two accounts are one.
 fn is_same(a: &Account, b: &Account) -> bool
     ensures { result ≡ same_account a.now b.now }
 {
@@ -151,7 +151,7 @@ fn is_same(a: &Account, b: &Account) -> bool
     }
 }
 
-/// The units of an account among the credits of a pool.
+// The units of an account among the credits of a pool.
 fn units_in(credits: &[Credit], account: &Account) -> u64
     requires within { sum (map units_of credits.now) ≤ 1000000000000 }
     ensures { result ≡ units_to account.now credits.now }

@@ -16,7 +16,7 @@ pub struct Tally {
     totals: BTreeMap<Isrc, u64>,
 }
 
-/// The points of a performance, 1 to 10,000,000,000.
+// The points of a performance, 1 to 10,000,000,000.
 fn points_of(row: &Performance) -> u64
     ensures value { result ≡ points_of row.now }
     ensures played { HasPoints row.now }
@@ -34,7 +34,7 @@ impl Tally {
         }
     }
 
-    /// Adds one performance.
+    // Adds one performance.
     fn add(&mut self, row: &Performance) -> Result<(), AllocError>
         ensures { (rows : List Row) → length rows < 10000000 → Tallies self.old rows → OnOk result (Tallies self.new (rows ++ row.now ∷ [])) }
     {

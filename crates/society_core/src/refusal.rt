@@ -1,4 +1,5 @@
 //! Why a request is refused.
+use crate::order_fault::OrderFault;
 use crate::return_key::ReturnKey;
 use crate::store::StoreFault;
 use cwr_files::FileFault;
@@ -19,9 +20,9 @@ pub enum Refusal {
     /// The body is no performance return.
     #[error("return fault")]
     Csv(ReturnFault),
-    /// The body is no order: its fault, 1 to 4.
+    /// The body is no order.
     #[error("order fault")]
-    Order(u8),
+    Order(OrderFault),
     /// The cut of this sender is not in its line; its front is told.
     #[error("cut above the front")]
     Cut { sender: SenderKey, front: u32 },

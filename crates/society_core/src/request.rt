@@ -1,7 +1,9 @@
 //! What is asked of the office.
+use crate::inquiry::Inquiry;
 use crate::order::PoolOrder;
+use crate::order_fault::OrderFault;
 use crate::return_key::ReturnKey;
-use work_ids::{Account, PoolNumber, SenderKey, TransmissionNumber, WorkNumber};
+use work_ids::{PoolNumber, SenderKey, TransmissionNumber};
 
 /// What is asked of the office.
 #[derive(Debug, Drop)]
@@ -22,37 +24,12 @@ pub enum Request<'a> {
         pool: PoolNumber,
         order: PoolOrder,
     },
-    /// Close a pool by what is no order, for this fault, 1 to 4.
+    /// Close a pool by what is no order, for this fault.
     FaultyOrder {
-        fault: u8,
+        fault: OrderFault,
     },
-    /// Show the acknowledgement of a sender's transmission.
-    Acknowledgement {
-        sender: SenderKey,
-        number: TransmissionNumber,
-    },
-    /// Show how a sender stands.
-    Sender {
-        sender: SenderKey,
-    },
-    /// Show a sender's work.
-    Work {
-        sender: SenderKey,
-        work: WorkNumber,
-    },
-    /// Show the verdicts of a sender's transmission.
-    Verdicts {
-        sender: SenderKey,
-        number: TransmissionNumber,
-    },
-    /// Show the credits of a pool.
-    Credits {
-        pool: PoolNumber,
-    },
-    /// Show the balance of an account.
-    Balance {
-        account: Account,
-    },
+    /// Show something.
+    Show(Inquiry),
     /// Something that the office does not have.
     Elsewhere,
 }

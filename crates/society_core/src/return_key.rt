@@ -1,3 +1,4 @@
+//! Where a performance return stands in the book.
 use work_ids::{Reporter, ReturnNumber};
 
 /// A reporter and a number: where a performance return stands in the book.

@@ -1,7 +1,8 @@
+//! Runs: what is answered to a list of requests, one after another.
 ghost use Rattle.std.specs.Prelude.{◌≡◌, IsTrue, OnOk, OnErr};
 ghost use Rattle.society_core.specs.Headline.{TellsWhatCame};
 ghost use Rattle.society_core.specs.Requests.{query_of, reply_of};
-ghost use Rattle.society_core.specs.Runs.{AppendsRun, Proceeds};
+ghost use Rattle.society_core.specs.Runs.{AppendsRun, Calls};
 
 use crate::answers::Answer;
 use crate::desk::Desk;
@@ -10,9 +11,10 @@ use crate::request::Request;
 use crate::store::Store;
 use std::alloc::{AllocError, Global};
 
-/// Answers one request.
+/// Answers one request. What asks nothing of the store leaves it untouched, and what the office does not have is unknown,
+/// never unavailable.
 pub fn answer<S: Store>(alloc: Global, desk: &mut Desk<S>, request: &Request<'_>) -> Answer
-    ensures { Proceeds (S.state desk.old) (S.state desk.new) (query_of request.now) (reply_of result) }
+    ensures { Calls S.state desk.old desk.new (query_of request.now) (reply_of result) }
 {
     match request {
         Request::PutTransmission {
@@ -32,28 +34,8 @@ pub fn answer<S: Store>(alloc: Global, desk: &mut Desk<S>, request: &Request<'_>
             Err(refusal) => Answer::Refused(refusal),
         },
         Request::FaultyOrder { fault } => Answer::Refused(Refusal::Order(*fault)),
-        Request::Acknowledgement { sender, number } => match desk.ack(alloc, sender, *number) {
-            Ok(text) => Answer::Acknowledgement(text),
-            Err(refusal) => Answer::Refused(refusal),
-        },
-        Request::Sender { sender } => match desk.sender(alloc, sender) {
-            Ok(status) => Answer::Sender(status),
-            Err(refusal) => Answer::Refused(refusal),
-        },
-        Request::Work { sender, work } => match desk.work(alloc, sender, work) {
-            Ok(work) => Answer::Work(work),
-            Err(refusal) => Answer::Refused(refusal),
-        },
-        Request::Verdicts { sender, number } => match desk.verdicts(alloc, sender, *number) {
-            Ok(verdicts) => Answer::Verdicts(verdicts),
-            Err(refusal) => Answer::Refused(refusal),
-        },
-        Request::Credits { pool } => match desk.credits(alloc, *pool) {
-            Ok(credits) => Answer::Credits(credits),
-            Err(refusal) => Answer::Refused(refusal),
-        },
-        Request::Balance { account } => match desk.balance(alloc, account) {
-            Ok(units) => Answer::Balance(*account, units),
+        Request::Show(inquiry) => match desk.look_up(alloc, inquiry) {
+            Ok(showing) => Answer::Showed(showing),
             Err(refusal) => Answer::Refused(refusal),
         },
         Request::Elsewhere => Answer::Refused(Refusal::Unknown),

@@ -1,3 +1,4 @@
+//! Where a transmission stands in the book.
 use work_ids::{SenderKey, TransmissionNumber};
 
 /// A sender and a number: where a transmission stands in the book, and, in an order, the last transmission of a sender

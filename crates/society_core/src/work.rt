@@ -13,14 +13,14 @@ use std::alloc::{AllocError, Global};
 use work_ids::{Iswc, SenderKey, WorkNumber};
 use works_core::{WorkVersion, isrcs};
 
-/// The title of a transaction without the blanks at its end.
+// The title of a transaction without the blanks at its end.
 fn title(alloc: Global, transaction: &Transaction<'_>) -> Result<Vec<u8>, AllocError>
     ensures { IfOk result (λ title. title.items ≡ without_trailing_blanks (title_of transaction.now)) }
 {
     Vec::from_slice(alloc, transaction.title().trimmed_end())
 }
 
-/// The ISWC of a transaction, where it has one that is right.
+// The ISWC of a transaction, where it has one that is right.
 fn right_iswc(transaction: &Transaction<'_>) -> Option<Iswc>
     ensures { result ≡ right_one (iswc_of_work transaction.now) }
 {

@@ -7,7 +7,7 @@ use Rattle.sqlite.specs.declared.error.Error.TheVariants.{SqliteFailure, Invalid
 use Rattle.sqlite.specs.declared.error.ErrorCode.TheVariants.{OutOfMemory, DiskFull}
 use Rattle.society_rows.specs.declared.fault.RowFault.TheVariants.{Memory, Schema, Refused}
 use Rattle.society_rows.specs.Balances.{HasUnits}
-use Rattle.society_rows.specs.Faults.{fault_of}
+use Rattle.society_rows.specs.Faults.{fault_of_error}
 use Rattle.society_rows.specs.Forms.{Count, HasForm, IsOfForms, pool_forms}
 use Rattle.society_rows.specs.Layout.{fronts, pools}
 use Rattle.society_rows.specs.Reads.{has_key, is_above}
@@ -66,14 +66,14 @@ nobody : HasUnits (codes "UNCLAIMED") (λ _. []) (pos 0)
 nobody = record { rows = inl (refl, refl) }
 
 -- what is told of an error
-memory : fault_of (SqliteFailure OutOfMemory) ≡ Memory
+memory : fault_of_error (SqliteFailure OutOfMemory) ≡ Memory
 memory = refl
 
-full : fault_of (SqliteFailure DiskFull) ≡ Refused (SqliteFailure DiskFull)
+full : fault_of_error (SqliteFailure DiskFull) ≡ Refused (SqliteFailure DiskFull)
 full = refl
 
-no_row : fault_of QueryReturnedNoRows ≡ Refused QueryReturnedNoRows
+no_row : fault_of_error QueryReturnedNoRows ≡ Refused QueryReturnedNoRows
 no_row = refl
 
-misfit : fault_of InvalidQuery ≡ Schema
+misfit : fault_of_error InvalidQuery ≡ Schema
 misfit = refl

@@ -7,7 +7,7 @@ use Rattle.sqlite.specs.Effect.{Database}
 use Rattle.sqlite.specs.State.{State, HasCleanDisk, IsUnchanged, IsRolledBack, KeepsCommit, Survives, ExecutesInside}
 use Rattle.society_rows.specs.declared.fault.RowFault.{RowFault}
 use Rattle.society_rows.specs.declared.fault.RowFault.TheVariants.{Memory}
-use Rattle.society_rows.specs.Faults.{fault_of, IsFailure}
+use Rattle.society_rows.specs.Faults.{fault_of_error, IsFailure}
 use Rattle.society_rows.specs.Stored.{HasLayout}
 
 -- over layout 2, and where the disk told the truth, the fault is such a failure
@@ -37,7 +37,7 @@ ErrsByMedium old new result = HasCleanDisk new → HasLayout old.now → IfErr r
 -- the statement ran, or its error is told
 abbrev pub RanAs : List ℕ → Row → State → State → Result (Unit {0}) RowFault → Type 0
 RanAs text params old new (Ok _) = (count : ℕ) × ExecutesInside 0 text params old new (Ok count)
-RanAs text params old new (Err fault) = (error : Error) × (fault ≡ fault_of error) × ExecutesInside 0 text params old new (Err error)
+RanAs text params old new (Err fault) = (error : Error) × (fault ≡ fault_of_error error) × ExecutesInside 0 text params old new (Err error)
 
 -- A write in a transaction: where the database was of a kind it makes this change, it commits nothing, and a crash leaves what it
 -- left before.
@@ -52,8 +52,12 @@ abbrev pub Writes : {X : Type 0} → State → State → Result X RowFault → (
 Writes = WritesOver HasLayout
 
 -- one statement: it went through on an open connection, or it changed nothing, or the whole transaction is undone
-abbrev pub IsWhole : {X : Type 0} → State → State → Result X RowFault → Type 0
-IsWhole old new result = HasCleanDisk new → IsTrue old.in_transaction → MatchResult result (λ _. IsTrue old.is_open) (λ _. IsUnchanged old new ⊎ IsRolledBack old new)
+abbrev pub IsAllOrNothing : {X : Type 0} → State → State → Result X RowFault → Type 0
+IsAllOrNothing old new result = HasCleanDisk new → IsTrue old.in_transaction → MatchResult result (λ _. IsTrue old.is_open) (λ _. IsUnchanged old new ⊎ IsRolledBack old new)
+
+-- after an error of one statement nothing is changed, or the whole transaction is undone
+abbrev pub FailsWhole : {X : Type 0} → State → State → Result X RowFault → Type 0
+FailsWhole old new result = HasCleanDisk new → IsTrue old.in_transaction → OnErr result (IsUnchanged old new ⊎ IsRolledBack old new)
 
 -- the transaction is over, and the last commit is what it was
 pub record IsUndone (old new : State) : Type 0 where

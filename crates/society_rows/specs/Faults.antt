@@ -8,19 +8,19 @@ use Rattle.society_rows.specs.declared.fault.RowFault.{RowFault}
 use Rattle.society_rows.specs.declared.fault.RowFault.TheVariants.{Memory, Schema, Unread, Refused}
 
 -- want of memory, a statement that doesn't fit the schema, a value of another form, or else the error itself
-abbrev pub fault_of : Error → RowFault
-fault_of (SqliteFailure OutOfMemory) = Memory
-fault_of (SqliteFailure code) = Refused (SqliteFailure code)
-fault_of (SqlInputError why) = Schema
-fault_of (InvalidParameterCount given wanted) = Schema
-fault_of ExecuteReturnedResults = Schema
-fault_of InvalidQuery = Schema
-fault_of MultipleStatement = Schema
-fault_of QueryReturnedNoRows = Refused QueryReturnedNoRows
-fault_of (InvalidColumnIndex at) = Unread
-fault_of (InvalidColumnType at found) = Unread
-fault_of (IntegralValueOutOfRange at) = Unread
-fault_of (Utf8Error at) = Unread
+abbrev pub fault_of_error : Error → RowFault
+fault_of_error (SqliteFailure OutOfMemory) = Memory
+fault_of_error (SqliteFailure code) = Refused (SqliteFailure code)
+fault_of_error (SqlInputError why) = Schema
+fault_of_error (InvalidParameterCount given wanted) = Schema
+fault_of_error ExecuteReturnedResults = Schema
+fault_of_error InvalidQuery = Schema
+fault_of_error MultipleStatement = Schema
+fault_of_error QueryReturnedNoRows = Refused QueryReturnedNoRows
+fault_of_error (InvalidColumnIndex at) = Unread
+fault_of_error (InvalidColumnType at found) = Unread
+fault_of_error (IntegralValueOutOfRange at) = Unread
+fault_of_error (Utf8Error at) = Unread
 
 -- want of memory, or what SQLite told as a failure
 abbrev pub IsFailure : RowFault → Type 0

@@ -13,6 +13,8 @@ use Rattle.society_rows.specs.Effects.{IsFailureOf}
 use Rattle.society_rows.specs.Layout.{transmissions}
 use Rattle.society_rows.specs.Reads.{Lists, has_key}
 use Rattle.society_rows.specs.Stored.{HasLayout}
+use Rattle.society_rows.specs.Listings.{ListsAll}
+use Rattle.society_rows.specs.declared.tables.TableName.{TableName}
 
 -- the layout was another, so nothing is said of what a crash leaves
 abbrev pub OfOtherLayout : State → Trees → Type 0
@@ -78,6 +80,14 @@ AreTooMany First = (rows : List Row) × First rows × (2 ^ 64 ≤ suc (length ro
 -- why rows were not gone over to their end: a failure, a row was refused, or there are too many
 pub record StopsOver {F : Type 0} (step : F → Row → F) (refusal : F → Row → RowFault → Type 0) (old new : State) (First : List Row → Type 0) (begun : F) (fault : RowFault) : Type 0 where
   pub why : IsFailureOf old new fault ⊎ (RefusesRow step refusal First begun fault ⊎ ((fault ≡ Unread) × AreTooMany First))
+
+-- why the rows that a query shows were not gone over to their end
+abbrev pub StopsShowing : {F : Type 0} → (F → Row → F) → (F → Row → RowFault → Type 0) → List ℕ → Row → F → State → State → RowFault → Type 0
+StopsShowing step refusal text params begun old new = StopsOver step refusal old new (AreShownFirst text params old new) begun
+
+-- why the rows of a table were not gone over to their end
+abbrev pub StopsListing : {F : Type 0} → (F → Row → F) → (F → Row → RowFault → Type 0) → TableName → F → State → State → RowFault → Type 0
+StopsListing step refusal table begun old new = StopsOver step refusal old new (AreFirst old new (ListsAll table)) begun
 
 -- the first of a run of the sender's transmissions
 abbrev pub AreFirstOfRun : State → State → List ℕ → ℕ → List Row → Type 0

@@ -113,8 +113,8 @@ unfoldable pub recordings : Table
 recordings =
     keyed_table (codes "recordings") 16 (text (codes "sender") ∷ text (codes "work") ∷ whole (codes "revision") ∷ text (codes "isrc") ∷ []) (1 ∷ 2 ∷ 3 ∷ 4 ∷ []) []
 
-unfoldable pub credits : Table
-credits =
+unfoldable pub credits_table : Table
+credits_table =
     keyed_table (codes "credits") 18 (whole (codes "pool") ∷ whole (codes "line") ∷ text (codes "isrc") ∷ text (codes "account") ∷ whole (codes "units") ∷ []) (1 ∷ 2 ∷ []) []
 
 unfoldable pub balances : Table
@@ -126,7 +126,7 @@ no_schema = record { tables = []; indexes = []; views = [] }
 -- in the order in which they are made
 unfoldable pub all_tables : List Table
 all_tables =
-    office ∷ transmissions ∷ returns ∷ pools ∷ pool_cuts ∷ pool_returns ∷ fronts ∷ verdicts ∷ versions ∷ recordings ∷ credits ∷ balances ∷ []
+    office ∷ transmissions ∷ returns ∷ pools ∷ pool_cuts ∷ pool_returns ∷ fronts ∷ verdicts ∷ versions ∷ recordings ∷ credits_table ∷ balances ∷ []
 
 -- the schema of layout 2
 unfoldable pub layout : Schema
@@ -134,5 +134,5 @@ layout = fold created no_schema all_tables
 
 -- opens the layout and each of its tables
 unfoldable pub written_out : Unit {0}
-unfolding layout all_tables office transmissions returns pools pool_cuts pool_returns fronts verdicts versions recordings credits balances
+unfolding layout all_tables office transmissions returns pools pool_cuts pool_returns fronts verdicts versions recordings credits_table balances
 written_out = tt

@@ -1,4 +1,5 @@
 pub mod Balances
+pub mod Between
 pub mod Effects
 pub mod Faults
 pub mod Finding
@@ -6,10 +7,12 @@ pub mod Folds
 pub mod Forms
 pub mod KeyLaws
 pub mod Layout
+pub mod Listings
 pub mod NewBook
 pub mod Questions
 pub mod Reads
 pub mod Rows
+pub mod Shapes
 pub mod Stored
 pub mod TableNames
 pub mod Texts

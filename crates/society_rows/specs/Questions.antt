@@ -7,31 +7,32 @@ use Rattle.sqlite.specs.State.{State, HasCleanDisk, Survives}
 use Rattle.society_rows.specs.declared.fault.RowFault.{RowFault}
 use Rattle.society_rows.specs.declared.questions.Question.{Question}
 use Rattle.society_rows.specs.declared.questions.Question.TheVariants as question
-use Rattle.society_rows.specs.Layout.{office, transmissions, returns, pools, pool_cuts, pool_returns, fronts, verdicts, versions, recordings, credits, balances}
+use Rattle.society_rows.specs.Layout.{office, transmissions, returns, pools, pool_cuts, pool_returns, fronts, verdicts, versions, credits_table, balances}
 use Rattle.society_rows.specs.Reads.{Lists, ListsKeys, IsFirstOf, has_key, has_at, is_above}
 use Rattle.society_rows.specs.Stored.{HasLayout}
 
 -- the rows that answer the question
-abbrev pub Answers : Question → Trees → List Row → Type 0
-Answers question.Office = Lists office (λ _. true) 1
-Answers (question.Front sender) = Lists fronts (has_key (Text sender.now ∷ [])) 1
-Answers (question.Transmission sender number) = Lists transmissions (has_key (Text sender.now ∷ Int (pos number) ∷ [])) 2
-Answers (question.NumbersAbove sender number) = ListsKeys transmissions (is_above (Text sender.now) (Int (pos number))) 2
-Answers (question.Return reporter number) = Lists returns (has_key (Text reporter.now ∷ Int (pos number) ∷ [])) 2
-Answers (question.HasReturn reporter number) = ListsKeys returns (has_key (Text reporter.now ∷ Int (pos number) ∷ [])) 2
-Answers (question.Pool pool) = Lists pools (has_key (Int (pos pool) ∷ [])) 1
-Answers (question.Cuts pool) = Lists pool_cuts (has_key (Int (pos pool) ∷ [])) 2
-Answers (question.Payer reporter number) = Lists pool_returns (has_key (Text reporter.now ∷ Int (pos number) ∷ [])) 2
-Answers (question.PaidBy pool) = Lists pool_returns (has_at 2 (Int (pos pool))) 2
-Answers (question.Verdicts sender number) = Lists verdicts (has_key (Text sender.now ∷ Int (pos number) ∷ [])) 3
-Answers (question.Versions sender work) = Lists versions (has_key (Text sender.now ∷ Text work.now ∷ [])) 3
-Answers (question.LastVersion sender work) = IsFirstOf versions (has_key (Text sender.now ∷ Text work.now ∷ [])) 3
-Answers (question.Credits pool) = Lists credits (has_key (Int (pos pool) ∷ [])) 2
-Answers (question.Balance account) = Lists balances (has_key (Text account.now ∷ [])) 1
+abbrev pub RowsAnswer : Question → Trees → List Row → Type 0
+RowsAnswer question.Office = Lists office (λ _. true) 1
+RowsAnswer (question.Front sender) = Lists fronts (has_key (Text sender.now ∷ [])) 1
+RowsAnswer (question.Transmission sender number) = Lists transmissions (has_key (Text sender.now ∷ Int (pos number) ∷ [])) 2
+RowsAnswer (question.NumbersAbove sender number) = ListsKeys transmissions (is_above (Text sender.now) (Int (pos number))) 2
+RowsAnswer (question.Return reporter number) = Lists returns (has_key (Text reporter.now ∷ Int (pos number) ∷ [])) 2
+RowsAnswer (question.HasReturn reporter number) = ListsKeys returns (has_key (Text reporter.now ∷ Int (pos number) ∷ [])) 2
+RowsAnswer (question.Pool pool) = Lists pools (has_key (Int (pos pool) ∷ [])) 1
+RowsAnswer (question.Cuts pool) = Lists pool_cuts (has_key (Int (pos pool) ∷ [])) 2
+RowsAnswer (question.Payer reporter number) = Lists pool_returns (has_key (Text reporter.now ∷ Int (pos number) ∷ [])) 2
+RowsAnswer (question.PaidBy pool) = Lists pool_returns (has_at 2 (Int (pos pool))) 2
+RowsAnswer (question.Verdicts sender number) = Lists verdicts (has_key (Text sender.now ∷ Int (pos number) ∷ [])) 3
+RowsAnswer (question.Versions sender work) = Lists versions (has_key (Text sender.now ∷ Text work.now ∷ [])) 3
+RowsAnswer (question.LastVersion sender work) = IsFirstOf versions (has_key (Text sender.now ∷ Text work.now ∷ [])) 3
+RowsAnswer (question.Credits pool) = Lists credits_table (has_key (Int (pos pool) ∷ [])) 2
+RowsAnswer (question.Balance account) = Lists balances (has_key (Text account.now ∷ [])) 1
 
--- A question on a connection that is in no transaction: over layout 2 it finds this, an answer comes from an open connection alone, it
--- leaves the last commit, and a crash leaves what it left before.
+-- A question on a connection at rest, which shows its last commit where it is open: over layout 2 it finds this, an answer comes from an
+-- open connection alone, it leaves the last commit, and a crash leaves what it left before.
 pub record Asks {X : Type 0} (old new : State) (result : Result X RowFault) (Found : Trees → X → Type 0) : Type 0 where
+  pub settled : IsTrue old.is_open → old.now ≡ old.committed
   pub found : HasCleanDisk new → HasLayout old.now → IfOk result (Found old.now.trees)
   pub answered : HasCleanDisk new → OnOk result (IsTrue old.is_open)
   pub was_open : HasCleanDisk new → IsTrue new.is_open → IsTrue old.is_open

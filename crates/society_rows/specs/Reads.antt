@@ -16,7 +16,7 @@ use Rattle.sqlite_sql.specs.Ops.{is_true, binary}
 use Rattle.sqlite_schema.specs.Rules.{equal}
 use Rattle.sqlite.specs.State.{State, HasCleanDisk, IsUnchanged, IsRolledBack, KeepsCommit, Survives, Shown, FailsToQuery, IsTooLate}
 use Rattle.society_rows.specs.declared.fault.RowFault.{RowFault}
-use Rattle.society_rows.specs.Faults.{fault_of}
+use Rattle.society_rows.specs.Faults.{fault_of_error}
 use Rattle.society_rows.specs.Stored.{rows_in, HasLayout}
 
 -- the first columns are these values, as SQL compares them
@@ -66,7 +66,7 @@ pub record IsFirstOf (table : Table) (passes : Row → Bool) (width : ℕ) (db :
 abbrev pub Selected : List ℕ → Row → State → State → Result (Vec Row Global) RowFault → Type 0
 Selected text params old new (Ok rows) = Shown text params old new rows.items
 Selected text params old new (Err fault) =
-    (error : Error) × (fault ≡ fault_of error) × (FailsToQuery text params old new error ⊎ IsTooLate text params old new error)
+    (error : Error) × (fault ≡ fault_of_error error) × (FailsToQuery text params old new error ⊎ IsTooLate text params old new error)
 
 -- A reading: over layout 2 it finds this, it changes nothing unless a failure undoes the whole transaction, and it commits nothing. An
 -- answer comes from an open connection alone.

@@ -1,9 +1,9 @@
--- The tables by their names in code.
+-- The tables by their names in code (representation).
 use Rattle.std.specs.Prelude.{ℕ, List, codes}
 use Rattle.sqlite_schema.specs.declared.schema.Table.{Table}
 use Rattle.society_rows.specs.declared.tables.TableName.{TableName}
 use Rattle.society_rows.specs.declared.tables.TableName.TheVariants as name
-use Rattle.society_rows.specs.Layout.{office, transmissions, returns, pools, pool_cuts, pool_returns, fronts, verdicts, versions, recordings, credits, balances}
+use Rattle.society_rows.specs.Layout.{office, transmissions, returns, pools, pool_cuts, pool_returns, fronts, verdicts, versions, recordings, credits_table, balances}
 
 -- the table of that name
 abbrev pub table_called : TableName → Table
@@ -17,7 +17,7 @@ table_called name.Fronts = fronts
 table_called name.Verdicts = verdicts
 table_called name.Versions = versions
 table_called name.Recordings = recordings
-table_called name.Credits = credits
+table_called name.Credits = credits_table
 table_called name.Balances = balances
 
 -- by how many of its first columns its rows are listed: those of its key, or all, so that rows which are listed alike are one

@@ -2,17 +2,17 @@
 ghost use Rattle.std.specs.Prelude.{◌≡◌, [], ◌∷◌, IfOk, IfErr, FitsSigned};
 ghost use Rattle.std.specs.Int.{w64};
 ghost use Rattle.sqlite_value.specs.declared.value.Value.TheVariants.{Text};
-ghost use Rattle.sqlite.specs.Held.{state};
 ghost use Rattle.sqlite.specs.State.{HasCleanDisk};
 ghost use Rattle.society_rows.specs.declared.fault.RowFault.TheVariants.{Unread};
 ghost use Rattle.society_rows.specs.Balances.{HasUnits, AddsUnits, HidesUnits, RefusesUnits};
-ghost use Rattle.society_rows.specs.Effects.{Writes, IsWhole, OnlyFails};
+ghost use Rattle.society_rows.specs.Effects.{Writes, IsAllOrNothing, OnlyFails};
 ghost use Rattle.society_rows.specs.Folds.{ReadsInside};
 ghost use Rattle.society_rows.specs.Forms.{IsRead, balance_forms};
 ghost use Rattle.society_rows.specs.Layout.{balances};
 ghost use Rattle.society_rows.specs.Reads.{Lists, Reads, has_key};
 ghost use Rattle.society_rows.specs.Rows.{balance_values};
 ghost use Rattle.society_rows.specs.Stored.{HasLayout, Puts};
+ghost use Rattle.society_rows.specs.Between.{within};
 
 use crate::RowFault;
 use crate::reading::{integer, text};
@@ -52,10 +52,10 @@ pub fn put_balance<S: Alter>(
     row: &BalanceRow<'_>,
 ) -> Result<(), RowFault>
     ensures same_reference { tx.new.conn.ghost_name ≡ tx.old.conn.ghost_name }
-    ensures written { Writes (state S.Store tx.old.conn.now) (state S.Store tx.new.conn.now) result
+    ensures written { within S.Store tx.old tx.new Writes result
         (Puts balances (balance_values row.now)) }
-    ensures whole { IsWhole (state S.Store tx.old.conn.now) (state S.Store tx.new.conn.now) result }
-    ensures told { OnlyFails (state S.Store tx.old.conn.now) (state S.Store tx.new.conn.now) result }
+    ensures whole { within S.Store tx.old tx.new IsAllOrNothing result }
+    ensures told { within S.Store tx.old tx.new OnlyFails result }
 {
     run(
         tx,
@@ -70,9 +70,9 @@ pub fn balance_at<S: Alter>(
     account: &[u8],
 ) -> Result<Vec<Row>, RowFault>
     ensures same_reference { tx.new.conn.ghost_name ≡ tx.old.conn.ghost_name }
-    ensures read { Reads (state S.Store tx.old.conn.now) (state S.Store tx.new.conn.now) result
+    ensures read { within S.Store tx.old tx.new Reads result
         (λ db rows. Lists balances (has_key (Text account.now ∷ [])) 1 db rows.items) }
-    ensures told { OnlyFails (state S.Store tx.old.conn.now) (state S.Store tx.new.conn.now) result }
+    ensures told { within S.Store tx.old tx.new OnlyFails result }
 {
     select(
         tx,
@@ -84,10 +84,9 @@ pub fn balance_at<S: Alter>(
 /// The units of an account, 0 where it has no balance; `Unread` where it has two.
 pub fn units_of<S: Alter>(tx: &mut Transaction<'_, S>, account: &[u8]) -> Result<i64, RowFault>
     ensures same_reference { tx.new.conn.ghost_name ≡ tx.old.conn.ghost_name }
-    ensures read { ReadsInside (state S.Store tx.old.conn.now) (state S.Store tx.new.conn.now) result
+    ensures read { within S.Store tx.old tx.new ReadsInside result
         (HasUnits account.now) }
-    ensures cause { HasCleanDisk (state S.Store tx.new.conn.now) → HasLayout (state S.Store tx.old.conn.now).now
-        → IfErr result (HidesUnits account.now (state S.Store tx.old.conn.now).now.trees) }
+    ensures cause { within S.Store tx.old tx.new (λ old new. HasCleanDisk new → HasLayout old.now → IfErr result (HidesUnits account.now old.now.trees)) }
     ensures range { IfOk result (λ n. FitsSigned w64 n) }
 {
     let rows = balance_at(tx, account)?;
@@ -105,12 +104,10 @@ pub fn add_units<S: Alter>(
     units: i64,
 ) -> Result<(), RowFault>
     ensures same_reference { tx.new.conn.ghost_name ≡ tx.old.conn.ghost_name }
-    ensures written { Writes (state S.Store tx.old.conn.now) (state S.Store tx.new.conn.now) result
+    ensures written { within S.Store tx.old tx.new Writes result
         (AddsUnits account.now units) }
-    ensures whole { HasLayout (state S.Store tx.old.conn.now).now
-        → IsWhole (state S.Store tx.old.conn.now) (state S.Store tx.new.conn.now) result }
-    ensures cause { HasCleanDisk (state S.Store tx.new.conn.now) → HasLayout (state S.Store tx.old.conn.now).now
-        → IfErr result (RefusesUnits account.now units (state S.Store tx.old.conn.now).now.trees) }
+    ensures whole { within S.Store tx.old tx.new (λ old new. HasLayout old.now → IsAllOrNothing old new result) }
+    ensures cause { within S.Store tx.old tx.new (λ old new. HasCleanDisk new → HasLayout old.now → IfErr result (RefusesUnits account.now units old.now.trees)) }
 {
     let before = units_of(tx, account)?;
     let Some(sum) = before.checked_add(units) else {

@@ -1,15 +1,15 @@
 //! The table of credits.
 ghost use Rattle.std.specs.Prelude.{◌≡◌, map, take, [], ◌∷◌, pos, IfOk, IfErr, length, ◌≤◌, ◌⊎◌, IsTrue, OnErr};
 ghost use Rattle.sqlite_value.specs.declared.value.Value.TheVariants.{Int};
-ghost use Rattle.sqlite.specs.Held.{state};
 ghost use Rattle.sqlite.specs.State.{HasCleanDisk, IsUnchanged, IsRolledBack};
 ghost use Rattle.society_rows.specs.declared.fault.RowFault.TheVariants.{Unread};
-ghost use Rattle.society_rows.specs.Effects.{Writes, IsWhole, LeavesFirst, OnlyFails, OnlyFailsInside};
+ghost use Rattle.society_rows.specs.Effects.{Writes, IsAllOrNothing, LeavesFirst, OnlyFails, OnlyFailsInside, FailsWhole};
 ghost use Rattle.society_rows.specs.Forms.{IsRead, credit_forms};
-ghost use Rattle.society_rows.specs.Layout.{credits};
+ghost use Rattle.society_rows.specs.Layout.{credits_table};
 ghost use Rattle.society_rows.specs.Reads.{Lists, Reads, has_key};
 ghost use Rattle.society_rows.specs.Rows.{credit_values};
 ghost use Rattle.society_rows.specs.Stored.{HasLayout, Adds};
+ghost use Rattle.society_rows.specs.Between.{within};
 
 use crate::RowFault;
 use crate::reading::{integer, text, whole};
@@ -54,10 +54,10 @@ pub fn add_credit<S: Alter>(
     row: &CreditRow<'_>,
 ) -> Result<(), RowFault>
     ensures same_reference { tx.new.conn.ghost_name ≡ tx.old.conn.ghost_name }
-    ensures written { Writes (state S.Store tx.old.conn.now) (state S.Store tx.new.conn.now) result
-        (Adds credits (credit_values row.now ∷ [])) }
-    ensures whole { IsWhole (state S.Store tx.old.conn.now) (state S.Store tx.new.conn.now) result }
-    ensures told { OnlyFails (state S.Store tx.old.conn.now) (state S.Store tx.new.conn.now) result }
+    ensures written { within S.Store tx.old tx.new Writes result
+        (Adds credits_table (credit_values row.now ∷ [])) }
+    ensures whole { within S.Store tx.old tx.new IsAllOrNothing result }
+    ensures told { within S.Store tx.old tx.new OnlyFails result }
 {
     run(
         tx,
@@ -72,17 +72,17 @@ pub fn add_credit<S: Alter>(
     )
 }
 
-/// Adds two credits by one statement: both, or neither.
+// Adds two credits by one statement: both, or neither.
 fn add_pair<S: Alter>(
     tx: &mut Transaction<'_, S>,
     one: &CreditRow<'_>,
     two: &CreditRow<'_>,
 ) -> Result<(), RowFault>
     ensures same_reference { tx.new.conn.ghost_name ≡ tx.old.conn.ghost_name }
-    ensures written { Writes (state S.Store tx.old.conn.now) (state S.Store tx.new.conn.now) result
-        (Adds credits (credit_values one.now ∷ credit_values two.now ∷ [])) }
-    ensures whole { IsWhole (state S.Store tx.old.conn.now) (state S.Store tx.new.conn.now) result }
-    ensures told { OnlyFails (state S.Store tx.old.conn.now) (state S.Store tx.new.conn.now) result }
+    ensures written { within S.Store tx.old tx.new Writes result
+        (Adds credits_table (credit_values one.now ∷ credit_values two.now ∷ [])) }
+    ensures whole { within S.Store tx.old tx.new IsAllOrNothing result }
+    ensures told { within S.Store tx.old tx.new OnlyFails result }
 {
     run(
         tx,
@@ -102,16 +102,14 @@ fn add_pair<S: Alter>(
     )
 }
 
-/// Adds up to two credits, all or none.
+// Adds up to two credits, all or none.
 fn add_part<S: Alter>(tx: &mut Transaction<'_, S>, part: &[CreditRow<'_>]) -> Result<(), RowFault>
     requires { length part.now ≤ 2 }
     ensures same_reference { tx.new.conn.ghost_name ≡ tx.old.conn.ghost_name }
-    ensures written { Writes (state S.Store tx.old.conn.now) (state S.Store tx.new.conn.now) result
-        (Adds credits (map credit_values part.now)) }
-    ensures whole { HasCleanDisk (state S.Store tx.new.conn.now) → IsTrue (state S.Store tx.old.conn.now).in_transaction
-        → OnErr result (IsUnchanged (state S.Store tx.old.conn.now) (state S.Store tx.new.conn.now)
-        ⊎ IsRolledBack (state S.Store tx.old.conn.now) (state S.Store tx.new.conn.now)) }
-    ensures told { OnlyFails (state S.Store tx.old.conn.now) (state S.Store tx.new.conn.now) result }
+    ensures written { within S.Store tx.old tx.new Writes result
+        (Adds credits_table (map credit_values part.now)) }
+    ensures whole { within S.Store tx.old tx.new FailsWhole result }
+    ensures told { within S.Store tx.old tx.new OnlyFails result }
 {
     match part {
         [] => Ok(()),
@@ -126,11 +124,11 @@ pub fn add_credits<S: Alter>(
     rows: &[CreditRow<'_>],
 ) -> Result<(), RowFault>
     ensures same_reference { tx.new.conn.ghost_name ≡ tx.old.conn.ghost_name }
-    ensures written { Writes (state S.Store tx.old.conn.now) (state S.Store tx.new.conn.now) result
-        (Adds credits (map credit_values rows.now)) }
-    ensures left { LeavesFirst (state S.Store tx.old.conn.now) (state S.Store tx.new.conn.now) result
-        (λ count. Adds credits (map credit_values (take count rows.now))) }
-    ensures told { OnlyFailsInside HasLayout (state S.Store tx.old.conn.now) (state S.Store tx.new.conn.now) result }
+    ensures written { within S.Store tx.old tx.new Writes result
+        (Adds credits_table (map credit_values rows.now)) }
+    ensures left { within S.Store tx.old tx.new LeavesFirst result
+        (λ count. Adds credits_table (map credit_values (take count rows.now))) }
+    ensures told { within S.Store tx.old tx.new (OnlyFailsInside HasLayout) result }
 {
     // Two rows a statement have nearly all that many would gain, for one more text that is kept compiled.
     for part in rows.chunks(2) {
@@ -142,9 +140,9 @@ pub fn add_credits<S: Alter>(
 /// The credits of a pool, by line.
 pub fn credits_of<S: Alter>(tx: &mut Transaction<'_, S>, pool: u32) -> Result<Vec<Row>, RowFault>
     ensures same_reference { tx.new.conn.ghost_name ≡ tx.old.conn.ghost_name }
-    ensures read { Reads (state S.Store tx.old.conn.now) (state S.Store tx.new.conn.now) result
-        (λ db rows. Lists credits (has_key (Int (pos pool) ∷ [])) 2 db rows.items) }
-    ensures told { OnlyFails (state S.Store tx.old.conn.now) (state S.Store tx.new.conn.now) result }
+    ensures read { within S.Store tx.old tx.new Reads result
+        (λ db rows. Lists credits_table (has_key (Int (pos pool) ∷ [])) 2 db rows.items) }
+    ensures told { within S.Store tx.old tx.new OnlyFails result }
 {
     select(
         tx,

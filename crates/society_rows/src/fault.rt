@@ -1,6 +1,6 @@
 //! Why a statement gave no rows or wrote none.
 ghost use Rattle.std.specs.Prelude.{◌≡◌};
-ghost use Rattle.society_rows.specs.Faults.{fault_of};
+ghost use Rattle.society_rows.specs.Faults.{fault_of_error};
 ghost use Rattle.society_rows.specs.declared.fault.RowFault.TheVariants.{Memory};
 
 use sqlite::{Error, ErrorCode};
@@ -24,7 +24,7 @@ pub enum RowFault {
 }
 
 impl From<Error> for RowFault {
-    ghost from_gives = { λ error fault. fault ≡ fault_of error };
+    ghost from_gives = { λ error fault. fault ≡ fault_of_error error };
 
     fn from(error: Error) -> RowFault {
         match error {

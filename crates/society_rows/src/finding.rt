@@ -5,9 +5,9 @@ ghost use Rattle.society_rows.specs.Finding.{IsFound, index_called};
 ghost use Rattle.society_rows.specs.Layout.{layout, no_schema};
 ghost use Rattle.society_rows.specs.TableNames.{table_called};
 
-use crate::TableName;
 use crate::shapes::{Parent, is_guard, is_keyed, is_numbered};
-use sqlite::{Alter, Connection};
+use crate::{Idle, TableName};
+use sqlite::Alter;
 use sqlite_schema::schema::{Index, Kind, Schema, Table};
 
 /// What a database holds.
@@ -156,7 +156,7 @@ const PAYMENT_PARENTS: [Parent<'static>; 2] = [
     },
 ];
 
-/// Whether a table is that of layout 2 under a name.
+// Whether a table is that of layout 2 under a name.
 fn is_called(table: &Table, name: TableName) -> bool
     ensures { IsTrue result ↔ (table.now ≡ table_called name) }
 {
@@ -190,7 +190,7 @@ fn is_called(table: &Table, name: TableName) -> bool
     }
 }
 
-/// Whether tables are those of these names, in their order.
+// Whether tables are those of these names, in their order.
 fn are_called(tables: &[Table], names: &[TableName]) -> bool
     ensures { IsTrue result ↔ (tables.now ≡ map table_called names.now) }
 {
@@ -205,7 +205,7 @@ fn are_called(tables: &[Table], names: &[TableName]) -> bool
     true
 }
 
-/// Whether an index is the one for the key of the table of a name.
+// Whether an index is the one for the key of the table of a name.
 fn guards(index: &Index, name: TableName) -> bool
     ensures { IsTrue result ↔ (index.now ≡ index_called name) }
 {
@@ -237,7 +237,7 @@ fn guards(index: &Index, name: TableName) -> bool
     }
 }
 
-/// Whether indexes are those for the keys of the tables of these names, in their order.
+// Whether indexes are those for the keys of the tables of these names, in their order.
 fn are_guards(indexes: &[Index], names: &[TableName]) -> bool
     ensures { IsTrue result ↔ (indexes.now ≡ map index_called names.now) }
 {
@@ -252,7 +252,7 @@ fn are_guards(indexes: &[Index], names: &[TableName]) -> bool
     true
 }
 
-/// Whether a schema has the tables of these names, the indexes for the keys of those, and nothing else.
+// Whether a schema has the tables of these names, the indexes for the keys of those, and nothing else.
 fn is_made_of(schema: &Schema, names: &[TableName], keyed: &[TableName]) -> bool
     ensures { IsTrue result ↔ (schema.now ≡ record { tables = map table_called names.now; indexes = map index_called keyed.now; views = [] }) }
 {
@@ -261,14 +261,14 @@ fn is_made_of(schema: &Schema, names: &[TableName], keyed: &[TableName]) -> bool
         && schema.views.is_empty()
 }
 
-/// Whether a schema is that of layout 2.
+// Whether a schema is that of layout 2.
 fn is_layout(schema: &Schema) -> bool
     ensures { IsTrue result ↔ (schema.now ≡ layout) }
 {
     is_made_of(schema, &ALL, &KEYED)
 }
 
-/// Whether a schema has no table, index or view.
+// Whether a schema has no table, index or view.
 fn is_bare(schema: &Schema) -> bool
     ensures { IsTrue result ↔ (schema.now ≡ no_schema) }
 {
@@ -276,10 +276,12 @@ fn is_bare(schema: &Schema) -> bool
 }
 
 /// What a database holds, as its connection sees it; it reads no row and changes nothing.
-pub fn layout_found<S: Alter>(conn: &Connection<S>) -> Found
-    ensures { IsFound (state S.Store conn.now).now result }
+pub fn layout_found<S: Alter>(conn: &Idle<S>) -> Found
+    ensures found { IsFound (state S.Store conn.now).now result }
+    ensures settled { IsTrue (state S.Store conn.now).is_open → (state S.Store conn.now).now ≡ (state S.Store conn.now).committed }
 {
-    let schema = conn.schema();
+    conn.see_last_commit();
+    let schema = conn.connection.schema();
     if is_layout(schema) {
         Found::Layout
     } else if is_bare(schema) {

@@ -1,17 +1,17 @@
 //! Rows that are gone over one at a time, so that no answer is kept.
 ghost use Rattle.std.specs.Prelude.{◌≡◌, [], false, true, length, IfErr, OnOk};
-ghost use Rattle.sqlite.specs.Held.{state};
 ghost use Rattle.sqlite_value.specs.Order.{Row as SqlRow};
 ghost use Rattle.sqlite.specs.State.{Shown};
 ghost use Rattle.sqlite.specs.Listing.{understood};
 ghost use Rattle.sqlite.specs.Values.{bound};
-ghost use Rattle.society_rows.specs.Folds.{IsAsked, ReadsAlone, ReadsInside, HasTaken, IsRun, AreFirst, AreShownFirst, StopsOver, StopsRun};
+ghost use Rattle.society_rows.specs.Folds.{StopsListing, StopsShowing, IsAsked, ReadsAlone, ReadsInside, HasTaken, IsRun, AreFirst, AreShownFirst, StopsOver, StopsRun};
 ghost use Rattle.society_rows.specs.Layout.{layout, transmissions};
 ghost use Rattle.society_rows.specs.Reads.{Lists};
-ghost use Rattle.society_rows.specs.TableNames.{table_called, listing_width};
+ghost use Rattle.society_rows.specs.Listings.{ListsAll};
+ghost use Rattle.society_rows.specs.Between.{between, within};
 
 use crate::tables::listing;
-use crate::{RowFault, TableName, transmission_at};
+use crate::{Idle, RowFault, TableName, transmission_at};
 use sqlite::{Alter, Connection, Row, Transaction};
 use sqlite_value::value::ValueRef;
 
@@ -31,7 +31,7 @@ pub trait RowFold {
         ensures told { IfErr result (refusal self.old row.now) };
 }
 
-/// Goes over the rows that a query shows.
+// Goes over the rows that a query shows.
 fn fold_shown<S: Alter, F: RowFold>(
     conn: &mut Connection<S>,
     sql: &str,
@@ -39,11 +39,11 @@ fn fold_shown<S: Alter, F: RowFold>(
     into: &mut F,
 ) -> Result<(), RowFault>
     requires { IsAsked sql.now (length (bound params.now)) (understood layout sql.now) }
-    ensures taken { ReadsAlone (state S.Store conn.old) (state S.Store conn.new) result
-        (λ _ _. HasTaken F.step (Shown sql.now (bound params.now) (state S.Store conn.old) (state S.Store conn.new)) into.old into.new) }
+    ensures taken { between S.Store conn.old conn.new (λ old new. ReadsAlone old new result
+        (λ _ _. HasTaken F.step (Shown sql.now (bound params.now) old new) into.old into.new)) }
     ensures mode { conn.old.in_transaction ≡ false → conn.new.in_transaction ≡ false }
-    ensures told { IfErr result (StopsOver F.step F.refusal (state S.Store conn.old) (state S.Store conn.new)
-        (AreShownFirst sql.now (bound params.now) (state S.Store conn.old) (state S.Store conn.new)) into.old) }
+    ensures told { IfErr result (between S.Store conn.old conn.new
+        (StopsShowing F.step F.refusal sql.now (bound params.now) into.old)) }
 {
     let mut rows = conn.query(sql, params)?;
     'rows: for count in 0..u64::MAX {
@@ -58,17 +58,15 @@ fn fold_shown<S: Alter, F: RowFold>(
 
 /// Goes over all rows of a table, by its key. After an error some have been taken.
 pub fn fold_table<S: Alter, F: RowFold>(
-    conn: &mut Connection<S>,
+    conn: &mut Idle<S>,
     table: TableName,
     into: &mut F,
 ) -> Result<(), RowFault>
-    ensures taken { ReadsAlone (state S.Store conn.old) (state S.Store conn.new) result
-        (λ db _. HasTaken F.step (Lists (table_called table) (λ _. true) (listing_width table) db) into.old into.new) }
-    ensures mode { conn.old.in_transaction ≡ false → conn.new.in_transaction ≡ false }
-    ensures told { IfErr result (StopsOver F.step F.refusal (state S.Store conn.old) (state S.Store conn.new)
-        (AreFirst (state S.Store conn.old) (state S.Store conn.new) (Lists (table_called table) (λ _. true) (listing_width table))) into.old) }
+    ensures taken { between S.Store conn.old conn.new ReadsAlone result
+        (λ db _. HasTaken F.step (ListsAll table db) into.old into.new) }
+    ensures told { IfErr result (between S.Store conn.old conn.new (StopsListing F.step F.refusal table into.old)) }
 {
-    fold_shown(conn, listing(table), &[], into)
+    fold_shown(&mut conn.connection, listing(table), &[], into)
 }
 
 /// Goes over the transmissions of a sender from a number upwards, up to the first number that is not there, each by its
@@ -80,10 +78,10 @@ pub fn fold_run<S: Alter, F: RowFold>(
     into: &mut F,
 ) -> Result<(), RowFault>
     ensures same_reference { tx.new.conn.ghost_name ≡ tx.old.conn.ghost_name }
-    ensures taken { ReadsInside (state S.Store tx.old.conn.now) (state S.Store tx.new.conn.now) result
+    ensures taken { within S.Store tx.old tx.new ReadsInside result
         (λ db _. HasTaken F.step (IsRun sender.now first db) into.old into.new) }
     ensures told { IfErr result
-        (StopsRun F.step F.refusal (state S.Store tx.old.conn.now) (state S.Store tx.new.conn.now) sender.now first into.old) }
+        (within S.Store tx.old tx.new (StopsRun F.step F.refusal) sender.now first into.old) }
 {
     for number in first..=u32::MAX {
         let rows = transmission_at(tx, sender, number)?;

@@ -1,8 +1,8 @@
 //! What SQL's equality of keys means for the rows that are written here.
 ghost use Rattle.society_rows.specs.KeyLaws.{TextsAreKeys, NumbersAreKeys, NumberedAreKeys, PairsAreKeys};
 
-/// A key in SQL is the key that was written: texts are equal where their bytes are, whole numbers where they are the
-/// same number, and a key of two columns where both are.
+/// Does nothing: it tells a proof that a key in SQL is the key that was written. Texts are equal where their bytes are,
+/// whole numbers where they are the same number, and a key of two columns where both are.
 pub fn keys_are_values()
     ensures texts { TextsAreKeys }
     ensures numbers { NumbersAreKeys }

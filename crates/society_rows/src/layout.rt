@@ -8,11 +8,12 @@ ghost use Rattle.society_rows.specs.Faults.{IsFailure};
 ghost use Rattle.society_rows.specs.NewBook.{IsBare, IsEmptyBook, IsNewBook, Begins};
 ghost use Rattle.society_rows.specs.Rows.{office_values};
 ghost use Rattle.society_rows.specs.Texts.{all_texts};
+ghost use Rattle.society_rows.specs.Between.{between, within};
 
 use crate::office::add_office;
 use crate::statement::run;
-use crate::{OfficeRow, RowFault};
-use sqlite::{Alter, Connection, Transaction};
+use crate::{Idle, OfficeRow, RowFault};
+use sqlite::{Alter, Transaction};
 
 /// The tables of layout 2, each after those that it refers to.
 const TABLES: [&str; 12] = [
@@ -30,13 +31,13 @@ const TABLES: [&str; 12] = [
     "CREATE TABLE balances (account TEXT NOT NULL PRIMARY KEY, units INTEGER NOT NULL) STRICT",
 ];
 
-/// Makes the tables of the texts, those of layout 2, in a database that has none.
+// Makes the tables of the texts, those of layout 2, in a database that has none.
 fn make_tables<S: Alter>(tx: &mut Transaction<'_, S>, texts: &[&str]) -> Result<(), RowFault>
     requires { map (λ (t : Bor (List ℕ)). t.now) texts.now ≡ all_texts }
     ensures same_reference { tx.new.conn.ghost_name ≡ tx.old.conn.ghost_name }
-    ensures made { WritesOver IsBare (state S.Store tx.old.conn.now) (state S.Store tx.new.conn.now) result
+    ensures made { within S.Store tx.old tx.new (WritesOver IsBare) result
         (λ _. IsEmptyBook) }
-    ensures told { OnlyFailsInside IsBare (state S.Store tx.old.conn.now) (state S.Store tx.new.conn.now) result }
+    ensures told { within S.Store tx.old tx.new (OnlyFailsInside IsBare) result }
 {
     for text in texts {
         run(tx, text, &[])?;
@@ -47,19 +48,19 @@ fn make_tables<S: Alter>(tx: &mut Transaction<'_, S>, texts: &[&str]) -> Result<
 /// Makes the tables of layout 2 in a database that has none.
 pub(crate) fn lay_out<S: Alter>(tx: &mut Transaction<'_, S>) -> Result<(), RowFault>
     ensures same_reference { tx.new.conn.ghost_name ≡ tx.old.conn.ghost_name }
-    ensures made { WritesOver IsBare (state S.Store tx.old.conn.now) (state S.Store tx.new.conn.now) result
+    ensures made { within S.Store tx.old tx.new (WritesOver IsBare) result
         (λ _. IsEmptyBook) }
-    ensures told { OnlyFailsInside IsBare (state S.Store tx.old.conn.now) (state S.Store tx.new.conn.now) result }
+    ensures told { within S.Store tx.old tx.new (OnlyFailsInside IsBare) result }
 {
     make_tables(tx, &TABLES)
 }
 
-/// Makes the tables and writes the row of the office.
+// Makes the tables and writes the row of the office.
 fn begin_book<S: Alter>(tx: &mut Transaction<'_, S>, office: &OfficeRow<'_>) -> Result<(), RowFault>
     ensures same_reference { tx.new.conn.ghost_name ≡ tx.old.conn.ghost_name }
-    ensures begun { WritesOver IsBare (state S.Store tx.old.conn.now) (state S.Store tx.new.conn.now) result
+    ensures begun { within S.Store tx.old tx.new (WritesOver IsBare) result
         (λ _. Begins (office_values office.now)) }
-    ensures told { OnlyFailsInside IsBare (state S.Store tx.old.conn.now) (state S.Store tx.new.conn.now) result }
+    ensures told { within S.Store tx.old tx.new (OnlyFailsInside IsBare) result }
 {
     lay_out(tx)?;
     add_office(tx, office)
@@ -67,20 +68,14 @@ fn begin_book<S: Alter>(tx: &mut Transaction<'_, S>, office: &OfficeRow<'_>) -> 
 
 /// Makes the tables of layout 2 in a database that has none, and writes the row of the office, in one transaction;
 /// `layout_found` says whether it has any. After an error, and after a crash, the database is as it was or the whole new book.
-pub fn create<S: Alter>(conn: &mut Connection<S>, office: &OfficeRow<'_>) -> Result<(), RowFault>
-    requires idle { conn.old.in_transaction ≡ false }
+pub fn create<S: Alter>(conn: &mut Idle<S>, office: &OfficeRow<'_>) -> Result<(), RowFault>
     requires bare { IsBare (state S.Store conn.old).now }
-    ensures created { HasCleanDisk (state S.Store conn.new)
-        → OnOk result (Begins (office_values office.now) (state S.Store conn.new).now
-        × ((state S.Store conn.new).now ≡ (state S.Store conn.new).committed)) }
-    ensures neither { HasCleanDisk (state S.Store conn.new) → IsTrue (state S.Store conn.new).is_open
-        → OnErr result (((state S.Store conn.new).now ≡ (state S.Store conn.old).committed)
-        × ((state S.Store conn.new).committed ≡ (state S.Store conn.old).committed)) }
-    ensures ended { conn.new.in_transaction ≡ false }
-    ensures crash { Survives (state S.Store conn.old) (state S.Store conn.new) (IsNewBook (office_values office.now)) }
+    ensures created { between S.Store conn.old conn.new (λ old new. HasCleanDisk new → OnOk result (Begins (office_values office.now) new.now × (new.now ≡ new.committed))) }
+    ensures neither { between S.Store conn.old conn.new (λ old new. HasCleanDisk new → IsTrue new.is_open → OnErr result ((new.now ≡ old.committed) × (new.committed ≡ old.committed))) }
+    ensures crash { between S.Store conn.old conn.new Survives (IsNewBook (office_values office.now)) }
     ensures told { HasCleanDisk (state S.Store conn.new) → IfErr result IsFailure }
 {
-    let mut tx = conn.transaction();
+    let mut tx = conn.connection.transaction();
     begin_book(&mut tx, office)?;
     tx.commit()?;
     Ok(())

@@ -1,20 +1,20 @@
 //! The rowids of the rows.
 ghost use Rattle.std.specs.Prelude.{◌≡◌, ◌↔◌, IsTrue};
 ghost use Rattle.std.specs.List.{list_all};
-ghost use Rattle.sqlite.specs.Held.{state};
 ghost use Rattle.sqlite_value.specs.Order.{column};
 ghost use Rattle.sqlite_trees.specs.View.{is_int};
 ghost use Rattle.society_rows.specs.Effects.{ErrsByMedium, OnlyFails};
 ghost use Rattle.society_rows.specs.Reads.{Reads};
 ghost use Rattle.society_rows.specs.Stored.{AreNumbered};
 ghost use Rattle.society_rows.specs.TableNames.{table_called, rowids_text};
+ghost use Rattle.society_rows.specs.Between.{within};
 
 use crate::statement::select;
 use crate::{RowFault, TableName};
 use sqlite::{Alter, Row, Transaction};
 use sqlite_value::value::ValueRef;
 
-/// The query that shows the rowid of every row of a table.
+// The query that shows the rowid of every row of a table.
 fn rowids(table: TableName) -> &'static str
     ensures { result.now ≡ rowids_text table }
 {
@@ -34,14 +34,14 @@ fn rowids(table: TableName) -> &'static str
     }
 }
 
-/// Whether the first value of a row is a whole number.
+// Whether the first value of a row is a whole number.
 fn begins_whole(row: &Row) -> bool
     ensures { result ≡ is_int (column row.now 0) }
 {
     matches!(row.get_ref(0), Ok(ValueRef::Int(_)))
 }
 
-/// Whether the first value of each row is a whole number.
+// Whether the first value of each row is a whole number.
 fn begin_whole(rows: &[Row]) -> bool
     ensures { result ≡ list_all (λ r. is_int (column r 0)) rows.now }
 {
@@ -54,10 +54,10 @@ pub fn are_numbered<S: Alter>(
     table: TableName,
 ) -> Result<bool, RowFault>
     ensures same_reference { tx.new.conn.ghost_name ≡ tx.old.conn.ghost_name }
-    ensures read { Reads (state S.Store tx.old.conn.now) (state S.Store tx.new.conn.now) result
+    ensures read { within S.Store tx.old tx.new Reads result
         (λ db yes. IsTrue yes ↔ AreNumbered (table_called table) db) }
-    ensures told { OnlyFails (state S.Store tx.old.conn.now) (state S.Store tx.new.conn.now) result }
-    ensures medium { ErrsByMedium (state S.Store tx.old.conn.now) (state S.Store tx.new.conn.now) result }
+    ensures told { within S.Store tx.old tx.new OnlyFails result }
+    ensures medium { within S.Store tx.old tx.new ErrsByMedium result }
 {
     let rows = select(tx, rowids(table), &[])?;
     Ok(begin_whole(&rows))

@@ -1,6 +1,5 @@
 //! The table of the office, which has one row.
 ghost use Rattle.std.specs.Prelude.{◌≡◌, [], ◌∷◌, true, IfOk, IfErr};
-ghost use Rattle.sqlite.specs.Held.{state};
 ghost use Rattle.society_rows.specs.declared.fault.RowFault.TheVariants.{Unread};
 ghost use Rattle.society_rows.specs.Effects.{Writes, OnlyFails};
 ghost use Rattle.society_rows.specs.Forms.{IsRead, office_forms};
@@ -8,6 +7,7 @@ ghost use Rattle.society_rows.specs.Layout.{office};
 ghost use Rattle.society_rows.specs.Reads.{Lists, Reads};
 ghost use Rattle.society_rows.specs.Rows.{office_values};
 ghost use Rattle.society_rows.specs.Stored.{Adds};
+ghost use Rattle.society_rows.specs.Between.{within};
 
 use crate::reading::{text, whole};
 use crate::statement::{run, select};
@@ -56,9 +56,9 @@ pub(crate) fn add_office<S: Alter>(
     row: &OfficeRow<'_>,
 ) -> Result<(), RowFault>
     ensures same_reference { tx.new.conn.ghost_name ≡ tx.old.conn.ghost_name }
-    ensures written { Writes (state S.Store tx.old.conn.now) (state S.Store tx.new.conn.now) result
+    ensures written { within S.Store tx.old tx.new Writes result
         (Adds office (office_values row.now ∷ [])) }
-    ensures told { OnlyFails (state S.Store tx.old.conn.now) (state S.Store tx.new.conn.now) result }
+    ensures told { within S.Store tx.old tx.new OnlyFails result }
 {
     run(
         tx,
@@ -74,9 +74,9 @@ pub(crate) fn add_office<S: Alter>(
 /// The rows of the office: one, unless the table is empty.
 pub fn all_offices<S: Alter>(tx: &mut Transaction<'_, S>) -> Result<Vec<Row>, RowFault>
     ensures same_reference { tx.new.conn.ghost_name ≡ tx.old.conn.ghost_name }
-    ensures read { Reads (state S.Store tx.old.conn.now) (state S.Store tx.new.conn.now) result
+    ensures read { within S.Store tx.old tx.new Reads result
         (λ db rows. Lists office (λ _. true) 1 db rows.items) }
-    ensures told { OnlyFails (state S.Store tx.old.conn.now) (state S.Store tx.new.conn.now) result }
+    ensures told { within S.Store tx.old tx.new OnlyFails result }
 {
     all_rows(tx, TableName::Office)
 }

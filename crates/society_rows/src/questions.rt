@@ -1,16 +1,16 @@
-//! Questions that are asked on a connection, outside a transaction.
-ghost use Rattle.std.specs.Prelude.{◌≡◌, false};
-ghost use Rattle.sqlite.specs.Held.{state};
+//! Questions that are asked on a connection at rest.
+ghost use Rattle.std.specs.Prelude.{◌≡◌};
 ghost use Rattle.society_rows.specs.Effects.{OnlyFails};
-ghost use Rattle.society_rows.specs.Questions.{Answers, Asks};
+ghost use Rattle.society_rows.specs.Questions.{RowsAnswer, Asks};
 ghost use Rattle.society_rows.specs.Reads.{Reads};
+ghost use Rattle.society_rows.specs.Between.{between, within};
 
 use crate::{
-    RowFault, all_offices, balance_at, credits_of, cuts_of, front_at, last_version_of,
+    Idle, RowFault, all_offices, balance_at, credits_of, cuts_of, front_at, last_version_of,
     numbers_above, pool_at, pool_return_at, return_at, return_known, returns_of_pool,
     transmission_at, verdicts_of, versions_of,
 };
-use sqlite::{Alter, Connection, Row, Transaction};
+use sqlite::{Alter, Row, Transaction};
 
 /// What is asked of the tables, by a key.
 #[derive(Clone, Copy, Debug)]
@@ -53,9 +53,9 @@ pub fn answer<S: Alter>(
     question: Question<'_>,
 ) -> Result<Vec<Row>, RowFault>
     ensures same_reference { tx.new.conn.ghost_name ≡ tx.old.conn.ghost_name }
-    ensures read { Reads (state S.Store tx.old.conn.now) (state S.Store tx.new.conn.now) result
-        (λ db rows. Answers question.entry db rows.items) }
-    ensures told { OnlyFails (state S.Store tx.old.conn.now) (state S.Store tx.new.conn.now) result }
+    ensures read { within S.Store tx.old tx.new Reads result
+        (λ db rows. RowsAnswer question.entry db rows.items) }
+    ensures told { within S.Store tx.old tx.new OnlyFails result }
 {
     match question {
         Question::Office => all_offices(tx),
@@ -78,14 +78,13 @@ pub fn answer<S: Alter>(
 
 /// The rows that answer a question. It is asked within a transaction that is rolled back, so nothing is committed
 /// whatever the schema is.
-pub fn ask<S: Alter>(conn: &mut Connection<S>, question: Question<'_>) -> Result<Vec<Row>, RowFault>
-    requires { conn.old.in_transaction ≡ false }
-    ensures asked { Asks (state S.Store conn.old) (state S.Store conn.new) result
-        (λ db rows. Answers question.entry db rows.items) }
-    ensures idle { conn.new.in_transaction ≡ false }
-    ensures told { OnlyFails (state S.Store conn.old) (state S.Store conn.new) result }
+pub fn ask<S: Alter>(conn: &mut Idle<S>, question: Question<'_>) -> Result<Vec<Row>, RowFault>
+    ensures asked { between S.Store conn.old conn.new Asks result
+        (λ db rows. RowsAnswer question.entry db rows.items) }
+    ensures told { between S.Store conn.old conn.new OnlyFails result }
 {
-    let mut tx = conn.transaction();
+    conn.see_last_commit();
+    let mut tx = conn.connection.transaction();
     let rows = answer(&mut tx, question);
     tx.rollback();
     rows

@@ -1,14 +1,14 @@
 //! The table of recordings of versions.
 ghost use Rattle.std.specs.Prelude.{◌≡◌, map, take, [], ◌∷◌, IfOk, IfErr, length, ◌≤◌, ◌⊎◌, IsTrue, OnErr};
 ghost use Rattle.sqlite_value.specs.declared.value.Value.TheVariants.{Text};
-ghost use Rattle.sqlite.specs.Held.{state};
 ghost use Rattle.sqlite.specs.State.{HasCleanDisk, IsUnchanged, IsRolledBack};
 ghost use Rattle.society_rows.specs.declared.fault.RowFault.TheVariants.{Unread};
-ghost use Rattle.society_rows.specs.Effects.{Writes, IsWhole, LeavesFirst, OnlyFails, OnlyFailsInside};
+ghost use Rattle.society_rows.specs.Effects.{Writes, IsAllOrNothing, LeavesFirst, OnlyFails, OnlyFailsInside, FailsWhole};
 ghost use Rattle.society_rows.specs.Forms.{IsRead, recording_forms};
 ghost use Rattle.society_rows.specs.Layout.{recordings};
 ghost use Rattle.society_rows.specs.Rows.{recording_values};
 ghost use Rattle.society_rows.specs.Stored.{HasLayout, Adds};
+ghost use Rattle.society_rows.specs.Between.{within};
 
 use crate::RowFault;
 use crate::reading::{integer, text};
@@ -51,10 +51,10 @@ pub fn add_recording<S: Alter>(
     row: &RecordingRow<'_>,
 ) -> Result<(), RowFault>
     ensures same_reference { tx.new.conn.ghost_name ≡ tx.old.conn.ghost_name }
-    ensures written { Writes (state S.Store tx.old.conn.now) (state S.Store tx.new.conn.now) result
+    ensures written { within S.Store tx.old tx.new Writes result
         (Adds recordings (recording_values row.now ∷ [])) }
-    ensures whole { IsWhole (state S.Store tx.old.conn.now) (state S.Store tx.new.conn.now) result }
-    ensures told { OnlyFails (state S.Store tx.old.conn.now) (state S.Store tx.new.conn.now) result }
+    ensures whole { within S.Store tx.old tx.new IsAllOrNothing result }
+    ensures told { within S.Store tx.old tx.new OnlyFails result }
 {
     run(
         tx,
@@ -68,17 +68,17 @@ pub fn add_recording<S: Alter>(
     )
 }
 
-/// Adds two recordings of versions by one statement: both, or neither.
+// Adds two recordings of versions by one statement: both, or neither.
 fn add_pair<S: Alter>(
     tx: &mut Transaction<'_, S>,
     one: &RecordingRow<'_>,
     two: &RecordingRow<'_>,
 ) -> Result<(), RowFault>
     ensures same_reference { tx.new.conn.ghost_name ≡ tx.old.conn.ghost_name }
-    ensures written { Writes (state S.Store tx.old.conn.now) (state S.Store tx.new.conn.now) result
+    ensures written { within S.Store tx.old tx.new Writes result
         (Adds recordings (recording_values one.now ∷ recording_values two.now ∷ [])) }
-    ensures whole { IsWhole (state S.Store tx.old.conn.now) (state S.Store tx.new.conn.now) result }
-    ensures told { OnlyFails (state S.Store tx.old.conn.now) (state S.Store tx.new.conn.now) result }
+    ensures whole { within S.Store tx.old tx.new IsAllOrNothing result }
+    ensures told { within S.Store tx.old tx.new OnlyFails result }
 {
     run(
         tx,
@@ -96,19 +96,17 @@ fn add_pair<S: Alter>(
     )
 }
 
-/// Adds up to two recordings of versions, all or none.
+// Adds up to two recordings of versions, all or none.
 fn add_part<S: Alter>(
     tx: &mut Transaction<'_, S>,
     part: &[RecordingRow<'_>],
 ) -> Result<(), RowFault>
     requires { length part.now ≤ 2 }
     ensures same_reference { tx.new.conn.ghost_name ≡ tx.old.conn.ghost_name }
-    ensures written { Writes (state S.Store tx.old.conn.now) (state S.Store tx.new.conn.now) result
+    ensures written { within S.Store tx.old tx.new Writes result
         (Adds recordings (map recording_values part.now)) }
-    ensures whole { HasCleanDisk (state S.Store tx.new.conn.now) → IsTrue (state S.Store tx.old.conn.now).in_transaction
-        → OnErr result (IsUnchanged (state S.Store tx.old.conn.now) (state S.Store tx.new.conn.now)
-        ⊎ IsRolledBack (state S.Store tx.old.conn.now) (state S.Store tx.new.conn.now)) }
-    ensures told { OnlyFails (state S.Store tx.old.conn.now) (state S.Store tx.new.conn.now) result }
+    ensures whole { within S.Store tx.old tx.new FailsWhole result }
+    ensures told { within S.Store tx.old tx.new OnlyFails result }
 {
     match part {
         [] => Ok(()),
@@ -123,11 +121,11 @@ pub fn add_recordings<S: Alter>(
     rows: &[RecordingRow<'_>],
 ) -> Result<(), RowFault>
     ensures same_reference { tx.new.conn.ghost_name ≡ tx.old.conn.ghost_name }
-    ensures written { Writes (state S.Store tx.old.conn.now) (state S.Store tx.new.conn.now) result
+    ensures written { within S.Store tx.old tx.new Writes result
         (Adds recordings (map recording_values rows.now)) }
-    ensures left { LeavesFirst (state S.Store tx.old.conn.now) (state S.Store tx.new.conn.now) result
+    ensures left { within S.Store tx.old tx.new LeavesFirst result
         (λ count. Adds recordings (map recording_values (take count rows.now))) }
-    ensures told { OnlyFailsInside HasLayout (state S.Store tx.old.conn.now) (state S.Store tx.new.conn.now) result }
+    ensures told { within S.Store tx.old tx.new (OnlyFailsInside HasLayout) result }
 {
     // Two rows a statement have nearly all that many would gain, for one more text that is kept compiled.
     for part in rows.chunks(2) {

@@ -1,14 +1,14 @@
 //! The table of performance returns.
 ghost use Rattle.std.specs.Prelude.{◌≡◌, map, take, [], ◌∷◌, pos, IfOk, IfErr};
 ghost use Rattle.sqlite_value.specs.declared.value.Value.TheVariants.{Int, Text};
-ghost use Rattle.sqlite.specs.Held.{state};
 ghost use Rattle.society_rows.specs.declared.fault.RowFault.TheVariants.{Unread};
-ghost use Rattle.society_rows.specs.Effects.{Writes, IsWhole, LeavesFirst, OnlyFails, OnlyFailsInside};
+ghost use Rattle.society_rows.specs.Effects.{Writes, IsAllOrNothing, LeavesFirst, OnlyFails, OnlyFailsInside};
 ghost use Rattle.society_rows.specs.Forms.{IsRead, return_forms};
 ghost use Rattle.society_rows.specs.Layout.{returns};
 ghost use Rattle.society_rows.specs.Reads.{Lists, ListsKeys, Reads, has_key};
 ghost use Rattle.society_rows.specs.Rows.{return_values};
 ghost use Rattle.society_rows.specs.Stored.{HasLayout, Adds};
+ghost use Rattle.society_rows.specs.Between.{within};
 
 use crate::RowFault;
 use crate::reading::{bytes, text, whole};
@@ -49,10 +49,10 @@ pub fn add_return<S: Alter>(
     row: &ReturnRow<'_>,
 ) -> Result<(), RowFault>
     ensures same_reference { tx.new.conn.ghost_name ≡ tx.old.conn.ghost_name }
-    ensures written { Writes (state S.Store tx.old.conn.now) (state S.Store tx.new.conn.now) result
+    ensures written { within S.Store tx.old tx.new Writes result
         (Adds returns (return_values row.now ∷ [])) }
-    ensures whole { IsWhole (state S.Store tx.old.conn.now) (state S.Store tx.new.conn.now) result }
-    ensures told { OnlyFails (state S.Store tx.old.conn.now) (state S.Store tx.new.conn.now) result }
+    ensures whole { within S.Store tx.old tx.new IsAllOrNothing result }
+    ensures told { within S.Store tx.old tx.new OnlyFails result }
 {
     run(
         tx,
@@ -71,11 +71,11 @@ pub fn add_returns<S: Alter>(
     rows: &[ReturnRow<'_>],
 ) -> Result<(), RowFault>
     ensures same_reference { tx.new.conn.ghost_name ≡ tx.old.conn.ghost_name }
-    ensures written { Writes (state S.Store tx.old.conn.now) (state S.Store tx.new.conn.now) result
+    ensures written { within S.Store tx.old tx.new Writes result
         (Adds returns (map return_values rows.now)) }
-    ensures left { LeavesFirst (state S.Store tx.old.conn.now) (state S.Store tx.new.conn.now) result
+    ensures left { within S.Store tx.old tx.new LeavesFirst result
         (λ count. Adds returns (map return_values (take count rows.now))) }
-    ensures told { OnlyFailsInside HasLayout (state S.Store tx.old.conn.now) (state S.Store tx.new.conn.now) result }
+    ensures told { within S.Store tx.old tx.new (OnlyFailsInside HasLayout) result }
 {
     for row in rows {
         add_return(tx, row)?;
@@ -90,9 +90,9 @@ pub fn return_at<S: Alter>(
     number: u32,
 ) -> Result<Vec<Row>, RowFault>
     ensures same_reference { tx.new.conn.ghost_name ≡ tx.old.conn.ghost_name }
-    ensures read { Reads (state S.Store tx.old.conn.now) (state S.Store tx.new.conn.now) result
+    ensures read { within S.Store tx.old tx.new Reads result
         (λ db rows. Lists returns (has_key (Text reporter.now ∷ Int (pos number) ∷ [])) 2 db rows.items) }
-    ensures told { OnlyFails (state S.Store tx.old.conn.now) (state S.Store tx.new.conn.now) result }
+    ensures told { within S.Store tx.old tx.new OnlyFails result }
 {
     select(
         tx,
@@ -108,9 +108,9 @@ pub fn return_known<S: Alter>(
     number: u32,
 ) -> Result<Vec<Row>, RowFault>
     ensures same_reference { tx.new.conn.ghost_name ≡ tx.old.conn.ghost_name }
-    ensures read { Reads (state S.Store tx.old.conn.now) (state S.Store tx.new.conn.now) result
+    ensures read { within S.Store tx.old tx.new Reads result
         (λ db rows. ListsKeys returns (has_key (Text reporter.now ∷ Int (pos number) ∷ [])) 2 db rows.items) }
-    ensures told { OnlyFails (state S.Store tx.old.conn.now) (state S.Store tx.new.conn.now) result }
+    ensures told { within S.Store tx.old tx.new OnlyFails result }
 {
     select(
         tx,

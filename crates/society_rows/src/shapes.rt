@@ -5,9 +5,9 @@ ghost use Rattle.sqlite_value.specs.Keys.{plain};
 ghost use Rattle.sqlite_value.specs.declared.value.Value.TheVariants.{Null, Int};
 ghost use Rattle.sqlite_schema.specs.declared.schema.Kind.{Kind};
 ghost use Rattle.sqlite_schema.specs.Code.{term_in};
-ghost use Rattle.society_rows.specs.Layout.{column_of, refers, keyed_table, numbered_table};
+ghost use Rattle.society_rows.specs.Layout.{column_of, keyed_table, numbered_table};
+ghost use Rattle.society_rows.specs.Shapes.{columns_named, refers_to};
 ghost use Rattle.society_rows.specs.Finding.{is_one, is_same};
-ghost use Rattle.society_rows.specs.declared.shapes.Parent.{Parent};
 
 use sqlite_items::Items;
 use sqlite_schema::code::{Op, Terms};
@@ -24,7 +24,7 @@ pub(crate) struct Parent<'a> {
     pub(crate) parent_columns: &'a [&'a str],
 }
 
-/// Whether a column has this name, holds this kind of value and no NULL, and has no default.
+// Whether a column has this name, holds this kind of value and no NULL, and has no default.
 fn is_column(column: &Column, name: &str, kind: Kind) -> bool
     ensures { IsTrue result ↔ (column.now ≡ column_of kind name.now) }
 {
@@ -36,9 +36,9 @@ fn is_column(column: &Column, name: &str, kind: Kind) -> bool
         && column.collation == Collation::Binary
 }
 
-/// Whether columns have these names and kinds, in their order.
+// Whether columns have these names and kinds, in their order.
 fn are_columns(columns: &[Column], forms: &[(&str, Kind)]) -> bool
-    ensures { IsTrue result ↔ (columns.now ≡ map (λ (f : Bor (List ℕ) × Kind). column_of f.1 f.0.now) forms.now) }
+    ensures { IsTrue result ↔ (columns.now ≡ columns_named forms.now) }
 {
     if columns.len() != forms.len() {
         return false;
@@ -51,14 +51,14 @@ fn are_columns(columns: &[Column], forms: &[(&str, Kind)]) -> bool
     true
 }
 
-/// Whether a name is this one.
+// Whether a name is this one.
 fn is_name(name: &Bytes, form: &str) -> bool
     ensures { IsTrue result ↔ (name.now ≡ form.now) }
 {
     name.as_slice() == form.as_bytes()
 }
 
-/// Whether names are these, in their order.
+// Whether names are these, in their order.
 fn are_names(names: &[Bytes], forms: &[&str]) -> bool
     ensures { IsTrue result ↔ (names.now ≡ map (λ (f : Bor (List ℕ)). f.now) forms.now) }
 {
@@ -73,9 +73,9 @@ fn are_names(names: &[Bytes], forms: &[&str]) -> bool
     true
 }
 
-/// Whether a reference is from these columns to those of this parent, and does nothing where the parent changes.
+// Whether a reference is from these columns to those of this parent, and does nothing where the parent changes.
 fn is_reference(reference: &Reference, form: &Parent<'_>) -> bool
-    ensures { IsTrue result ↔ (reference.now ≡ refers form.now.columns.now form.now.parent.now (map (λ (f : Bor (List ℕ)). f.now) form.now.parent_columns.now)) }
+    ensures { IsTrue result ↔ (reference.now ≡ refers_to form.now) }
 {
     reference.columns.as_slice() == form.columns
         && reference.parent.as_slice() == form.parent.as_bytes()
@@ -85,9 +85,9 @@ fn is_reference(reference: &Reference, form: &Parent<'_>) -> bool
         && !reference.is_deferred
 }
 
-/// Whether references are these, in their order.
+// Whether references are these, in their order.
 fn are_references(references: &[Reference], forms: &[Parent<'_>]) -> bool
-    ensures { IsTrue result ↔ (references.now ≡ map (λ (p : Parent). refers p.columns.now p.parent.now (map (λ (f : Bor (List ℕ)). f.now) p.parent_columns.now)) forms.now) }
+    ensures { IsTrue result ↔ (references.now ≡ map refers_to forms.now) }
 {
     if references.len() != forms.len() {
         return false;
@@ -100,14 +100,14 @@ fn are_references(references: &[Reference], forms: &[Parent<'_>]) -> bool
     true
 }
 
-/// Whether places are these, in their order.
+// Whether places are these, in their order.
 fn are_places(places: &Items<usize>, forms: &[usize]) -> bool
     ensures { IsTrue result ↔ (places.now ≡ forms.now) }
 {
     places.as_slice() == forms
 }
 
-/// Whether there is this one key.
+// Whether there is this one key.
 fn is_only_key(keys: &[Items<usize>], key: &[usize]) -> bool
     ensures { IsTrue result ↔ (keys.now ≡ key.now ∷ []) }
 {
@@ -117,7 +117,7 @@ fn is_only_key(keys: &[Items<usize>], key: &[usize]) -> bool
     }
 }
 
-/// Whether there is one order, that of the bytes.
+// Whether there is one order, that of the bytes.
 fn is_only_plain(orders: &[Order]) -> bool
     ensures { IsTrue result ↔ (orders.now ≡ plain ∷ []) }
 {
@@ -127,21 +127,21 @@ fn is_only_plain(orders: &[Order]) -> bool
     }
 }
 
-/// Whether there is no expression.
+// Whether there is no expression.
 fn is_no_term(terms: &Terms) -> bool
     ensures { IsTrue result ↔ (terms.now ≡ []) }
 {
     terms.roots.is_empty()
 }
 
-/// Whether no default reads the time.
+// Whether no default reads the time.
 fn is_unstamped(stamps: &Stamps) -> bool
     ensures { IsTrue result ↔ (stamps.now ≡ record { places = []; terms = []; formats = [] }) }
 {
     stamps.places.is_empty() && is_no_term(&stamps.terms) && stamps.formats.is_empty()
 }
 
-/// The places of what the node at a place compares, if it asks whether two values are the same.
+// The places of what the node at a place compares, if it asks whether two values are the same.
 fn compared(ops: &[Op], at: usize) -> Option<(usize, usize)>
     ensures { MatchOption result ((a : ℕ) → (b : ℕ) → slice_index_or ops.now at (Op.Literal Null) ≢ Op.Binary is_same a b)
         (λ p. slice_index_or ops.now at (Op.Literal Null) ≡ Op.Binary is_same p.0 p.1) }
@@ -158,7 +158,7 @@ fn compared(ops: &[Op], at: usize) -> Option<(usize, usize)>
     }
 }
 
-/// Whether the node at a place is the first column of a row.
+// Whether the node at a place is the first column of a row.
 fn is_first(ops: &[Op], at: usize) -> bool
     ensures { IsTrue result ↔ (slice_index_or ops.now at (Op.Literal Null) ≡ Op.Column 1 0) }
 {
@@ -168,7 +168,7 @@ fn is_first(ops: &[Op], at: usize) -> bool
     }
 }
 
-/// Whether the node at a place is the number 1.
+// Whether the node at a place is the number 1.
 fn is_number(ops: &[Op], at: usize) -> bool
     ensures { IsTrue result ↔ (slice_index_or ops.now at (Op.Literal Null) ≡ Op.Literal (Int (pos 1))) }
 {
@@ -178,7 +178,7 @@ fn is_number(ops: &[Op], at: usize) -> bool
     }
 }
 
-/// Whether the expression at a root says that the first column is 1.
+// Whether the expression at a root says that the first column is 1.
 fn says_one(ops: &[Op], root: usize) -> bool
     ensures { IsTrue result ↔ (term_in ops.now root ≡ is_one) }
 {
@@ -192,7 +192,7 @@ fn says_one(ops: &[Op], root: usize) -> bool
     }
 }
 
-/// Whether the one expression says that the first column is 1.
+// Whether the one expression says that the first column is 1.
 fn is_only_one(terms: &Terms) -> bool
     ensures { IsTrue result ↔ (terms.now ≡ is_one ∷ []) }
 {
@@ -211,8 +211,7 @@ pub(crate) fn is_keyed(
     key: &[usize],
     parents: &[Parent<'_>],
 ) -> bool
-    ensures { IsTrue result ↔ (table.now ≡ keyed_table name.now tree (map (λ (f : Bor (List ℕ) × Kind). column_of f.1 f.0.now) columns.now) key.now
-        (map (λ (p : Parent). refers p.columns.now p.parent.now (map (λ (f : Bor (List ℕ)). f.now) p.parent_columns.now)) parents.now)) }
+    ensures { IsTrue result ↔ (table.now ≡ keyed_table name.now tree (columns_named columns.now) key.now (map refers_to parents.now)) }
 {
     table.name.as_slice() == name.as_bytes()
         && table.tree == tree
@@ -236,7 +235,7 @@ pub(crate) fn is_numbered(
     columns: &[(&str, Kind)],
     one: bool,
 ) -> bool
-    ensures { IsTrue result ↔ (table.now ≡ numbered_table name.now tree (map (λ (f : Bor (List ℕ) × Kind). column_of f.1 f.0.now) columns.now) (if one then is_one ∷ [] else [])) }
+    ensures { IsTrue result ↔ (table.now ≡ numbered_table name.now tree (columns_named columns.now) (if one then is_one ∷ [] else [])) }
 {
     let checked = if one {
         is_only_one(&table.checks)

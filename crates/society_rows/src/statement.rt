@@ -6,6 +6,7 @@ ghost use Rattle.sqlite.specs.Values.{bound};
 ghost use Rattle.society_rows.specs.Effects.{RanAs};
 ghost use Rattle.society_rows.specs.Faults.{IsFailure};
 ghost use Rattle.society_rows.specs.Reads.{Selected};
+ghost use Rattle.society_rows.specs.Between.{within};
 
 use crate::RowFault;
 use sqlite::{Alter, Row, Transaction};
@@ -18,9 +19,8 @@ pub(crate) fn run<S: Alter>(
     params: &[ValueRef<'_>],
 ) -> Result<(), RowFault>
     ensures same_reference { tx.new.conn.ghost_name ≡ tx.old.conn.ghost_name }
-    ensures ran { HasCleanDisk (state S.Store tx.new.conn.now) → IsTrue (state S.Store tx.old.conn.now).in_transaction
-        → RanAs sql.now (bound params.now) (state S.Store tx.old.conn.now) (state S.Store tx.new.conn.now) result }
-    ensures survives { Survives (state S.Store tx.old.conn.now) (state S.Store tx.new.conn.now) (λ _. ⊥) }
+    ensures ran { within S.Store tx.old tx.new (λ old new. HasCleanDisk new → IsTrue old.in_transaction → RanAs sql.now (bound params.now) old new result) }
+    ensures survives { within S.Store tx.old tx.new Survives (λ _. ⊥) }
     ensures ended { (state S.Store tx.old.conn.now).in_transaction ≡ false → IfErr result IsFailure }
     ensures within { OnOk result (IsTrue (state S.Store tx.old.conn.now).in_transaction) }
 {
@@ -35,9 +35,8 @@ pub(crate) fn select<S: Alter>(
     params: &[ValueRef<'_>],
 ) -> Result<Vec<Row>, RowFault>
     ensures same_reference { tx.new.conn.ghost_name ≡ tx.old.conn.ghost_name }
-    ensures selected { HasCleanDisk (state S.Store tx.new.conn.now) → Selected sql.now (bound params.now) (state S.Store tx.old.conn.now)
-        (state S.Store tx.new.conn.now) result }
-    ensures survives { Survives (state S.Store tx.old.conn.now) (state S.Store tx.new.conn.now) (λ _. ⊥) }
+    ensures selected { within S.Store tx.old tx.new (λ old new. HasCleanDisk new → Selected sql.now (bound params.now) old new result) }
+    ensures survives { within S.Store tx.old tx.new Survives (λ _. ⊥) }
 {
     Ok(tx.query_all(sql, params)?)
 }

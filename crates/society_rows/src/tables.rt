@@ -1,9 +1,10 @@
 //! The tables by name, and the query that shows all rows of each.
 ghost use Rattle.std.specs.Prelude.{◌≡◌, true};
-ghost use Rattle.sqlite.specs.Held.{state};
 ghost use Rattle.society_rows.specs.Effects.{ErrsByMedium, OnlyFails};
-ghost use Rattle.society_rows.specs.Reads.{Lists, Reads};
-ghost use Rattle.society_rows.specs.TableNames.{table_called, listing_width, listing_text};
+ghost use Rattle.society_rows.specs.Listings.{ListsAll};
+ghost use Rattle.society_rows.specs.Reads.{Reads};
+ghost use Rattle.society_rows.specs.TableNames.{listing_text};
+ghost use Rattle.society_rows.specs.Between.{within};
 
 use crate::RowFault;
 use crate::statement::select;
@@ -70,10 +71,10 @@ pub fn all_rows<S: Alter>(
     table: TableName,
 ) -> Result<Vec<Row>, RowFault>
     ensures same_reference { tx.new.conn.ghost_name ≡ tx.old.conn.ghost_name }
-    ensures read { Reads (state S.Store tx.old.conn.now) (state S.Store tx.new.conn.now) result
-        (λ db rows. Lists (table_called table) (λ _. true) (listing_width table) db rows.items) }
-    ensures told { OnlyFails (state S.Store tx.old.conn.now) (state S.Store tx.new.conn.now) result }
-    ensures medium { ErrsByMedium (state S.Store tx.old.conn.now) (state S.Store tx.new.conn.now) result }
+    ensures read { within S.Store tx.old tx.new Reads result
+        (λ db rows. ListsAll table db rows.items) }
+    ensures told { within S.Store tx.old tx.new OnlyFails result }
+    ensures medium { within S.Store tx.old tx.new ErrsByMedium result }
 {
     select(tx, listing(table), &[])
 }

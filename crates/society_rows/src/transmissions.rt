@@ -1,14 +1,14 @@
 //! The table of transmissions.
 ghost use Rattle.std.specs.Prelude.{◌≡◌, map, take, [], ◌∷◌, pos, IfOk, IfErr};
 ghost use Rattle.sqlite_value.specs.declared.value.Value.TheVariants.{Int, Text};
-ghost use Rattle.sqlite.specs.Held.{state};
 ghost use Rattle.society_rows.specs.declared.fault.RowFault.TheVariants.{Unread};
-ghost use Rattle.society_rows.specs.Effects.{Writes, IsWhole, LeavesFirst, OnlyFails, OnlyFailsInside};
+ghost use Rattle.society_rows.specs.Effects.{Writes, IsAllOrNothing, LeavesFirst, OnlyFails, OnlyFailsInside};
 ghost use Rattle.society_rows.specs.Forms.{IsRead, transmission_forms, transmission_key_forms};
 ghost use Rattle.society_rows.specs.Layout.{transmissions};
 ghost use Rattle.society_rows.specs.Reads.{Lists, ListsKeys, Reads, has_key, is_above};
 ghost use Rattle.society_rows.specs.Rows.{transmission_values, transmission_key_values};
 ghost use Rattle.society_rows.specs.Stored.{HasLayout, Adds};
+ghost use Rattle.society_rows.specs.Between.{within};
 
 use crate::RowFault;
 use crate::reading::{bytes, text, whole};
@@ -73,10 +73,10 @@ pub fn add_transmission<S: Alter>(
     row: &TransmissionRow<'_>,
 ) -> Result<(), RowFault>
     ensures same_reference { tx.new.conn.ghost_name ≡ tx.old.conn.ghost_name }
-    ensures written { Writes (state S.Store tx.old.conn.now) (state S.Store tx.new.conn.now) result
+    ensures written { within S.Store tx.old tx.new Writes result
         (Adds transmissions (transmission_values row.now ∷ [])) }
-    ensures whole { IsWhole (state S.Store tx.old.conn.now) (state S.Store tx.new.conn.now) result }
-    ensures told { OnlyFails (state S.Store tx.old.conn.now) (state S.Store tx.new.conn.now) result }
+    ensures whole { within S.Store tx.old tx.new IsAllOrNothing result }
+    ensures told { within S.Store tx.old tx.new OnlyFails result }
 {
     run(
         tx,
@@ -95,11 +95,11 @@ pub fn add_transmissions<S: Alter>(
     rows: &[TransmissionRow<'_>],
 ) -> Result<(), RowFault>
     ensures same_reference { tx.new.conn.ghost_name ≡ tx.old.conn.ghost_name }
-    ensures written { Writes (state S.Store tx.old.conn.now) (state S.Store tx.new.conn.now) result
+    ensures written { within S.Store tx.old tx.new Writes result
         (Adds transmissions (map transmission_values rows.now)) }
-    ensures left { LeavesFirst (state S.Store tx.old.conn.now) (state S.Store tx.new.conn.now) result
+    ensures left { within S.Store tx.old tx.new LeavesFirst result
         (λ count. Adds transmissions (map transmission_values (take count rows.now))) }
-    ensures told { OnlyFailsInside HasLayout (state S.Store tx.old.conn.now) (state S.Store tx.new.conn.now) result }
+    ensures told { within S.Store tx.old tx.new (OnlyFailsInside HasLayout) result }
 {
     for row in rows {
         add_transmission(tx, row)?;
@@ -114,9 +114,9 @@ pub fn transmission_at<S: Alter>(
     number: u32,
 ) -> Result<Vec<Row>, RowFault>
     ensures same_reference { tx.new.conn.ghost_name ≡ tx.old.conn.ghost_name }
-    ensures read { Reads (state S.Store tx.old.conn.now) (state S.Store tx.new.conn.now) result
+    ensures read { within S.Store tx.old tx.new Reads result
         (λ db rows. Lists transmissions (has_key (Text sender.now ∷ Int (pos number) ∷ [])) 2 db rows.items) }
-    ensures told { OnlyFails (state S.Store tx.old.conn.now) (state S.Store tx.new.conn.now) result }
+    ensures told { within S.Store tx.old tx.new OnlyFails result }
 {
     select(
         tx,
@@ -132,9 +132,9 @@ pub fn numbers_above<S: Alter>(
     number: u32,
 ) -> Result<Vec<Row>, RowFault>
     ensures same_reference { tx.new.conn.ghost_name ≡ tx.old.conn.ghost_name }
-    ensures read { Reads (state S.Store tx.old.conn.now) (state S.Store tx.new.conn.now) result
+    ensures read { within S.Store tx.old tx.new Reads result
         (λ db rows. ListsKeys transmissions (is_above (Text sender.now) (Int (pos number))) 2 db rows.items) }
-    ensures told { OnlyFails (state S.Store tx.old.conn.now) (state S.Store tx.new.conn.now) result }
+    ensures told { within S.Store tx.old tx.new OnlyFails result }
 {
     select(
         tx,

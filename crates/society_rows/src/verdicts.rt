@@ -1,15 +1,15 @@
 //! The table of verdicts.
 ghost use Rattle.std.specs.Prelude.{◌≡◌, map, take, [], ◌∷◌, pos, IfOk, IfErr, length, ◌≤◌, ◌⊎◌, IsTrue, OnErr};
 ghost use Rattle.sqlite_value.specs.declared.value.Value.TheVariants.{Int, Text};
-ghost use Rattle.sqlite.specs.Held.{state};
 ghost use Rattle.sqlite.specs.State.{HasCleanDisk, IsUnchanged, IsRolledBack};
 ghost use Rattle.society_rows.specs.declared.fault.RowFault.TheVariants.{Unread};
-ghost use Rattle.society_rows.specs.Effects.{Writes, IsWhole, LeavesFirst, OnlyFails, OnlyFailsInside};
+ghost use Rattle.society_rows.specs.Effects.{Writes, IsAllOrNothing, LeavesFirst, OnlyFails, OnlyFailsInside, FailsWhole};
 ghost use Rattle.society_rows.specs.Forms.{IsRead, verdict_forms};
 ghost use Rattle.society_rows.specs.Layout.{verdicts};
 ghost use Rattle.society_rows.specs.Reads.{Lists, Reads, has_key};
 ghost use Rattle.society_rows.specs.Rows.{verdict_values};
 ghost use Rattle.society_rows.specs.Stored.{HasLayout, Adds};
+ghost use Rattle.society_rows.specs.Between.{within};
 
 use crate::RowFault;
 use crate::reading::{integer, text, whole};
@@ -56,10 +56,10 @@ pub fn add_verdict<S: Alter>(
     row: &VerdictRow<'_>,
 ) -> Result<(), RowFault>
     ensures same_reference { tx.new.conn.ghost_name ≡ tx.old.conn.ghost_name }
-    ensures written { Writes (state S.Store tx.old.conn.now) (state S.Store tx.new.conn.now) result
+    ensures written { within S.Store tx.old tx.new Writes result
         (Adds verdicts (verdict_values row.now ∷ [])) }
-    ensures whole { IsWhole (state S.Store tx.old.conn.now) (state S.Store tx.new.conn.now) result }
-    ensures told { OnlyFails (state S.Store tx.old.conn.now) (state S.Store tx.new.conn.now) result }
+    ensures whole { within S.Store tx.old tx.new IsAllOrNothing result }
+    ensures told { within S.Store tx.old tx.new OnlyFails result }
 {
     run(
         tx,
@@ -75,17 +75,17 @@ pub fn add_verdict<S: Alter>(
     )
 }
 
-/// Adds two verdicts by one statement: both, or neither.
+// Adds two verdicts by one statement: both, or neither.
 fn add_pair<S: Alter>(
     tx: &mut Transaction<'_, S>,
     one: &VerdictRow<'_>,
     two: &VerdictRow<'_>,
 ) -> Result<(), RowFault>
     ensures same_reference { tx.new.conn.ghost_name ≡ tx.old.conn.ghost_name }
-    ensures written { Writes (state S.Store tx.old.conn.now) (state S.Store tx.new.conn.now) result
+    ensures written { within S.Store tx.old tx.new Writes result
         (Adds verdicts (verdict_values one.now ∷ verdict_values two.now ∷ [])) }
-    ensures whole { IsWhole (state S.Store tx.old.conn.now) (state S.Store tx.new.conn.now) result }
-    ensures told { OnlyFails (state S.Store tx.old.conn.now) (state S.Store tx.new.conn.now) result }
+    ensures whole { within S.Store tx.old tx.new IsAllOrNothing result }
+    ensures told { within S.Store tx.old tx.new OnlyFails result }
 {
     run(
         tx,
@@ -107,16 +107,14 @@ fn add_pair<S: Alter>(
     )
 }
 
-/// Adds up to two verdicts, all or none.
+// Adds up to two verdicts, all or none.
 fn add_part<S: Alter>(tx: &mut Transaction<'_, S>, part: &[VerdictRow<'_>]) -> Result<(), RowFault>
     requires { length part.now ≤ 2 }
     ensures same_reference { tx.new.conn.ghost_name ≡ tx.old.conn.ghost_name }
-    ensures written { Writes (state S.Store tx.old.conn.now) (state S.Store tx.new.conn.now) result
+    ensures written { within S.Store tx.old tx.new Writes result
         (Adds verdicts (map verdict_values part.now)) }
-    ensures whole { HasCleanDisk (state S.Store tx.new.conn.now) → IsTrue (state S.Store tx.old.conn.now).in_transaction
-        → OnErr result (IsUnchanged (state S.Store tx.old.conn.now) (state S.Store tx.new.conn.now)
-        ⊎ IsRolledBack (state S.Store tx.old.conn.now) (state S.Store tx.new.conn.now)) }
-    ensures told { OnlyFails (state S.Store tx.old.conn.now) (state S.Store tx.new.conn.now) result }
+    ensures whole { within S.Store tx.old tx.new FailsWhole result }
+    ensures told { within S.Store tx.old tx.new OnlyFails result }
 {
     match part {
         [] => Ok(()),
@@ -131,11 +129,11 @@ pub fn add_verdicts<S: Alter>(
     rows: &[VerdictRow<'_>],
 ) -> Result<(), RowFault>
     ensures same_reference { tx.new.conn.ghost_name ≡ tx.old.conn.ghost_name }
-    ensures written { Writes (state S.Store tx.old.conn.now) (state S.Store tx.new.conn.now) result
+    ensures written { within S.Store tx.old tx.new Writes result
         (Adds verdicts (map verdict_values rows.now)) }
-    ensures left { LeavesFirst (state S.Store tx.old.conn.now) (state S.Store tx.new.conn.now) result
+    ensures left { within S.Store tx.old tx.new LeavesFirst result
         (λ count. Adds verdicts (map verdict_values (take count rows.now))) }
-    ensures told { OnlyFailsInside HasLayout (state S.Store tx.old.conn.now) (state S.Store tx.new.conn.now) result }
+    ensures told { within S.Store tx.old tx.new (OnlyFailsInside HasLayout) result }
 {
     // Two rows a statement have nearly all that many would gain, for one more text that is kept compiled.
     for part in rows.chunks(2) {
@@ -151,9 +149,9 @@ pub fn verdicts_of<S: Alter>(
     number: u32,
 ) -> Result<Vec<Row>, RowFault>
     ensures same_reference { tx.new.conn.ghost_name ≡ tx.old.conn.ghost_name }
-    ensures read { Reads (state S.Store tx.old.conn.now) (state S.Store tx.new.conn.now) result
+    ensures read { within S.Store tx.old tx.new Reads result
         (λ db rows. Lists verdicts (has_key (Text sender.now ∷ Int (pos number) ∷ [])) 3 db rows.items) }
-    ensures told { OnlyFails (state S.Store tx.old.conn.now) (state S.Store tx.new.conn.now) result }
+    ensures told { within S.Store tx.old tx.new OnlyFails result }
 {
     select(
         tx,

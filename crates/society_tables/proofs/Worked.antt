@@ -4,7 +4,7 @@ use Rattle.pool_split.specs.declared.claim.Credit.{Credit}
 use Rattle.sqlite_value.specs.declared.value.Value.TheVariants.{Null, Int, Text, Blob}
 use Rattle.society_core.specs.Keys.{return_key, transmission_key}
 use Rattle.society_book.specs.BookRows.{cut_row, paid_row, return_key_of, return_row, transmission_entry, transmission_row}
-use Rattle.society_book.specs.Columns.{number_at, text_at}
+use Rattle.society_book.specs.Columns.{whole_number_at, text_at}
 use Rattle.society_book.specs.DerivedRows.{balance_rows_by, credit_row, verdict_row}
 use Rattle.work_ids.specs.Blanks.{fill}
 use Rattle.work_ids.specs.declared.account.Account.TheVariants.{Unclaimed}
@@ -55,5 +55,5 @@ two_credits = refl
 other_form : text_at 0 (Null ∷ []) ≡ []
 other_form = refl
 
-other_number : number_at 0 (Text (codes "7") ∷ []) ≡ 0
+other_number : whole_number_at 0 (Text (codes "7") ∷ []) ≡ 0
 other_number = refl

@@ -9,7 +9,7 @@ use Rattle.sqlite_trees.specs.Tree.{Trees}
 use Rattle.society_core.specs.Answers.{payer}
 use Rattle.society_core.specs.Book.{Book, front, is_applied, is_entry, is_return_entry, order_at, return_at}
 use Rattle.society_core.specs.Orders.{Order}
-use Rattle.society_book.specs.Kept.{Holds}
+use Rattle.society_book.specs.Kept.{HoldsOwnBook}
 use Rattle.society_tables.specs.Opening.{Agree}
 use Rattle.society_core.specs.Keys.{ascending, bytes_cmp}
 use Rattle.society_core.specs.declared.return_key.ReturnKey.{ReturnKey}
@@ -22,7 +22,7 @@ use Rattle.society_rows.specs.declared.tables.TableName.TheVariants as name
 use Rattle.sqlite.specs.Effect.{Database}
 use Rattle.sqlite.specs.State.{HasCleanDisk, State}
 use Rattle.society_book.specs.BookRows.{is_return_row, is_transmission_row, return_key_of}
-use Rattle.society_book.specs.Columns.{HasRows, blob_at, number_at, text_at}
+use Rattle.society_book.specs.Columns.{HasRows, blob_at, whole_number_at, text_at}
 use Rattle.society_book.specs.DerivedRows.{front_rows, has_sent, is_named, tells_recordings, tells_verdict, tells_version, told_to_front}
 use Rattle.society_book.specs.Runs.{AreNoted, Notes, behind_run, is_among, settled_recordings, settled_run, settled_verdict, settled_version}
 use Rattle.works_core.specs.Verdicts.{works_in}
@@ -50,7 +50,7 @@ has_body row = length row == 3 && is_text (column row 0) && is_count (column row
 
 -- whether a row is that of a transmission that may stand in a book
 abbrev pub is_right_sent : Row → Bool
-is_right_sent row = has_body row && is_entry (text_at 0 row) (number_at 1 row) (blob_at 2 row)
+is_right_sent row = has_body row && is_entry (text_at 0 row) (whole_number_at 1 row) (blob_at 2 row)
 
 -- whether a row is that of a return that may stand in a book, its reporter written without the blanks that fill it
 abbrev pub is_right_return : Row → Bool
@@ -148,7 +148,7 @@ pub record IsClosable (book : Book) (pool : ℕ) (order : Order) : Type 0 where
 -- tables in memory that hold, beside the bodies of a database, a book of the office, and have its versions and recordings
 pub record HoldsAside (office : Office) (bodies : Trees) (memory : Database) : Type 0 where
   pub layout : HasLayout memory
-  pub holds : Holds office (mixed bodies memory.trees)
+  pub holds : HoldsOwnBook office (mixed bodies memory.trees)
   pub works : Agree works_names memory.trees bodies
 
 -- tables in memory that did so do so still

@@ -36,3 +36,7 @@ FindsBook old new = IsTrue new.is_clean → new.book ≡ old.book
 -- while it is clean, a store shows a book that a crash may leave of another
 abbrev pub FindsLeft : store.State → store.State → Type 0
 FindsLeft old new = IsTrue new.is_clean → old.left new.book
+
+-- said of what any crash leaves of a store over this connection, where that has layout 2
+abbrev pub AfterAnyCrash : connection.State → connection.State → Type 0 → Type 0
+AfterAnyCrash s found P = IsLeftBy s found → HasLayout found.committed → P

@@ -15,7 +15,7 @@ use Rattle.society_core.specs.Orders.{IsOrder, Order}
 use Rattle.society_core.specs.PlainMaps.{coded_book}
 use Rattle.society_core.specs.State.{IsState}
 use Rattle.society_book.specs.BookRows.{book_of}
-use Rattle.society_book.specs.Kept.{Holds, Rests, tables_state}
+use Rattle.society_book.specs.Kept.{HoldsOwnBook, Rests, tables_state}
 
 -- of two truths the first, and the second
 first_true : (a b : Bool) → IsTrue (a && b) → IsTrue a
@@ -59,6 +59,6 @@ is_state o s failures settled rests = record {
   honest = λ clean. first_true s.is_clean s.is_open clean;
   at_rest = λ clean book left. ∥∥₁_elim rests (Coded-set coded_book _ _) (λ r.
       let same : left.0 ≡ s.now.trees = settled left.0 (second_true s.is_clean s.is_open clean) left.1 ∙ sym (ap (λ (db : Database). db.trees) (r clean).same) in
-      left.2 (subst (Holds o) (sym same) (r clean).kept.holds) ∙ ap book_of same);
+      left.2 (subst (HoldsOwnBook o) (sym same) (r clean).kept.holds) ∙ ap book_of same);
   sound = λ clean. ∥∥₁_elim rests (sound_alone _) (λ r. (r clean).kept.holds.sound);
 }

@@ -1,6 +1,10 @@
-pub mod Faults
-pub mod Laws
-pub mod Opening
-pub mod Rebuilding
+pub mod Again
 pub mod Auditing
 pub mod Existing
+pub mod Faults
+pub mod InMemory
+pub mod Laws
+pub mod LineSteps
+pub mod OpenSteps
+pub mod Opening
+pub mod Rebuilding

@@ -10,7 +10,7 @@ use Rattle.society_rows.specs.Effects.{MayFail}
 use Rattle.society_rows.specs.Forms.{IsOfForms, office_forms}
 use Rattle.society_rows.specs.Layout as layout
 use Rattle.society_rows.specs.NewBook.{IsBare, IsNewBook}
-use Rattle.society_rows.specs.Stored.{HasLayout, rows_in}
+use Rattle.society_rows.specs.Stored.{AreNumbered, HasLayout, rows_in}
 use Rattle.society_rows.specs.TableNames.{table_called}
 use Rattle.society_rows.specs.declared.fault.RowFault.{RowFault}
 use Rattle.society_rows.specs.declared.fault.RowFault.TheVariants as row
@@ -18,7 +18,7 @@ use Rattle.society_rows.specs.declared.tables.TableName.{TableName}
 use Rattle.society_rows.specs.declared.tables.TableName.TheVariants as name
 use Rattle.society_core.specs.Book.{empty_book}
 use Rattle.society_book.specs.BookRows.{book_of}
-use Rattle.society_book.specs.Kept.{Holds, Rests, office_row}
+use Rattle.society_book.specs.Kept.{HoldsOwnBook, Rests, office_row}
 use Rattle.society_tables.specs.declared.audit_fault.AuditFault.{AuditFault}
 use Rattle.society_tables.specs.declared.audit_fault.AuditFault.TheVariants as audit
 use Rattle.society_tables.specs.declared.open_fault.OpenFault.{OpenFault}
@@ -33,10 +33,10 @@ audit_fault_by row.Overflow = audit.Store
 audit_fault_by (row.Refused error) = audit.Store
 
 -- why a database is not opened whose rows do not pass
-abbrev pub opened_by : AuditFault → OpenFault
-opened_by audit.Memory = fault.Memory
-opened_by audit.Store = fault.Store
-opened_by audit.Damaged = fault.Damaged
+abbrev pub open_fault_by : AuditFault → OpenFault
+open_fault_by audit.Memory = fault.Memory
+open_fault_by audit.Store = fault.Store
+open_fault_by audit.Damaged = fault.Damaged
 
 -- one office is told of, by a row that can be read: one, layout 2, society, territory, name
 abbrev pub IsOneOffice : List Row → Type 0
@@ -56,13 +56,13 @@ TellsOffice office rows fault.Damaged = rows ≡ office_row office ∷ []
 -- What a fault says of a database: `Empty` that it has no table; `Schema` that it has tables, and not those of layout 2 with an
 -- office that can be read; `OtherOffice` that it has those of another office; `Damaged` that it has those of this office, and they
 -- hold no sound book with exactly what is derived from it.
-abbrev pub Tells : Office → Database → OpenFault → Type 0
-Tells office db fault.Memory = Unit {0}
-Tells office db fault.Store = Unit {0}
-Tells office db fault.Empty = IsBare db
-Tells office db fault.Schema = (¬ IsBare db) × (HasLayout db → TellsOffice office (rows_in layout.office db.trees) fault.Schema)
-Tells office db fault.OtherOffice = HasLayout db × TellsOffice office (rows_in layout.office db.trees) fault.OtherOffice
-Tells office db fault.Damaged = HasLayout db × TellsOffice office (rows_in layout.office db.trees) fault.Damaged × (¬ Holds office db.trees)
+abbrev pub TellsDatabase : Office → Database → OpenFault → Type 0
+TellsDatabase office db fault.Memory = Unit {0}
+TellsDatabase office db fault.Store = Unit {0}
+TellsDatabase office db fault.Empty = IsBare db
+TellsDatabase office db fault.Schema = (¬ IsBare db) × (HasLayout db → TellsOffice office (rows_in layout.office db.trees) fault.Schema)
+TellsDatabase office db fault.OtherOffice = HasLayout db × TellsOffice office (rows_in layout.office db.trees) fault.OtherOffice
+TellsDatabase office db fault.Damaged = HasLayout db × TellsOffice office (rows_in layout.office db.trees) fault.Damaged × (¬ HoldsOwnBook office db.trees)
 
 -- a fault that says nothing of what the database has: memory was refused, or the database failed
 abbrev pub IsOutside : OpenFault → Type 0
@@ -79,17 +79,22 @@ other_names =
 abbrev pub every_name : List TableName
 every_name = name.Office ∷ other_names
 
+-- a table has the same rows in both, in any order
+abbrev pub AgreesAt : TableName → Trees → Trees → Type 0
+AgreesAt name one two = IsPermutation (rows_in (table_called name) one) (rows_in (table_called name) two)
+
 -- each of these tables has the same rows in both, in any order
 abbrev pub Agree : List TableName → Trees → Trees → Type 0
-Agree names one two = AllByRecursion (λ name. IsPermutation (rows_in (table_called name) one) (rows_in (table_called name) two)) names
+Agree names one two = AllByRecursion (λ name. AgreesAt name one two) names
 
 -- an open connection shows this, and it is what the last commit left
 abbrev pub ShowsAs : Database → connection.State → Type 0
 ShowsAs db s = IsTrue s.is_open → (s.now ≡ db) × (s.committed ≡ db)
 
--- Questions on a connection that is in no transaction: over layout 2 they find this, an answer comes from an open connection alone,
--- they leave the last commit, and a crash leaves what it left before.
+-- Questions on a connection at rest, which shows its last commit where it is open: over layout 2 they find this, an answer comes from an
+-- open connection alone, they leave the last commit, and a crash leaves what it left before.
 pub record Inspects {X E : Type 0} (old new : connection.State) (result : Result X E) (Found : Trees → X → Type 0) : Type 0 where
+  pub settled : IsTrue old.is_open → old.now ≡ old.committed
   pub found : connection.HasCleanDisk new → HasLayout old.now → IfOk result (Found old.now.trees)
   pub answered : connection.HasCleanDisk new → OnOk result (IsTrue old.is_open)
   pub was_open : connection.HasCleanDisk new → IsTrue new.is_open → IsTrue old.is_open
@@ -103,7 +108,15 @@ TellsFailure told old new result = connection.HasCleanDisk new → HasLayout old
 
 -- the tables hold a sound book of the office, with exactly what is derived from it
 abbrev pub HoldsOne : Office → Trees → Type 0
-HoldsOne office db = ∥ Holds office db ∥₁
+HoldsOne office db = ∥ HoldsOwnBook office db ∥₁
+
+-- what is put over another row has a whole number as its rowid
+abbrev pub IsNumbered : Trees → Type 0
+IsNumbered db = AreNumbered layout.fronts db × AreNumbered layout.balances db
+
+-- where that is so, they hold one
+abbrev pub HoldsNumbered : Office → Trees → Type 0
+HoldsNumbered office db = IsNumbered db → HoldsOne office db
 
 -- the database has no table, or those of layout 2
 abbrev pub IsOpenable : Database → Type 0
@@ -122,6 +135,6 @@ pub record Opens (office : Office) (old new : connection.State) (result : Result
   pub audited : connection.HasCleanDisk new → IsTrue old.is_open → HasLayout old.committed → OnOk result (HoldsOne office old.committed.trees × ShowsAs old.committed new)
   pub known : connection.HasCleanDisk new → IsTrue old.is_open → OnOk result (IsOpenable old.committed)
   pub unchanged : connection.HasCleanDisk new → OnErr result (ShowsAs old.committed new)
-  pub told : connection.HasCleanDisk new → IsTrue old.is_open → IfErr result (Tells office old.committed)
+  pub told : connection.HasCleanDisk new → IsTrue old.is_open → IfErr result (TellsDatabase office old.committed)
   pub failed : connection.HasCleanDisk new → IsTrue old.is_open → HasLayout old.committed → IfErr result (λ e. e ≡ fault.Store → MayFail old new)
   pub crash : SurvivesOpening office old new

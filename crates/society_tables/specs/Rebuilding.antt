@@ -15,7 +15,7 @@ use Rattle.society_rows.specs.Forms.{IsOfForms, pool_cut_forms, pool_return_form
 use Rattle.society_book.specs.BookRows.{AreOfBook, pool_row, return_key_of, return_row, transmission_key_of, transmission_row}
 use Rattle.share_rules.specs.declared.office.Office.{Office}
 use Rattle.society_book.specs.Kept.{HoldsBook}
-use Rattle.society_book.specs.Columns.{blob_at, number_at, text_at}
+use Rattle.society_book.specs.Columns.{blob_at, whole_number_at, text_at}
 use Rattle.society_tables.specs.declared.audit_fault.AuditFault.{AuditFault}
 use Rattle.society_tables.specs.declared.audit_fault.AuditFault.TheVariants as audit
 
@@ -100,11 +100,11 @@ ShowsBook office book s = IsTrue s.is_open → HasLayout s.now × HoldsBook offi
 
 -- the sender and the number in a row of a cut
 abbrev pub cut_pair : Row → List ℕ × ℕ
-cut_pair row = (text_at 1 row, number_at 2 row)
+cut_pair row = (text_at 1 row, whole_number_at 2 row)
 
 -- the reporter and the number in a row of a return that is paid
 abbrev pub paid_pair : Row → List ℕ × ℕ
-paid_pair row = (fill 20 (text_at 0 row), number_at 1 row)
+paid_pair row = (fill 20 (text_at 0 row), whole_number_at 1 row)
 
 -- the row is that of a sender's cut in a pool
 abbrev pub IsCut : Row → Type 0
@@ -117,12 +117,12 @@ IsPaid row = IsOfForms pool_return_forms row × (reporter_of (text_at 0 row) ≡
 -- the row is that of a pool of the book
 pub record IsClosed (book : Book) (row : Row) : Type 0 where
   pub order : Order
-  pub form : row ≡ pool_row (number_at 0 row) order
-  pub there : order_at book (number_at 0 row) ≡ Some order
+  pub form : row ≡ pool_row (whole_number_at 0 row) order
+  pub there : order_at book (whole_number_at 0 row) ≡ Some order
 
 -- a book has of the pool of a row what another book has
 abbrev pub HasClosed : Book → Book → Row → Type 0
-HasClosed b book row = order_at book (number_at 0 row) ≡ order_at b (number_at 0 row)
+HasClosed b book row = order_at book (whole_number_at 0 row) ≡ order_at b (whole_number_at 0 row)
 
 -- all the transmissions and returns of a book, and some of its pools
 pub record IsUpToPools (b part : Book) : Type 0 where

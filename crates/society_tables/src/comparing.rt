@@ -1,24 +1,19 @@
 //! Tables beside those of another database.
-ghost use Rattle.std.specs.Prelude.{◌∷◌, ◌≡◌, IfErr, IfOk, IsTrue, IsPermutation, ⊤, false, true};
-ghost use Rattle.sqlite.specs.Held.{state};
-ghost use Rattle.sqlite.specs.State.{HasCleanDisk};
-ghost use Rattle.sqlite.specs.Steps.{over_memory};
-ghost use Rattle.share_rules.specs.declared.office.Office.{Office as OfficeValue};
-ghost use Rattle.society_core.specs.Book.{Book};
+ghost use Rattle.std.specs.Prelude.{◌∷◌, ◌≡◌, IfErr, IfOk, IsTrue, false, true};
 ghost use Rattle.society_rows.specs.Effects.{ErrsByMedium};
 ghost use Rattle.society_rows.specs.Questions.{Asks};
-ghost use Rattle.society_rows.specs.Reads.{Lists};
-ghost use Rattle.society_rows.specs.Stored.{HasLayout, rows_in};
-ghost use Rattle.society_rows.specs.TableNames.{listing_width, table_called};
+ghost use Rattle.society_rows.specs.Stored.{HasLayout};
 ghost use Rattle.society_rows.specs.declared.tables.TableName.TheVariants as name;
-ghost use Rattle.society_tables.specs.Opening.{Agree, Inspects, TellsFailure, every_name};
+ghost use Rattle.society_tables.specs.Opening.{Agree, Inspects, TellsFailure, every_name, AgreesAt};
 ghost use Rattle.society_tables.specs.declared.audit_fault.AuditFault.TheVariants.{Memory, Store};
-ghost use Rattle.society_book.specs.Kept.{HoldsBook};
-ghost use Rattle.society_tables.specs.Rebuilding.{IsAside, Passes, ShowsBook};
+ghost use Rattle.society_tables.specs.Rebuilding.{IsAside};
+ghost use Rattle.society_rows.specs.Between.{between};
+ghost use Rattle.society_tables.specs.InMemory.{in_memory, PassesBeside};
+ghost use Rattle.society_rows.specs.Listings.{ListsAll};
 
 use crate::audit_fault::AuditFault;
-use society_rows::{RowFault, TableName, all_rows};
-use sqlite::{Alter, Connection, MemStore, Row};
+use society_rows::{Idle, RowFault, TableName, all_rows};
+use sqlite::{Alter, MemStore, Row};
 use sqlite_value::order::is_same;
 
 /// The tables after the first.
@@ -37,17 +32,12 @@ const OTHER_TABLES: [TableName; 11] = [
 ];
 
 /// All rows of a table, by its key, read in a transaction that is rolled back.
-pub(crate) fn listed<S: Alter>(
-    conn: &mut Connection<S>,
-    table: TableName,
-) -> Result<Vec<Row>, RowFault>
-    requires { conn.old.in_transaction ≡ false }
-    ensures asked { Asks (state S.Store conn.old) (state S.Store conn.new) result
-        (λ db rows. Lists (table_called table) (λ _. true) (listing_width table) db rows.items) }
-    ensures medium { ErrsByMedium (state S.Store conn.old) (state S.Store conn.new) result }
-    ensures idle { conn.new.in_transaction ≡ false }
+pub(crate) fn listed<S: Alter>(conn: &mut Idle<S>, table: TableName) -> Result<Vec<Row>, RowFault>
+    ensures asked { between S.Store conn.old conn.new Asks result (λ db rows. ListsAll table db rows.items) }
+    ensures medium { between S.Store conn.old conn.new ErrsByMedium result }
 {
-    let mut tx = conn.transaction();
+    conn.see_last_commit();
+    let mut tx = conn.connection.transaction();
     let rows = all_rows(&mut tx, table);
     tx.rollback();
     rows
@@ -55,32 +45,22 @@ pub(crate) fn listed<S: Alter>(
 
 /// All rows of a table, by its key.
 pub(crate) fn rows_of_table<S: Alter>(
-    conn: &mut Connection<S>,
+    conn: &mut Idle<S>,
     table: TableName,
 ) -> Result<Vec<Row>, AuditFault>
-    requires { conn.old.in_transaction ≡ false }
-    ensures asked { Inspects (state S.Store conn.old) (state S.Store conn.new) result
-        (λ db rows. Lists (table_called table) (λ _. true) (listing_width table) db rows.items) }
+    ensures asked { between S.Store conn.old conn.new Inspects result (λ db rows. ListsAll table db rows.items) }
     ensures aside { IfErr result IsAside }
-    ensures failed { TellsFailure Store (state S.Store conn.old) (state S.Store conn.new) result }
-    ensures idle { conn.new.in_transaction ≡ false }
+    ensures failed { between S.Store conn.old conn.new (TellsFailure Store) result }
 {
     Ok(listed(conn, table)?)
 }
 
-/// All rows of a table in memory, whose database stays as it is.
-fn rows_in_memory(
-    memory: &mut Connection<MemStore>,
-    table: TableName,
-) -> Result<Vec<Row>, AuditFault>
-    requires { memory.old.in_transaction ≡ false }
-    ensures rows { HasLayout (state over_memory memory.old).now → IfOk result (λ rows.
-        Lists (table_called table) (λ _. true) (listing_width table) (state over_memory memory.old).now.trees rows.items) }
+// All rows of a table in memory, whose database stays as it is.
+fn rows_in_memory(memory: &mut Idle<MemStore>, table: TableName) -> Result<Vec<Row>, AuditFault>
+    ensures rows { HasLayout (in_memory memory.old) → IfOk result (λ rows. ListsAll table (in_memory memory.old).trees rows.items) }
     ensures memory { IfErr result (λ e. e ≡ Memory) }
-    ensures same { (state over_memory memory.new).now ≡ (state over_memory memory.old).now }
-    ensures idle { memory.new.in_transaction ≡ false }
+    ensures same { in_memory memory.new ≡ in_memory memory.old }
 {
-    let _settled = memory.is_autocommit();
     match rows_of_table(memory, table) {
         Ok(rows) => Ok(rows),
         // Tables in memory fail by want of memory alone.
@@ -88,7 +68,7 @@ fn rows_in_memory(
     }
 }
 
-/// Whether two rows have the same values.
+// Whether two rows have the same values.
 fn is_same_row(row: &Row, other: &Row) -> bool
     ensures same { IsTrue result → row.now ≡ other.now }
     ensures alike { row.now ≡ other.now → IsTrue result }
@@ -107,7 +87,7 @@ fn is_same_row(row: &Row, other: &Row) -> bool
     true
 }
 
-/// Whether two lists have the same rows.
+// Whether two lists have the same rows.
 fn are_same_rows(rows: &[Row], others: &[Row]) -> bool
     ensures same { IsTrue result → rows.now ≡ others.now }
     ensures alike { rows.now ≡ others.now → IsTrue result }
@@ -125,20 +105,14 @@ fn are_same_rows(rows: &[Row], others: &[Row]) -> bool
 
 /// That a table has the rows that it has in memory; else `Damaged`.
 pub(crate) fn table_agrees<S: Alter>(
-    conn: &mut Connection<S>,
-    memory: &mut Connection<MemStore>,
+    conn: &mut Idle<S>,
+    memory: &mut Idle<MemStore>,
     table: TableName,
 ) -> Result<(), AuditFault>
-    requires ours { conn.old.in_transaction ≡ false }
-    requires theirs { memory.old.in_transaction ≡ false }
-    ensures agree { Inspects (state S.Store conn.old) (state S.Store conn.new) result
-        (λ db _. HasLayout (state over_memory memory.old).now → IsPermutation (rows_in (table_called table) (state over_memory memory.old).now.trees) (rows_in (table_called table) db)) }
-    ensures same { (state over_memory memory.new).now ≡ (state over_memory memory.old).now }
-    ensures passes { (o : OfficeValue) → (b : Book) → HasCleanDisk (state S.Store conn.new) → ShowsBook o b (state S.Store conn.old) → HasLayout (state over_memory memory.old).now
-        → HoldsBook o b (state over_memory memory.old).now.trees → Passes result (λ _. ⊤) }
-    ensures failed { TellsFailure Store (state S.Store conn.old) (state S.Store conn.new) result }
-    ensures idle { conn.new.in_transaction ≡ false }
-    ensures idle_memory { memory.new.in_transaction ≡ false }
+    ensures agree { between S.Store conn.old conn.new Inspects result (λ db _. HasLayout (in_memory memory.old) → AgreesAt table (in_memory memory.old).trees db) }
+    ensures same { in_memory memory.new ≡ in_memory memory.old }
+    ensures passes { between S.Store conn.old conn.new (PassesBeside (in_memory memory.old)) result }
+    ensures failed { between S.Store conn.old conn.new (TellsFailure Store) result }
 {
     let rows = rows_of_table(conn, table)?;
     let others = rows_in_memory(memory, table)?;
@@ -151,22 +125,15 @@ pub(crate) fn table_agrees<S: Alter>(
 
 /// That the table of the office and these have the rows that they have in memory; else `Damaged`.
 pub(crate) fn named_agree<S: Alter>(
-    conn: &mut Connection<S>,
-    memory: &mut Connection<MemStore>,
+    conn: &mut Idle<S>,
+    memory: &mut Idle<MemStore>,
     tables: &[TableName],
 ) -> Result<(), AuditFault>
-    requires ours { conn.old.in_transaction ≡ false }
-    requires theirs { memory.old.in_transaction ≡ false }
-    ensures agree { Inspects (state S.Store conn.old) (state S.Store conn.new) result
-        (λ db _. HasLayout (state over_memory memory.old).now → Agree (name.Office ∷ tables.now) (state over_memory memory.old).now.trees db) }
-    ensures same { (state over_memory memory.new).now ≡ (state over_memory memory.old).now }
-    ensures passes { (o : OfficeValue) → (b : Book) → HasCleanDisk (state S.Store conn.new) → ShowsBook o b (state S.Store conn.old) → HasLayout (state over_memory memory.old).now
-        → HoldsBook o b (state over_memory memory.old).now.trees → Passes result (λ _. ⊤) }
-    ensures failed { TellsFailure Store (state S.Store conn.old) (state S.Store conn.new) result }
-    ensures idle { conn.new.in_transaction ≡ false }
-    ensures idle_memory { memory.new.in_transaction ≡ false }
+    ensures agree { between S.Store conn.old conn.new Inspects result (λ db _. HasLayout (in_memory memory.old) → Agree (name.Office ∷ tables.now) (in_memory memory.old).trees db) }
+    ensures same { in_memory memory.new ≡ in_memory memory.old }
+    ensures passes { between S.Store conn.old conn.new (PassesBeside (in_memory memory.old)) result }
+    ensures failed { between S.Store conn.old conn.new (TellsFailure Store) result }
 {
-    let _settled = conn.is_autocommit();
     table_agrees(conn, memory, TableName::Office)?;
     for table in tables {
         table_agrees(conn, memory, *table)?;
@@ -176,17 +143,12 @@ pub(crate) fn named_agree<S: Alter>(
 
 /// That each table has the rows that it has in memory; else `Damaged`.
 pub(crate) fn tables_agree<S: Alter>(
-    conn: &mut Connection<S>,
-    memory: &mut Connection<MemStore>,
+    conn: &mut Idle<S>,
+    memory: &mut Idle<MemStore>,
 ) -> Result<(), AuditFault>
-    requires ours { conn.old.in_transaction ≡ false }
-    requires theirs { memory.old.in_transaction ≡ false }
-    ensures agree { Inspects (state S.Store conn.old) (state S.Store conn.new) result
-        (λ db _. HasLayout (state over_memory memory.old).now → Agree every_name (state over_memory memory.old).now.trees db) }
-    ensures passes { (o : OfficeValue) → (b : Book) → HasCleanDisk (state S.Store conn.new) → ShowsBook o b (state S.Store conn.old) → HasLayout (state over_memory memory.old).now
-        → HoldsBook o b (state over_memory memory.old).now.trees → Passes result (λ _. ⊤) }
-    ensures failed { TellsFailure Store (state S.Store conn.old) (state S.Store conn.new) result }
-    ensures idle { conn.new.in_transaction ≡ false }
+    ensures agree { between S.Store conn.old conn.new Inspects result (λ db _. HasLayout (in_memory memory.old) → Agree every_name (in_memory memory.old).trees db) }
+    ensures passes { between S.Store conn.old conn.new (PassesBeside (in_memory memory.old)) result }
+    ensures failed { between S.Store conn.old conn.new (TellsFailure Store) result }
 {
     named_agree(conn, memory, &OTHER_TABLES)
 }

@@ -1,27 +1,27 @@
 //! The rows of transmissions and of returns, gone over one at a time: of each its key is kept, and no body.
-ghost use Rattle.std.specs.Prelude.{◌≡◌, ◌∷◌, List, ℕ, Vec, Some, None, [], false, true, if◌then◌else◌, length, map, IfOk, IsTrue, ⊤};
+ghost use Rattle.std.specs.Prelude.{◌≡◌, List, ℕ, Vec, Some, None, false, true, length, map, IfOk, IsTrue, ⊤, if◌then◌else◌};
 ghost use Rattle.std.specs.declared.alloc.Global.{Global};
 ghost use Rattle.std.specs.BTreeSet.{IsFromIterResult};
-ghost use Rattle.sqlite.specs.Held.{state};
 ghost use Rattle.society_core.specs.Keys.{ascending, bytes_cmp, return_cmp, transmission_cmp};
 ghost use Rattle.society_rows.specs.Folds.{ReadsAlone};
-ghost use Rattle.society_rows.specs.Layout.{returns, transmissions};
+ghost use Rattle.society_rows.specs.Layout.{returns};
 ghost use Rattle.society_rows.specs.Stored.{rows_in};
 ghost use Rattle.society_tables.specs.Auditing.{AreEntries, HoldsEntries, is_right_return, is_right_sent, take_over};
-ghost use Rattle.society_book.specs.BookRows.{is_return_row, is_transmission_row, return_key_of, transmission_key_of};
-ghost use Rattle.society_book.specs.Columns.{text_at};
+ghost use Rattle.society_book.specs.BookRows.{is_return_row, return_key_of, transmission_key_of};
+ghost use Rattle.society_rows.specs.Between.{between};
+ghost use Rattle.society_tables.specs.LineSteps.{FindsSenders};
 
 use cwr_files::{ReadFault, read_transmission};
 use perf_returns::{ReturnError, read_return};
 use society_core::{ReturnKey, TransmissionKey};
-use society_rows::{ReturnRow, RowFault, RowFold, TableName, TransmissionRow, fold_table};
-use sqlite::{Alter, Connection, Row};
+use society_rows::{Idle, ReturnRow, RowFault, RowFold, TableName, TransmissionRow, fold_table};
+use sqlite::{Alter, Row};
 use std::alloc::{AllocError, Global};
 use std::collections::BTreeSet;
 use std::marker::Model;
 use work_ids::{Reporter, ReturnNumber, SenderKey, TransmissionNumber};
 
-/// The key of a row of a transmission, none where the row may not stand in a book.
+// The key of a row of a transmission, none where the row may not stand in a book.
 fn sent_key(alloc: Global, row: &Row) -> Result<Option<TransmissionKey>, RowFault>
     ensures { IfOk result (λ key. key ≡ (if is_right_sent row.now then Some (transmission_key_of row.now) else None)) }
 {
@@ -41,7 +41,7 @@ fn sent_key(alloc: Global, row: &Row) -> Result<Option<TransmissionKey>, RowFaul
     }
 }
 
-/// The key of a row of a return, none where the row may not stand in a book.
+// The key of a row of a return, none where the row may not stand in a book.
 fn return_key(alloc: Global, row: &Row) -> Result<Option<ReturnKey>, RowFault>
     ensures { IfOk result (λ key. key ≡ (if is_right_return row.now then Some (return_key_of row.now) else None)) }
 {
@@ -136,21 +136,21 @@ pub(crate) fn set_of_sent(
     keys.into_iter().collect(alloc)
 }
 
-/// The set of some keys.
+// The set of some keys.
 fn set_of_returns(alloc: Global, keys: Vec<ReturnKey>) -> Result<BTreeSet<ReturnKey>, AllocError>
     ensures { IfOk result (IsFromIterResult return_cmp keys.items) }
 {
     keys.into_iter().collect(alloc)
 }
 
-/// The set of some senders.
+// The set of some senders.
 fn set_of_senders(alloc: Global, senders: Vec<SenderKey>) -> Result<BTreeSet<SenderKey>, AllocError>
     ensures { IfOk result (IsFromIterResult bytes_cmp senders.items) }
 {
     senders.into_iter().collect(alloc)
 }
 
-/// The senders of some keys.
+// The senders of some keys.
 fn senders_of(alloc: Global, keys: &[TransmissionKey]) -> Result<Vec<SenderKey>, AllocError>
     ensures { IfOk result (λ senders. senders.items ≡ map (λ key. key.sender) keys.now) }
 {
@@ -161,7 +161,7 @@ fn senders_of(alloc: Global, keys: &[TransmissionKey]) -> Result<Vec<SenderKey>,
     Ok(senders)
 }
 
-/// The senders of some keys, ascending, each once.
+// The senders of some keys, ascending, each once.
 fn ascending_senders(alloc: Global, keys: &[TransmissionKey]) -> Result<Vec<SenderKey>, AllocError>
     ensures { IfOk result (λ senders. senders.items ≡ ascending bytes_cmp (map (λ key. key.sender) keys.now)) }
 {
@@ -169,7 +169,7 @@ fn ascending_senders(alloc: Global, keys: &[TransmissionKey]) -> Result<Vec<Send
     set.iter().copied().collect(alloc)
 }
 
-/// Whether no key of a transmission stands twice among these.
+// Whether no key of a transmission stands twice among these.
 fn are_distinct(alloc: Global, keys: Vec<TransmissionKey>) -> Result<bool, AllocError>
     ensures { IfOk result (λ distinct. IsTrue distinct → length (ascending transmission_cmp keys.items) ≡ length keys.items) }
 {
@@ -177,7 +177,7 @@ fn are_distinct(alloc: Global, keys: Vec<TransmissionKey>) -> Result<bool, Alloc
     Ok(set_of_sent(alloc, keys)?.len() == count)
 }
 
-/// Whether no key of a return stands twice among these.
+// Whether no key of a return stands twice among these.
 fn are_distinct_returns(alloc: Global, keys: Vec<ReturnKey>) -> Result<bool, AllocError>
     ensures { IfOk result (λ distinct. IsTrue distinct → length (ascending return_cmp keys.items) ≡ length keys.items) }
 {
@@ -185,15 +185,13 @@ fn are_distinct_returns(alloc: Global, keys: Vec<ReturnKey>) -> Result<bool, All
     Ok(set_of_returns(alloc, keys)?.len() == count)
 }
 
-/// The senders of the transmissions of a database, ascending, each once; none where one may not stand in a book, or a key stands
-/// there twice.
+// The senders of the transmissions of a database, ascending, each once; none where one may not stand in a book, or a key stands
+// there twice.
 fn senders_in<S: Alter>(
     alloc: Global,
-    conn: &mut Connection<S>,
+    conn: &mut Idle<S>,
 ) -> Result<Option<Vec<SenderKey>>, RowFault>
-    ensures read { ReadsAlone (state S.Store conn.old) (state S.Store conn.new) result
-        (λ db found. (senders : Vec (List ℕ) Global) → found ≡ Some senders → AreEntries is_right_sent is_transmission_row (rows_in transmissions db) × (senders.items ≡ ascending bytes_cmp (map (text_at 0) (rows_in transmissions db)))) }
-    ensures idle { conn.old.in_transaction ≡ false → conn.new.in_transaction ≡ false }
+    ensures read { between S.Store conn.old conn.new ReadsAlone result FindsSenders }
 {
     let mut rows = SentRows {
         alloc,
@@ -214,11 +212,9 @@ fn senders_in<S: Alter>(
     }
 }
 
-/// Whether each return of a database may stand in a book, and no key stands there twice.
-fn are_returns_right<S: Alter>(alloc: Global, conn: &mut Connection<S>) -> Result<bool, RowFault>
-    ensures read { ReadsAlone (state S.Store conn.old) (state S.Store conn.new) result
-        (λ db right. IsTrue right → AreEntries is_right_return is_return_row (rows_in returns db)) }
-    ensures idle { conn.old.in_transaction ≡ false → conn.new.in_transaction ≡ false }
+// Whether each return of a database may stand in a book, and no key stands there twice.
+fn are_returns_right<S: Alter>(alloc: Global, conn: &mut Idle<S>) -> Result<bool, RowFault>
+    ensures read { between S.Store conn.old conn.new ReadsAlone result (λ db right. IsTrue right → AreEntries is_right_return is_return_row (rows_in returns db)) }
 {
     let mut rows = ReturnRows {
         alloc,
@@ -238,11 +234,9 @@ fn are_returns_right<S: Alter>(alloc: Global, conn: &mut Connection<S>) -> Resul
 /// book, or a key stands there twice. The bodies are gone over one at a time.
 pub(crate) fn entries_in<S: Alter>(
     alloc: Global,
-    conn: &mut Connection<S>,
+    conn: &mut Idle<S>,
 ) -> Result<Option<Vec<SenderKey>>, RowFault>
-    ensures read { ReadsAlone (state S.Store conn.old) (state S.Store conn.new) result
-        (λ db found. (senders : Vec (List ℕ) Global) → found ≡ Some senders → HoldsEntries senders.items db) }
-    ensures idle { conn.old.in_transaction ≡ false → conn.new.in_transaction ≡ false }
+    ensures read { between S.Store conn.old conn.new ReadsAlone result (λ db found. (senders : Vec (List ℕ) Global) → found ≡ Some senders → HoldsEntries senders.items db) }
 {
     let senders = senders_in(alloc, conn)?;
     if are_returns_right(alloc, conn)? {

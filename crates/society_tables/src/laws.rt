@@ -2,9 +2,7 @@
 ghost use Rattle.std.specs.Prelude.{◌≡◌, IfErr, IfOk, IsTrue, false};
 ghost use Rattle.sqlite.specs.Held.{state};
 ghost use Rattle.sqlite.specs.State.{HasCleanDisk};
-ghost use Rattle.society_rows.specs.Stored.{HasLayout};
-ghost use Rattle.society_tables.specs.Existing.{AfterCrash, FindsBook, FindsLeft, HoldsOffice};
-ghost use Rattle.society_tables.specs.Laws.{IsLeftBy};
+ghost use Rattle.society_tables.specs.Existing.{AfterCrash, FindsBook, FindsLeft, HoldsOffice, AfterAnyCrash};
 ghost use Rattle.society_tables.specs.Opening.{IsOutside};
 
 use crate::{OpenFault, Tables};
@@ -19,8 +17,7 @@ pub fn reopen<S: Alter>(
     tables: Tables<S>,
 ) -> Result<Tables<S>, (OpenFault, Connection<S>)>
     ensures office { IfOk result (λ t. (⟦<Tables<S> as Store>⟧.state t).office ≡ (⟦<Tables<S> as Store>⟧.state tables).office) }
-    ensures kept { IsTrue (⟦<Tables<S> as Store>⟧.state tables).is_clean
-        → IfOk result (λ t. IsTrue (⟦<Tables<S> as Store>⟧.state t).is_clean → (⟦<Tables<S> as Store>⟧.state t).book ≡ (⟦<Tables<S> as Store>⟧.state tables).book) }
+    ensures kept { IsTrue (⟦<Tables<S> as Store>⟧.state tables).is_clean → IfOk result (λ t. FindsBook (⟦<Tables<S> as Store>⟧.state tables) (⟦<Tables<S> as Store>⟧.state t)) }
     ensures told { IsTrue (⟦<Tables<S> as Store>⟧.state tables).is_clean → IfErr result (λ e. HasCleanDisk (state S.Store e.1) → IsOutside e.0) }
 {
     let office = *tables.office();
@@ -39,11 +36,9 @@ pub fn open_after_crash<S: Alter, T: Alter>(
     requires { found.in_transaction ≡ false }
     ensures office { IfOk result (λ t. (⟦<Tables<T> as Store>⟧.state t).office ≡ (⟦<Tables<S> as Store>⟧.state tables.now).office) }
     ensures taken { AfterCrash (state S.Store tables.now.conn) (state T.Store found) (HoldsOffice tables.now.office (state T.Store found).committed) }
-    ensures kept { AfterCrash (state S.Store tables.now.conn) (state T.Store found)
-        (IfOk result (λ t. FindsBook (⟦<Tables<S> as Store>⟧.state tables.now) (⟦<Tables<T> as Store>⟧.state t))) }
+    ensures kept { AfterCrash (state S.Store tables.now.conn) (state T.Store found) (IfOk result (λ t. FindsBook (⟦<Tables<S> as Store>⟧.state tables.now) (⟦<Tables<T> as Store>⟧.state t))) }
     ensures told { AfterCrash (state S.Store tables.now.conn) (state T.Store found) (IfErr result (λ e. HasCleanDisk (state T.Store e.1) → IsOutside e.0)) }
-    ensures left { IsLeftBy (state S.Store tables.now.conn) (state T.Store found) → HasLayout (state T.Store found).committed
-        → IfOk result (λ t. FindsLeft (⟦<Tables<S> as Store>⟧.state tables.now) (⟦<Tables<T> as Store>⟧.state t)) }
+    ensures left { AfterAnyCrash (state S.Store tables.now.conn) (state T.Store found) (IfOk result (λ t. FindsLeft (⟦<Tables<S> as Store>⟧.state tables.now) (⟦<Tables<T> as Store>⟧.state t))) }
 {
     // A list of tables is that of one schema at most, and both connections obey theirs.
     let _kept = tables.schema();

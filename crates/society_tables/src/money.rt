@@ -1,20 +1,17 @@
 //! What pools pay by a database, worked out anew and put into tables in memory that have what is derived of its transmissions.
-ghost use Rattle.std.specs.Prelude.{◌≡◌, List, ℕ, None, true, false, is_some, IfOk, IsTrue};
+ghost use Rattle.std.specs.Prelude.{◌≡◌, None, true, false, IfOk};
 ghost use Rattle.std.specs.List.{AllByRecursion, list_all};
-ghost use Rattle.share_rules.specs.declared.office.Office.{Office as OfficeValue};
-ghost use Rattle.sqlite.specs.Held.{state};
-ghost use Rattle.sqlite.specs.Steps.{over_memory};
-ghost use Rattle.sqlite_trees.specs.Tree.{Trees};
 ghost use Rattle.society_core.specs.Answers.{payer};
-ghost use Rattle.society_core.specs.Book.{Book, is_applied, order_at, return_at};
+ghost use Rattle.society_core.specs.Book.{is_applied, order_at};
 ghost use Rattle.society_core.specs.Orders.{IsOrder};
-ghost use Rattle.society_rows.specs.Questions.{Answers, Asks};
+ghost use Rattle.society_rows.specs.Questions.{RowsAnswer, Asks};
 ghost use Rattle.society_rows.specs.Stored.{HasLayout};
-ghost use Rattle.society_tables.specs.Auditing.{ClosesAside, IsClosable, IsOpenReturn, WritesAlone, mixed};
+ghost use Rattle.society_tables.specs.Auditing.{ClosesAside, IsClosable, IsOpenReturn, WritesAlone};
 ghost use Rattle.society_book.specs.Closings.{ClosesWith, PaysBy};
-ghost use Rattle.society_book.specs.Kept.{HoldsBook};
 ghost use Rattle.society_tables.specs.Opening.{Inspects};
-ghost use Rattle.society_book.specs.Steps.{DoesOpen};
+ghost use Rattle.society_book.specs.Steps.{LooksOpen};
+ghost use Rattle.society_rows.specs.Between.{between, within};
+ghost use Rattle.society_tables.specs.InMemory.{in_memory, TellsMixed, SaysMixed};
 
 use crate::audit_fault::AuditFault;
 use crate::comparing::rows_of_table;
@@ -24,8 +21,8 @@ use pool_split::Credit;
 use share_rules::Office;
 use society_book::{credits_in, shown_front, write_pool};
 use society_core::{PoolOrder, ReturnKey, TransmissionKey};
-use society_rows::{Question, RowFault, TableName, answer, ask};
-use sqlite::{Alter, Connection, MemStore, Row, Transaction};
+use society_rows::{Idle, Question, RowFault, TableName, answer, ask};
+use sqlite::{Alter, MemStore, Row, Transaction};
 use std::alloc::Global;
 use work_ids::PoolNumber;
 
@@ -36,45 +33,36 @@ struct PaidRows<'a> {
     paid: &'a [Row],
 }
 
-/// The rows that answer a question over tables in memory, which stay as they are.
-fn answered(memory: &mut Connection<MemStore>, question: Question<'_>) -> Result<Vec<Row>, RowFault>
-    requires { memory.old.in_transaction ≡ false }
-    ensures rows { HasLayout (state over_memory memory.old).now → IfOk result (λ rows. Answers question.entry (state over_memory memory.old).now.trees rows.items) }
-    ensures same { (state over_memory memory.new).now ≡ (state over_memory memory.old).now }
-    ensures idle { memory.new.in_transaction ≡ false }
+// The rows that answer a question over tables in memory, which stay as they are.
+fn answered(memory: &mut Idle<MemStore>, question: Question<'_>) -> Result<Vec<Row>, RowFault>
+    ensures rows { HasLayout (in_memory memory.old) → IfOk result (λ rows. RowsAnswer question.entry (in_memory memory.old).trees rows.items) }
+    ensures same { in_memory memory.new ≡ in_memory memory.old }
 {
-    let _settled = memory.is_autocommit();
     ask(memory, question)
 }
 
-/// Whether a pool is not closed in tables in memory.
-fn is_open_pool(memory: &mut Connection<MemStore>, pool: PoolNumber) -> Result<bool, RowFault>
-    requires { memory.old.in_transaction ≡ false }
-    ensures free { HasLayout (state over_memory memory.old).now → IfOk result (λ free. IsTrue free → (office : OfficeValue) (book : Book) (db : Trees) → HoldsBook office book (mixed db (state over_memory memory.old).now.trees) → order_at book pool ≡ None) }
-    ensures same { (state over_memory memory.new).now ≡ (state over_memory memory.old).now }
-    ensures idle { memory.new.in_transaction ≡ false }
+// Whether a pool is not closed in tables in memory.
+fn is_open_pool(memory: &mut Idle<MemStore>, pool: PoolNumber) -> Result<bool, RowFault>
+    ensures free { TellsMixed (in_memory memory.old) result (λ book. order_at book pool ≡ None) }
+    ensures same { in_memory memory.new ≡ in_memory memory.old }
 {
     let rows = answered(memory, Question::Pool(pool.value()))?;
     Ok(rows.as_slice().is_empty())
 }
 
-/// Whether a number of a cut is in its sender's line in tables in memory.
-fn is_reached(memory: &mut Connection<MemStore>, key: &TransmissionKey) -> Result<bool, RowFault>
-    requires { memory.old.in_transaction ≡ false }
-    ensures reached { HasLayout (state over_memory memory.old).now → IfOk result (λ reached. IsTrue reached → (office : OfficeValue) (book : Book) (db : Trees) → HoldsBook office book (mixed db (state over_memory memory.old).now.trees) → is_applied book key.now ≡ true) }
-    ensures same { (state over_memory memory.new).now ≡ (state over_memory memory.old).now }
-    ensures idle { memory.new.in_transaction ≡ false }
+// Whether a number of a cut is in its sender's line in tables in memory.
+fn is_reached(memory: &mut Idle<MemStore>, key: &TransmissionKey) -> Result<bool, RowFault>
+    ensures reached { TellsMixed (in_memory memory.old) result (λ book. is_applied book key.now ≡ true) }
+    ensures same { in_memory memory.new ≡ in_memory memory.old }
 {
     let rows = answered(memory, Question::Front(key.sender.as_bytes()))?;
     Ok(key.number.value() <= shown_front(rows.as_slice())?)
 }
 
-/// Whether each number of a cut is in its sender's line in tables in memory.
-fn are_reached(memory: &mut Connection<MemStore>, cut: &[TransmissionKey]) -> Result<bool, RowFault>
-    requires { memory.old.in_transaction ≡ false }
-    ensures reached { HasLayout (state over_memory memory.old).now → IfOk result (λ reached. IsTrue reached → (office : OfficeValue) (book : Book) (db : Trees) → HoldsBook office book (mixed db (state over_memory memory.old).now.trees) → list_all (is_applied book) cut.now ≡ true) }
-    ensures same { (state over_memory memory.new).now ≡ (state over_memory memory.old).now }
-    ensures idle { memory.new.in_transaction ≡ false }
+// Whether each number of a cut is in its sender's line in tables in memory.
+fn are_reached(memory: &mut Idle<MemStore>, cut: &[TransmissionKey]) -> Result<bool, RowFault>
+    ensures reached { TellsMixed (in_memory memory.old) result (λ book. list_all (is_applied book) cut.now ≡ true) }
+    ensures same { in_memory memory.new ≡ in_memory memory.old }
 {
     for key in cut {
         if !is_reached(memory, key)? {
@@ -84,12 +72,10 @@ fn are_reached(memory: &mut Connection<MemStore>, cut: &[TransmissionKey]) -> Re
     Ok(true)
 }
 
-/// Whether no pool pays a return in tables in memory.
-fn is_unpaid(memory: &mut Connection<MemStore>, key: &ReturnKey) -> Result<bool, RowFault>
-    requires { memory.old.in_transaction ≡ false }
-    ensures unpaid { HasLayout (state over_memory memory.old).now → IfOk result (λ unpaid. IsTrue unpaid → (office : OfficeValue) (book : Book) (db : Trees) → HoldsBook office book (mixed db (state over_memory memory.old).now.trees) → payer book key.now ≡ None) }
-    ensures same { (state over_memory memory.new).now ≡ (state over_memory memory.old).now }
-    ensures idle { memory.new.in_transaction ≡ false }
+// Whether no pool pays a return in tables in memory.
+fn is_unpaid(memory: &mut Idle<MemStore>, key: &ReturnKey) -> Result<bool, RowFault>
+    ensures unpaid { TellsMixed (in_memory memory.old) result (λ book. payer book key.now ≡ None) }
+    ensures same { in_memory memory.new ≡ in_memory memory.old }
 {
     let rows = answered(
         memory,
@@ -98,19 +84,14 @@ fn is_unpaid(memory: &mut Connection<MemStore>, key: &ReturnKey) -> Result<bool,
     Ok(rows.as_slice().is_empty())
 }
 
-/// Whether the tables have a return that no pool pays by those in memory.
+// Whether the tables have a return that no pool pays by those in memory.
 fn is_open_return<S: Alter>(
-    conn: &mut Connection<S>,
-    memory: &mut Connection<MemStore>,
+    conn: &mut Idle<S>,
+    memory: &mut Idle<MemStore>,
     key: &ReturnKey,
 ) -> Result<bool, AuditFault>
-    requires ours { conn.old.in_transaction ≡ false }
-    requires theirs { memory.old.in_transaction ≡ false }
-    ensures free { Inspects (state S.Store conn.old) (state S.Store conn.new) result
-        (λ db free. HasLayout (state over_memory memory.old).now → IsTrue free → (office : OfficeValue) (book : Book) → HoldsBook office book (mixed db (state over_memory memory.old).now.trees) → IsOpenReturn book key.now) }
-    ensures same { (state over_memory memory.new).now ≡ (state over_memory memory.old).now }
-    ensures idle { conn.new.in_transaction ≡ false }
-    ensures idle_memory { memory.new.in_transaction ≡ false }
+    ensures free { between S.Store conn.old conn.new Inspects result (SaysMixed (in_memory memory.old) (λ book. IsOpenReturn book key.now)) }
+    ensures same { in_memory memory.new ≡ in_memory memory.old }
 {
     let rows = ask(
         conn,
@@ -122,21 +103,15 @@ fn is_open_return<S: Alter>(
     Ok(is_unpaid(memory, key)?)
 }
 
-/// Whether the tables have each of these returns, and no pool pays it by those in memory; asked of tables that are this office's.
+// Whether the tables have each of these returns, and no pool pays it by those in memory; asked of tables that are this office's.
 fn are_open_returns<S: Alter>(
-    conn: &mut Connection<S>,
-    memory: &mut Connection<MemStore>,
+    conn: &mut Idle<S>,
+    memory: &mut Idle<MemStore>,
     keys: &[ReturnKey],
 ) -> Result<bool, AuditFault>
-    requires ours { conn.old.in_transaction ≡ false }
-    requires theirs { memory.old.in_transaction ≡ false }
-    ensures free { Inspects (state S.Store conn.old) (state S.Store conn.new) result
-        (λ db free. HasLayout (state over_memory memory.old).now → IsTrue free → (office : OfficeValue) (book : Book) → HoldsBook office book (mixed db (state over_memory memory.old).now.trees) → AllByRecursion (IsOpenReturn book) keys.now) }
-    ensures same { (state over_memory memory.new).now ≡ (state over_memory memory.old).now }
-    ensures idle { conn.new.in_transaction ≡ false }
-    ensures idle_memory { memory.new.in_transaction ≡ false }
+    ensures free { between S.Store conn.old conn.new Inspects result (SaysMixed (in_memory memory.old) (λ book. AllByRecursion (IsOpenReturn book) keys.now)) }
+    ensures same { in_memory memory.new ≡ in_memory memory.old }
 {
-    let _settled = conn.is_autocommit();
     // An answer comes from an open connection alone.
     ask(conn, Question::Office)?;
     for key in keys {
@@ -147,7 +122,7 @@ fn are_open_returns<S: Alter>(
     Ok(true)
 }
 
-/// What an order pays by the tables, in a transaction.
+// What an order pays by the tables, in a transaction.
 fn credits_inside<S: Alter>(
     alloc: Global,
     tx: &mut Transaction<'_, S>,
@@ -155,65 +130,55 @@ fn credits_inside<S: Alter>(
     order: &PoolOrder,
 ) -> Result<Vec<Credit>, RowFault>
     ensures same_reference { tx.new.conn.ghost_name ≡ tx.old.conn.ghost_name }
-    ensures looks { DoesOpen (state S.Store tx.old.conn.now) (state S.Store tx.new.conn.now) result
-        (λ before after credits. (after ≡ before) × PaysBy office.now order.now before.trees credits.items) }
+    ensures looks { within S.Store tx.old tx.new LooksOpen result (λ db credits. PaysBy office.now order.now db credits.items) }
 {
     // An answer comes from an open connection alone.
     answer(tx, Question::Office)?;
     credits_in(alloc, tx, office, order)
 }
 
-/// What an order pays by the tables, worked out in a transaction that is rolled back.
+// What an order pays by the tables, worked out in a transaction that is rolled back.
 fn credits_for<S: Alter>(
     alloc: Global,
-    conn: &mut Connection<S>,
+    conn: &mut Idle<S>,
     office: &Office,
     order: &PoolOrder,
 ) -> Result<Vec<Credit>, RowFault>
-    requires { conn.old.in_transaction ≡ false }
-    ensures asked { Asks (state S.Store conn.old) (state S.Store conn.new) result
-        (λ db credits. PaysBy office.now order.now db credits.items) }
-    ensures idle { conn.new.in_transaction ≡ false }
+    ensures asked { between S.Store conn.old conn.new Asks result (λ db credits. PaysBy office.now order.now db credits.items) }
 {
-    let mut tx = conn.transaction();
+    conn.see_last_commit();
+    let mut tx = conn.connection.transaction();
     let credits = credits_inside(alloc, &mut tx, office, order);
     tx.rollback();
     credits
 }
 
-/// Adds all that is written of a pool that is closed by an order and pays these credits, in a transaction of its own.
+// Adds all that is written of a pool that is closed by an order and pays these credits, in a transaction of its own.
 fn write_closed<S: Alter>(
     alloc: Global,
-    conn: &mut Connection<S>,
+    conn: &mut Idle<S>,
     pool: u32,
     order: &PoolOrder,
     credits: &[Credit],
 ) -> Result<(), RowFault>
-    requires { conn.old.in_transaction ≡ false }
-    ensures written { WritesAlone (ClosesWith pool order.now credits.now) (state S.Store conn.old) (state S.Store conn.new) result }
-    ensures idle { conn.new.in_transaction ≡ false }
+    ensures written { between S.Store conn.old conn.new (WritesAlone (ClosesWith pool order.now credits.now)) result }
 {
-    let mut tx = conn.transaction();
+    let mut tx = conn.connection.transaction();
     write_pool(alloc, &mut tx, pool, order, credits)?;
     tx.commit()?;
     Ok(())
 }
 
-/// Whether a pool can be closed by an order: it is not closed, its cut is reached and no pool pays its returns by tables in memory, and the tables have those.
+// Whether a pool can be closed by an order: it is not closed, its cut is reached and no pool pays its returns by tables in memory, and the tables have those.
 fn is_closable<S: Alter>(
-    conn: &mut Connection<S>,
-    memory: &mut Connection<MemStore>,
+    conn: &mut Idle<S>,
+    memory: &mut Idle<MemStore>,
     pool: PoolNumber,
     order: &PoolOrder,
 ) -> Result<bool, AuditFault>
-    requires ours { conn.old.in_transaction ≡ false }
-    requires theirs { memory.old.in_transaction ≡ false }
-    ensures closable { Inspects (state S.Store conn.old) (state S.Store conn.new) result
-        (λ db yes. HasLayout (state over_memory memory.old).now → IsTrue yes → (office : OfficeValue) (book : Book) → HoldsBook office book (mixed db (state over_memory memory.old).now.trees) → IsClosable book pool order.now) }
+    ensures closable { between S.Store conn.old conn.new Inspects result (SaysMixed (in_memory memory.old) (λ book. IsClosable book pool order.now)) }
     ensures kept { IsOrder order.now }
-    ensures same { (state over_memory memory.new).now ≡ (state over_memory memory.old).now }
-    ensures idle { conn.new.in_transaction ≡ false }
-    ensures idle_memory { memory.new.in_transaction ≡ false }
+    ensures same { in_memory memory.new ≡ in_memory memory.old }
 {
     if !are_open_returns(conn, memory, order.returns())? {
         return Ok(false);
@@ -224,23 +189,17 @@ fn is_closable<S: Alter>(
     Ok(are_reached(memory, order.cut())?)
 }
 
-/// Closes a pool by an order in tables in memory, with what it pays by the tables; `Damaged` where it cannot be closed.
+// Closes a pool by an order in tables in memory, with what it pays by the tables; `Damaged` where it cannot be closed.
 fn close_aside<S: Alter>(
     alloc: Global,
-    conn: &mut Connection<S>,
-    memory: &mut Connection<MemStore>,
+    conn: &mut Idle<S>,
+    memory: &mut Idle<MemStore>,
     office: &Office,
     pool: PoolNumber,
     order: &PoolOrder,
 ) -> Result<(), AuditFault>
-    requires ours { conn.old.in_transaction ≡ false }
-    requires theirs { memory.old.in_transaction ≡ false }
-    ensures closed { Inspects (state S.Store conn.old) (state S.Store conn.new) result
-        (λ db _. ClosesAside office.now db (state over_memory memory.old).now (state over_memory memory.new).now) }
-    ensures idle { conn.new.in_transaction ≡ false }
-    ensures idle_memory { memory.new.in_transaction ≡ false }
+    ensures closed { between S.Store conn.old conn.new Inspects result (λ db _. ClosesAside office.now db (in_memory memory.old) (in_memory memory.new)) }
 {
-    let _settled = conn.is_autocommit();
     if !is_closable(conn, memory, pool, order)? {
         return Err(AuditFault::Damaged);
     }
@@ -249,44 +208,33 @@ fn close_aside<S: Alter>(
     Ok(())
 }
 
-/// Closes the pool of a row in tables in memory, with the rows of all cuts and of all returns that are paid.
+// Closes the pool of a row in tables in memory, with the rows of all cuts and of all returns that are paid.
 fn close_row<S: Alter>(
     alloc: Global,
-    conn: &mut Connection<S>,
-    memory: &mut Connection<MemStore>,
+    conn: &mut Idle<S>,
+    memory: &mut Idle<MemStore>,
     office: &Office,
     row: &Row,
     orders: &PaidRows<'_>,
 ) -> Result<(), AuditFault>
-    requires ours { conn.old.in_transaction ≡ false }
-    requires theirs { memory.old.in_transaction ≡ false }
-    ensures closed { Inspects (state S.Store conn.old) (state S.Store conn.new) result
-        (λ db _. ClosesAside office.now db (state over_memory memory.old).now (state over_memory memory.new).now) }
-    ensures idle { conn.new.in_transaction ≡ false }
-    ensures idle_memory { memory.new.in_transaction ≡ false }
+    ensures closed { between S.Store conn.old conn.new Inspects result (λ db _. ClosesAside office.now db (in_memory memory.old) (in_memory memory.new)) }
 {
-    let _settled = conn.is_autocommit();
+    conn.see_last_commit();
     let (pool, order) = pool_of_row(alloc, row, orders.cuts, orders.paid)?;
     close_aside(alloc, conn, memory, office, pool, &order)
 }
 
-/// Closes the pools of rows in tables in memory, with the rows of all cuts and of all returns that are paid.
+// Closes the pools of rows in tables in memory, with the rows of all cuts and of all returns that are paid.
 fn close_rows<S: Alter>(
     alloc: Global,
-    conn: &mut Connection<S>,
-    memory: &mut Connection<MemStore>,
+    conn: &mut Idle<S>,
+    memory: &mut Idle<MemStore>,
     office: &Office,
     rows: &[Row],
     orders: &PaidRows<'_>,
 ) -> Result<(), AuditFault>
-    requires ours { conn.old.in_transaction ≡ false }
-    requires theirs { memory.old.in_transaction ≡ false }
-    ensures closed { Inspects (state S.Store conn.old) (state S.Store conn.new) result
-        (λ db _. ClosesAside office.now db (state over_memory memory.old).now (state over_memory memory.new).now) }
-    ensures idle { conn.new.in_transaction ≡ false }
-    ensures idle_memory { memory.new.in_transaction ≡ false }
+    ensures closed { between S.Store conn.old conn.new Inspects result (λ db _. ClosesAside office.now db (in_memory memory.old) (in_memory memory.new)) }
 {
-    let _settled = conn.is_autocommit();
     // An answer comes from an open connection alone.
     ask(conn, Question::Office)?;
     for row in rows {
@@ -298,18 +246,12 @@ fn close_rows<S: Alter>(
 /// Closes the pools of a database in tables in memory.
 pub(crate) fn close_all<S: Alter>(
     alloc: Global,
-    conn: &mut Connection<S>,
-    memory: &mut Connection<MemStore>,
+    conn: &mut Idle<S>,
+    memory: &mut Idle<MemStore>,
     office: &Office,
 ) -> Result<(), AuditFault>
-    requires ours { conn.old.in_transaction ≡ false }
-    requires theirs { memory.old.in_transaction ≡ false }
-    ensures closed { Inspects (state S.Store conn.old) (state S.Store conn.new) result
-        (λ db _. ClosesAside office.now db (state over_memory memory.old).now (state over_memory memory.new).now) }
-    ensures idle { conn.new.in_transaction ≡ false }
-    ensures idle_memory { memory.new.in_transaction ≡ false }
+    ensures closed { between S.Store conn.old conn.new Inspects result (λ db _. ClosesAside office.now db (in_memory memory.old) (in_memory memory.new)) }
 {
-    let _settled = conn.is_autocommit();
     let pools = rows_of_table(conn, TableName::Pools)?;
     let cuts = rows_of_table(conn, TableName::PoolCuts)?;
     let paid = rows_of_table(conn, TableName::PoolReturns)?;

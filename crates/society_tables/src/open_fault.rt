@@ -1,6 +1,6 @@
 //! Why a database is not opened.
 ghost use Rattle.std.specs.Prelude.{◌≡◌};
-ghost use Rattle.society_tables.specs.Opening.{audit_fault_by, opened_by};
+ghost use Rattle.society_tables.specs.Opening.{audit_fault_by, open_fault_by};
 
 use crate::audit_fault::AuditFault;
 use society_rows::RowFault;
@@ -29,7 +29,7 @@ pub enum OpenFault {
 }
 
 impl From<RowFault> for OpenFault {
-    ghost from_gives = { λ fault told. told ≡ opened_by (audit_fault_by fault) };
+    ghost from_gives = { λ fault told. told ≡ open_fault_by (audit_fault_by fault) };
 
     fn from(fault: RowFault) -> OpenFault {
         OpenFault::from(AuditFault::from(fault))
@@ -37,7 +37,7 @@ impl From<RowFault> for OpenFault {
 }
 
 impl From<AuditFault> for OpenFault {
-    ghost from_gives = { λ fault told. told ≡ opened_by fault };
+    ghost from_gives = { λ fault told. told ≡ open_fault_by fault };
 
     fn from(fault: AuditFault) -> OpenFault {
         match fault {

@@ -1,24 +1,25 @@
 //! How a database is opened as an office's tables.
-ghost use Rattle.std.specs.Prelude.{[], ◌∷◌, ◌≡◌, ◌≢◌, ◌↔◌, IsTrue, IfErr, IfOk, MatchResult, OnErr, OnOk, ⊤, false};
+ghost use Rattle.std.specs.Prelude.{[], ◌∷◌, ◌≡◌, ◌≢◌, ◌↔◌, IsTrue, IfErr, IfOk, MatchResult, OnErr, OnOk, false};
 ghost use Rattle.std.specs.Result.{IsErrAnd};
 ghost use Rattle.sqlite.specs.Held.{state};
 ghost use Rattle.sqlite.specs.State.{HasCleanDisk, Survives};
 ghost use Rattle.share_rules.specs.declared.office.Office.{Office as OfficeValue};
-ghost use Rattle.society_core.specs.Book.{Book, IsSound, empty_book};
+ghost use Rattle.society_core.specs.Book.{Book, empty_book};
 ghost use Rattle.society_rows.specs.Effects.{ErrsByMedium, MayFail};
-ghost use Rattle.society_rows.specs.Layout.{balances, fronts};
 ghost use Rattle.society_rows.specs.Layout.{office as office_table};
 ghost use Rattle.society_rows.specs.NewBook.{Begins, IsBare, IsNewBook};
 ghost use Rattle.society_rows.specs.Questions.{Asks};
 ghost use Rattle.society_rows.specs.Stored.{AreNumbered, HasLayout, rows_in};
 ghost use Rattle.society_rows.specs.TableNames.{table_called};
-ghost use Rattle.society_book.specs.Kept.{Holds, office_row};
+ghost use Rattle.society_book.specs.Kept.{HoldsOwnBook, office_row};
 ghost use Rattle.society_tables.specs.Existing.{FindsOffice, SparesOffice, WhenOpen};
-ghost use Rattle.society_tables.specs.Opening.{HoldsOne, Inspects, IsOpenable, IsOutside, Opens, ShowsAs, SurvivesOpening, Tells, TellsFailure, TellsOffice};
-ghost use Rattle.society_tables.specs.Rebuilding.{Passes, ShowsBook};
+ghost use Rattle.society_tables.specs.Opening.{HoldsOne, Inspects, IsOutside, Opens, ShowsAs, SurvivesOpening, TellsFailure, TellsOffice, IsNumbered, HoldsNumbered};
 ghost use Rattle.society_tables.specs.declared.audit_fault.AuditFault.TheVariants as audit;
 ghost use Rattle.society_tables.specs.declared.open_fault.OpenFault.TheVariants as fault;
 ghost use Rattle.society_tables.specs.declared.open_fault.OpenFault.TheVariants.{Damaged, Empty};
+ghost use Rattle.society_rows.specs.Between.{between};
+ghost use Rattle.society_tables.specs.InMemory.{memory_book};
+ghost use Rattle.society_tables.specs.OpenSteps.{TellsOfOffice, PassesNumbered, PassesBook, PassesOffice, AuditsOffice, WasOpenable, TellsCommitted, ShowsCommitted};
 
 use crate::audit_fault::AuditFault;
 use crate::comparing::{listed, tables_agree};
@@ -27,12 +28,14 @@ use crate::rebuilding::rebuild;
 use crate::{OpenFault, Tables};
 use share_rules::Office;
 use society_core::Store;
-use society_rows::{Found, OfficeRow, RowFault, TableName, are_numbered, create, layout_found};
+use society_rows::{
+    Found, Idle, OfficeRow, RowFault, TableName, are_numbered, create, layout_found,
+};
 use sqlite::{Alter, Connection, MemStore, Row};
 use std::alloc::Global;
 
-/// That the rows of offices are the one row of this office; `Schema` where it cannot be read.
-fn is_office(rows: &[Row], office: &Office) -> Result<(), OpenFault>
+// That the rows of offices are the one row of this office; `Schema` where it cannot be read.
+fn check_office(rows: &[Row], office: &Office) -> Result<(), OpenFault>
     ensures same { IfOk result (λ _. rows.now ≡ office_row office.now ∷ []) }
     ensures told { IfErr result (TellsOffice office.now rows.now) }
     ensures other { IfErr result (λ e. e ≢ Damaged) }
@@ -55,43 +58,35 @@ fn is_office(rows: &[Row], office: &Office) -> Result<(), OpenFault>
     }
 }
 
-/// That the tables are those of this office.
-fn office_agrees<S: Alter>(conn: &mut Connection<S>, office: &Office) -> Result<(), OpenFault>
-    requires { conn.old.in_transaction ≡ false }
-    ensures asked { Inspects (state S.Store conn.old) (state S.Store conn.new) result (λ db _. rows_in office_table db ≡ office_row office.now ∷ []) }
-    ensures told { HasCleanDisk (state S.Store conn.new) → HasLayout (state S.Store conn.old).now
-        → IfErr result (TellsOffice office.now (rows_in office_table (state S.Store conn.old).now.trees)) }
-    ensures failed { TellsFailure fault.Store (state S.Store conn.old) (state S.Store conn.new) result }
+// That the tables are those of this office.
+fn office_agrees<S: Alter>(conn: &mut Idle<S>, office: &Office) -> Result<(), OpenFault>
+    ensures asked { between S.Store conn.old conn.new Inspects result (λ db _. rows_in office_table db ≡ office_row office.now ∷ []) }
+    ensures told { between S.Store conn.old conn.new (TellsOfOffice office.now result) }
+    ensures failed { between S.Store conn.old conn.new (TellsFailure fault.Store) result }
     ensures other { IfErr result (λ e. e ≢ Damaged) }
     ensures there { IfErr result (λ e. e ≢ Empty) }
-    ensures idle { conn.new.in_transaction ≡ false }
 {
     let rows = listed(conn, TableName::Office)?;
-    is_office(rows.as_slice(), office)
+    check_office(rows.as_slice(), office)
 }
 
-/// Whether each row of a table has a whole number as its rowid, read in a transaction that is rolled back.
-fn is_numbered<S: Alter>(conn: &mut Connection<S>, table: TableName) -> Result<bool, RowFault>
-    requires { conn.old.in_transaction ≡ false }
-    ensures asked { Asks (state S.Store conn.old) (state S.Store conn.new) result
-        (λ db yes. IsTrue yes ↔ AreNumbered (table_called table) db) }
-    ensures medium { ErrsByMedium (state S.Store conn.old) (state S.Store conn.new) result }
-    ensures idle { conn.new.in_transaction ≡ false }
+// Whether each row of a table has a whole number as its rowid, read in a transaction that is rolled back.
+fn is_numbered<S: Alter>(conn: &mut Idle<S>, table: TableName) -> Result<bool, RowFault>
+    ensures asked { between S.Store conn.old conn.new Asks result (λ db yes. IsTrue yes ↔ AreNumbered (table_called table) db) }
+    ensures medium { between S.Store conn.old conn.new ErrsByMedium result }
 {
-    let mut tx = conn.transaction();
+    conn.see_last_commit();
+    let mut tx = conn.connection.transaction();
     let yes = are_numbered(&mut tx, table);
     tx.rollback();
     yes
 }
 
-/// That each row of a table has a whole number as its rowid; else `Damaged`.
-fn has_numbers<S: Alter>(conn: &mut Connection<S>, table: TableName) -> Result<(), AuditFault>
-    requires { conn.old.in_transaction ≡ false }
-    ensures asked { Inspects (state S.Store conn.old) (state S.Store conn.new) result (λ db _. AreNumbered (table_called table) db) }
-    ensures passes { HasCleanDisk (state S.Store conn.new) → (IsTrue (state S.Store conn.old).is_open → HasLayout (state S.Store conn.old).now × AreNumbered (table_called table) (state S.Store conn.old).now.trees)
-        → Passes result (λ _. ⊤) }
-    ensures failed { TellsFailure audit.Store (state S.Store conn.old) (state S.Store conn.new) result }
-    ensures idle { conn.new.in_transaction ≡ false }
+// That each row of a table has a whole number as its rowid; else `Damaged`.
+fn check_numbers<S: Alter>(conn: &mut Idle<S>, table: TableName) -> Result<(), AuditFault>
+    ensures asked { between S.Store conn.old conn.new Inspects result (λ db _. AreNumbered (table_called table) db) }
+    ensures passes { between S.Store conn.old conn.new (PassesNumbered (table_called table) result) }
+    ensures failed { between S.Store conn.old conn.new (TellsFailure audit.Store) result }
 {
     if is_numbered(conn, table)? {
         Ok(())
@@ -100,126 +95,90 @@ fn has_numbers<S: Alter>(conn: &mut Connection<S>, table: TableName) -> Result<(
     }
 }
 
-/// That what is put over another row has a whole number as its rowid.
-fn fronts_and_balances_numbered<S: Alter>(conn: &mut Connection<S>) -> Result<(), AuditFault>
-    requires { conn.old.in_transaction ≡ false }
-    ensures asked { Inspects (state S.Store conn.old) (state S.Store conn.new) result
-        (λ db _. AreNumbered fronts db × AreNumbered balances db) }
-    ensures passes { (o : OfficeValue) → (b : Book) → HasCleanDisk (state S.Store conn.new) → ShowsBook o b (state S.Store conn.old) → Passes result (λ _. ⊤) }
-    ensures failed { TellsFailure audit.Store (state S.Store conn.old) (state S.Store conn.new) result }
-    ensures idle { conn.new.in_transaction ≡ false }
+// That what is put over another row has a whole number as its rowid.
+fn fronts_and_balances_numbered<S: Alter>(conn: &mut Idle<S>) -> Result<(), AuditFault>
+    ensures asked { between S.Store conn.old conn.new Inspects result (λ db _. IsNumbered db) }
+    ensures passes { (o : OfficeValue) → (b : Book) → between S.Store conn.old conn.new (PassesBook o b result) }
+    ensures failed { between S.Store conn.old conn.new (TellsFailure audit.Store) result }
 {
-    let _settled = conn.is_autocommit();
-    has_numbers(conn, TableName::Fronts)?;
-    has_numbers(conn, TableName::Balances)
+    check_numbers(conn, TableName::Fronts)?;
+    check_numbers(conn, TableName::Balances)
 }
 
-/// That the tables hold what these tables in memory hold.
-fn agrees_with<S: Alter>(
-    conn: &mut Connection<S>,
-    tables: Tables<MemStore>,
-) -> Result<(), AuditFault>
-    requires { conn.old.in_transaction ≡ false }
-    ensures agree { Inspects (state S.Store conn.old) (state S.Store conn.new) result
-        (λ db _. AreNumbered fronts db × AreNumbered balances db → HoldsOne (⟦<Tables<MemStore> as Store>⟧.state tables).office db) }
-    ensures passes { HasCleanDisk (state S.Store conn.new) → ShowsBook (⟦<Tables<MemStore> as Store>⟧.state tables).office (⟦<Tables<MemStore> as Store>⟧.state tables).book (state S.Store conn.old) → Passes result (λ _. ⊤) }
-    ensures failed { TellsFailure audit.Store (state S.Store conn.old) (state S.Store conn.new) result }
-    ensures idle { conn.new.in_transaction ≡ false }
+// That the tables hold what these tables in memory hold.
+fn agrees_with<S: Alter>(conn: &mut Idle<S>, tables: Tables<MemStore>) -> Result<(), AuditFault>
+    ensures agree { between S.Store conn.old conn.new Inspects result (λ db _. HoldsNumbered tables.office db) }
+    ensures passes { between S.Store conn.old conn.new (PassesBook tables.office (memory_book tables.conn) result) }
+    ensures failed { between S.Store conn.old conn.new (TellsFailure audit.Store) result }
 {
-    let mut memory = tables.into_connection();
+    let mut memory = Idle {
+        connection: tables.into_connection(),
+    };
     tables_agree(conn, &mut memory)
 }
 
-/// That the tables hold what their own rows make of an empty book, worked out with all of it in memory.
-fn holds_rebuilt<S: Alter>(
+// That the tables hold what their own rows make of an empty book, worked out with all of it in memory.
+fn check_rebuilt<S: Alter>(
     alloc: Global,
-    conn: &mut Connection<S>,
+    conn: &mut Idle<S>,
     office: &Office,
 ) -> Result<(), AuditFault>
-    requires { conn.old.in_transaction ≡ false }
-    ensures agree { Inspects (state S.Store conn.old) (state S.Store conn.new) result
-        (λ db _. AreNumbered fronts db × AreNumbered balances db → HoldsOne office.now db) }
-    ensures passes { (b : Book) → HasCleanDisk (state S.Store conn.new) → IsSound b → ShowsBook office.now b (state S.Store conn.old) → Passes result (λ _. ⊤) }
-    ensures failed { TellsFailure audit.Store (state S.Store conn.old) (state S.Store conn.new) result }
-    ensures idle { conn.new.in_transaction ≡ false }
+    ensures agree { between S.Store conn.old conn.new Inspects result (λ db _. HoldsNumbered office.now db) }
+    ensures passes { between S.Store conn.old conn.new (PassesOffice office.now result) }
+    ensures failed { between S.Store conn.old conn.new (TellsFailure audit.Store) result }
 {
-    let _settled = conn.is_autocommit();
     let tables = rebuild(alloc, conn, office)?;
     agrees_with(conn, tables)
 }
 
-/// That the tables hold what their own rows make of an empty book: confirmed with one body in memory at a time, and where that
-/// confirms nothing, worked out anew, so that damage is told as damage whatever stopped the confirmation.
-fn holds_own<S: Alter>(
-    alloc: Global,
-    conn: &mut Connection<S>,
-    office: &Office,
-) -> Result<(), AuditFault>
-    requires { conn.old.in_transaction ≡ false }
-    ensures agree { Inspects (state S.Store conn.old) (state S.Store conn.new) result
-        (λ db _. AreNumbered fronts db × AreNumbered balances db → HoldsOne office.now db) }
-    ensures passes { (b : Book) → HasCleanDisk (state S.Store conn.new) → IsSound b → ShowsBook office.now b (state S.Store conn.old) → Passes result (λ _. ⊤) }
-    ensures failed { TellsFailure audit.Store (state S.Store conn.old) (state S.Store conn.new) result }
-    ensures idle { conn.new.in_transaction ≡ false }
+// That the tables hold what their own rows make of an empty book: confirmed with one body in memory at a time, and where that
+// confirms nothing, worked out anew, so that damage is told as damage whatever stopped the confirmation.
+fn check_own<S: Alter>(alloc: Global, conn: &mut Idle<S>, office: &Office) -> Result<(), AuditFault>
+    ensures agree { between S.Store conn.old conn.new Inspects result (λ db _. HoldsNumbered office.now db) }
+    ensures passes { between S.Store conn.old conn.new (PassesOffice office.now result) }
+    ensures failed { between S.Store conn.old conn.new (TellsFailure audit.Store) result }
 {
-    let _settled = conn.is_autocommit();
     match confirm(alloc, conn, office) {
         Ok(()) => Ok(()),
         Err(AuditFault::Memory) => Err(AuditFault::Memory),
-        Err(AuditFault::Damaged | AuditFault::Store) => holds_rebuilt(alloc, conn, office),
+        Err(AuditFault::Damaged | AuditFault::Store) => check_rebuilt(alloc, conn, office),
     }
 }
 
-/// That the tables hold what their own rows make of an empty book, and can be written.
-fn is_whole<S: Alter>(
+// That the tables hold what their own rows make of an empty book, and can be written.
+fn check_whole<S: Alter>(
     alloc: Global,
-    conn: &mut Connection<S>,
+    conn: &mut Idle<S>,
     office: &Office,
 ) -> Result<(), AuditFault>
-    requires { conn.old.in_transaction ≡ false }
-    ensures whole { Inspects (state S.Store conn.old) (state S.Store conn.new) result (λ db _. HoldsOne office.now db) }
-    ensures passes { (b : Book) → HasCleanDisk (state S.Store conn.new) → IsSound b → ShowsBook office.now b (state S.Store conn.old) → Passes result (λ _. ⊤) }
-    ensures failed { TellsFailure audit.Store (state S.Store conn.old) (state S.Store conn.new) result }
-    ensures idle { conn.new.in_transaction ≡ false }
+    ensures whole { between S.Store conn.old conn.new Inspects result (λ db _. HoldsOne office.now db) }
+    ensures passes { between S.Store conn.old conn.new (PassesOffice office.now result) }
+    ensures failed { between S.Store conn.old conn.new (TellsFailure audit.Store) result }
 {
-    let _settled = conn.is_autocommit();
     fronts_and_balances_numbered(conn)?;
-    holds_own(alloc, conn, office)
+    check_own(alloc, conn, office)
 }
 
-/// That the tables are this office's, and whole.
-fn audit<S: Alter>(
-    alloc: Global,
-    conn: &mut Connection<S>,
-    office: &Office,
-) -> Result<(), OpenFault>
-    requires { conn.old.in_transaction ≡ false }
-    ensures whole { Inspects (state S.Store conn.old) (state S.Store conn.new) result (λ db _. HoldsOne office.now db) }
-    ensures told { HasCleanDisk (state S.Store conn.new) → HasLayout (state S.Store conn.old).now
-        → IfErr result (TellsOffice office.now (rows_in office_table (state S.Store conn.old).now.trees)) }
-    ensures damaged { HasCleanDisk (state S.Store conn.new) → HasLayout (state S.Store conn.old).now
-        → IfErr result (λ e. e ≡ Damaged → ¬ Holds office.now (state S.Store conn.old).now.trees) }
-    ensures failed { TellsFailure fault.Store (state S.Store conn.old) (state S.Store conn.new) result }
+// That the tables are this office's, and whole.
+fn audit<S: Alter>(alloc: Global, conn: &mut Idle<S>, office: &Office) -> Result<(), OpenFault>
+    ensures whole { between S.Store conn.old conn.new Inspects result (λ db _. HoldsOne office.now db) }
+    ensures told { between S.Store conn.old conn.new (TellsOfOffice office.now result) }
+    ensures damaged { between S.Store conn.old conn.new (λ old new. HasCleanDisk new → HasLayout old.now → IfErr result (λ e. e ≡ Damaged → ¬ HoldsOwnBook office.now old.now.trees)) }
+    ensures failed { between S.Store conn.old conn.new (TellsFailure fault.Store) result }
     ensures there { IfErr result (λ e. e ≢ Empty) }
-    ensures idle { conn.new.in_transaction ≡ false }
 {
-    let _settled = conn.is_autocommit();
     office_agrees(conn, office)?;
-    is_whole(alloc, conn, office)?;
+    check_whole(alloc, conn, office)?;
     Ok(())
 }
 
-/// Makes the tables of an office to which nothing has come.
-fn begin<S: Alter>(conn: &mut Connection<S>, office: &Office) -> Result<(), OpenFault>
-    requires idle { conn.old.in_transaction ≡ false }
+// Makes the tables of an office to which nothing has come.
+fn begin<S: Alter>(conn: &mut Idle<S>, office: &Office) -> Result<(), OpenFault>
     requires bare { IsBare (state S.Store conn.old).now }
-    ensures created { HasCleanDisk (state S.Store conn.new)
-        → OnOk result (Begins (office_row office.now) (state S.Store conn.new).now
-        × ((state S.Store conn.new).now ≡ (state S.Store conn.new).committed)) }
-    ensures neither { HasCleanDisk (state S.Store conn.new) → OnErr result (ShowsAs (state S.Store conn.old).committed (state S.Store conn.new)) }
+    ensures created { between S.Store conn.old conn.new (λ old new. HasCleanDisk new → OnOk result (Begins (office_row office.now) new.now × (new.now ≡ new.committed))) }
+    ensures neither { between S.Store conn.old conn.new (λ old new. HasCleanDisk new → OnErr result (ShowsAs old.committed new)) }
     ensures told { IfErr result IsOutside }
-    ensures idle { conn.new.in_transaction ≡ false }
-    ensures crash { Survives (state S.Store conn.old) (state S.Store conn.new) (IsNewBook (office_row office.now)) }
+    ensures crash { between S.Store conn.old conn.new Survives (IsNewBook (office_row office.now)) }
 {
     let row = OfficeRow {
         society: u32::from(office.society),
@@ -230,18 +189,11 @@ fn begin<S: Alter>(conn: &mut Connection<S>, office: &Office) -> Result<(), Open
     Ok(())
 }
 
-/// Makes a database an office's tables, or leaves it as it is.
-fn prepare<S: Alter>(
-    alloc: Global,
-    conn: &mut Connection<S>,
-    office: &Office,
-) -> Result<(), OpenFault>
-    requires { conn.old.in_transaction ≡ false }
-    ensures opens { Opens office.now (state S.Store conn.old) (state S.Store conn.new) result }
+// Makes a database an office's tables, or leaves it as it is.
+fn prepare<S: Alter>(alloc: Global, conn: &mut Idle<S>, office: &Office) -> Result<(), OpenFault>
+    ensures opens { between S.Store conn.old conn.new (Opens office.now) result }
     ensures begins { IfErr result (λ e. e ≢ Empty) }
-    ensures idle { conn.new.in_transaction ≡ false }
 {
-    let _settled = conn.is_autocommit();
     match layout_found(conn) {
         Found::Nothing => begin(conn, office),
         Found::Layout => audit(alloc, conn, office),
@@ -249,8 +201,8 @@ fn prepare<S: Alter>(
     }
 }
 
-/// Whether a database has no table, index or view; no row is read.
-fn is_bare<S: Alter>(conn: &Connection<S>) -> bool
+// Whether a database has no table, index or view; no row is read.
+fn is_bare<S: Alter>(conn: &Idle<S>) -> bool
     ensures { IsTrue result ↔ IsBare (state S.Store conn.now).now }
 {
     matches!(layout_found(conn), Found::Nothing)
@@ -274,23 +226,21 @@ impl<S: Alter> Tables<S> {
         ensures office { IfOk result (λ t. (⟦<Tables<S> as Store>⟧.state t).office ≡ office.now) }
         // A store that has counted all failures refuses every call.
         ensures uncounted { IfOk result (λ t. (⟦<Tables<S> as Store>⟧.state t).failures ≡ 0) }
-        ensures begun { IfOk result (λ t. HasCleanDisk (state S.Store t.conn) → IsTrue (state S.Store connection).is_open → IsBare (state S.Store connection).committed → (⟦<Tables<S> as Store>⟧.state t).book ≡ empty_book) }
-        ensures audited { IfOk result (λ t. HasCleanDisk (state S.Store t.conn) → IsTrue (state S.Store connection).is_open → HasLayout (state S.Store connection).committed
-            → HoldsOne office.now (state S.Store connection).committed.trees × ShowsAs (state S.Store connection).committed (state S.Store t.conn)) }
-        ensures known { IfOk result (λ t. HasCleanDisk (state S.Store t.conn) → IsTrue (state S.Store connection).is_open → IsOpenable (state S.Store connection).committed) }
-        ensures told { IfErr result (λ e. HasCleanDisk (state S.Store e.1) → IsTrue (state S.Store connection).is_open → Tells office.now (state S.Store connection).committed e.0) }
+        ensures begun { IfOk result (λ t. WhenOpen (state S.Store connection) (state S.Store t.conn) (IsBare (state S.Store connection).committed → (⟦<Tables<S> as Store>⟧.state t).book ≡ empty_book)) }
+        ensures audited { IfOk result (λ t. between S.Store connection t.conn (AuditsOffice office.now)) }
+        ensures known { IfOk result (λ t. between S.Store connection t.conn WasOpenable) }
+        ensures told { IfErr result (λ e. between S.Store connection e.1 (TellsCommitted office.now e.0)) }
         ensures begins { IfErr result (λ e. e.0 ≢ Empty) }
-        ensures opens { IfErr result (λ e. HasCleanDisk (state S.Store e.1) → IsTrue (state S.Store connection).is_open → HasLayout (state S.Store connection).committed → HoldsOne office.now (state S.Store connection).committed.trees → IsOutside e.0) }
-        ensures failed { IfErr result (λ e. WhenOpen (state S.Store connection) (state S.Store e.1)
-            (HasLayout (state S.Store connection).committed → e.0 ≡ fault.Store → MayFail (state S.Store connection) (state S.Store e.1))) }
-        ensures unchanged { IfErr result (λ e. HasCleanDisk (state S.Store e.1) → ShowsAs (state S.Store connection).committed (state S.Store e.1)) }
+        ensures opens { IfErr result (λ e. WhenOpen (state S.Store connection) (state S.Store e.1) (SparesOffice office.now (state S.Store connection).committed e.0)) }
+        ensures failed { IfErr result (λ e. between S.Store connection e.1 (λ old new. WhenOpen old new (HasLayout old.committed → e.0 ≡ fault.Store → MayFail old new))) }
+        ensures unchanged { IfErr result (λ e. between S.Store connection e.1 ShowsCommitted) }
         ensures idle { IfErr result (λ e. e.1.in_transaction ≡ false) }
-        ensures crash { MatchResult result (λ t. SurvivesOpening office.now (state S.Store connection) (state S.Store t.conn)) (λ e. SurvivesOpening office.now (state S.Store connection) (state S.Store e.1)) }
+        ensures crash { MatchResult result (λ t. between S.Store connection t.conn (SurvivesOpening office.now)) (λ e. between S.Store connection e.1 (SurvivesOpening office.now)) }
     {
-        let mut conn = connection;
+        let mut conn = Idle { connection };
         match prepare(alloc, &mut conn, office) {
             Ok(()) => Ok(Tables::over(conn, office)),
-            Err(fault) => Err((fault, conn)),
+            Err(fault) => Err((fault, conn.into_connection())),
         }
     }
 
@@ -310,20 +260,20 @@ impl<S: Alter> Tables<S> {
         ensures uncounted { IfOk result (λ t. (⟦<Tables<S> as Store>⟧.state t).failures ≡ 0) }
         ensures empty { IsTrue (state S.Store connection).is_open → IsBare (state S.Store connection).committed → IsErrAnd result (λ e. (e.0 ≡ Empty) × (e.1 ≡ connection)) }
         ensures audited { IfOk result (λ t. FindsOffice office.now (state S.Store connection) (state S.Store t.conn)) }
-        ensures told { IfErr result (λ e. WhenOpen (state S.Store connection) (state S.Store e.1) (Tells office.now (state S.Store connection).committed e.0)) }
+        ensures told { IfErr result (λ e. between S.Store connection e.1 (TellsCommitted office.now e.0)) }
         ensures opens { IfErr result (λ e. WhenOpen (state S.Store connection) (state S.Store e.1) (SparesOffice office.now (state S.Store connection).committed e.0)) }
         ensures untouched { IfErr result (λ e. e.0 ≡ Empty → e.1 ≡ connection) }
-        ensures failed { IfErr result (λ e. WhenOpen (state S.Store connection) (state S.Store e.1)
-            (HasLayout (state S.Store connection).committed → e.0 ≡ fault.Store → MayFail (state S.Store connection) (state S.Store e.1))) }
-        ensures unchanged { IfErr result (λ e. HasCleanDisk (state S.Store e.1) → ShowsAs (state S.Store connection).committed (state S.Store e.1)) }
+        ensures failed { IfErr result (λ e. between S.Store connection e.1 (λ old new. WhenOpen old new (HasLayout old.committed → e.0 ≡ fault.Store → MayFail old new))) }
+        ensures unchanged { IfErr result (λ e. between S.Store connection e.1 ShowsCommitted) }
         ensures idle { IfErr result (λ e. e.1.in_transaction ≡ false) }
         // A crash leaves what it left before.
-        ensures crash { MatchResult result (λ t. Survives (state S.Store connection) (state S.Store t.conn) (λ _. ⊥)) (λ e. Survives (state S.Store connection) (state S.Store e.1) (λ _. ⊥)) }
+        ensures crash { MatchResult result (λ t. between S.Store connection t.conn Survives (λ _. ⊥)) (λ e. between S.Store connection e.1 Survives (λ _. ⊥)) }
     {
-        let _settled = connection.is_autocommit();
-        if is_bare(&connection) {
-            return Err((OpenFault::Empty, connection));
+        let conn = Idle { connection };
+        conn.see_last_commit();
+        if is_bare(&conn) {
+            return Err((OpenFault::Empty, conn.into_connection()));
         }
-        Tables::open(alloc, connection, office)
+        Tables::open(alloc, conn.into_connection(), office)
     }
 }

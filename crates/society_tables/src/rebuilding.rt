@@ -1,31 +1,34 @@
 //! The book of a database's own rows, built anew in memory.
-ghost use Rattle.std.specs.Prelude.{◌≡◌, ◌≢◌, ℕ, pos, Some, None, map, filter, IfErr, IfOk, ⊤, false};
-ghost use Rattle.sqlite.specs.Held.{state};
+ghost use Rattle.std.specs.Prelude.{◌≡◌, ◌≢◌, ℕ, pos, Some, None, map, filter, IfErr, IfOk, ⊤};
 ghost use Rattle.std.specs.List.{AllByRecursion};
 ghost use Rattle.sqlite.specs.State.{HasCleanDisk};
-ghost use Rattle.society_core.specs.Book.{Book, IsSound, empty_book, order_at};
+ghost use Rattle.society_core.specs.Book.{Book, empty_book};
 ghost use Rattle.society_core.specs.Orders.{order_fault, order_of};
 ghost use Rattle.society_core.specs.declared.refusal.Refusal.TheVariants.{Unavailable};
-ghost use Rattle.society_book.specs.BookRows.{cut_rows, is_of_pool, paid_rows, pool_rows};
-ghost use Rattle.society_book.specs.Columns.{HasRows, number_at};
+ghost use Rattle.society_book.specs.BookRows.{is_of_pool};
 ghost use Rattle.society_tables.specs.Opening.{Inspects, TellsFailure};
 ghost use Rattle.society_tables.specs.declared.audit_fault.AuditFault.TheVariants.{Store};
-ghost use Rattle.society_tables.specs.Rebuilding.{AllReported, AllSent, ClosedOn, ComesFrom, IsAside, IsClosed, IsCut, IsPaid, IsReported, IsSent, IsUpToPools, IsWithin, Passes, ReportedOn, SentOn, cut_pair, paid_pair, sent_alone, without_pools};
+ghost use Rattle.society_tables.specs.Rebuilding.{ComesFrom, IsAside, IsCut, IsPaid, Passes, cut_pair, paid_pair, sent_alone, without_pools};
+ghost use Rattle.society_rows.specs.Between.{between};
+ghost use Rattle.society_tables.specs.InMemory.{memory_book};
+ghost use Rattle.society_tables.specs.Again.{PassesSent, PassesReported, PassesClosed, PassesOrder, PassesPool, PassesAllSent, PassesAllReported, PassesPools, PassesFrom, whole_book, PassesRowsOfPools, PassesRowsOfCuts};
 
 use crate::Tables;
 use crate::audit_fault::AuditFault;
 use crate::comparing::rows_of_table;
 use share_rules::Office;
 use society_core::{Desk, OrderError, PoolOrder, Refusal, ReturnKey, Store};
-use society_rows::{PoolCutRow, PoolReturnRow, PoolRow, ReturnRow, TableName, TransmissionRow};
-use sqlite::{Alter, Connection, MemStore, Row};
+use society_rows::{
+    Idle, PoolCutRow, PoolReturnRow, PoolRow, ReturnRow, TableName, TransmissionRow,
+};
+use sqlite::{Alter, MemStore, Row};
 use std::alloc::Global;
 use work_ids::{PoolNumber, Reporter, ReturnNumber, SenderKey, TransmissionNumber};
 
 /// A desk over tables in memory, to which the requests of a book come again.
 pub(crate) type Anew = Desk<Tables<MemStore>>;
 
-/// Want of memory, or damage where the desk refuses.
+// Want of memory, or damage where the desk refuses.
 fn fault_of_refusal(refusal: Refusal) -> AuditFault
     ensures aside { refusal ≡ Unavailable → IsAside result }
     ensures judged { result ≢ Store }
@@ -36,11 +39,10 @@ fn fault_of_refusal(refusal: Refusal) -> AuditFault
     }
 }
 
-/// Puts the transmission of a row.
+// Puts the transmission of a row.
 fn put_transmission(alloc: Global, desk: &mut Anew, row: &Row) -> Result<(), AuditFault>
-    ensures office { (⟦<Tables<MemStore> as Store>⟧.state desk.new).office ≡ (⟦<Tables<MemStore> as Store>⟧.state desk.old).office }
-    ensures passes { (b : Book) → IsSound b → IsSent b row.now → IsWithin (⟦<Tables<MemStore> as Store>⟧.state desk.old).book.transmissions b.transmissions
-        → Passes result (λ _. SentOn b (⟦<Tables<MemStore> as Store>⟧.state desk.old).book row.now (⟦<Tables<MemStore> as Store>⟧.state desk.new).book) }
+    ensures office { desk.new.office ≡ desk.old.office }
+    ensures passes { PassesSent row.now (memory_book desk.old.conn) (memory_book desk.new.conn) result }
     ensures judged { IfErr result (λ e. e ≢ Store) }
 {
     let Ok(row) = TransmissionRow::from_row(row) else {
@@ -58,11 +60,10 @@ fn put_transmission(alloc: Global, desk: &mut Anew, row: &Row) -> Result<(), Aud
     }
 }
 
-/// Puts the return of a row.
+// Puts the return of a row.
 fn put_return(alloc: Global, desk: &mut Anew, row: &Row) -> Result<(), AuditFault>
-    ensures office { (⟦<Tables<MemStore> as Store>⟧.state desk.new).office ≡ (⟦<Tables<MemStore> as Store>⟧.state desk.old).office }
-    ensures passes { (b : Book) → IsSound b → IsReported b row.now → IsWithin (⟦<Tables<MemStore> as Store>⟧.state desk.old).book.returns b.returns
-        → Passes result (λ _. ReportedOn b (⟦<Tables<MemStore> as Store>⟧.state desk.old).book row.now (⟦<Tables<MemStore> as Store>⟧.state desk.new).book) }
+    ensures office { desk.new.office ≡ desk.old.office }
+    ensures passes { PassesReported row.now (memory_book desk.old.conn) (memory_book desk.new.conn) result }
     ensures judged { IfErr result (λ e. e ≢ Store) }
 {
     let Ok(row) = ReturnRow::from_row(row) else {
@@ -81,7 +82,7 @@ fn put_return(alloc: Global, desk: &mut Anew, row: &Row) -> Result<(), AuditFaul
     }
 }
 
-/// The senders and the numbers of a pool's cut, out of the rows of all cuts.
+// The senders and the numbers of a pool's cut, out of the rows of all cuts.
 fn cut_among(alloc: Global, rows: &[Row], pool: u32) -> Result<Vec<(SenderKey, u64)>, AuditFault>
     ensures passes { AllByRecursion IsCut rows.now → Passes result (λ cut. cut.items ≡ map cut_pair (filter (is_of_pool 0 pool) rows.now)) }
     ensures judged { IfErr result (λ e. e ≢ Store) }
@@ -101,7 +102,7 @@ fn cut_among(alloc: Global, rows: &[Row], pool: u32) -> Result<Vec<(SenderKey, u
     Ok(cut)
 }
 
-/// The reporters and the numbers of the returns that a pool pays, out of the rows of all that are paid.
+// The reporters and the numbers of the returns that a pool pays, out of the rows of all that are paid.
 fn returns_among(alloc: Global, rows: &[Row], pool: u32) -> Result<Vec<(Reporter, u64)>, AuditFault>
     ensures passes { AllByRecursion IsPaid rows.now → Passes result (λ returns. returns.items ≡ map paid_pair (filter (is_of_pool 2 pool) rows.now)) }
     ensures judged { IfErr result (λ e. e ≢ Store) }
@@ -121,7 +122,7 @@ fn returns_among(alloc: Global, rows: &[Row], pool: u32) -> Result<Vec<(Reporter
     Ok(returns)
 }
 
-/// The order of an amount, a cut and returns.
+// The order of an amount, a cut and returns.
 fn order_with(
     alloc: Global,
     amount: i64,
@@ -141,16 +142,15 @@ fn order_with(
     }
 }
 
-/// Closes a pool by its order.
+// Closes a pool by its order.
 fn close_with(
     alloc: Global,
     desk: &mut Anew,
     pool: PoolNumber,
     order: &PoolOrder,
 ) -> Result<(), AuditFault>
-    ensures office { (⟦<Tables<MemStore> as Store>⟧.state desk.new).office ≡ (⟦<Tables<MemStore> as Store>⟧.state desk.old).office }
-    ensures passes { (b : Book) → IsSound b → order_at b pool ≡ Some order.now → IsUpToPools b (⟦<Tables<MemStore> as Store>⟧.state desk.old).book
-        → Passes result (λ _. ClosedOn b (⟦<Tables<MemStore> as Store>⟧.state desk.old).book pool order.now (⟦<Tables<MemStore> as Store>⟧.state desk.new).book) }
+    ensures office { desk.new.office ≡ desk.old.office }
+    ensures passes { PassesClosed pool order.now (memory_book desk.old.conn) (memory_book desk.new.conn) result }
     ensures judged { IfErr result (λ e. e ≢ Store) }
 {
     match desk.close_pool(alloc, pool, order) {
@@ -166,9 +166,7 @@ pub(crate) fn pool_of_row(
     cuts: &[Row],
     paid: &[Row],
 ) -> Result<(PoolNumber, PoolOrder), AuditFault>
-    ensures passes { (b : Book) → IsSound b → (closed : IsClosed b row.now)
-        → HasRows (is_of_pool 0) (cut_rows b) cuts.now → HasRows (is_of_pool 2) (paid_rows b) paid.now
-        → Passes result (λ it. (it.0 ≡ number_at 0 row.now) × (it.1 ≡ closed.order)) }
+    ensures passes { PassesOrder row.now cuts.now paid.now result }
     ensures judged { IfErr result (λ e. e ≢ Store) }
 {
     let Ok(row) = PoolRow::from_row(row) else {
@@ -183,7 +181,7 @@ pub(crate) fn pool_of_row(
     Ok((pool, order))
 }
 
-/// Closes the pool of a row, with the rows of all cuts and of all returns that are paid.
+// Closes the pool of a row, with the rows of all cuts and of all returns that are paid.
 fn close_pool(
     alloc: Global,
     desk: &mut Anew,
@@ -191,22 +189,18 @@ fn close_pool(
     cuts: &[Row],
     paid: &[Row],
 ) -> Result<(), AuditFault>
-    ensures office { (⟦<Tables<MemStore> as Store>⟧.state desk.new).office ≡ (⟦<Tables<MemStore> as Store>⟧.state desk.old).office }
-    ensures passes { (b : Book) → IsSound b → (closed : IsClosed b row.now)
-        → HasRows (is_of_pool 0) (cut_rows b) cuts.now → HasRows (is_of_pool 2) (paid_rows b) paid.now
-        → IsUpToPools b (⟦<Tables<MemStore> as Store>⟧.state desk.old).book
-        → Passes result (λ _. ClosedOn b (⟦<Tables<MemStore> as Store>⟧.state desk.old).book (number_at 0 row.now) closed.order (⟦<Tables<MemStore> as Store>⟧.state desk.new).book) }
+    ensures office { desk.new.office ≡ desk.old.office }
+    ensures passes { PassesPool row.now cuts.now paid.now (memory_book desk.old.conn) (memory_book desk.new.conn) result }
     ensures judged { IfErr result (λ e. e ≢ Store) }
 {
     let (pool, order) = pool_of_row(alloc, row, cuts, paid)?;
     close_with(alloc, desk, pool, &order)
 }
 
-/// Puts the transmissions of rows.
+// Puts the transmissions of rows.
 fn put_transmissions(alloc: Global, desk: &mut Anew, rows: &[Row]) -> Result<(), AuditFault>
-    ensures office { (⟦<Tables<MemStore> as Store>⟧.state desk.new).office ≡ (⟦<Tables<MemStore> as Store>⟧.state desk.old).office }
-    ensures passes { (b : Book) → IsSound b → AllByRecursion (IsSent b) rows.now → IsWithin (⟦<Tables<MemStore> as Store>⟧.state desk.old).book.transmissions b.transmissions
-        → Passes result (λ _. AllSent b (⟦<Tables<MemStore> as Store>⟧.state desk.old).book rows.now (⟦<Tables<MemStore> as Store>⟧.state desk.new).book) }
+    ensures office { desk.new.office ≡ desk.old.office }
+    ensures passes { PassesAllSent rows.now (memory_book desk.old.conn) (memory_book desk.new.conn) result }
     ensures judged { IfErr result (λ e. e ≢ Store) }
 {
     for row in rows {
@@ -215,11 +209,10 @@ fn put_transmissions(alloc: Global, desk: &mut Anew, rows: &[Row]) -> Result<(),
     Ok(())
 }
 
-/// Puts the returns of rows.
+// Puts the returns of rows.
 fn put_returns(alloc: Global, desk: &mut Anew, rows: &[Row]) -> Result<(), AuditFault>
-    ensures office { (⟦<Tables<MemStore> as Store>⟧.state desk.new).office ≡ (⟦<Tables<MemStore> as Store>⟧.state desk.old).office }
-    ensures passes { (b : Book) → IsSound b → AllByRecursion (IsReported b) rows.now → IsWithin (⟦<Tables<MemStore> as Store>⟧.state desk.old).book.returns b.returns
-        → Passes result (λ _. AllReported b (⟦<Tables<MemStore> as Store>⟧.state desk.old).book rows.now (⟦<Tables<MemStore> as Store>⟧.state desk.new).book) }
+    ensures office { desk.new.office ≡ desk.old.office }
+    ensures passes { PassesAllReported rows.now (memory_book desk.old.conn) (memory_book desk.new.conn) result }
     ensures judged { IfErr result (λ e. e ≢ Store) }
 {
     for row in rows {
@@ -228,7 +221,7 @@ fn put_returns(alloc: Global, desk: &mut Anew, rows: &[Row]) -> Result<(), Audit
     Ok(())
 }
 
-/// Closes the pools of rows, with the rows of all cuts and of all returns that are paid.
+// Closes the pools of rows, with the rows of all cuts and of all returns that are paid.
 fn close_pools(
     alloc: Global,
     desk: &mut Anew,
@@ -236,11 +229,8 @@ fn close_pools(
     cuts: &[Row],
     paid: &[Row],
 ) -> Result<(), AuditFault>
-    ensures office { (⟦<Tables<MemStore> as Store>⟧.state desk.new).office ≡ (⟦<Tables<MemStore> as Store>⟧.state desk.old).office }
-    ensures passes { (b : Book) → IsSound b
-        → HasRows (is_of_pool 0) (pool_rows b) rows.now → HasRows (is_of_pool 0) (cut_rows b) cuts.now → HasRows (is_of_pool 2) (paid_rows b) paid.now
-        → (⟦<Tables<MemStore> as Store>⟧.state desk.old).book ≡ without_pools b
-        → Passes result (λ _. (⟦<Tables<MemStore> as Store>⟧.state desk.new).book ≡ b) }
+    ensures office { desk.new.office ≡ desk.old.office }
+    ensures passes { PassesPools rows.now cuts.now paid.now (memory_book desk.old.conn) (memory_book desk.new.conn) result }
     ensures judged { IfErr result (λ e. e ≢ Store) }
 {
     for row in rows {
@@ -249,135 +239,110 @@ fn close_pools(
     Ok(())
 }
 
-/// Puts the transmissions of a database.
+// Puts the transmissions of a database.
 fn transmissions_from<S: Alter>(
     alloc: Global,
-    conn: &mut Connection<S>,
+    conn: &mut Idle<S>,
     desk: &mut Anew,
 ) -> Result<(), AuditFault>
-    requires { conn.old.in_transaction ≡ false }
-    ensures asked { Inspects (state S.Store conn.old) (state S.Store conn.new) result (λ _ _. ⊤) }
-    ensures failed { TellsFailure Store (state S.Store conn.old) (state S.Store conn.new) result }
-    ensures idle { conn.new.in_transaction ≡ false }
-    ensures office { (⟦<Tables<MemStore> as Store>⟧.state desk.new).office ≡ (⟦<Tables<MemStore> as Store>⟧.state desk.old).office }
-    ensures passes { (b : Book) → HasCleanDisk (state S.Store conn.new) → ComesFrom b (state S.Store conn.old) → (⟦<Tables<MemStore> as Store>⟧.state desk.old).book ≡ empty_book
-        → Passes result (λ _. (⟦<Tables<MemStore> as Store>⟧.state desk.new).book ≡ sent_alone b) }
+    ensures asked { between S.Store conn.old conn.new Inspects result (λ _ _. ⊤) }
+    ensures failed { between S.Store conn.old conn.new (TellsFailure Store) result }
+    ensures office { desk.new.office ≡ desk.old.office }
+    ensures passes { between S.Store conn.old conn.new (PassesFrom (λ _. empty_book) sent_alone (memory_book desk.old.conn) (memory_book desk.new.conn) result) }
 {
     let rows = rows_of_table(conn, TableName::Transmissions)?;
     put_transmissions(alloc, desk, rows.as_slice())
 }
 
-/// Puts the returns of a database.
+// Puts the returns of a database.
 fn returns_from<S: Alter>(
     alloc: Global,
-    conn: &mut Connection<S>,
+    conn: &mut Idle<S>,
     desk: &mut Anew,
 ) -> Result<(), AuditFault>
-    requires { conn.old.in_transaction ≡ false }
-    ensures asked { Inspects (state S.Store conn.old) (state S.Store conn.new) result (λ _ _. ⊤) }
-    ensures failed { TellsFailure Store (state S.Store conn.old) (state S.Store conn.new) result }
-    ensures idle { conn.new.in_transaction ≡ false }
-    ensures office { (⟦<Tables<MemStore> as Store>⟧.state desk.new).office ≡ (⟦<Tables<MemStore> as Store>⟧.state desk.old).office }
-    ensures passes { (b : Book) → HasCleanDisk (state S.Store conn.new) → ComesFrom b (state S.Store conn.old) → (⟦<Tables<MemStore> as Store>⟧.state desk.old).book ≡ sent_alone b
-        → Passes result (λ _. (⟦<Tables<MemStore> as Store>⟧.state desk.new).book ≡ without_pools b) }
+    ensures asked { between S.Store conn.old conn.new Inspects result (λ _ _. ⊤) }
+    ensures failed { between S.Store conn.old conn.new (TellsFailure Store) result }
+    ensures office { desk.new.office ≡ desk.old.office }
+    ensures passes { between S.Store conn.old conn.new (PassesFrom sent_alone without_pools (memory_book desk.old.conn) (memory_book desk.new.conn) result) }
 {
     let rows = rows_of_table(conn, TableName::Returns)?;
     put_returns(alloc, desk, rows.as_slice())
 }
 
-/// Closes the pools of a database, with the rows of all cuts.
+// Closes the pools of a database, with the rows of all cuts.
 fn pools_with_cuts<S: Alter>(
     alloc: Global,
-    conn: &mut Connection<S>,
+    conn: &mut Idle<S>,
     desk: &mut Anew,
     rows: &[Row],
     cuts: &[Row],
 ) -> Result<(), AuditFault>
-    requires { conn.old.in_transaction ≡ false }
-    ensures asked { Inspects (state S.Store conn.old) (state S.Store conn.new) result (λ _ _. ⊤) }
-    ensures failed { TellsFailure Store (state S.Store conn.old) (state S.Store conn.new) result }
-    ensures idle { conn.new.in_transaction ≡ false }
-    ensures office { (⟦<Tables<MemStore> as Store>⟧.state desk.new).office ≡ (⟦<Tables<MemStore> as Store>⟧.state desk.old).office }
-    ensures passes { (b : Book) → HasCleanDisk (state S.Store conn.new) → ComesFrom b (state S.Store conn.old) → HasRows (is_of_pool 0) (pool_rows b) rows.now → HasRows (is_of_pool 0) (cut_rows b) cuts.now → (⟦<Tables<MemStore> as Store>⟧.state desk.old).book ≡ without_pools b
-        → Passes result (λ _. (⟦<Tables<MemStore> as Store>⟧.state desk.new).book ≡ b) }
+    ensures asked { between S.Store conn.old conn.new Inspects result (λ _ _. ⊤) }
+    ensures failed { between S.Store conn.old conn.new (TellsFailure Store) result }
+    ensures office { desk.new.office ≡ desk.old.office }
+    ensures passes { between S.Store conn.old conn.new (PassesRowsOfCuts rows.now cuts.now (memory_book desk.old.conn) (memory_book desk.new.conn) result) }
 {
     let paid = rows_of_table(conn, TableName::PoolReturns)?;
     close_pools(alloc, desk, rows, cuts, paid.as_slice())
 }
 
-/// Closes the pools of a database.
+// Closes the pools of a database.
 fn pools_of_rows<S: Alter>(
     alloc: Global,
-    conn: &mut Connection<S>,
+    conn: &mut Idle<S>,
     desk: &mut Anew,
     rows: &[Row],
 ) -> Result<(), AuditFault>
-    requires { conn.old.in_transaction ≡ false }
-    ensures asked { Inspects (state S.Store conn.old) (state S.Store conn.new) result (λ _ _. ⊤) }
-    ensures failed { TellsFailure Store (state S.Store conn.old) (state S.Store conn.new) result }
-    ensures idle { conn.new.in_transaction ≡ false }
-    ensures office { (⟦<Tables<MemStore> as Store>⟧.state desk.new).office ≡ (⟦<Tables<MemStore> as Store>⟧.state desk.old).office }
-    ensures passes { (b : Book) → HasCleanDisk (state S.Store conn.new) → ComesFrom b (state S.Store conn.old) → HasRows (is_of_pool 0) (pool_rows b) rows.now → (⟦<Tables<MemStore> as Store>⟧.state desk.old).book ≡ without_pools b
-        → Passes result (λ _. (⟦<Tables<MemStore> as Store>⟧.state desk.new).book ≡ b) }
+    ensures asked { between S.Store conn.old conn.new Inspects result (λ _ _. ⊤) }
+    ensures failed { between S.Store conn.old conn.new (TellsFailure Store) result }
+    ensures office { desk.new.office ≡ desk.old.office }
+    ensures passes { between S.Store conn.old conn.new (PassesRowsOfPools rows.now (memory_book desk.old.conn) (memory_book desk.new.conn) result) }
 {
-    let _settled = conn.is_autocommit();
     let cuts = rows_of_table(conn, TableName::PoolCuts)?;
     pools_with_cuts(alloc, conn, desk, rows, cuts.as_slice())
 }
 
-/// Closes the pools of a database.
+// Closes the pools of a database.
 fn pools_from<S: Alter>(
     alloc: Global,
-    conn: &mut Connection<S>,
+    conn: &mut Idle<S>,
     desk: &mut Anew,
 ) -> Result<(), AuditFault>
-    requires { conn.old.in_transaction ≡ false }
-    ensures asked { Inspects (state S.Store conn.old) (state S.Store conn.new) result (λ _ _. ⊤) }
-    ensures failed { TellsFailure Store (state S.Store conn.old) (state S.Store conn.new) result }
-    ensures idle { conn.new.in_transaction ≡ false }
-    ensures office { (⟦<Tables<MemStore> as Store>⟧.state desk.new).office ≡ (⟦<Tables<MemStore> as Store>⟧.state desk.old).office }
-    ensures passes { (b : Book) → HasCleanDisk (state S.Store conn.new) → ComesFrom b (state S.Store conn.old) → (⟦<Tables<MemStore> as Store>⟧.state desk.old).book ≡ without_pools b
-        → Passes result (λ _. (⟦<Tables<MemStore> as Store>⟧.state desk.new).book ≡ b) }
+    ensures asked { between S.Store conn.old conn.new Inspects result (λ _ _. ⊤) }
+    ensures failed { between S.Store conn.old conn.new (TellsFailure Store) result }
+    ensures office { desk.new.office ≡ desk.old.office }
+    ensures passes { between S.Store conn.old conn.new (PassesFrom without_pools whole_book (memory_book desk.old.conn) (memory_book desk.new.conn) result) }
 {
-    let _settled = conn.is_autocommit();
     let rows = rows_of_table(conn, TableName::Pools)?;
     pools_of_rows(alloc, conn, desk, rows.as_slice())
 }
 
-/// Puts the returns of a database, and closes its pools.
+// Puts the returns of a database, and closes its pools.
 fn money_from<S: Alter>(
     alloc: Global,
-    conn: &mut Connection<S>,
+    conn: &mut Idle<S>,
     desk: &mut Anew,
 ) -> Result<(), AuditFault>
-    requires { conn.old.in_transaction ≡ false }
-    ensures asked { Inspects (state S.Store conn.old) (state S.Store conn.new) result (λ _ _. ⊤) }
-    ensures failed { TellsFailure Store (state S.Store conn.old) (state S.Store conn.new) result }
-    ensures idle { conn.new.in_transaction ≡ false }
-    ensures office { (⟦<Tables<MemStore> as Store>⟧.state desk.new).office ≡ (⟦<Tables<MemStore> as Store>⟧.state desk.old).office }
-    ensures passes { (b : Book) → HasCleanDisk (state S.Store conn.new) → ComesFrom b (state S.Store conn.old) → (⟦<Tables<MemStore> as Store>⟧.state desk.old).book ≡ sent_alone b
-        → Passes result (λ _. (⟦<Tables<MemStore> as Store>⟧.state desk.new).book ≡ b) }
+    ensures asked { between S.Store conn.old conn.new Inspects result (λ _ _. ⊤) }
+    ensures failed { between S.Store conn.old conn.new (TellsFailure Store) result }
+    ensures office { desk.new.office ≡ desk.old.office }
+    ensures passes { between S.Store conn.old conn.new (PassesFrom sent_alone whole_book (memory_book desk.old.conn) (memory_book desk.new.conn) result) }
 {
-    let _settled = conn.is_autocommit();
     returns_from(alloc, conn, desk)?;
     pools_from(alloc, conn, desk)
 }
 
-/// Puts the requests of a database's own rows, in the order of their keys.
+// Puts the requests of a database's own rows, in the order of their keys.
 fn requests_from<S: Alter>(
     alloc: Global,
-    conn: &mut Connection<S>,
+    conn: &mut Idle<S>,
     desk: &mut Anew,
 ) -> Result<(), AuditFault>
-    requires { conn.old.in_transaction ≡ false }
-    ensures asked { Inspects (state S.Store conn.old) (state S.Store conn.new) result (λ _ _. ⊤) }
-    ensures failed { TellsFailure Store (state S.Store conn.old) (state S.Store conn.new) result }
-    ensures idle { conn.new.in_transaction ≡ false }
-    ensures office { (⟦<Tables<MemStore> as Store>⟧.state desk.new).office ≡ (⟦<Tables<MemStore> as Store>⟧.state desk.old).office }
-    ensures passes { (b : Book) → HasCleanDisk (state S.Store conn.new) → ComesFrom b (state S.Store conn.old) → (⟦<Tables<MemStore> as Store>⟧.state desk.old).book ≡ empty_book
-        → Passes result (λ _. (⟦<Tables<MemStore> as Store>⟧.state desk.new).book ≡ b) }
+    ensures asked { between S.Store conn.old conn.new Inspects result (λ _ _. ⊤) }
+    ensures failed { between S.Store conn.old conn.new (TellsFailure Store) result }
+    ensures office { desk.new.office ≡ desk.old.office }
+    ensures passes { between S.Store conn.old conn.new (PassesFrom (λ _. empty_book) whole_book (memory_book desk.old.conn) (memory_book desk.new.conn) result) }
 {
-    let _settled = conn.is_autocommit();
     transmissions_from(alloc, conn, desk)?;
     money_from(alloc, conn, desk)
 }
@@ -385,17 +350,15 @@ fn requests_from<S: Alter>(
 /// Tables in memory to which the requests of a database's own rows have come.
 pub(crate) fn rebuild<S: Alter>(
     alloc: Global,
-    conn: &mut Connection<S>,
+    conn: &mut Idle<S>,
     office: &Office,
 ) -> Result<Tables<MemStore>, AuditFault>
-    requires { conn.old.in_transaction ≡ false }
-    ensures asked { Inspects (state S.Store conn.old) (state S.Store conn.new) result (λ _ _. ⊤) }
-    ensures failed { TellsFailure Store (state S.Store conn.old) (state S.Store conn.new) result }
-    ensures idle { conn.new.in_transaction ≡ false }
-    ensures office { IfOk result (λ t. (⟦<Tables<MemStore> as Store>⟧.state t).office ≡ office.now) }
-    ensures passes { (b : Book) → HasCleanDisk (state S.Store conn.new) → ComesFrom b (state S.Store conn.old) → Passes result (λ t. (⟦<Tables<MemStore> as Store>⟧.state t).book ≡ b) }
+    ensures asked { between S.Store conn.old conn.new Inspects result (λ _ _. ⊤) }
+    ensures failed { between S.Store conn.old conn.new (TellsFailure Store) result }
+    ensures office { IfOk result (λ t. t.office ≡ office.now) }
+    ensures passes { between S.Store conn.old conn.new (λ old new. (b : Book) → HasCleanDisk new → ComesFrom b old → Passes result (λ t. memory_book t.conn ≡ b)) }
 {
-    let _settled = conn.is_autocommit();
+    conn.see_last_commit();
     let Ok(tables) = Tables::in_memory(alloc, office) else {
         // Tables in memory fail by want of memory alone.
         return Err(AuditFault::Memory);

@@ -1,21 +1,23 @@
 //! Transmissions and returns without bodies in tables in memory, for the rows of pools to refer to. A pool is paid by the bodies of
 //! the database alone, so nothing rests on which they are but that those rows can be added.
-ghost use Rattle.std.specs.Prelude.{◌≡◌, false};
-ghost use Rattle.sqlite.specs.Held.{state};
+ghost use Rattle.std.specs.Prelude.{◌≡◌};
 ghost use Rattle.society_tables.specs.Auditing.{KeepsUnreferred, WritesAlone};
-ghost use Rattle.society_book.specs.Steps.{Does};
+ghost use Rattle.society_book.specs.Steps.{Does, Makes};
+ghost use Rattle.society_rows.specs.Between.{between, within};
+ghost use Rattle.society_tables.specs.LineSteps.{OfRows};
 
 use crate::entries::set_of_sent;
 use society_core::TransmissionKey;
 use society_rows::{
-    PoolCutRow, PoolReturnRow, ReturnRow, RowFault, TransmissionRow, add_returns, add_transmissions,
+    Idle, PoolCutRow, PoolReturnRow, ReturnRow, RowFault, TransmissionRow, add_returns,
+    add_transmissions,
 };
-use sqlite::{Alter, Connection, Row, Transaction};
+use sqlite::{Alter, Row, Transaction};
 use std::alloc::Global;
 use std::collections::BTreeSet;
 use work_ids::{SenderKey, TransmissionNumber};
 
-/// The transmission that the row of a cut names, none where it cannot be read.
+// The transmission that the row of a cut names, none where it cannot be read.
 fn key_of_cut(row: &Row) -> Option<TransmissionKey> {
     let Ok(row) = PoolCutRow::from_row(row) else {
         return None;
@@ -27,7 +29,7 @@ fn key_of_cut(row: &Row) -> Option<TransmissionKey> {
     Some(TransmissionKey { sender, number })
 }
 
-/// The transmissions that cuts name, each once.
+// The transmissions that cuts name, each once.
 fn keys_of_cuts(alloc: Global, cuts: &[Row]) -> Result<BTreeSet<TransmissionKey>, RowFault> {
     let mut keys = Vec::new(alloc);
     for row in cuts {
@@ -38,7 +40,7 @@ fn keys_of_cuts(alloc: Global, cuts: &[Row]) -> Result<BTreeSet<TransmissionKey>
     Ok(set_of_sent(alloc, keys)?)
 }
 
-/// The rows of transmissions without bodies.
+// The rows of transmissions without bodies.
 fn bare_transmissions<'a>(
     alloc: Global,
     keys: &'a BTreeSet<TransmissionKey>,
@@ -54,7 +56,7 @@ fn bare_transmissions<'a>(
     Ok(rows)
 }
 
-/// The rows of the returns that are paid, without bodies.
+// The rows of the returns that are paid, without bodies.
 fn bare_returns<'a>(alloc: Global, paid: &'a [Row]) -> Result<Vec<ReturnRow<'a>>, RowFault> {
     let mut rows = Vec::new(alloc);
     for row in paid {
@@ -69,15 +71,14 @@ fn bare_returns<'a>(alloc: Global, paid: &'a [Row]) -> Result<Vec<ReturnRow<'a>>
     Ok(rows)
 }
 
-/// Adds transmissions and returns.
+// Adds transmissions and returns.
 fn add_bare<S: Alter>(
     tx: &mut Transaction<'_, S>,
     transmissions: &[TransmissionRow<'_>],
     returns: &[ReturnRow<'_>],
 ) -> Result<(), RowFault>
     ensures same_reference { tx.new.conn.ghost_name ≡ tx.old.conn.ghost_name }
-    ensures does { Does (state S.Store tx.old.conn.now) (state S.Store tx.new.conn.now) result
-        (λ before after _. KeepsUnreferred before.trees after.trees) }
+    ensures does { within S.Store tx.old tx.new Does result (Makes KeepsUnreferred) }
 {
     add_transmissions(tx, transmissions)?;
     add_returns(tx, returns)
@@ -86,18 +87,16 @@ fn add_bare<S: Alter>(
 /// Adds, in a transaction of its own, the transmissions that cuts name and the returns that are paid, without bodies.
 pub(crate) fn put_references<S: Alter>(
     alloc: Global,
-    conn: &mut Connection<S>,
+    conn: &mut Idle<S>,
     cuts: &[Row],
     paid: &[Row],
 ) -> Result<(), RowFault>
-    requires { conn.old.in_transaction ≡ false }
-    ensures written { WritesAlone (λ before after. KeepsUnreferred before.trees after.trees) (state S.Store conn.old) (state S.Store conn.new) result }
-    ensures idle { conn.new.in_transaction ≡ false }
+    ensures written { between S.Store conn.old conn.new (WritesAlone (OfRows KeepsUnreferred)) result }
 {
     let keys = keys_of_cuts(alloc, cuts)?;
     let transmissions = bare_transmissions(alloc, &keys)?;
     let returns = bare_returns(alloc, paid)?;
-    let mut tx = conn.transaction();
+    let mut tx = conn.connection.transaction();
     add_bare(&mut tx, transmissions.as_slice(), returns.as_slice())?;
     tx.commit()?;
     Ok(())

@@ -17,7 +17,7 @@ use society_book::{
 use society_core::{
     Known, KnownTransmission, Payment, PoolOrder, ReturnKey, SenderStatus, Store, StoreFault, Work,
 };
-use society_rows::{OfficeRow, ReturnRow, RowFault, create};
+use society_rows::{Idle, OfficeRow, ReturnRow, RowFault, create};
 use sqlite::{Alter, Connection, MemStore};
 use sqlite_schema::schema::Schema;
 use std::alloc::Global;
@@ -32,10 +32,9 @@ const NO_FAILURES: u64 = 0;
 #[derive(Drop)]
 pub struct Tables<S: Alter> {
     office: Office,
-    conn: Connection<S>,
+    conn: Idle<S>,
     failures: u64,
     ghost small: { failures < 2 ^ 64 },
-    ghost idle: { conn.in_transaction ≡ false },
     ghost rests: { ∥ Rests office (state S.Store conn) ∥₁ },
 }
 
@@ -227,7 +226,7 @@ impl<S: Alter> Tables<S> {
         ensures book { (⟦<Tables<S> as Store>⟧.state self).book ≡ book_of (state S.Store result).now.trees }
     {
         let Tables { conn, .. } = self;
-        conn
+        conn.into_connection()
     }
 }
 
@@ -236,12 +235,12 @@ impl<S: Alter> Tables<S> {
     pub(crate) fn schema(&self) -> &Schema
         ensures live { IsLive (state S.Store self.now.conn) }
     {
-        self.conn.schema()
+        let conn = &self.conn;
+        conn.connection.schema()
     }
 
     /// The tables of an office that lie behind a connection.
-    pub(crate) fn over(conn: Connection<S>, office: &Office) -> Tables<S>
-        requires idle { conn.in_transaction ≡ false }
+    pub(crate) fn over(conn: Idle<S>, office: &Office) -> Tables<S>
         requires rests { ∥ Rests office.now (state S.Store conn) ∥₁ }
         ensures same { result.conn ≡ conn }
         ensures office { result.office ≡ office.now }
@@ -264,7 +263,8 @@ impl Tables<MemStore> {
         // A store that has counted all failures refuses every call.
         ensures uncounted { IfOk result (λ t. (⟦<Tables<MemStore> as Store>⟧.state t).failures ≡ 0) }
     {
-        let mut conn = Connection::open_in_memory(alloc)?;
+        let connection = Connection::open_in_memory(alloc)?;
+        let mut conn = Idle { connection };
         let row = OfficeRow {
             society: u32::from(office.society),
             territory: u32::from(office.territory),

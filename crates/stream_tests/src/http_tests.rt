@@ -6,7 +6,7 @@ use std::alloc::{AllocError, Global};
 use std::process::Abort;
 use std::str;
 use std::test::Fail;
-use test_bodies::EMPTY_ACK;
+use test_bodies::{EMPTY_ACK, message};
 
 /// A request line without its version, the body, and the answer's status, content type and body.
 type Row = (
@@ -153,7 +153,7 @@ const HELD_NUMBER_REUSED: &[Row] = &[
     (PUT_3, Body::Whole(Sample::Registered), ACCEPTED, JSON, HELD),
     (
         PUT_3,
-        Body::Changed(Sample::Registered, &[(144, b"H")]),
+        Body::Changed(Sample::Registered, &[(3, 29, b"H")]),
         CONFLICT,
         JSON,
         REUSED,
@@ -162,7 +162,7 @@ const HELD_NUMBER_REUSED: &[Row] = &[
     (PUT_2, Body::Whole(Sample::Empty), CREATED, JSON, FRONT_3),
     (
         PUT_3,
-        Body::Changed(Sample::Registered, &[(144, b"H")]),
+        Body::Changed(Sample::Registered, &[(3, 29, b"H")]),
         CONFLICT,
         JSON,
         REUSED,
@@ -205,7 +205,7 @@ const NUMBERS_AT_THE_LIMITS: &[Row] = &[
 const RECORD_COUNT_OFF_BY_ONE: &[Row] = &[
     (
         PUT_1,
-        Body::Changed(Sample::Registered, &[(1_019, b"8")]),
+        Body::Changed(Sample::Registered, &[(10, 24, b"8")]),
         UNPROCESSABLE,
         JSON,
         b"{\"error\":\"file\",\"fault\":8,\"line\":10}",
@@ -263,7 +263,7 @@ const VERDICTS_BY_FAULT: &[Row] = &[
     (PUT_1, Body::Whole(Sample::Revised), CREATED, JSON, FRONT_1),
     (
         PUT_2,
-        Body::Changed(Sample::Registered, &[(551, b"05007")]),
+        Body::Changed(Sample::Registered, &[(6, 130, b"05007")]),
         CREATED,
         JSON,
         FRONT_2,
@@ -303,7 +303,7 @@ const TITLE_AND_NAMES_ESCAPED: &[Row] = &[
         PUT_1,
         Body::Changed(
             Sample::Excluded,
-            &[(135, b"\xc3\x89T%\"\\    "), (197, b"W\"")],
+            &[(3, 20, b"\xc3\x89T%\"\\    "), (3, 82, b"W\"")],
         ),
         CREATED,
         JSON,
@@ -632,10 +632,8 @@ const TARGETS: &[Row] = &[
 
 /// Appends a request.
 fn ask(alloc: Global, input: &mut Vec<u8>, line: &str, body: &[u8]) -> Result<(), AllocError> {
-    let length = body.len();
-    let head = format!(in alloc; "{line} HTTP/1.1\r\nContent-Length: {length}\r\n\r\n")?;
-    input.extend_from_slice(head.as_bytes())?;
-    input.extend_from_slice(body)
+    let head = format!(in alloc; "{line} HTTP/1.1")?;
+    message(alloc, input, &head, body)
 }
 
 /// Appends an answer.
@@ -646,12 +644,8 @@ fn tell(
     kind: &str,
     body: &[u8],
 ) -> Result<(), AllocError> {
-    let length = body.len();
-    let head = format!(in alloc;
-        "HTTP/1.1 {status}\r\nContent-Type: {kind}\r\nContent-Length: {length}\r\n\r\n"
-    )?;
-    out.extend_from_slice(head.as_bytes())?;
-    out.extend_from_slice(body)
+    let head = format!(in alloc; "HTTP/1.1 {status}\r\nContent-Type: {kind}")?;
+    message(alloc, out, &head, body)
 }
 
 /// Sends a stream, and compares all that is written.

@@ -1,6 +1,6 @@
 //! The bodies of requests in tables of rows.
 use std::alloc::{AllocError, Global};
-use test_bodies::{EMPTY, EXCLUDED, REGISTERED, REVISED, changed};
+use test_bodies::{Change, EMPTY, EXCLUDED, REGISTERED, REVISED, changed};
 
 /// A sample file. A table names it, since a constant may not hold the bytes of many.
 #[derive(Clone, Copy)]
@@ -32,8 +32,8 @@ pub enum Body {
     Whole(Sample),
     /// The first bytes of one, so many.
     Cut(Sample, usize),
-    /// One with other bytes at these places.
-    Changed(Sample, &'static [(usize, &'static [u8])]),
+    /// One with other bytes at these lines and positions.
+    Changed(Sample, &'static [Change<'static>]),
     /// One with its lines ended by line feeds alone, and its last line by nothing.
     LineFeeds(Sample),
 }

@@ -1,5 +1,4 @@
 //! The candidates of a pool, out of tables to which works of two senders have come.
-ghost use Rattle.std.specs.Prelude.{◌≡◌, false};
 
 use crate::checks::holds;
 use cwr_files::FileReader;
@@ -7,7 +6,7 @@ use perf_returns::read_return;
 use share_rules::{Kind, Office};
 use society_book::{arrive, candidates_in};
 use society_core::{Candidate, PoolOrder, Tally};
-use society_rows::{OfficeRow, create};
+use society_rows::{Idle, OfficeRow, create};
 use sqlite::{Connection, MemStore};
 use std::alloc::Global;
 use std::test::Fail;
@@ -22,15 +21,12 @@ const OTHER: &[u8] = b"PB000000034";
 /// Puts a body into the tables.
 fn put(
     alloc: Global,
-    conn: &mut Connection<MemStore>,
+    conn: &mut Idle<MemStore>,
     office: &Office,
     sender: &[u8],
     number: u32,
     body: &[u8],
-) -> Result<(), Fail>
-    requires { conn.old.in_transaction ≡ false }
-    ensures { conn.new.in_transaction ≡ false }
-{
+) -> Result<(), Fail> {
     let sender = SenderKey::from_bytes(sender).ok().ok_or("a sender")?;
     let number = TransmissionNumber::from_u32(number).ok_or("a number")?;
     let mut reader = FileReader::new(alloc, &sender);
@@ -45,13 +41,14 @@ fn put(
 }
 
 /// Puts a work of one sender, which names another recording in each of its three versions, and one of another sender.
-fn put_all(alloc: Global, conn: &mut Connection<MemStore>, office: &Office) -> Result<(), Fail>
-    requires { conn.old.in_transaction ≡ false }
-    ensures { conn.new.in_transaction ≡ false }
-{
-    let second = changed(alloc, REVISED, &[(993, b"2")])?;
-    let third = changed(alloc, REVISED, &[(993, b"3")])?;
-    let others = changed(alloc, REGISTERED, &[(12, b"3"), (13, b"4"), (993, b"2")])?;
+fn put_all(alloc: Global, conn: &mut Idle<MemStore>, office: &Office) -> Result<(), Fail> {
+    let second = changed(alloc, REVISED, &[(9, 261, b"2")])?;
+    let third = changed(alloc, REVISED, &[(9, 261, b"3")])?;
+    let others = changed(
+        alloc,
+        REGISTERED,
+        &[(1, 13, b"3"), (1, 14, b"4"), (9, 261, b"2")],
+    )?;
     put(alloc, conn, office, ONE, 1, REGISTERED)?;
     put(alloc, conn, office, ONE, 2, second.as_slice())?;
     put(alloc, conn, office, ONE, 3, third.as_slice())?;
@@ -70,7 +67,8 @@ fn tallied(alloc: Global) -> Result<Tally, Fail> {
 /// The candidates where the one sender is cut at this number.
 fn found(alloc: Global, cut: u64) -> Result<Vec<Candidate>, Fail> {
     let office = Office::new(900, 40, b"EXAMPLE SOCIETY").ok_or("an office")?;
-    let mut conn = Connection::open_in_memory(alloc)?;
+    let connection = Connection::open_in_memory(alloc)?;
+    let mut conn = Idle { connection };
     let row = OfficeRow {
         society: 900,
         territory: 40,
@@ -84,7 +82,7 @@ fn found(alloc: Global, cut: u64) -> Result<Vec<Candidate>, Fail> {
         .ok()
         .ok_or("an order")?;
     let tally = tallied(alloc)?;
-    let mut tx = conn.transaction();
+    let mut tx = conn.connection.transaction();
     let candidates = candidates_in(alloc, Kind::Performing, &mut tx, &office, &tally, &order);
     tx.rollback();
     let candidates = candidates.ok().ok_or("candidates")?;

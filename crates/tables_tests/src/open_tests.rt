@@ -4,6 +4,7 @@ ghost use Rattle.std.specs.Prelude.{◌≡◌, IfOk, false};
 use crate::checks::{holds, told};
 use share_rules::Office;
 use society_core::{Desk, PoolOrder, ReturnKey, Store};
+use society_rows::Idle;
 use society_tables::{AuditFault, OpenFault, Tables, confirm, open_after_crash, reopen};
 use sqlite::{Connection, MemStore};
 use std::alloc::Global;
@@ -81,10 +82,7 @@ fn fault_after(alloc: Global, change: &str, society: u16) -> Result<Option<OpenF
 }
 
 /// Whether a database is confirmed with a body in memory at a time.
-fn is_confirmed(alloc: Global, conn: &mut Connection<MemStore>, society: u16) -> Result<bool, Fail>
-    requires { conn.old.in_transaction ≡ false }
-    ensures { conn.new.in_transaction ≡ false }
-{
+fn is_confirmed(alloc: Global, conn: &mut Idle<MemStore>, society: u16) -> Result<bool, Fail> {
     match confirm(alloc, conn, &office(society)?) {
         Ok(()) => Ok(true),
         Err(AuditFault::Damaged) => Ok(false),
@@ -115,7 +113,9 @@ fn a_database_opens_as_it_was_left(rt: HostRuntime) -> Result<(), Fail> {
 fn a_sound_database_is_confirmed_with_a_body_in_memory_at_a_time(
     rt: HostRuntime,
 ) -> Result<(), Fail> {
-    let mut conn = filled(rt.alloc())?;
+    let mut conn = Idle {
+        connection: filled(rt.alloc())?,
+    };
     let first = is_confirmed(rt.alloc(), &mut conn, 900)?;
     let other = is_confirmed(rt.alloc(), &mut conn, 901)?;
     let again = is_confirmed(rt.alloc(), &mut conn, 900)?;

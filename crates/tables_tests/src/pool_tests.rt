@@ -1,7 +1,9 @@
 //! The rows of money on the desk, each over tables in memory and over the plain store: returns, pools at a cut, credits and balances.
 use crate::checks::{holds, told};
 use pool_split::Credit;
-use society_core::{Desk, OrderError, PlainStore, PoolOrder, Receipt, Refusal, ReturnKey, Store};
+use society_core::{
+    Desk, OrderError, OrderFault, PlainStore, PoolOrder, Receipt, Refusal, ReturnKey, Store,
+};
 use society_tables::Tables;
 use sqlite::MemStore;
 use std::alloc::Global;
@@ -74,6 +76,34 @@ fn order(alloc: Global, amount: u64, cut: u64, returns: &[u64]) -> Result<PoolOr
     )
 }
 
+/// Puts a return of the reporter, and checks what is answered.
+fn check_return<S: Store>(
+    rt: &impl Abort,
+    alloc: Global,
+    desk: &mut Desk<S>,
+    number: u32,
+    body: &[u8],
+    wanted: Result<Receipt, Refusal>,
+) -> Result<(), Fail> {
+    let seen = desk.put_return(alloc, &key(number)?, body);
+    told(rt, "a return", &seen, &wanted);
+    Ok(())
+}
+
+/// Closes a pool, and checks what is answered.
+fn check_close<S: Store>(
+    rt: &impl Abort,
+    alloc: Global,
+    desk: &mut Desk<S>,
+    number: u32,
+    order: &PoolOrder,
+    wanted: Result<Receipt, Refusal>,
+) -> Result<(), Fail> {
+    let seen = desk.close_pool(alloc, pool(number)?, order);
+    told(rt, "a close", &seen, &wanted);
+    Ok(())
+}
+
 /// Checks the credits of a pool: recording, account and units of each.
 fn check_credits<S: Store>(
     rt: &impl Abort,
@@ -124,31 +154,15 @@ fn close_at_a_cut<S: Store>(
 ) -> Result<(), Fail> {
     put(alloc, desk, FIRST, 1, REGISTERED)?;
     put(alloc, desk, FIRST, 2, EMPTY)?;
-    told(
-        rt,
-        "a return",
-        &desk.put_return(alloc, &key(1)?, TEN_PLAYS),
-        &Ok(Receipt::New),
-    );
+    check_return(rt, alloc, desk, 1, TEN_PLAYS, Ok(Receipt::New))?;
     let first = order(alloc, 1_001, 3, &[1])?;
     let waits = Refusal::Cut {
         sender: sender(FIRST)?,
         front: 2,
     };
-    told(
-        rt,
-        "a close",
-        &desk.close_pool(alloc, pool(7)?, &first),
-        &Err(waits),
-    );
+    check_close(rt, alloc, desk, 7, &first, Err(waits))?;
     put(alloc, desk, FIRST, 3, EMPTY)?;
-    told(
-        rt,
-        "a close",
-        &desk.close_pool(alloc, pool(7)?, &first),
-        &Ok(Receipt::New),
-    );
-    Ok(())
+    check_close(rt, alloc, desk, 7, &first, Ok(Receipt::New))
 }
 
 /// What its accounts have come to then, and one that has no credit.
@@ -174,18 +188,8 @@ fn check_pool_closed_at_a_cut<S: Store>(
     close_at_a_cut(rt, alloc, desk)?;
     let same = order(alloc, 1_001, 3, &[1])?;
     let other = order(alloc, 1_002, 3, &[1])?;
-    told(
-        rt,
-        "a close",
-        &desk.close_pool(alloc, pool(7)?, &same),
-        &Ok(Receipt::Repeated),
-    );
-    told(
-        rt,
-        "a close",
-        &desk.close_pool(alloc, pool(7)?, &other),
-        &Err(Refusal::Reused),
-    );
+    check_close(rt, alloc, desk, 7, &same, Ok(Receipt::Repeated))?;
+    check_close(rt, alloc, desk, 7, &other, Err(Refusal::Reused))?;
     check_credits(rt, alloc, desk, 7, SHARED)?;
     let unknown = matches!(desk.credits(alloc, pool(8)?), Err(Refusal::Unknown));
     holds(rt, "no such pool", unknown);
@@ -211,12 +215,7 @@ fn check_later_revision_changes_no_credit<S: Store>(
     check_balances(rt, alloc, desk, BALANCES)?;
     put(alloc, early, FIRST, 1, REGISTERED)?;
     put(alloc, early, FIRST, 2, REVISED)?;
-    told(
-        rt,
-        "a return",
-        &early.put_return(alloc, &key(1)?, TEN_PLAYS),
-        &Ok(Receipt::New),
-    );
+    check_return(rt, alloc, early, 1, TEN_PLAYS, Ok(Receipt::New))?;
     let closed = early.close_pool(alloc, pool(7)?, &order(alloc, 1_001, 1, &[1])?);
     told(rt, "a close", &closed, &Ok(Receipt::New));
     check_credits(rt, alloc, early, 7, SHARED)
@@ -244,16 +243,11 @@ fn check_two_claimants<S: Store>(
     alloc: Global,
     desk: &mut Desk<S>,
 ) -> Result<(), Fail> {
-    let other = changed(alloc, REGISTERED, &[(12, b"3"), (13, b"4")])?;
+    let other = changed(alloc, REGISTERED, &[(1, 13, b"3"), (1, 14, b"4")])?;
     put(alloc, desk, FIRST, 1, REGISTERED)?;
     put(alloc, desk, SECOND, 1, &other)?;
     let played = b"isrc,plays,seconds\nATABC2600001,1,100\nGBXYZ2600002,1,300\n";
-    told(
-        rt,
-        "a return",
-        &desk.put_return(alloc, &key(1)?, played),
-        &Ok(Receipt::New),
-    );
+    check_return(rt, alloc, desk, 1, played, Ok(Receipt::New))?;
     let reporter = Reporter::from_bytes(b"RADIO1").ok().ok_or("a reporter")?;
     let both = PoolOrder::new(
         alloc,
@@ -263,12 +257,7 @@ fn check_two_claimants<S: Store>(
     )
     .ok()
     .ok_or("an order")?;
-    told(
-        rt,
-        "a close",
-        &desk.close_pool(alloc, pool(1)?, &both),
-        &Ok(Receipt::New),
-    );
+    check_close(rt, alloc, desk, 1, &both, Ok(Receipt::New))?;
     check_credits(
         rt,
         alloc,
@@ -279,25 +268,31 @@ fn check_two_claimants<S: Store>(
             (b"GBXYZ2600002", b"UNCLAIMED", 7),
         ],
     )?;
-    told(
+    check_return(
         rt,
-        "a return",
-        &desk.put_return(alloc, &key(2)?, b"isrc,plays,seconds\n"),
-        &Ok(Receipt::New),
-    );
-    told(
+        alloc,
+        desk,
+        2,
+        b"isrc,plays,seconds\n",
+        Ok(Receipt::New),
+    )?;
+    check_close(
         rt,
-        "a close",
-        &desk.close_pool(alloc, pool(2)?, &order(alloc, 0, 0, &[2])?),
-        &Ok(Receipt::New),
-    );
+        alloc,
+        desk,
+        2,
+        &order(alloc, 0, 0, &[2])?,
+        Ok(Receipt::New),
+    )?;
     check_credits(rt, alloc, desk, 2, &[(b"", b"UNCLAIMED", 0)])?;
-    told(
+    check_close(
         rt,
-        "a close",
-        &desk.close_pool(alloc, pool(3)?, &order(alloc, 5, 0, &[])?),
-        &Ok(Receipt::New),
-    );
+        alloc,
+        desk,
+        3,
+        &order(alloc, 5, 0, &[])?,
+        Ok(Receipt::New),
+    )?;
     check_credits(rt, alloc, desk, 3, &[(b"", b"UNCLAIMED", 5)])?;
     check_balances(rt, alloc, desk, &[(b"UNCLAIMED", 15)])
 }
@@ -312,18 +307,15 @@ fn two_claimants(rt: HostRuntime) -> Result<(), Fail> {
 fn check_splits<S: Store>(rt: &impl Abort, alloc: Global, desk: &mut Desk<S>) -> Result<(), Fail> {
     put(alloc, desk, FIRST, 1, REGISTERED)?;
     let played = b"isrc,plays,seconds\nATABC2600001,1,1\nATABC2600002,1,1\nATABC2600003,1,1\n";
-    told(
+    check_return(rt, alloc, desk, 1, played, Ok(Receipt::New))?;
+    check_close(
         rt,
-        "a return",
-        &desk.put_return(alloc, &key(1)?, played),
-        &Ok(Receipt::New),
-    );
-    told(
-        rt,
-        "a close",
-        &desk.close_pool(alloc, pool(1)?, &order(alloc, 10, 1, &[1])?),
-        &Ok(Receipt::New),
-    );
+        alloc,
+        desk,
+        1,
+        &order(alloc, 10, 1, &[1])?,
+        Ok(Receipt::New),
+    )?;
     check_credits(
         rt,
         alloc,
@@ -338,12 +330,7 @@ fn check_splits<S: Store>(rt: &impl Abort, alloc: Global, desk: &mut Desk<S>) ->
         ],
     )?;
     let great = order(alloc, 1_000_000_000_000, 1, &[])?;
-    told(
-        rt,
-        "a close",
-        &desk.close_pool(alloc, pool(2)?, &great),
-        &Ok(Receipt::New),
-    );
+    check_close(rt, alloc, desk, 2, &great, Ok(Receipt::New))?;
     check_balances(
         rt,
         alloc,
@@ -394,30 +381,17 @@ fn check_points_of_one_recording<S: Store>(
     desk: &mut Desk<S>,
 ) -> Result<(), Fail> {
     let played = b"isrc,plays,seconds\nat-abc-26-00001,1,60\nATABC2600001,2,30\n";
-    told(
+    check_return(rt, alloc, desk, 1, played, Ok(Receipt::New))?;
+    check_return(rt, alloc, desk, 1, played, Ok(Receipt::Repeated))?;
+    check_return(rt, alloc, desk, 1, TEN_PLAYS, Err(Refusal::Reused))?;
+    check_close(
         rt,
-        "a return",
-        &desk.put_return(alloc, &key(1)?, played),
-        &Ok(Receipt::New),
-    );
-    told(
-        rt,
-        "a return",
-        &desk.put_return(alloc, &key(1)?, played),
-        &Ok(Receipt::Repeated),
-    );
-    told(
-        rt,
-        "a return",
-        &desk.put_return(alloc, &key(1)?, TEN_PLAYS),
-        &Err(Refusal::Reused),
-    );
-    told(
-        rt,
-        "a close",
-        &desk.close_pool(alloc, pool(1)?, &order(alloc, 5, 0, &[1])?),
-        &Ok(Receipt::New),
-    );
+        alloc,
+        desk,
+        1,
+        &order(alloc, 5, 0, &[1])?,
+        Ok(Receipt::New),
+    )?;
     check_credits(rt, alloc, desk, 1, &[(b"ATABC2600001", b"UNCLAIMED", 5)])?;
     let none = b"isrc,plays,seconds\nATABC2600001,0,60\n";
     match desk.put_return(alloc, &key(2)?, none) {
@@ -445,10 +419,10 @@ fn faults_of_orders(rt: HostRuntime) -> Result<(), Fail> {
     holds(
         &rt,
         "order fault 2",
-        matches!(above, Err(OrderError::Order(2))),
+        matches!(above, Err(OrderError::Order(OrderFault::OutOfRange))),
     );
     let named_twice = PoolOrder::new(alloc, 1, &twice, &[]);
-    let fourth = matches!(named_twice, Err(OrderError::Order(4)));
+    let fourth = matches!(named_twice, Err(OrderError::Order(OrderFault::NamedTwice)));
     holds(&rt, "order fault 4", fourth);
     let mut senders = Vec::new(alloc);
     for _ in 0..201 {
@@ -458,7 +432,7 @@ fn faults_of_orders(rt: HostRuntime) -> Result<(), Fail> {
     holds(
         &rt,
         "order fault 3",
-        matches!(many, Err(OrderError::Order(3))),
+        matches!(many, Err(OrderError::Order(OrderFault::TooLong))),
     );
     Ok(())
 }

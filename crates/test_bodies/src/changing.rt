@@ -2,17 +2,29 @@
 use crate::bodies::REGISTERED;
 use std::alloc::{AllocError, Global};
 
-/// A body with other bytes at these places, each counted from 0; bytes past its end are left out.
-pub fn changed(
-    alloc: Global,
-    body: &[u8],
-    changes: &[(usize, &[u8])],
-) -> Result<Vec<u8>, AllocError> {
+/// Other bytes in a body: the line and the position in it at which they stand, each counted from 1 as CWR counts, and the bytes.
+pub type Change<'a> = (usize, usize, &'a [u8]);
+
+/// A body with other bytes at these lines and positions; bytes past its end are left out.
+pub fn changed(alloc: Global, body: &[u8], changes: &[Change<'_>]) -> Result<Vec<u8>, AllocError> {
     let mut copy = Vec::from_slice(alloc, body)?;
-    for (at, by) in changes {
-        overwrite(&mut copy, *at, by);
+    for (line, position, by) in changes {
+        let at = start_of(body, *line).saturating_add(position.saturating_sub(1));
+        overwrite(&mut copy, at, by);
     }
     Ok(copy)
+}
+
+/// Where a line of a body begins.
+fn start_of(body: &[u8], line: usize) -> usize {
+    let mut at = 0usize;
+    for before in body
+        .split(|byte| *byte == b'\n')
+        .take(line.saturating_sub(1))
+    {
+        at = at.saturating_add(before.len()).saturating_add(1);
+    }
+    at
 }
 
 /// Puts bytes in place of those at a place.

@@ -7,6 +7,6 @@ mod names;
 mod streams;
 
 pub use bodies::{EMPTY, EMPTY_ACK, EXCLUDED, REGISTERED, REGISTERED_ACK, REVISED};
-pub use changing::{changed, joined, lines, with_unread_group};
+pub use changing::{Change, changed, joined, lines, with_unread_group};
 pub use names::{holders, number, office, sender, work};
-pub use streams::{answer, get, put, put_return};
+pub use streams::{answer, get, message, put, put_return};

@@ -1,6 +1,14 @@
 //! Requests and answers as the bytes of a connection.
 use std::alloc::{AllocError, Global};
 
+/// Appends a request or an answer: its first line, any fields behind that, and a body, whose length is told.
+pub fn message(alloc: Global, to: &mut Vec<u8>, head: &str, body: &[u8]) -> Result<(), AllocError> {
+    let length = body.len();
+    let head = format!(in alloc; "{head}\r\nContent-Length: {length}\r\n\r\n")?;
+    to.extend_from_slice(head.as_bytes())?;
+    to.extend_from_slice(body)
+}
+
 /// Appends the put of a transmission.
 pub fn put(
     alloc: Global,
@@ -8,12 +16,10 @@ pub fn put(
     number: &str,
     body: &[u8],
 ) -> Result<(), AllocError> {
-    let length = body.len();
     let head = format!(in alloc;
-        "PUT /v1/senders/PB000000012/transmissions/{number} HTTP/1.1\r\nHost: office\r\nContent-Length: {length}\r\n\r\n"
+        "PUT /v1/senders/PB000000012/transmissions/{number} HTTP/1.1\r\nHost: office"
     )?;
-    input.extend_from_slice(head.as_bytes())?;
-    input.extend_from_slice(body)
+    message(alloc, input, &head, body)
 }
 
 /// Appends the put of a performance return.
@@ -23,12 +29,8 @@ pub fn put_return(
     number: &str,
     body: &[u8],
 ) -> Result<(), AllocError> {
-    let length = body.len();
-    let head = format!(in alloc;
-        "PUT /v1/returns/RADIO1/{number} HTTP/1.1\r\nHost: office\r\nContent-Length: {length}\r\n\r\n"
-    )?;
-    input.extend_from_slice(head.as_bytes())?;
-    input.extend_from_slice(body)
+    let head = format!(in alloc; "PUT /v1/returns/RADIO1/{number} HTTP/1.1\r\nHost: office")?;
+    message(alloc, input, &head, body)
 }
 
 /// Appends the request of an acknowledgement.
@@ -47,10 +49,6 @@ pub fn answer(
     kind: &str,
     body: &[u8],
 ) -> Result<(), AllocError> {
-    let length = body.len();
-    let head = format!(in alloc;
-        "HTTP/1.1 {status}\r\nContent-Type: application/{kind}\r\nContent-Length: {length}\r\n\r\n"
-    )?;
-    out.extend_from_slice(head.as_bytes())?;
-    out.extend_from_slice(body)
+    let head = format!(in alloc; "HTTP/1.1 {status}\r\nContent-Type: application/{kind}")?;
+    message(alloc, out, &head, body)
 }

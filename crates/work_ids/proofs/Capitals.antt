@@ -3,7 +3,7 @@ use Rattle.std.proofs.Common.{◌≡◌, ℕ, Bool, true, false, ◌&&◌, ◌++
 use Rattle.std.specs.List.{list_all}
 use Rattle.std.proofs.lemmas.Bool.Decides.{nat_tests}
 use Rattle.std.proofs.lemmas.List.{map-append, length-map}
-use Rattle.work_ids.specs.Isrc.{is_isrc, has_isrc_form, isrc_of, isrc_of_text, has_isrc_marks, without_isrc_marks, printed}
+use Rattle.work_ids.specs.Isrc.{is_isrc, has_isrc_form, isrc_of, isrc_of_text, has_isrc_marks, without_isrc_marks, printed_isrc}
 use Rattle.work_ids.specs.Characters.{is_capital, is_digit, is_capital_or_digit, capital}
 use Rattle.work_ids.specs.declared.fault.IdFault.TheVariants.{Length}
 use Rattle.work_ids.proofs.Marks.{is_written}
@@ -50,19 +50,19 @@ isrc_of_is xs h =
     let formed : has_isrc_form xs ≡ true = second-true (eqb (length xs) 12) (has_isrc_form xs) h in
     rw (long, formed) refl
 
-isrc_text_length : (xs : List ℕ) → length xs ≡ 12 → eqb (length (printed xs)) 15 ≡ true
-unfolding printed
-isrc_text_length xs h = subst (λ (ys : List ℕ). eqb (length (printed ys)) 15 ≡ true) (sym (is_written 12 xs h)) refl
+isrc_text_length : (xs : List ℕ) → length xs ≡ 12 → eqb (length (printed_isrc xs)) 15 ≡ true
+unfolding printed_isrc
+isrc_text_length xs h = subst (λ (ys : List ℕ). eqb (length (printed_isrc ys)) 15 ≡ true) (sym (is_written 12 xs h)) refl
 
-isrc_text_marks : (xs : List ℕ) → length xs ≡ 12 → has_isrc_marks (printed xs) ≡ true
-unfolding printed has_isrc_marks
-isrc_text_marks xs h = subst (λ (ys : List ℕ). has_isrc_marks (printed ys) ≡ true) (sym (is_written 12 xs h)) refl
+isrc_text_marks : (xs : List ℕ) → length xs ≡ 12 → has_isrc_marks (printed_isrc xs) ≡ true
+unfolding printed_isrc has_isrc_marks
+isrc_text_marks xs h = subst (λ (ys : List ℕ). has_isrc_marks (printed_isrc ys) ≡ true) (sym (is_written 12 xs h)) refl
 
-isrc_text_rest : (xs : List ℕ) → length xs ≡ 12 → without_isrc_marks (printed xs) ≡ xs
-unfolding printed without_isrc_marks
-isrc_text_rest xs h = subst (λ (ys : List ℕ). without_isrc_marks (printed ys) ≡ ys) (sym (is_written 12 xs h)) refl
+isrc_text_rest : (xs : List ℕ) → length xs ≡ 12 → without_isrc_marks (printed_isrc xs) ≡ xs
+unfolding printed_isrc without_isrc_marks
+isrc_text_rest xs h = subst (λ (ys : List ℕ). without_isrc_marks (printed_isrc ys) ≡ ys) (sym (is_written 12 xs h)) refl
 
-pub isrc_reads_back : (xs text : List ℕ) → is_isrc xs ≡ true → text ≡ printed xs → isrc_of_text text ≡ Ok xs
+pub isrc_reads_back : (xs text : List ℕ) → is_isrc xs ≡ true → text ≡ printed_isrc xs → isrc_of_text text ≡ Ok xs
 unfolding isrc_of_text
 isrc_reads_back xs text h e =
     let n = isrc-length xs h in

@@ -5,7 +5,7 @@ use Rattle.std.specs.Str.Parse.{digits_value}
 use Rattle.std.proofs.lemmas.Bool.Decides.{nat_tests}
 use Rattle.std.proofs.Math.Nat.{pow-le-pow_right, pow-suc}
 use Rattle.work_ids.specs.Characters.{is_digit}
-use Rattle.work_ids.specs.Digits.{is_number, number_of}
+use Rattle.work_ids.specs.Digits.{is_number, decimal_value}
 
 -- the value of a digit
 pub digit_is : (c : ℕ) → is_digit c ≡ true → (48 ≤ c) × (c ≤ 57) × (digit_value c ≡ c - 48)
@@ -24,13 +24,13 @@ digit_fits value digit i n room within few small =
     omega arith
 
 -- bytes that are no number have none
-pub no_number : (bytes : List ℕ) → is_number bytes ≡ false → None ≡ number_of bytes
-unfolding number_of
+pub no_number : (bytes : List ℕ) → is_number bytes ≡ false → None ≡ decimal_value bytes
+unfolding decimal_value
 no_number bytes none = rw none refl
 
 -- digits alone have their value
-pub the_number : (bytes : List ℕ) → is_number bytes ≡ true → Some (digits_value 10 bytes) ≡ number_of bytes
-unfolding number_of
+pub the_number : (bytes : List ℕ) → is_number bytes ≡ true → Some (digits_value 10 bytes) ≡ decimal_value bytes
+unfolding decimal_value
 the_number bytes some = rw some refl
 
 -- one more digit makes a number of one more digit

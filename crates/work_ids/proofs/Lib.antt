@@ -1,6 +1,9 @@
 pub mod Capitals
+pub mod DatedTexts
 pub mod Decimals
+pub mod FileNames
 pub mod Joined
+pub mod LastDigits
 pub mod Marks
 pub mod Sums
 pub mod Trailing

@@ -4,15 +4,23 @@ use Rattle.work_ids.specs.Account.{account_of, account_text, ipi_account_of, is_
 use Rattle.work_ids.specs.Blanks.{trimmed}
 use Rattle.work_ids.specs.Characters.{capital, is_capital, is_capital_or_digit, is_digit, is_printable}
 use Rattle.work_ids.specs.CheckDigit.{is_check_digit, weighted_sum}
+use Rattle.work_ids.specs.Digits.{last_digits}
+use Rattle.work_ids.specs.FileNames.{is_file_name, is_name_end, number_in_name}
 use Rattle.work_ids.specs.IpiName.{ipi_field_of}
-use Rattle.work_ids.specs.Isrc.{has_isrc_form, has_isrc_marks, isrc_field_of, isrc_of, isrc_of_text, printed as printed_isrc, without_isrc_marks}
+use Rattle.work_ids.specs.Isrc.{has_isrc_form, has_isrc_marks, isrc_field_of, isrc_of, isrc_of_text, printed_isrc, without_isrc_marks}
 use Rattle.work_ids.specs.Iswc.{has_iswc_form, has_iswc_marks, has_right_check_digit, iswc_field_of, iswc_of, iswc_of_text, printed, without_iswc_marks}
 use Rattle.work_ids.specs.Numbers.{is_pool_number, is_return_number, is_transmission_number, number_in_text, number_where}
 use Rattle.work_ids.specs.PartyNumber.{party_number_of}
 use Rattle.work_ids.specs.Reporter.{reporter_of}
+use Rattle.work_ids.specs.SegmentEnds.{segment_fault, segment_fault_number, stated_end}
+use Rattle.work_ids.specs.Segments.{file_number_in, is_file_number, segment_of, sequence_of}
 use Rattle.work_ids.specs.SenderKey.{sender_key_of}
+use Rattle.work_ids.specs.SpelledNumber.{dated_in_text, dated_text, file_number_spelled, is_dated_text}
 use Rattle.work_ids.specs.WorkNumber.{work_number_of}
 use Rattle.work_ids.specs.declared.account.Account.TheVariants.{Ipi, Party, Unclaimed}
+use Rattle.work_ids.specs.declared.segment.Segment.TheVariants.{Plain, Year}
+use Rattle.work_ids.specs.declared.segment_end.SegmentFault.TheVariants.{NotLater, OutOfRange}
+use Rattle.work_ids.specs.declared.spelled_number.SpelledNumber.TheVariants.{Dated, Plain as PlainNumber}
 use Rattle.work_ids.specs.declared.fault.IdFault.TheVariants.{Character, CheckDigit, Length}
 
 -- the first and the last character of each kind, and their neighbours
@@ -291,3 +299,95 @@ pool_texts = refl
 -- a leading zero, zero, nothing, a letter, a blank, a sign
 no_numbers : map (number_in_text is_pool_number) (codes "01" ∷ codes "0" ∷ [] ∷ codes "1a" ∷ codes " 1" ∷ codes "+1" ∷ []) ≡ None ∷ None ∷ None ∷ None ∷ None ∷ None ∷ []
 no_numbers = refl
+
+-- numbers of a fixed width
+filled_with_zeros : last_digits 9 900 ≡ codes "000000900"
+unfolding last_digits
+filled_with_zeros = refl
+
+cut_to_width : last_digits 5 123456 ≡ codes "23456"
+unfolding last_digits
+cut_to_width = refl
+
+-- the limits of plain numbers and of those of a year, and their neighbours
+plain_limits : map (file_number_in Plain) (0 ∷ 1 ∷ 999999 ∷ 1000000 ∷ []) ≡ None ∷ Some 1 ∷ Some 999999 ∷ None ∷ []
+plain_limits = refl
+
+year_limits : map (file_number_in (Year 26)) (0 ∷ 1 ∷ 9999 ∷ 10000 ∷ []) ≡ None ∷ Some 1260001 ∷ Some 1269999 ∷ None ∷ []
+year_limits = refl
+
+last_year : map (λ year. file_number_in (Year year) 1) (0 ∷ 99 ∷ 100 ∷ []) ≡ Some 1000001 ∷ Some 1990001 ∷ None ∷ []
+last_year = refl
+
+-- ranks that no number has: 0, number 0 of a year, and one past the last year
+ranks : map is_file_number (0 ∷ 1 ∷ 1000000 ∷ 1260001 ∷ 1999999 ∷ 2000001 ∷ []) ≡ false ∷ true ∷ false ∷ true ∷ true ∷ false ∷ []
+ranks = refl
+
+segment_places : map segment_of (999999 ∷ 1000000 ∷ 1260001 ∷ 1999999 ∷ []) ≡ 0 ∷ 1 ∷ 27 ∷ 100 ∷ []
+segment_places = refl
+
+sequences : map sequence_of (999999 ∷ 1000000 ∷ 1260001 ∷ 1999999 ∷ []) ≡ 999999 ∷ 0 ∷ 1 ∷ 9999 ∷ []
+sequences = refl
+
+-- texts of numbers of a year
+first_of_year : dated_text 26 1 ≡ codes "26-0001"
+unfolding last_digits
+first_of_year = refl
+
+begun_year : dated_text 0 0 ≡ codes "00-0000"
+unfolding last_digits
+begun_year = refl
+
+read_text : dated_in_text (codes "26-0001") ≡ Some (Dated 26 1)
+unfolding dated_in_text is_dated_text
+read_text = refl
+
+-- one digit too few, one too many, no hyphen, a number of another form
+no_dated_texts : map dated_in_text (codes "26-1" ∷ codes "026-0001" ∷ codes "26_0001" ∷ codes "1" ∷ []) ≡ None ∷ None ∷ None ∷ None ∷ []
+unfolding dated_in_text is_dated_text
+no_dated_texts = refl
+
+-- a plain number over the limit is none, and so is number 0 of a year
+spelled_numbers : map file_number_spelled (PlainNumber 1 ∷ PlainNumber 1260001 ∷ Dated 26 1 ∷ Dated 26 0 ∷ []) ≡ Some 1 ∷ None ∷ Some 1260001 ∷ None ∷ []
+spelled_numbers = refl
+
+-- names of files sent to society 900
+long_name : number_in_name 900 (codes "CW260001EXA_900.V22") ≡ Some 1260001
+unfolding number_in_name is_file_name is_name_end last_digits
+long_name = refl
+
+small_name : number_in_name 900 (codes "cw260001ex_900.v21") ≡ Some 1260001
+unfolding number_in_name is_file_name is_name_end last_digits
+small_name = refl
+
+short_society : number_in_name 7 (codes "CW261234A1B_007.V21") ≡ Some 1261234
+unfolding number_in_name is_file_name is_name_end last_digits
+short_society = refl
+
+-- number 0, another receiver, another version, a code of one and of four, a blank in a code
+no_names : map (number_in_name 900) (codes "CW260000EXA_900.V22" ∷ codes "CW260001EXA_901.V22" ∷ codes "CW260001EXA_900.V30" ∷ codes "CW260001E_900.V22" ∷ codes "CW260001EXAM_900.V22" ∷ codes "CW260001E A_900.V22" ∷ []) ≡ None ∷ None ∷ None ∷ None ∷ None ∷ None ∷ []
+unfolding number_in_name is_file_name is_name_end last_digits
+no_names = refl
+
+-- ends of segments: the plain one may go on to any year, one of a year to a later one alone
+plain_end : stated_end Plain 0 0 (segment_fault Plain 0 0) ≡ Ok (record { segment = Plain; last = 0; next = 0 })
+plain_end = refl
+
+right_end : stated_end (Year 26) 9999 27 (segment_fault (Year 26) 9999 27) ≡ Ok (record { segment = Year 26; last = 9999; next = 27 })
+right_end = refl
+
+same_year : segment_fault (Year 26) 3 26 ≡ Some NotLater
+same_year = refl
+
+-- numbers out of range; where both faults hold it is the least
+last_over_limit : segment_fault Plain 1000000 26 ≡ Some OutOfRange
+last_over_limit = refl
+
+next_over_limit : segment_fault Plain 1 100 ≡ Some OutOfRange
+next_over_limit = refl
+
+both_faults : segment_fault (Year 26) 10000 26 ≡ Some OutOfRange
+both_faults = refl
+
+fault_numbers : map segment_fault_number (OutOfRange ∷ NotLater ∷ []) ≡ 2 ∷ 3 ∷ []
+fault_numbers = refl

@@ -26,8 +26,8 @@ isrc_field_of field =
     if length field == 12 && list_all is_blank_byte field then Ok None else present (isrc_of field)
 
 -- the printed form, as in AT-ABC-26-00001 (ISO 3901)
-unfoldable pub printed : List ℕ → List ℕ
-printed isrc = take 2 isrc ++ 45 ∷ (take 3 (drop 2 isrc) ++ 45 ∷ (take 2 (drop 5 isrc) ++ 45 ∷ drop 7 isrc))
+unfoldable pub printed_isrc : List ℕ → List ℕ
+printed_isrc isrc = take 2 isrc ++ 45 ∷ (take 3 (drop 2 isrc) ++ 45 ∷ (take 2 (drop 5 isrc) ++ 45 ∷ drop 7 isrc))
 
 -- a printed form has its hyphens at their places (ISO 3901)
 unfoldable pub has_isrc_marks : List ℕ → Bool

@@ -5,10 +5,14 @@ pub mod CheckDigit
 pub mod Digits
 pub mod Numbers
 pub mod Fields
+pub mod FileNames
 pub mod IpiName
 pub mod Isrc
 pub mod Iswc
 pub mod PartyNumber
 pub mod Reporter
+pub mod SegmentEnds
+pub mod Segments
 pub mod SenderKey
+pub mod SpelledNumber
 pub mod WorkNumber

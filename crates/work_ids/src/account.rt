@@ -1,3 +1,4 @@
+//! The accounts that money is credited to.
 ghost use Rattle.std.specs.Prelude.{◌≡◌, ◌≤◌, ◌++◌, length, IsTrue, Ok};
 
 use crate::blanks::is_blank_byte;
@@ -25,6 +26,7 @@ pub enum Account {
 impl Account {
     ghost use Rattle.work_ids.specs.Account.{account_of, account_text, is_spelled, ipi_account_of, is_trimmed_printable, party_account_of};
 
+    // Whether bytes are printable with no blank at either end.
     #[tactic(auto, unfolding(crate::specs::Account::is_trimmed_printable))]
     fn is_trimmed_printable(bytes: &[u8]) -> bool
         requires { 1 ≤ length bytes.now }
@@ -33,7 +35,7 @@ impl Account {
         are_printable(bytes) && !is_blank_byte(bytes[0]) && !is_blank_byte(bytes[bytes.len() - 1])
     }
 
-    /// The account of an IPI name number's digits.
+    // The account of an IPI name number's digits.
     #[tactic(auto, unfolding(crate::specs::Account::ipi_account_of))]
     fn from_ipi(digits: &[u8]) -> Result<Account, IdFault>
         ensures { result ≡ ipi_account_of digits.now }
@@ -47,7 +49,7 @@ impl Account {
         Ok(Account::Ipi(IpiName::from_digits(digits)))
     }
 
-    /// The account of a sender key and a party number behind it.
+    // The account of a sender key and a party number behind it.
     #[tactic(auto, using(crate::proofs::PartyNumbers::printable_of, crate::proofs::PartyNumbers::front_of), unfolding(crate::specs::Account::party_account_of))]
     fn from_party(bytes: &[u8]) -> Result<Account, IdFault>
         ensures { result ≡ party_account_of bytes.now }

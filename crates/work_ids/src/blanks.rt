@@ -1,3 +1,4 @@
+//! Blanks (0x20) round an identifier and behind it.
 ghost use Rattle.std.specs.Prelude.{◌≡◌, ◌≤◌, length};
 ghost use Rattle.std.specs.List.{list_all};
 ghost use Rattle.work_ids.specs.Blanks.{fill, is_blank_byte, trimmed, without_leading_blanks, without_trailing_blanks};
@@ -13,7 +14,7 @@ pub fn without_trailing_blanks(bytes: &[u8]) -> &[u8]
     &bytes[..end]
 }
 
-/// The bytes without the blanks in front.
+// The bytes without the blanks in front.
 fn without_leading_blanks(bytes: &[u8]) -> &[u8]
     ensures { result.now ≡ without_leading_blanks bytes.now }
 {

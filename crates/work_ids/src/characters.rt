@@ -1,7 +1,9 @@
-ghost use Rattle.std.specs.Prelude.{◌≡◌};
+//! The characters of identifiers.
+ghost use Rattle.std.specs.Prelude.{◌≡◌, map};
 ghost use Rattle.std.specs.List.{list_all};
 ghost use Rattle.work_ids.specs.Characters.{capital, is_capital, is_digit, is_capital_or_digit, is_printable};
 
+// Whether the byte is one of A-Z.
 fn is_capital(byte: u8) -> bool
     ensures { result ≡ is_capital byte }
 {
@@ -15,6 +17,7 @@ pub fn are_capitals(bytes: &[u8]) -> bool
     bytes.iter().all(|byte| is_capital(*byte))
 }
 
+// Whether the byte is one of 0-9.
 fn is_digit(byte: u8) -> bool
     ensures { result ≡ is_digit byte }
 {
@@ -39,6 +42,16 @@ pub fn capital(byte: u8) -> u8
     }
 }
 
+/// Makes each small letter the capital.
+pub(crate) fn make_capitals(characters: &mut [u8])
+    ensures { characters.new ≡ map capital characters.old }
+{
+    for character in characters.iter_mut() {
+        *character = capital(*character);
+    }
+}
+
+// Whether the byte is one of A-Z and 0-9.
 fn is_capital_or_digit(byte: u8) -> bool
     ensures { result ≡ is_capital_or_digit byte }
 {
@@ -52,6 +65,7 @@ pub fn are_capitals_or_digits(bytes: &[u8]) -> bool
     bytes.iter().all(|byte| is_capital_or_digit(*byte))
 }
 
+// Whether the byte is printable ASCII.
 fn is_printable(byte: u8) -> bool
     ensures { result ≡ is_printable byte }
 {

@@ -1,3 +1,4 @@
+//! The check digit of an ISWC.
 ghost use Rattle.std.specs.Prelude.{◌≡◌, ◌-◌, ◌≤◌, ◌↔◌, ℕ, Some, is_some, true};
 ghost use Rattle.std.specs.List.{list_all};
 ghost use Rattle.work_ids.specs.Characters.{is_digit};
@@ -8,6 +9,7 @@ use crate::characters::are_digits;
 /// An ISWC's check digit completes a sum to a multiple of this.
 const MODULUS: usize = 10;
 
+// The value of an ASCII digit, 0 for a byte before them.
 fn digit_value(byte: u8) -> usize
     ensures value { result ≡ digit_value byte }
     ensures bound { result ≤ 207 }
@@ -15,7 +17,7 @@ fn digit_value(byte: u8) -> usize
     usize::from(byte.saturating_sub(b'0'))
 }
 
-/// 1 for the letter T, and each digit times its place from 1.
+// 1 for the letter T, and each digit times its place from 1.
 #[tactic(auto, using(crate::proofs::Sums::product_bound, crate::proofs::Sums::weighted_more), unfolding(crate::specs::CheckDigit::weighted_sum))]
 fn weighted_sum(digits: &[u8; 9]) -> usize
     ensures value { result ≡ weighted_sum digits.now }

@@ -1,3 +1,4 @@
+//! Why bytes are no identifier.
 use thiserror::Error;
 
 /// Why bytes are no identifier; where several hold it is the least, in this order.

@@ -1,3 +1,4 @@
+//! The IPI name number of a party.
 ghost use Rattle.std.specs.Prelude.{◌≡◌, ◌≤◌, length, true};
 ghost use Rattle.std.specs.List.{list_all};
 ghost use Rattle.work_ids.specs.IpiName.{eleven_digits, ipi_field_of, is_ipi_name, is_ipi_number, is_zero};
@@ -29,6 +30,7 @@ impl Model for IpiName {
     ghost inverse = { λ bytes. record { bytes = bytes } };
 }
 
+// Whether the byte is the digit zero.
 fn is_zero(byte: u8) -> bool
     ensures { result ≡ is_zero byte }
 {
@@ -42,7 +44,7 @@ pub(crate) fn are_zeros(bytes: &[u8]) -> bool
     bytes.iter().all(|byte| is_zero(*byte))
 }
 
-/// At most eleven digits, filled with zeros on the left.
+// At most eleven digits, filled with zeros on the left.
 fn zero_filled(digits: &[u8]) -> [u8; 11]
     requires { length digits.now ≤ 11 }
     ensures { result ≡ eleven_digits digits.now }

@@ -1,10 +1,10 @@
-ghost use Rattle.std.specs.Prelude.{◌≡◌, Ok, length, map, true};
-ghost use Rattle.work_ids.specs.Characters.{capital};
-ghost use Rattle.work_ids.specs.Isrc.{has_isrc_form, has_isrc_marks, is_isrc, isrc_field_of, isrc_of, isrc_of_text, printed, without_isrc_marks};
+//! The ISRC, the standard recording code.
+ghost use Rattle.std.specs.Prelude.{◌≡◌, Ok, length, true};
+ghost use Rattle.work_ids.specs.Isrc.{has_isrc_form, has_isrc_marks, is_isrc, isrc_field_of, isrc_of, isrc_of_text, printed_isrc, without_isrc_marks};
 
 use crate::IdFault;
 use crate::blanks::are_blank;
-use crate::characters::{are_capitals, are_capitals_or_digits, are_digits, capital};
+use crate::characters::{are_capitals, are_capitals_or_digits, are_digits, make_capitals};
 use std::marker::Model;
 
 /// Characters of an ISRC without hyphens.
@@ -32,6 +32,7 @@ impl Model for Isrc {
     ghost inverse = { λ bytes. record { bytes = bytes } };
 }
 
+// Whether twelve characters are two letters, three letters or digits, and seven digits.
 #[tactic(auto, unfolding(crate::specs::Isrc::has_isrc_form))]
 fn has_isrc_form(characters: &[u8]) -> bool
     requires { length characters.now ≡ 12 }
@@ -42,6 +43,7 @@ fn has_isrc_form(characters: &[u8]) -> bool
         && are_digits(&characters[5..])
 }
 
+// Whether a printed form has its hyphens.
 #[tactic(auto, unfolding(crate::specs::Isrc::has_isrc_marks))]
 fn has_isrc_marks(text: &[u8; 15]) -> bool
     ensures { result ≡ has_isrc_marks text.now }
@@ -49,6 +51,7 @@ fn has_isrc_marks(text: &[u8; 15]) -> bool
     text[2] == b'-' && text[6] == b'-' && text[9] == b'-'
 }
 
+// The characters of a printed form without its hyphens.
 fn without_isrc_marks(text: &[u8; 15]) -> [u8; 12]
     ensures { result ≡ without_isrc_marks text.now }
 {
@@ -58,17 +61,8 @@ fn without_isrc_marks(text: &[u8; 15]) -> [u8; 12]
     ]
 }
 
-/// Makes each small letter the capital.
-fn make_capitals(characters: &mut [u8])
-    ensures { characters.new ≡ map capital characters.old }
-{
-    for character in characters.iter_mut() {
-        *character = capital(*character);
-    }
-}
-
 impl Isrc {
-    /// The ISRC that twelve characters are, or the least refusal that holds.
+    // The ISRC that twelve characters are, or the least refusal that holds.
     #[tactic(auto, unfolding(crate::specs::Isrc::isrc_of))]
     fn from_characters(bytes: &[u8]) -> Result<Isrc, IdFault>
         ensures { result ≡ isrc_of bytes.now }
@@ -122,7 +116,7 @@ impl Isrc {
 
     /// The printed form, as in `AT-ABC-26-00001` (ISO 3901); `from_text` reads it back as the same ISRC.
     pub fn to_text(&self) -> [u8; 15]
-        ensures text { result ≡ printed self.now }
+        ensures text { result ≡ printed_isrc self.now }
         ensures back { isrc_of_text result ≡ Ok self.now }
     {
         let b = &self.bytes;

@@ -1,3 +1,4 @@
+//! The ISWC, the standard musical work code.
 ghost use Rattle.std.specs.Prelude.{◌≡◌, Ok, length, true};
 ghost use Rattle.work_ids.specs.Iswc.{has_iswc_form, has_iswc_marks, has_right_check_digit, is_iswc, iswc_field_of, iswc_of, iswc_of_text, printed, without_iswc_marks};
 
@@ -32,6 +33,7 @@ impl Model for Iswc {
     ghost inverse = { λ bytes. record { bytes = bytes } };
 }
 
+// Whether eleven characters are a T and ten digits.
 #[tactic(auto, unfolding(crate::specs::Iswc::has_iswc_form))]
 fn has_iswc_form(characters: &[u8]) -> bool
     requires { length characters.now ≡ 11 }
@@ -40,6 +42,7 @@ fn has_iswc_form(characters: &[u8]) -> bool
     characters[0] == b'T' && are_digits(&characters[1..])
 }
 
+// Whether the last of eleven characters is the check digit of the nine before it.
 #[tactic(auto, unfolding(crate::specs::Iswc::has_right_check_digit))]
 fn has_right_check_digit(characters: &[u8]) -> bool
     requires { length characters.now ≡ 11 }
@@ -50,6 +53,7 @@ fn has_right_check_digit(characters: &[u8]) -> bool
     is_check_digit(&digits, characters[10])
 }
 
+// Whether a printed form has its hyphens and points.
 #[tactic(auto, unfolding(crate::specs::Iswc::has_iswc_marks))]
 fn has_iswc_marks(text: &[u8; 15]) -> bool
     ensures { result ≡ has_iswc_marks text.now }
@@ -57,6 +61,7 @@ fn has_iswc_marks(text: &[u8; 15]) -> bool
     text[1] == b'-' && text[5] == b'.' && text[9] == b'.' && text[13] == b'-'
 }
 
+// The characters of a printed form without its hyphens and points.
 fn without_iswc_marks(text: &[u8; 15]) -> [u8; 11]
     ensures { result ≡ without_iswc_marks text.now }
 {
@@ -67,7 +72,7 @@ fn without_iswc_marks(text: &[u8; 15]) -> [u8; 11]
 }
 
 impl Iswc {
-    /// The ISWC that eleven characters are, or the least refusal that holds.
+    // The ISWC that eleven characters are, or the least refusal that holds.
     #[tactic(auto, unfolding(crate::specs::Iswc::iswc_of))]
     fn from_characters(bytes: &[u8]) -> Result<Iswc, IdFault>
         ensures { result ≡ iswc_of bytes.now }

@@ -1,3 +1,4 @@
+//! The number that a sender gives a party.
 ghost use Rattle.std.specs.Prelude.{◌≡◌, ◌≤◌, length, true};
 ghost use Rattle.std.specs.List.{list_all};
 ghost use Rattle.work_ids.specs.Blanks.{fill, is_blank_byte, without_trailing_blanks};

@@ -1,3 +1,4 @@
+//! The number of a pool.
 ghost use Rattle.std.specs.Prelude.{◌≡◌, ◌≤◌};
 ghost use Rattle.work_ids.specs.Numbers.{is_pool_number, number_in_text, number_where};
 

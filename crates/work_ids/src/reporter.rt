@@ -1,3 +1,4 @@
+//! Who sends performance returns.
 ghost use Rattle.std.specs.Prelude.{◌≡◌, Ok};
 ghost use Rattle.work_ids.specs.Blanks.{without_trailing_blanks};
 ghost use Rattle.work_ids.specs.Reporter.{reporter_of};

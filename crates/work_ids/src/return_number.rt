@@ -1,3 +1,4 @@
+//! The number of a performance return.
 ghost use Rattle.std.specs.Prelude.{◌≡◌, ◌≤◌};
 ghost use Rattle.work_ids.specs.Numbers.{is_return_number, number_in_text, number_where};
 

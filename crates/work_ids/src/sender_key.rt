@@ -1,3 +1,4 @@
+//! Who sends transmissions.
 ghost use Rattle.std.specs.Prelude.{◌≡◌, length, take, drop, true};
 ghost use Rattle.work_ids.specs.SenderKey.{is_sender_key, sender_key_of};
 

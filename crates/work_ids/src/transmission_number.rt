@@ -1,3 +1,4 @@
+//! The number of a transmission.
 ghost use Rattle.std.specs.Prelude.{◌≡◌, ◌≤◌};
 ghost use Rattle.work_ids.specs.Numbers.{is_transmission_number, number_in_text, number_where};
 

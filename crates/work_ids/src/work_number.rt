@@ -1,3 +1,4 @@
+//! What a sender calls a work.
 ghost use Rattle.std.specs.Prelude.{◌≡◌, Ok};
 ghost use Rattle.work_ids.specs.Blanks.{without_trailing_blanks};
 ghost use Rattle.work_ids.specs.WorkNumber.{work_number_of};

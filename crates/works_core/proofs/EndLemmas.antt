@@ -5,7 +5,7 @@ use Rattle.cwr_records.specs.declared.work.TransactionKind.{TransactionKind}
 use Rattle.cwr_records.specs.declared.work.TransactionKind.TheVariants.{Nwr, Rev}
 use Rattle.works_core.proofs.NextLemmas.{next_is}
 use Rattle.works_core.proofs.TrackLemmas.{no_versions, same_bytes, none_is_none, works_in-begun}
-use Rattle.works_core.specs.Ends.{EndsAt, KnowsWork, known_of, last_after, last_in, works_after}
+use Rattle.works_core.specs.Ends.{EndsAt, KnowsWork, known_version, last_after, last_in, works_after}
 use Rattle.works_core.specs.Tracks.{last_index, linked_version, number_in}
 use Rattle.works_core.specs.Verdicts.{concerns, is_accepted, is_registered, ordinal_of, verdict_of, versions_of, works_in}
 use Rattle.works_core.specs.Versions.{Placed, judged_of, last_version, next_verdict, placed_at, version_of}
@@ -130,7 +130,7 @@ ends-taken known past old new (Clean kind n) t p o r at e works last =
     right_by false w v version h e = h e
 
 -- the verdict by what is known
-pub told : (known : List ℕ → Bool) (past : List Placed) (end : LineEnd) (x : Judged) → EndsAt known past end → KnowsWork known x → next_verdict x (known_of end x) end.works ≡ verdict_of (judged_of past) x
+pub told : (known : List ℕ → Bool) (past : List Placed) (end : LineEnd) (x : Judged) → EndsAt known past end → KnowsWork known x → next_verdict x (known_version end x) end.works ≡ verdict_of (judged_of past) x
 told known past end (Faulty f) at there = refl
 told known past end (Clean kind n) at there =
     ap (λ (o : Option WorkVersion). next_verdict (Clean kind n) o end.works) (at.last n there)

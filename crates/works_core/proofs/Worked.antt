@@ -3,8 +3,8 @@ use Rattle.std.specs.Prelude.{◌≡◌, List, [], ◌∷◌, Some, None, false,
 use Rattle.std.proofs.Common.{lit≤}
 use Rattle.cwr_files.specs.Contents.{transmission_in}
 use Rattle.cwr_files.specs.RecordTypes.{has_type, is_read, type_of_group}
-use Rattle.cwr_records.specs.Lines.{field, fill, is_blank, line_of as line_of_piece}
-use Rattle.work_ids.specs.Digits.{number_of}
+use Rattle.cwr_records.specs.Lines.{field, fill_field, is_blank, line_of_piece}
+use Rattle.work_ids.specs.Digits.{decimal_value}
 use Rattle.cwr_records.specs.Records.{record_of}
 use Rattle.cwr_records.specs.Typed.{indicator_of, share_of, territory_of}
 use Rattle.cwr_records.specs.declared.work.TransactionKind.TheVariants.{Nwr, Rev}
@@ -99,7 +99,7 @@ its_counts = refl
 
 -- a recording named twice, and one without an ISRC between
 repeats_kept : isrcs_in (record_of (codes "REC0000000000000001                                                                                                                                                                                                                                      ATABC2600001") ∷ record_of (codes "REC0000000000000001                                                                                                                                                                                                                                                  ") ∷ record_of (codes "REC0000000000000001                                                                                                                                                                                                                                      GBXYZ2600002") ∷ record_of (codes "REC0000000000000001                                                                                                                                                                                                                                      ATABC2600001") ∷ []) ≡ codes "ATABC2600001" ∷ codes "GBXYZ2600002" ∷ codes "ATABC2600001" ∷ []
-unfolding field fill is_blank record_of has_isrc_form isrc_of trimmed
+unfolding field fill_field is_blank record_of has_isrc_form isrc_of trimmed
 repeats_kept = refl
 
 abbrev office : Office
@@ -107,5 +107,5 @@ office = record { society = 900; territory = 40; name = filled 45 (codes "EXAMPL
 
 -- a registration whose ownership shares add up to 10007, the registration, and its revision
 its_line : line_of office ((1, transmission_in (codes "HDRPB000000012EXAMPLE MUSIC                                01.102026010510150020260106\r\nGRHNWR0000102.200000000000\r\nNWR0000000000000000FIRST SONG                                                    W1            T0345246801\r\nSPU000000000000000101P1       EXAMPLE MUSIC                                 E          00000000199                 05000   10000   10000\r\nSPT0000000000000002P1             050001000010000I2136 001\r\nSWR0000000000000003A1       WRITER                                       ANNA                           CA         00000000295   05007   00000   00000\r\nSWT0000000000000004A1       050000000000000I2136 001\r\nPWR0000000000000005P1       EXAMPLE MUSIC                                                            A1\r\nREC0000000000000006                                                                                                                                                                                                                                      ATABC2600001\r\nGRT000010000000100000009\r\nTRL000010000000100000011\r\n")) ∷ (2, transmission_in (codes "HDRPB000000012EXAMPLE MUSIC                                01.102026010510150020260106\r\nGRHNWR0000102.200000000000\r\nNWR0000000000000000FIRST SONG                                                    W1            T0345246801\r\nSPU000000000000000101P1       EXAMPLE MUSIC                                 E          00000000199                 05000   10000   10000\r\nSPT0000000000000002P1             050001000010000I2136 001\r\nSWR0000000000000003A1       WRITER                                       ANNA                           CA         00000000295   05000   00000   00000\r\nSWT0000000000000004A1       050000000000000I2136 001\r\nPWR0000000000000005P1       EXAMPLE MUSIC                                                            A1\r\nREC0000000000000006                                                                                                                                                                                                                                      ATABC2600001\r\nGRT000010000000100000009\r\nTRL000010000000100000011\r\n")) ∷ (3, transmission_in (codes "HDRPB000000012EXAMPLE MUSIC                                01.102026010510150020260106\r\nGRHREV0000102.200000000000\r\nREV0000000000000000FIRST SONG                                                    W1            T0345246801\r\nSPU000000000000000101P1       EXAMPLE MUSIC                                 E          00000000199                 00000   10000   10000\r\nSPT0000000000000002P1             000001000010000I2136 001\r\nSWR0000000000000003A1       WRITER                                       ANNA                           CA         00000000295   10000   00000   00000\r\nSWT0000000000000004A1       100000000000000I2136 001\r\nPWR0000000000000005P1       EXAMPLE MUSIC                                                            A1\r\nREC0000000000000006                                                                                                                                                                                                                                      ATABC2600001\r\nGRT000010000000100000009\r\nTRL000010000000100000011\r\n")) ∷ []) ≡ record { number = 1; judged = Faulty 5 ∷ [] } ∷ record { number = 2; judged = Clean Nwr (codes "W1            ") ∷ [] } ∷ record { number = 3; judged = Clean Rev (codes "W1            ") ∷ [] } ∷ []
-unfolding field fill is_blank line_of_piece number_of record_of indicator_of share_of territory_of transmission_in has_type is_read type_of_group fault_of is_check_digit weighted_sum has_isrc_form isrc_of has_iswc_form has_right_check_digit iswc_of trimmed judged_in
+unfolding field fill_field is_blank line_of_piece decimal_value record_of indicator_of share_of territory_of transmission_in has_type is_read type_of_group fault_of is_check_digit weighted_sum has_isrc_form isrc_of has_iswc_form has_right_check_digit iswc_of trimmed judged_in
 its_line = refl

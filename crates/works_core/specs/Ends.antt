@@ -4,7 +4,7 @@ use Rattle.std.specs.List.{AllByRecursion}
 use Rattle.std.specs.HashMap.{get}
 use Rattle.std.specs.Str.{bytes_eq}
 use Rattle.cwr_records.specs.declared.work.TransactionKind.TheVariants.{Nwr, Rev}
-use Rattle.works_core.specs.Tracks.{key_of, same_key}
+use Rattle.works_core.specs.Tracks.{work_key_of, same_key}
 use Rattle.works_core.specs.Verdicts.{works_in}
 use Rattle.works_core.specs.Versions.{Placed, judged_of, last_version}
 use Rattle.works_core.specs.declared.judged.Judged.{Judged}
@@ -14,7 +14,7 @@ use Rattle.works_core.specs.declared.version.WorkVersion.{WorkVersion}
 
 -- the last version that is kept of a work
 abbrev pub last_in : LineEnd → List ℕ → Option WorkVersion
-last_in end work = get same_key end.last (key_of work)
+last_in end work = get same_key end.last (work_key_of work)
 
 -- the number of works, and the last versions of the works that are known, are those at the end of some transactions; no other version is told
 pub record EndsAt (known : List ℕ → Bool) (past : List Placed) (end : LineEnd) : Type 0 where
@@ -43,6 +43,6 @@ last_after (Clean kind number) version last work = if bytes_eq number work then 
 last_after (Faulty fault) version last work = last work
 
 -- what is known of a transaction's work
-abbrev pub known_of : LineEnd → Judged → Option WorkVersion
-known_of end (Clean kind number) = last_in end number
-known_of end (Faulty fault) = None
+abbrev pub known_version : LineEnd → Judged → Option WorkVersion
+known_version end (Clean kind number) = last_in end number
+known_version end (Faulty fault) = None

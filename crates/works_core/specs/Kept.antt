@@ -1,4 +1,4 @@
--- What a sender's line keeps of each transmission, and of the works: a representation invariant.
+-- Representation, not meaning: what a sender's line keeps of each transmission, and of the works.
 use Rattle.std.specs.Prelude.{◌≡◌, List, [], ◌∷◌, map}
 use Rattle.works_core.specs.Tracks.{Tracks}
 use Rattle.works_core.specs.Verdicts.{behind, verdicts_from}
@@ -18,7 +18,7 @@ AreVerdicts past [] = Unit {0}
 AreVerdicts past (x ∷ more) = (x.verdicts.items ≡ verdicts_from past x.judged.items) × AreVerdicts (behind past x.judged.items) more
 
 -- what is kept: numbers rise, and the verdicts and the works are those of what was judged
-pub record IsKept (kept : List KeptTransmission) (works : Works) : Type 0 where
+pub record IsKeptLine (kept : List KeptTransmission) (works : Works) : Type 0 where
   pub rises : IsRising 0 (kept_line kept)
   pub told : AreVerdicts [] kept
   pub tracked : Tracks works (placed_line (kept_line kept))

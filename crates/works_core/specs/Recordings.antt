@@ -12,9 +12,9 @@ right_one (Ok identifier) = identifier
 right_one (Err fault) = None
 
 -- the ISRC that a record has: that of a REC, none where its field is blank (ISO 3901)
-abbrev pub isrc_in : Record → Option (List ℕ)
-isrc_in (kind.Recording r) = right_one (isrc_field_of r.isrc)
-isrc_in _ = None
+abbrev pub recorded_isrc : Record → Option (List ℕ)
+recorded_isrc (kind.Recording r) = right_one (isrc_field_of r.isrc)
+recorded_isrc _ = None
 
 -- ISRCs behind one that may be there
 abbrev pub with_isrc : Option (List ℕ) → List (List ℕ) → List (List ℕ)
@@ -24,7 +24,7 @@ with_isrc (Some isrc) isrcs = isrc ∷ isrcs
 -- the ISRCs of some records in order, repeats kept (profile)
 abbrev pub isrcs_in : List Record → List (List ℕ)
 isrcs_in [] = []
-isrcs_in (r ∷ more) = with_isrc (isrc_in r) (isrcs_in more)
+isrcs_in (r ∷ more) = with_isrc (recorded_isrc r) (isrcs_in more)
 
 -- the ISRCs of a transaction
 abbrev pub isrcs_of : Transaction → List (List ℕ)

@@ -1,4 +1,4 @@
--- What is kept of the transactions that came so far: a representation invariant.
+-- Representation, not meaning: what is kept of the transactions that came so far.
 use Rattle.std.specs.Prelude.{ℕ, ◌+◌, ◌≡◌, ◌≤◌, Bool, List, [], ◌∷◌, ◌++◌, Option, Some, None, if◌then◌else◌, vec_len}
 use Rattle.std.specs.HashMap.{get, hash_map_len, spare}
 use Rattle.std.specs.Str.{bytes_eq}
@@ -12,8 +12,8 @@ use Rattle.works_core.specs.declared.version.LinkedVersion.{LinkedVersion}
 use Rattle.works_core.specs.declared.works.Works.{Works}
 
 -- a work number as a key
-abbrev pub key_of : List ℕ → WorkKey
-key_of work = record { number = work }
+abbrev pub work_key_of : List ℕ → WorkKey
+work_key_of work = record { number = work }
 
 -- whether two keys are one
 abbrev pub same_key : WorkKey → WorkKey → Bool
@@ -46,7 +46,7 @@ linked_versions (t ∷ past) =
 
 -- the works that are kept are those of the transactions so far
 pub record Tracks (works : Works) (past : List Placed) : Type 0 where
-  pub last : (work : List ℕ) → get same_key works.last (key_of work) ≡ last_index work past
+  pub last : (work : List ℕ) → get same_key works.last (work_key_of work) ≡ last_index work past
   pub versions : works.versions.items ≡ linked_versions past
   pub count : hash_map_len works.last ≡ works_in (judged_of past)
 
@@ -56,6 +56,6 @@ pub record IsTracked (works : Works) : Type 0 where
   pub tracks : Tracks works past
 
 -- so many transactions more can be taken in without memory
-pub record HasRoom (count : ℕ) (works : Works) : Type 0 where
+pub record HasRoomFor (count : ℕ) (works : Works) : Type 0 where
   pub keys : count ≤ spare works.last
   pub links : vec_len works.versions + count ≤ vec_capacity works.versions

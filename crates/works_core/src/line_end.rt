@@ -1,7 +1,7 @@
 //! The end of a sender's line, as far as it is known.
 ghost use Rattle.std.specs.Prelude.{◌≡◌, ◌<◌, ◌^◌, ◌∷◌, ◌||◌, Bool, false, ℕ, List, Some, IfOk, OnOk, if◌then◌else◌};
 ghost use Rattle.std.specs.Str.{bytes_eq};
-ghost use Rattle.works_core.specs.Ends.{EndsAt, KnowsWork, KnowsWorks, known_of, last_after, last_in, works_after};
+ghost use Rattle.works_core.specs.Ends.{EndsAt, KnowsWork, KnowsWorks, known_version, last_after, last_in, works_after};
 ghost use Rattle.works_core.specs.Verdicts.{verdict_of, verdicts_from, works_in};
 ghost use Rattle.works_core.specs.Versions.{Placed, judged_of, last_version, next_verdict, placed_at, placed_behind};
 
@@ -55,7 +55,7 @@ impl<T: Drop> From<AllocFailed<T>> for LineFault {
     }
 }
 
-/// The verdict of the next transaction, `Overflow` where a count has no room for one more.
+// The verdict of the next transaction, `Overflow` where a count has no room for one more.
 fn verdict_within(
     judged: &Judged,
     last: Option<WorkVersion>,
@@ -104,7 +104,7 @@ impl LineEnd {
         Ok(())
     }
 
-    /// Keeps the last version of a work.
+    // Keeps the last version of a work.
     fn keep(&mut self, work: WorkNumber, version: WorkVersion) -> Result<(), AllocError>
         ensures works { self.new.works ≡ self.old.works }
         ensures last { OnOk result ((other : List ℕ) → last_in self.new other ≡ (if bytes_eq work other then Some version else last_in self.old other)) }
@@ -113,9 +113,9 @@ impl LineEnd {
         Ok(())
     }
 
-    /// What is known of a transaction's work.
+    // What is known of a transaction's work.
     fn known(&self, judged: &Judged) -> Option<WorkVersion>
-        ensures { result ≡ known_of self.now judged.now }
+        ensures { result ≡ known_version self.now judged.now }
     {
         match *judged {
             Judged::Clean(_, work) => self.last.get(&WorkKey { number: work }).copied(),
@@ -123,7 +123,7 @@ impl LineEnd {
         }
     }
 
-    /// Keeps an accepted transaction as the last version of its work.
+    // Keeps an accepted transaction as the last version of its work.
     fn append(&mut self, judged: &Judged, version: WorkVersion) -> Result<(), AllocError>
         requires { self.old.works < 2 ^ 63 }
         ensures works { OnOk result (self.new.works ≡ works_after judged.now self.old.works) }
@@ -139,7 +139,7 @@ impl LineEnd {
         Ok(())
     }
 
-    /// The verdict of the next transaction, behind which the line then ends.
+    // The verdict of the next transaction, behind which the line then ends.
     fn settle(&mut self, place: Place, judged: &Judged) -> Result<Verdict, LineFault>
         ensures verdict { (known : List ℕ → Bool) (past : List Placed) → EndsAt known past self.old → KnowsWork known judged.now
             → IfOk result (λ verdict. verdict ≡ verdict_of (judged_of past) judged.now) }
@@ -149,12 +149,7 @@ impl LineEnd {
         let verdict = verdict_within(judged, self.known(judged), self.works)?;
         match verdict {
             Verdict::Accepted { ordinal, revision } => {
-                let version = WorkVersion {
-                    transmission: place.transmission,
-                    place: place.place,
-                    ordinal,
-                    revision,
-                };
+                let version = place.version(ordinal, revision);
                 self.append(judged, version)?;
             }
             Verdict::Rejected(_) => {}

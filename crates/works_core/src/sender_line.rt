@@ -2,7 +2,7 @@
 ghost use Rattle.std.specs.Prelude.{◌≡◌, ◌<◌, ◌+◌, ◌≤◌, ◌++◌, ◌∷◌, [], map, IfOk, OnOk, OnErr, length, flat_map, List, vec_len, vec_capacity};
 ghost use Rattle.works_core.specs.Line.{judged, judged_in};
 ghost use Rattle.works_core.specs.Numbered.{last_number};
-ghost use Rattle.works_core.specs.Tracks.{HasRoom, IsTracked, Tracks};
+ghost use Rattle.works_core.specs.Tracks.{HasRoomFor, IsTracked, Tracks};
 ghost use Rattle.works_core.specs.Verdicts.{verdicts_from};
 ghost use Rattle.works_core.specs.Versions.{judged_of, placed_behind, Placed, work_at};
 
@@ -36,16 +36,16 @@ pub struct SenderLine {
 
 impl Model for SenderLine {
     ghost use Rattle.works_core.specs.LineValue.{SenderLineValue};
-    ghost use Rattle.works_core.specs.Kept.{kept_line, IsKept};
+    ghost use Rattle.works_core.specs.Kept.{kept_line, IsKeptLine};
 
     ghost Value = { SenderLineValue };
 
     ghost view = { λ l. record { office = l.office; transmissions = kept_line l.kept.items } };
 
-    ghost invariant = { λ l. IsKept l.kept.items l.works };
+    ghost invariant = { λ l. IsKeptLine l.kept.items l.works };
 }
 
-/// What an office judges of a transaction.
+// What an office judges of a transaction.
 fn judged(transaction: &Transaction<'_>, office: &Office) -> Judged
     ensures { result ≡ judged office.now transaction.now }
 {
@@ -58,7 +58,7 @@ fn judged(transaction: &Transaction<'_>, office: &Office) -> Judged
     }
 }
 
-/// Appends what an office judges of the transactions of a group.
+// Appends what an office judges of the transactions of a group.
 fn append_judged(
     transactions: &[Transaction<'_>],
     office: &Office,
@@ -72,7 +72,7 @@ fn append_judged(
     Ok(())
 }
 
-/// What an office judges of the transactions of all groups, in the order of the file.
+// What an office judges of the transactions of all groups, in the order of the file.
 fn judged_groups(
     alloc: Global,
     groups: &[Group<'_>],
@@ -98,7 +98,7 @@ pub fn judge_all(
     judged_groups(alloc, transmission.groups.as_slice(), office)
 }
 
-/// Appends the verdicts of a transmission's transactions, which are taken into the works.
+// Appends the verdicts of a transmission's transactions, which are taken into the works.
 fn settle_all(
     works: &mut Works,
     transmission: TransmissionNumber,
@@ -106,7 +106,7 @@ fn settle_all(
     verdicts: &mut Vec<Verdict>,
 )
     requires tracked { IsTracked works.old }
-    requires room { HasRoom (length transactions.now) works.old }
+    requires room { HasRoomFor (length transactions.now) works.old }
     requires verdict_room { vec_len verdicts.old + length transactions.now ≤ vec_capacity verdicts.old }
     ensures verdicts { (past : List Placed) → Tracks works.old past → verdicts.new.items ≡ verdicts.old.items ++ verdicts_from (judged_of past) transactions.now }
     ensures tracks { (past : List Placed) → Tracks works.old past → Tracks works.new (placed_behind past transmission 0 transactions.now) }

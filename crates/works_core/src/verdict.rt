@@ -34,7 +34,7 @@ pub fn next_verdict(judged: &Judged, last: Option<WorkVersion>, works: u64) -> V
     told_by(judged, last, works)
 }
 
-/// The verdict as the definition has it.
+// The verdict, case by case. It is a function of its own for the prover: `next_verdict` adds what follows for every line.
 fn told_by(judged: &Judged, last: Option<WorkVersion>, works: u64) -> Verdict
     requires counted { works < 2 ^ 63 }
     requires revised { IfSome last (λ v. v.revision < 2 ^ 63) }

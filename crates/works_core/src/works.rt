@@ -2,7 +2,7 @@
 ghost use Rattle.std.specs.Prelude.{◌≡◌, ◌+◌, ◌<◌, ◌∷◌, ◌++◌, [], ℕ, length, List, IfSome, OnOk, Some, is_some, if◌then◌else◌};
 ghost use Rattle.std.specs.HashMap.{get, hash_map_len};
 ghost use Rattle.std.specs.Str.{bytes_eq};
-ghost use Rattle.works_core.specs.Tracks.{HasRoom, IsTracked, key_of, last_index, same_key, Tracks};
+ghost use Rattle.works_core.specs.Tracks.{HasRoomFor, IsTracked, work_key_of, last_index, same_key, Tracks};
 ghost use Rattle.works_core.specs.Verdicts.{verdict_of};
 ghost use Rattle.works_core.specs.Versions.{judged_of, last_version, placed_at, Placed};
 ghost use Rattle.works_core.specs.declared.judged.Judged.TheVariants.{Clean};
@@ -21,6 +21,20 @@ use work_ids::{TransmissionNumber, WorkNumber};
 pub struct Place {
     pub transmission: TransmissionNumber,
     pub place: usize,
+}
+
+impl Place {
+    /// The version that the transaction there is.
+    pub fn version(self, ordinal: u64, revision: u64) -> WorkVersion
+        ensures { result ≡ record { transmission = self.transmission; place = self.place; ordinal = ordinal; revision = revision } }
+    {
+        WorkVersion {
+            transmission: self.transmission,
+            place: self.place,
+            ordinal,
+            revision,
+        }
+    }
 }
 
 /// The works of the transactions so far: all accepted versions in the order of the line, and each work's last one.
@@ -44,7 +58,7 @@ impl Works {
     /// Takes memory for this many transactions more; the works stay, also after an error.
     pub fn reserve(&mut self, count: usize) -> Result<(), AllocError>
         ensures tracks { (past : List Placed) → Tracks self.old past → Tracks self.new past }
-        ensures room { OnOk result (HasRoom count self.new) }
+        ensures room { OnOk result (HasRoomFor count self.new) }
     {
         self.last.reserve(count)?;
         self.versions.reserve(count)
@@ -53,10 +67,10 @@ impl Works {
     /// The verdict of the next transaction, which is taken into the works.
     pub fn settle(&mut self, place: Place, judged: &Judged) -> Verdict
         requires tracked { IsTracked self.old }
-        requires room { HasRoom 1 self.old }
+        requires room { HasRoomFor 1 self.old }
         ensures verdict { (past : List Placed) → Tracks self.old past → result ≡ verdict_of (judged_of past) judged.now }
         ensures tracks { (past : List Placed) → Tracks self.old past → Tracks self.new (placed_at place.transmission place.place judged.now ∷ past) }
-        ensures room { (count : ℕ) → HasRoom (count + 1) self.old → HasRoom count self.new }
+        ensures room { (count : ℕ) → HasRoomFor (count + 1) self.old → HasRoomFor count self.new }
     {
         match *judged {
             Judged::Faulty(fault) => Verdict::Rejected(fault),
@@ -64,13 +78,13 @@ impl Works {
         }
     }
 
-    /// The verdict of a clean transaction, by the last version of its work.
+    // The verdict of a clean transaction, by the last version of its work.
     fn settle_clean(&mut self, place: Place, kind: TransactionKind, work: WorkNumber) -> Verdict
         requires tracked { IsTracked self.old }
-        requires room { HasRoom 1 self.old }
+        requires room { HasRoomFor 1 self.old }
         ensures verdict { (past : List Placed) → Tracks self.old past → result ≡ verdict_of (judged_of past) (Clean kind work) }
         ensures tracks { (past : List Placed) → Tracks self.old past → Tracks self.new (placed_at place.transmission place.place (Clean kind work) ∷ past) }
-        ensures room { (count : ℕ) → HasRoom (count + 1) self.old → HasRoom count self.new }
+        ensures room { (count : ℕ) → HasRoomFor (count + 1) self.old → HasRoomFor count self.new }
     {
         let before = self.last.get(&WorkKey { number: work }).copied();
         let last = self.version_at(before);
@@ -78,12 +92,7 @@ impl Works {
         let verdict = next_verdict(&Judged::Clean(kind, work), last, works);
         match verdict {
             Verdict::Accepted { ordinal, revision } => {
-                let version = WorkVersion {
-                    transmission: place.transmission,
-                    place: place.place,
-                    ordinal,
-                    revision,
-                };
+                let version = place.version(ordinal, revision);
                 self.append(work, LinkedVersion { version, before });
             }
             Verdict::Rejected(_) => {}
@@ -91,7 +100,7 @@ impl Works {
         verdict
     }
 
-    /// The version that stands at an index, where there is one.
+    // The version that stands at an index, where there is one.
     fn version_at(&self, index: Option<usize>) -> Option<WorkVersion>
         requires within { IfSome index (λ at. at < length self.now.versions.items) }
         ensures { (past : List Placed) (work : List ℕ) → Tracks self.now past → index ≡ last_index work past → result ≡ last_version work past }
@@ -102,13 +111,13 @@ impl Works {
         }
     }
 
-    /// Appends a version, the last one of its work from now on.
+    // Appends a version, the last one of its work from now on.
     fn append(&mut self, work: WorkNumber, linked: LinkedVersion)
-        requires room { HasRoom 1 self.old }
+        requires room { HasRoomFor 1 self.old }
         ensures versions { self.new.versions.items ≡ self.old.versions.items ++ linked ∷ [] }
-        ensures last { (other : List ℕ) → get same_key self.new.last (key_of other) ≡ (if bytes_eq work other then Some (length self.old.versions.items) else get same_key self.old.last (key_of other)) }
-        ensures count { hash_map_len self.new.last ≡ hash_map_len self.old.last + (if is_some (get same_key self.old.last (key_of work)) then 0 else 1) }
-        ensures room { (count : ℕ) → HasRoom (count + 1) self.old → HasRoom count self.new }
+        ensures last { (other : List ℕ) → get same_key self.new.last (work_key_of other) ≡ (if bytes_eq work other then Some (length self.old.versions.items) else get same_key self.old.last (work_key_of other)) }
+        ensures count { hash_map_len self.new.last ≡ hash_map_len self.old.last + (if is_some (get same_key self.old.last (work_key_of work)) then 0 else 1) }
+        ensures room { (count : ℕ) → HasRoomFor (count + 1) self.old → HasRoomFor count self.new }
     {
         let key = WorkKey { number: work };
         let entered: Result<_, _> = self.last.insert(key, self.versions.len());

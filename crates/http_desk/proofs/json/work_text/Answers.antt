@@ -2,7 +2,7 @@ use Rattle.std.proofs.Common.{◌≡◌, Option, Some, None, List, ℕ, false, r
 use Rattle.serde_json.specs.Data.{string}
 use Rattle.serde_json.specs.Written.{has_float}
 use Rattle.society_core.specs.Requests.{shown_of}
-use Rattle.http_desk.specs.Json.{holder_json, iswc_json, work_json, work_text}
+use Rattle.http_desk.specs.Json.{holder_json, iswc_json, work_json, work_json_text}
 use Rattle.http_desk.proofs.JsonLemmas.{items_without_float, text_is}
 use Rattle.http_desk.proofs.json.work_text.Goals as goal
 
@@ -11,7 +11,7 @@ none (Some iswc) = refl
 none None = refl
 
 pub returns : goal.returns
-unfolding work_text
+unfolding work_json_text
 returns c =
     let work = shown_of c.args.work.now in
     text_is c.text_of.result _ (work_json work) c.in_ok-value.ensures

@@ -15,8 +15,8 @@ put_of-requires c =
     let plain = ascii_from_path c.args.target.now (sym c.is_path.ensures ∙ c.if-not-is_path.false) in
     record { text = rw c.in-Ok-at.ensures.path (route_text _ _ found (rw c.in-Ok.ensures.cases.0 plain)); short = search rules }
 
-pub get_of-request-requires : goal.get_of-request-requires
-get_of-request-requires c =
+pub get_of-requires : goal.get_of-requires
+get_of-requires c =
     let found = rw c.requires.routes at c.in-Ok-at.ensures.found in
     let plain = ascii_from_path c.args.target.now (sym c.is_path.ensures ∙ c.if-not-is_path.false) in
     record { text = rw c.in-Ok-at.ensures.path (route_text _ _ found (rw c.in-Ok.ensures.cases.0 plain)); short = search rules }

@@ -1,14 +1,14 @@
 use Rattle.std.proofs.Common.{ℕ, List, ◌∙◌, subst, arith}
 use Rattle.std.proofs.lemmas.Option.{same_Some}
 use Rattle.csv.specs.Writing.{default_writer, row_text}
-use Rattle.http_desk.specs.Rows.{HasRows}
+use Rattle.http_desk.specs.Rows.{HasWrittenRows}
 use Rattle.http_desk.specs.Table.{column_names, table_text}
 use Rattle.http_desk.proofs.TableLemmas.{all_rows, rows_more}
 use Rattle.http_desk.proofs.table.table_text.Goals as goal
 
 pub loop-credit-preserved : goal.loop-credit-preserved
 loop-credit-preserved c =
-    subst (λ (rows : List ℕ). HasRows c.put_credit.new.table rows)
+    subst (λ (rows : List ℕ). HasWrittenRows c.put_credit.new.table rows)
     (rows_more (row_text default_writer column_names) c.args.credits.now c.loop-credit.credit-index c.credit-item.result (omega arith) c.credit-item.is)
     (c.in_ok-put_credit.ensures _ c.loop-credit.invariant)
 

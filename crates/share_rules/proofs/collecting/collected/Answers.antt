@@ -1,5 +1,5 @@
 use Rattle.std.proofs.Common.{◌+◌, ℕ, List, drop, ap, sym, ◌∙◌, arith}
-use Rattle.share_rules.specs.Parties.{is_party, last_counting}
+use Rattle.share_rules.specs.Parties.{is_interested_party, last_counting}
 use Rattle.share_rules.specs.Steps.{shares_after, shares_or}
 use Rattle.share_rules.specs.declared.party.Side.{Side}
 use Rattle.share_rules.specs.declared.shares.Shares.{Shares}
@@ -22,7 +22,7 @@ loop-record-preserved c =
     let before = c.loop-record.shares in
     let r = c.record-item.result in
     let rows = rows_among party.side party.number (up_to_next party.side party.number (drop (i + 1) c.args.after.now)) in
-    let other = ap (λ (s : Side). is_party s party.number r) (sym c.new-sought.ensures.side) ∙ ap (λ (n : List ℕ). is_party sought.side n r) (sym c.new-sought.ensures.number) ∙ sym c.is_party.ensures ∙ c.if-is_party.false in
+    let other = ap (λ (s : Side). is_interested_party s party.number r) (sym c.new-sought.ensures.side) ∙ ap (λ (n : List ℕ). is_interested_party sought.side n r) (sym c.new-sought.ensures.number) ∙ sym c.is_party.ensures ∙ c.if-is_party.false in
     let same = ap (λ (s : Side). shares_after c.args.office.now s sought.number before r) c.new-sought.ensures.side ∙ ap (λ (n : List ℕ). shares_after c.args.office.now party.side n before r) c.new-sought.ensures.number in
     ap (λ (s : Shares). shares_or s (last_counting c.args.office.now rows)) (c.shares_after-shares.ensures ∙ same)
     ∙ rows_next c.args.office.now party.side party.number before c.args.after.now i r (omega arith) c.record-item.is other

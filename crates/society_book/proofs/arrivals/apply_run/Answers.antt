@@ -12,8 +12,8 @@ use Rattle.society_book.specs.Kept.{HoldsBook}
 use Rattle.society_book.specs.Outcomes.{settled}
 use Rattle.society_book.specs.Runs.{EndsReady, behind_run, line_at_front, settled_recordings, settled_verdict, settled_version}
 use Rattle.society_book.specs.Shown.{Runs}
-use Rattle.society_book.proofs.RunBooks.{run_holds}
-use Rattle.society_book.proofs.StepLemmas.{does_as, does_then}
+use Rattle.society_book.proofs.lines.RunBooks.{run_holds}
+use Rattle.society_book.proofs.together.StepLemmas.{does_as, does_then}
 use Rattle.society_book.proofs.arrivals.apply_run.Goals as goal
 
 pub returns-clause-does : goal.returns-clause-does

@@ -8,7 +8,7 @@ use Rattle.society_core.specs.Book.{Book, body_at, front, is_entry, with_transmi
 use Rattle.society_book.specs.Kept.{HoldsBook}
 use Rattle.society_book.specs.Runs.{GoesOnBy, Notes}
 use Rattle.society_book.specs.Steps.{HasReached}
-use Rattle.society_book.proofs.StepLemmas.{does_open_then, does_then}
+use Rattle.society_book.proofs.together.StepLemmas.{does_open_then, does_then}
 use Rattle.society_book.proofs.arrivals.arrive_inside.Goals as goal
 
 pub returns-clause-does : goal.returns-clause-does

@@ -1,7 +1,7 @@
 use Rattle.std.proofs.Common.{Ok}
 use Rattle.sqlite.specs.Held.{state}
-use Rattle.society_book.proofs.HeldTables.{waits_by}
-use Rattle.society_book.proofs.StepLemmas.{does_of, does_then}
+use Rattle.society_book.proofs.lines.HeldTables.{waits_by}
+use Rattle.society_book.proofs.together.StepLemmas.{does_of, does_then}
 use Rattle.society_book.proofs.arrivals.put_line.Goals as goal
 
 pub returns-clause-does : goal.returns-clause-does

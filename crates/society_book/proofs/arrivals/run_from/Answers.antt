@@ -3,8 +3,8 @@ use Rattle.sqlite.specs.Held.{state}
 use Rattle.society_core.specs.Book.{front, with_transmission}
 use Rattle.society_book.specs.Columns.{blob_at}
 use Rattle.society_book.specs.Runs.{GoesOnBy, RunValue, notes_in, take_row}
-use Rattle.society_book.proofs.RunBooks.{held_goes, run_goes, taken_rows}
-use Rattle.society_book.proofs.StepLemmas.{looks_as, looks_inside, nothing}
+use Rattle.society_book.proofs.lines.RunBooks.{held_goes, run_goes, taken_rows}
+use Rattle.society_book.proofs.together.StepLemmas.{looks_as, looks_inside, nothing}
 use Rattle.society_book.proofs.arrivals.run_from.Goals as goal
 
 pub returns-then-value-reached-clause-looks : goal.returns-then-value-reached-clause-looks

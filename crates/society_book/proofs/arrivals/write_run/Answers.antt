@@ -1,6 +1,6 @@
 use Rattle.sqlite.specs.Held.{state}
-use Rattle.society_book.proofs.RunWrites.{runs_by}
-use Rattle.society_book.proofs.StepLemmas.{does_then}
+use Rattle.society_book.proofs.lines.RunWrites.{runs_by}
+use Rattle.society_book.proofs.together.StepLemmas.{does_then}
 use Rattle.society_book.proofs.arrivals.write_run.Goals as goal
 
 pub returns-clause-does : goal.returns-clause-does

@@ -1,6 +1,6 @@
 use Rattle.sqlite.specs.Held.{state}
-use Rattle.society_book.proofs.PoolWrites.{adds_order}
-use Rattle.society_book.proofs.StepLemmas.{does_of, does_open_then}
+use Rattle.society_book.proofs.money.PoolWrites.{adds_order}
+use Rattle.society_book.proofs.together.StepLemmas.{does_of, does_open_then}
 use Rattle.society_book.proofs.closings.add_order.Goals as goal
 
 pub returns-clause-does : goal.returns-clause-does

@@ -1,5 +1,5 @@
 use Rattle.std.proofs.Common.{take}
-use Rattle.society_core.specs.Candidates.{Adds}
+use Rattle.society_core.specs.Candidates.{AddsCandidates}
 use Rattle.society_core.specs.Points.{is_tallied}
 use Rattle.society_book.specs.CutWorks.{works_chosen}
 use Rattle.society_book.proofs.cut_works.add_group.Given as goal
@@ -7,4 +7,4 @@ use Rattle.society_core.specs.Pools.{holders_of}
 
 -- the transactions so far are added
 abbrev pub invariant-loop-index : goal.invariant-loop-index
-invariant-loop-index l = Adds (holders_of l.kind l.office) (is_tallied l.tally) (works_chosen l.chosen l.sender l.number l.first (take l.index l.transactions)) l.initial.candidates.items l.candidates.items
+invariant-loop-index l = AddsCandidates (holders_of l.kind l.office) (is_tallied l.tally) (works_chosen l.chosen l.sender l.number l.first (take l.index l.transactions)) l.initial.candidates.items l.candidates.items

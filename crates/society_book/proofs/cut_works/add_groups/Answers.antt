@@ -5,11 +5,11 @@ use Rattle.cwr_files.specs.Transaction.{number_of_work}
 use Rattle.cwr_files.specs.declared.transmission.Group.{Group}
 use Rattle.cwr_files.specs.declared.transmission.Transaction.{Transaction}
 use Rattle.society_core.proofs.CandidateLemmas.{adds_then}
-use Rattle.society_core.specs.Candidates.{Adds}
+use Rattle.society_core.specs.Candidates.{AddsCandidates}
 use Rattle.society_core.specs.Owners.{CutWork}
 use Rattle.society_core.specs.Points.{is_tallied}
 use Rattle.society_book.specs.CutWorks.{is_chosen, works_chosen}
-use Rattle.society_book.proofs.CutCandidates.{where_append}
+use Rattle.society_book.proofs.cuts.CutCandidates.{where_append}
 use Rattle.society_book.proofs.cut_works.add_groups.Goals as goal
 use Rattle.society_core.specs.Pools.{holders_of}
 
@@ -37,6 +37,6 @@ loop-group-preserved c =
     ∙ ap (λ (k : ℕ). works_chosen chosen s n 0 so_far ++ works_chosen chosen s n k ts) place in
     record {
       place = c.in_ok-place.ensures ∙ ap (λ (k : ℕ). k + length ts) c.loop-group.invariant.place ∙ sym (ap (λ (l : List Transaction). length l) next ∙ length-append so_far ts);
-      adds = subst (λ (ws : List CutWork). Adds (holders_of c.args.kind o) of_these ws c.args.candidates.now.items c.add_group.new.candidates.items) (sym step)
+      adds = subst (λ (ws : List CutWork). AddsCandidates (holders_of c.args.kind o) of_these ws c.args.candidates.now.items c.add_group.new.candidates.items) (sym step)
           (adds_then (holders_of c.args.kind o) of_these (works_chosen chosen s n 0 so_far) (works_chosen chosen s n c.loop-group.place ts) c.args.candidates.now.items c.loop-group.candidates.items c.add_group.new.candidates.items c.loop-group.invariant.adds c.in_ok-add_group.ensures);
     }

@@ -3,11 +3,11 @@ use Rattle.std.proofs.lemmas.List.{append-nil, take_all, take_more}
 use Rattle.std.proofs.lemmas.Grind.{flat_map-append}
 use Rattle.sqlite.specs.Held.{state}
 use Rattle.society_core.proofs.CandidateLemmas.{adds_then}
-use Rattle.society_core.specs.Candidates.{Adds, transactions_sent}
+use Rattle.society_core.specs.Candidates.{AddsCandidates, transactions_sent}
 use Rattle.society_core.specs.Owners.{CutWork, versions_of_transmission}
 use Rattle.society_core.specs.Points.{is_tallied}
-use Rattle.society_book.proofs.CutSets.{listed_within, set_adds, versions_in}
-use Rattle.society_book.proofs.StepLemmas.{looks_as, looks_then}
+use Rattle.society_book.proofs.cuts.CutSets.{listed_within, set_adds, versions_in}
+use Rattle.society_book.proofs.together.StepLemmas.{looks_as, looks_then}
 use Rattle.society_book.proofs.cut_works.add_transmissions.Goals as goal
 use Rattle.society_core.specs.Pools.{holders_of}
 
@@ -29,7 +29,7 @@ loop-number-preserved g c =
           (λ y first second b holds right.
           let f = λ (k : ℕ). versions_of_transmission o b key k (transactions_sent b key.sender k) in
           let within : n ≤ key.number = listed_within o b key of_these c.args.chosen.now right all i n (c.as_slice-number-items.ensures.value ∙ c.in_ok-numbers.ensures.numbers) c.number-item.is c.loop-number-test.true in
-          subst (λ (ws : List CutWork). Adds (holders_of c.args.kind o) of_these ws first_list new_list)
+          subst (λ (ws : List CutWork). AddsCandidates (holders_of c.args.kind o) of_these ws first_list new_list)
           (ap (λ (ws : List CutWork). versions_in o b key (take i all) ++ ws) (sym (append-nil (f n))) ∙ sym (ap (versions_in o b key) next ∙ flat_map-append f (take i all) (n ∷ [])))
           (adds_then (holders_of c.args.kind o) of_these (versions_in o b key (take i all)) (f n) first_list mid_list new_list (first b holds right) (second b holds within right)));
     }
@@ -45,4 +45,4 @@ returns-clause-looks g c =
     looks_as (state g.S.Store c.args.tx.now.conn.now) (state g.S.Store c.loop-number.tx.conn.now) tt (Ok tt) _ _ c.loop-number.invariant.looks
     (λ first b holds right.
     set_adds (holders_of c.args.kind o) o b key (is_tallied c.args.tally.now) c.args.chosen.now right c.transmissions.ensures.ordered old_list new_list
-    (subst (λ (ns : List ℕ). Adds (holders_of c.args.kind o) (is_tallied c.args.tally.now) (versions_in o b key ns) old_list new_list) named (first b holds right)))
+    (subst (λ (ns : List ℕ). AddsCandidates (holders_of c.args.kind o) (is_tallied c.args.tally.now) (versions_in o b key ns) old_list new_list) named (first b holds right)))

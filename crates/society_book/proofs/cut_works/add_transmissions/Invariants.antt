@@ -1,12 +1,12 @@
 use Rattle.std.proofs.Common.{◌≡◌, Ok, take}
 use Rattle.sqlite.specs.Held.{state}
 use Rattle.society_core.specs.Book.{Book}
-use Rattle.society_core.specs.Candidates.{Adds}
+use Rattle.society_core.specs.Candidates.{AddsCandidates}
 use Rattle.society_core.specs.Points.{is_tallied}
 use Rattle.society_book.specs.CutWorks.{ChoosesNaming}
 use Rattle.society_book.specs.Sources.{HoldsWorks}
 use Rattle.society_book.specs.Steps.{Looks}
-use Rattle.society_book.proofs.CutSets.{versions_in}
+use Rattle.society_book.proofs.cuts.CutSets.{versions_in}
 use Rattle.society_book.proofs.cut_works.add_transmissions.Given as goal
 use Rattle.society_core.specs.Pools.{holders_of}
 
@@ -16,5 +16,5 @@ invariant-loop-number g l = record {
   same_reference : l.tx.conn.ghost_name ≡ l.initial.tx.conn.ghost_name;
   looks : Looks {X = Unit {0}} (state g.S.Store l.initial.tx.conn.now) (state g.S.Store l.tx.conn.now) (Ok tt)
       (λ db _. (book : Book) → HoldsWorks l.office book db → ChoosesNaming l.office book l.key (is_tallied l.tally) l.chosen
-      → Adds (holders_of l.kind l.office) (is_tallied l.tally) (versions_in l.office book l.key (take l.number-index l.number-items)) l.initial.candidates.items l.candidates.items);
+      → AddsCandidates (holders_of l.kind l.office) (is_tallied l.tally) (versions_in l.office book l.key (take l.number-index l.number-items)) l.initial.candidates.items l.candidates.items);
 }

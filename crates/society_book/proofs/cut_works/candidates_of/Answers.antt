@@ -8,7 +8,7 @@ use Rattle.society_core.specs.Owners.{CutWork, versions_at_cut}
 use Rattle.society_core.specs.Points.{is_tallied}
 use Rattle.society_core.specs.declared.transmission_key.TransmissionKey.{TransmissionKey}
 use Rattle.society_book.specs.CutWorks.{notes_of_sender}
-use Rattle.society_book.proofs.StepLemmas.{looks_as, looks_then}
+use Rattle.society_book.proofs.together.StepLemmas.{looks_as, looks_then}
 use Rattle.society_book.proofs.cut_works.candidates_of.Goals as goal
 use Rattle.society_core.specs.Pools.{holders_of}
 

@@ -1,7 +1,7 @@
 use Rattle.std.proofs.Common.{Ok, ◌∙◌}
 use Rattle.sqlite.specs.Held.{state}
-use Rattle.society_book.proofs.CutNotes.{wanted_noted}
-use Rattle.society_book.proofs.StepLemmas.{looks_as, looks_of}
+use Rattle.society_book.proofs.cuts.CutNotes.{wanted_noted}
+use Rattle.society_book.proofs.together.StepLemmas.{looks_as, looks_of}
 use Rattle.society_book.proofs.named_works.named_works.Goals as goal
 
 pub returns-clause-looks : goal.returns-clause-looks

@@ -2,7 +2,7 @@ use Rattle.std.proofs.Common.{◌≡◌, ◌∙◌, ◌++◌, ℕ, List, OnOk, m
 use Rattle.society_core.proofs.Numbers.{number_is}
 use Rattle.society_book.specs.Outcomes.{settled}
 use Rattle.society_book.specs.Runs.{Settled, settled_from}
-use Rattle.society_book.proofs.OutcomeLemmas.{on_any}
+use Rattle.society_book.proofs.lines.OutcomeLemmas.{on_any}
 use Rattle.society_book.proofs.outcomes.settle_next.Goals as goal
 use Rattle.work_ids.specs.Numbers.{is_transmission_number}
 use Rattle.works_core.specs.Ends.{EndsAt, KnowsWorks}

@@ -6,10 +6,10 @@ use Rattle.society_core.proofs.Closes.{entry_of_close, no_payer}
 use Rattle.society_core.proofs.Stores.{from_one}
 use Rattle.society_core.specs.Pools.{credits_of}
 use Rattle.society_book.specs.Closings.{ClosesWith}
-use Rattle.society_book.proofs.Payments.{cut_reached}
-use Rattle.society_book.proofs.PoolHolds.{pool_holds}
-use Rattle.society_book.proofs.WorksHeld.{works_of}
-use Rattle.society_book.proofs.StepLemmas.{does_then_open}
+use Rattle.society_book.proofs.money.Payments.{cut_reached}
+use Rattle.society_book.proofs.money.PoolHolds.{pool_holds}
+use Rattle.society_book.proofs.cuts.WorksHeld.{works_of}
+use Rattle.society_book.proofs.together.StepLemmas.{does_then_open}
 use Rattle.society_book.proofs.paying.close_inside.Goals as goal
 
 pub returns-clause-does : goal.returns-clause-does

@@ -1,5 +1,5 @@
 use Rattle.std.proofs.Common.{Some, ap}
-use Rattle.society_book.proofs.VerdictRows.{verdicts_back}
+use Rattle.society_book.proofs.shown.VerdictRows.{verdicts_back}
 use Rattle.society_book.proofs.senders.shown_where.Goals as goal
 
 pub returns : goal.returns

@@ -1,5 +1,6 @@
 use Rattle.std.proofs.Common.{inl, inr}
-use Rattle.society_commands.proofs.WordLemmas.{asks_for, asks_to_audit, asks_to_serve, audit_not_wrong, name_is_wrong, read_no_help, refused_served, replay_not_wrong, serve_not_wrong, words_are_wrong}
+use Rattle.society_words.proofs.WordLemmas.{asks_for, asks_to_audit, asks_to_serve, audit_not_wrong, audit_read, name_is_wrong, read_no_help, refused_audit, refused_replay, refused_serving, replay_not_wrong, replay_read, serve_not_wrong, serving_read, words_are_wrong}
+use Rattle.society_words.specs.Words.{serving_of}
 use Rattle.society_commands.proofs.starting.start.Goals as goal
 
 pub returns-in-Ok-Replay-clause-wrong : goal.returns-in-Ok-Replay-clause-wrong
@@ -8,13 +9,23 @@ returns-in-Ok-Replay-clause-wrong g c = λ wrong. absurd (replay_not_wrong _ c.i
 pub returns-in-Ok-Replay-clause-help : goal.returns-in-Ok-Replay-clause-help
 returns-in-Ok-Replay-clause-help g c = λ help. absurd (read_no_help _ _ c.in-Ok-Replay.ensures.ok help)
 
-pub returns-in-Ok-Replay-clause-served : goal.returns-in-Ok-Replay-clause-served
-returns-in-Ok-Replay-clause-served g c = λ zero.
-    inr (inl (c.in-Ok-Replay.office, asks_for _ c.in-Ok-Replay.office (rw c.in-Ok-Replay.field-0-is at c.in-Ok-Replay.ensures.ok), c.replay.ensures.served zero))
+pub returns-in-Ok-Replay-clause-replayed : goal.returns-in-Ok-Replay-clause-replayed
+returns-in-Ok-Replay-clause-replayed g c = λ wants zero. (c.in-Ok-Replay.office, asks_for _ c.in-Ok-Replay.office (rw c.in-Ok-Replay.field-0-is at c.in-Ok-Replay.ensures.ok), c.replay.ensures.served zero)
 
 pub returns-in-Ok-Replay-clause-broken_off : goal.returns-in-Ok-Replay-clause-broken_off
-returns-in-Ok-Replay-clause-broken_off g c = λ one.
-    inl (c.in-Ok-Replay.office, asks_for _ c.in-Ok-Replay.office (rw c.in-Ok-Replay.field-0-is at c.in-Ok-Replay.ensures.ok), c.replay.ensures.broken_off one)
+returns-in-Ok-Replay-clause-broken_off g c = λ wants one. (c.in-Ok-Replay.office, asks_for _ c.in-Ok-Replay.office (rw c.in-Ok-Replay.field-0-is at c.in-Ok-Replay.ensures.ok), c.replay.ensures.broken_off one)
+
+pub returns-in-Ok-Replay-clause-served : goal.returns-in-Ok-Replay-clause-served
+returns-in-Ok-Replay-clause-served g c = λ wants. absurd (serving_read _ _ (rw c.in-Ok-Replay.field-0-is at c.in-Ok-Replay.ensures.ok) wants)
+
+pub returns-in-Ok-Replay-clause-stopped : goal.returns-in-Ok-Replay-clause-stopped
+returns-in-Ok-Replay-clause-stopped g c = λ wants. absurd (serving_read _ _ (rw c.in-Ok-Replay.field-0-is at c.in-Ok-Replay.ensures.ok) wants)
+
+pub returns-in-Ok-Replay-clause-sound : goal.returns-in-Ok-Replay-clause-sound
+returns-in-Ok-Replay-clause-sound g c = λ wants. absurd (audit_read _ _ (rw c.in-Ok-Replay.field-0-is at c.in-Ok-Replay.ensures.ok) wants)
+
+pub returns-in-Ok-Replay-clause-unsound : goal.returns-in-Ok-Replay-clause-unsound
+returns-in-Ok-Replay-clause-unsound g c = λ wants. absurd (audit_read _ _ (rw c.in-Ok-Replay.field-0-is at c.in-Ok-Replay.ensures.ok) wants)
 
 pub returns-in-Ok-Serve-clause-wrong : goal.returns-in-Ok-Serve-clause-wrong
 returns-in-Ok-Serve-clause-wrong g c = λ wrong. absurd (serve_not_wrong _ c.in-Ok-Serve.database c.in-Ok-Serve.place c.in-Ok-Serve.office (rw c.in-Ok-Serve.field-0-is at c.in-Ok-Serve.ensures.ok) wrong)
@@ -22,13 +33,25 @@ returns-in-Ok-Serve-clause-wrong g c = λ wrong. absurd (serve_not_wrong _ c.in-
 pub returns-in-Ok-Serve-clause-help : goal.returns-in-Ok-Serve-clause-help
 returns-in-Ok-Serve-clause-help g c = λ help. absurd (read_no_help _ _ c.in-Ok-Serve.ensures.ok help)
 
-pub returns-in-Ok-Serve-clause-served : goal.returns-in-Ok-Serve-clause-served
-returns-in-Ok-Serve-clause-served g c = λ zero.
-    inr (inr (inl (c.in-Ok-Serve.database, c.in-Ok-Serve.place, c.in-Ok-Serve.office, asks_to_serve _ c.in-Ok-Serve.database c.in-Ok-Serve.place c.in-Ok-Serve.office (rw c.in-Ok-Serve.field-0-is at c.in-Ok-Serve.ensures.ok), c.serve_file.ensures.served zero)))
+pub returns-in-Ok-Serve-clause-replayed : goal.returns-in-Ok-Serve-clause-replayed
+returns-in-Ok-Serve-clause-replayed g c = λ wants. absurd (replay_read _ _ (rw c.in-Ok-Serve.field-0-is at c.in-Ok-Serve.ensures.ok) wants)
 
 pub returns-in-Ok-Serve-clause-broken_off : goal.returns-in-Ok-Serve-clause-broken_off
-returns-in-Ok-Serve-clause-broken_off g c = λ one.
-    inr (inl (c.in-Ok-Serve.database, c.in-Ok-Serve.place, c.in-Ok-Serve.office, asks_to_serve _ c.in-Ok-Serve.database c.in-Ok-Serve.place c.in-Ok-Serve.office (rw c.in-Ok-Serve.field-0-is at c.in-Ok-Serve.ensures.ok), c.serve_file.ensures.broken_off one))
+returns-in-Ok-Serve-clause-broken_off g c = λ wants. absurd (replay_read _ _ (rw c.in-Ok-Serve.field-0-is at c.in-Ok-Serve.ensures.ok) wants)
+
+pub returns-in-Ok-Serve-clause-served : goal.returns-in-Ok-Serve-clause-served
+returns-in-Ok-Serve-clause-served g c = λ wants zero.
+    (serving_of c.in-Ok-Serve.database c.in-Ok-Serve.place c.in-Ok-Serve.office, asks_to_serve _ c.in-Ok-Serve.database c.in-Ok-Serve.place c.in-Ok-Serve.office (rw c.in-Ok-Serve.field-0-is at c.in-Ok-Serve.ensures.ok), c.serve_file.ensures.served zero)
+
+pub returns-in-Ok-Serve-clause-stopped : goal.returns-in-Ok-Serve-clause-stopped
+returns-in-Ok-Serve-clause-stopped g c = λ wants one.
+    (serving_of c.in-Ok-Serve.database c.in-Ok-Serve.place c.in-Ok-Serve.office, asks_to_serve _ c.in-Ok-Serve.database c.in-Ok-Serve.place c.in-Ok-Serve.office (rw c.in-Ok-Serve.field-0-is at c.in-Ok-Serve.ensures.ok), c.serve_file.ensures.broken_off one)
+
+pub returns-in-Ok-Serve-clause-sound : goal.returns-in-Ok-Serve-clause-sound
+returns-in-Ok-Serve-clause-sound g c = λ wants. absurd (audit_read _ _ (rw c.in-Ok-Serve.field-0-is at c.in-Ok-Serve.ensures.ok) wants)
+
+pub returns-in-Ok-Serve-clause-unsound : goal.returns-in-Ok-Serve-clause-unsound
+returns-in-Ok-Serve-clause-unsound g c = λ wants. absurd (audit_read _ _ (rw c.in-Ok-Serve.field-0-is at c.in-Ok-Serve.ensures.ok) wants)
 
 pub returns-in-Ok-Audit-clause-wrong : goal.returns-in-Ok-Audit-clause-wrong
 returns-in-Ok-Audit-clause-wrong g c = λ wrong. absurd (audit_not_wrong _ c.in-Ok-Audit.path c.in-Ok-Audit.office (rw c.in-Ok-Audit.field-0-is at c.in-Ok-Audit.ensures.ok) wrong)
@@ -36,13 +59,23 @@ returns-in-Ok-Audit-clause-wrong g c = λ wrong. absurd (audit_not_wrong _ c.in-
 pub returns-in-Ok-Audit-clause-help : goal.returns-in-Ok-Audit-clause-help
 returns-in-Ok-Audit-clause-help g c = λ help. absurd (read_no_help _ _ c.in-Ok-Audit.ensures.ok help)
 
-pub returns-in-Ok-Audit-clause-served : goal.returns-in-Ok-Audit-clause-served
-returns-in-Ok-Audit-clause-served g c = λ zero.
-    inr (inr (inr (c.in-Ok-Audit.path.now, c.in-Ok-Audit.office, asks_to_audit _ c.in-Ok-Audit.path c.in-Ok-Audit.office (rw c.in-Ok-Audit.field-0-is at c.in-Ok-Audit.ensures.ok), c.audit_file.ensures.sound zero)))
+pub returns-in-Ok-Audit-clause-replayed : goal.returns-in-Ok-Audit-clause-replayed
+returns-in-Ok-Audit-clause-replayed g c = λ wants. absurd (replay_read _ _ (rw c.in-Ok-Audit.field-0-is at c.in-Ok-Audit.ensures.ok) wants)
 
 pub returns-in-Ok-Audit-clause-broken_off : goal.returns-in-Ok-Audit-clause-broken_off
-returns-in-Ok-Audit-clause-broken_off g c = λ one.
-    inr (inr (c.in-Ok-Audit.path.now, c.in-Ok-Audit.office, asks_to_audit _ c.in-Ok-Audit.path c.in-Ok-Audit.office (rw c.in-Ok-Audit.field-0-is at c.in-Ok-Audit.ensures.ok), c.audit_file.ensures.fault one))
+returns-in-Ok-Audit-clause-broken_off g c = λ wants. absurd (replay_read _ _ (rw c.in-Ok-Audit.field-0-is at c.in-Ok-Audit.ensures.ok) wants)
+
+pub returns-in-Ok-Audit-clause-served : goal.returns-in-Ok-Audit-clause-served
+returns-in-Ok-Audit-clause-served g c = λ wants. absurd (serving_read _ _ (rw c.in-Ok-Audit.field-0-is at c.in-Ok-Audit.ensures.ok) wants)
+
+pub returns-in-Ok-Audit-clause-stopped : goal.returns-in-Ok-Audit-clause-stopped
+returns-in-Ok-Audit-clause-stopped g c = λ wants. absurd (serving_read _ _ (rw c.in-Ok-Audit.field-0-is at c.in-Ok-Audit.ensures.ok) wants)
+
+pub returns-in-Ok-Audit-clause-sound : goal.returns-in-Ok-Audit-clause-sound
+returns-in-Ok-Audit-clause-sound g c = λ wants zero. (c.in-Ok-Audit.path.now, c.in-Ok-Audit.office, asks_to_audit _ c.in-Ok-Audit.path c.in-Ok-Audit.office (rw c.in-Ok-Audit.field-0-is at c.in-Ok-Audit.ensures.ok), c.audit_file.ensures.sound zero)
+
+pub returns-in-Ok-Audit-clause-unsound : goal.returns-in-Ok-Audit-clause-unsound
+returns-in-Ok-Audit-clause-unsound g c = λ wants one. (c.in-Ok-Audit.path.now, c.in-Ok-Audit.office, asks_to_audit _ c.in-Ok-Audit.path c.in-Ok-Audit.office (rw c.in-Ok-Audit.field-0-is at c.in-Ok-Audit.ensures.ok), c.audit_file.ensures.fault one)
 
 pub returns-in-Ok-BadName-clause-help : goal.returns-in-Ok-BadName-clause-help
 returns-in-Ok-BadName-clause-help g c = λ help. absurd (read_no_help _ _ c.in-Ok-BadName.ensures.ok help)
@@ -50,11 +83,62 @@ returns-in-Ok-BadName-clause-help g c = λ help. absurd (read_no_help _ _ c.in-O
 pub returns-in-Ok-BadName-clause-status : goal.returns-in-Ok-BadName-clause-status
 returns-in-Ok-BadName-clause-status g c = inr (inr (c.refuse.ensures, name_is_wrong _ (rw c.in-Ok-BadName.field-0-is at c.in-Ok-BadName.ensures.ok)))
 
+pub returns-in-Ok-BadName-clause-replayed : goal.returns-in-Ok-BadName-clause-replayed
+returns-in-Ok-BadName-clause-replayed g c = λ wants. absurd (replay_read _ _ (rw c.in-Ok-BadName.field-0-is at c.in-Ok-BadName.ensures.ok) wants)
+
+pub returns-in-Ok-BadName-clause-broken_off : goal.returns-in-Ok-BadName-clause-broken_off
+returns-in-Ok-BadName-clause-broken_off g c = λ wants. absurd (replay_read _ _ (rw c.in-Ok-BadName.field-0-is at c.in-Ok-BadName.ensures.ok) wants)
+
+pub returns-in-Ok-BadName-clause-served : goal.returns-in-Ok-BadName-clause-served
+returns-in-Ok-BadName-clause-served g c = λ wants. absurd (serving_read _ _ (rw c.in-Ok-BadName.field-0-is at c.in-Ok-BadName.ensures.ok) wants)
+
+pub returns-in-Ok-BadName-clause-stopped : goal.returns-in-Ok-BadName-clause-stopped
+returns-in-Ok-BadName-clause-stopped g c = λ wants. absurd (serving_read _ _ (rw c.in-Ok-BadName.field-0-is at c.in-Ok-BadName.ensures.ok) wants)
+
+pub returns-in-Ok-BadName-clause-sound : goal.returns-in-Ok-BadName-clause-sound
+returns-in-Ok-BadName-clause-sound g c = λ wants. absurd (audit_read _ _ (rw c.in-Ok-BadName.field-0-is at c.in-Ok-BadName.ensures.ok) wants)
+
+pub returns-in-Ok-BadName-clause-unsound : goal.returns-in-Ok-BadName-clause-unsound
+returns-in-Ok-BadName-clause-unsound g c = λ wants. absurd (audit_read _ _ (rw c.in-Ok-BadName.field-0-is at c.in-Ok-BadName.ensures.ok) wants)
+
 pub returns-in-Ok-BadWords-clause-help : goal.returns-in-Ok-BadWords-clause-help
 returns-in-Ok-BadWords-clause-help g c = λ help. absurd (read_no_help _ _ c.in-Ok-BadWords.ensures.ok help)
 
 pub returns-in-Ok-BadWords-clause-status : goal.returns-in-Ok-BadWords-clause-status
 returns-in-Ok-BadWords-clause-status g c = inr (inr (c.refuse-in-Ok-BadWords.ensures, words_are_wrong _ (rw c.in-Ok-BadWords.field-0-is at c.in-Ok-BadWords.ensures.ok)))
 
+pub returns-in-Ok-BadWords-clause-replayed : goal.returns-in-Ok-BadWords-clause-replayed
+returns-in-Ok-BadWords-clause-replayed g c = λ wants. absurd (replay_read _ _ (rw c.in-Ok-BadWords.field-0-is at c.in-Ok-BadWords.ensures.ok) wants)
+
+pub returns-in-Ok-BadWords-clause-broken_off : goal.returns-in-Ok-BadWords-clause-broken_off
+returns-in-Ok-BadWords-clause-broken_off g c = λ wants. absurd (replay_read _ _ (rw c.in-Ok-BadWords.field-0-is at c.in-Ok-BadWords.ensures.ok) wants)
+
+pub returns-in-Ok-BadWords-clause-served : goal.returns-in-Ok-BadWords-clause-served
+returns-in-Ok-BadWords-clause-served g c = λ wants. absurd (serving_read _ _ (rw c.in-Ok-BadWords.field-0-is at c.in-Ok-BadWords.ensures.ok) wants)
+
+pub returns-in-Ok-BadWords-clause-stopped : goal.returns-in-Ok-BadWords-clause-stopped
+returns-in-Ok-BadWords-clause-stopped g c = λ wants. absurd (serving_read _ _ (rw c.in-Ok-BadWords.field-0-is at c.in-Ok-BadWords.ensures.ok) wants)
+
+pub returns-in-Ok-BadWords-clause-sound : goal.returns-in-Ok-BadWords-clause-sound
+returns-in-Ok-BadWords-clause-sound g c = λ wants. absurd (audit_read _ _ (rw c.in-Ok-BadWords.field-0-is at c.in-Ok-BadWords.ensures.ok) wants)
+
+pub returns-in-Ok-BadWords-clause-unsound : goal.returns-in-Ok-BadWords-clause-unsound
+returns-in-Ok-BadWords-clause-unsound g c = λ wants. absurd (audit_read _ _ (rw c.in-Ok-BadWords.field-0-is at c.in-Ok-BadWords.ensures.ok) wants)
+
+pub returns-in-Err-clause-replayed : goal.returns-in-Err-clause-replayed
+returns-in-Err-clause-replayed g c = λ wants. refused_replay _ _ _ c.explain.result c.in-Err.ensures.err c.explain.ensures.memory wants
+
+pub returns-in-Err-clause-broken_off : goal.returns-in-Err-clause-broken_off
+returns-in-Err-clause-broken_off g c = λ wants. refused_replay _ _ _ c.explain.result c.in-Err.ensures.err c.explain.ensures.memory wants
+
 pub returns-in-Err-clause-served : goal.returns-in-Err-clause-served
-returns-in-Err-clause-served g c = refused_served _ _ _ _ c.explain.result c.in-Err.ensures.err c.explain.ensures.memory c.explain.ensures.wrong
+returns-in-Err-clause-served g c = λ wants. refused_serving _ _ _ c.explain.result c.in-Err.ensures.err c.explain.ensures.memory wants
+
+pub returns-in-Err-clause-stopped : goal.returns-in-Err-clause-stopped
+returns-in-Err-clause-stopped g c = λ wants. refused_serving _ _ _ c.explain.result c.in-Err.ensures.err c.explain.ensures.memory wants
+
+pub returns-in-Err-clause-sound : goal.returns-in-Err-clause-sound
+returns-in-Err-clause-sound g c = λ wants. refused_audit _ _ _ c.explain.result c.in-Err.ensures.err c.explain.ensures.memory wants
+
+pub returns-in-Err-clause-unsound : goal.returns-in-Err-clause-unsound
+returns-in-Err-clause-unsound g c = λ wants. refused_audit _ _ _ c.explain.result c.in-Err.ensures.err c.explain.ensures.memory wants

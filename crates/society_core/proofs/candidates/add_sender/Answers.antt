@@ -1,6 +1,6 @@
 use Rattle.std.proofs.Common.{◌≡◌, ◌++◌, List, ℕ, suc, add-one, sym, ap, subst, ◌∙◌, arith}
 use Rattle.society_core.specs.Points.{is_tallied}
-use Rattle.society_core.specs.Candidates.{Adds, transactions_sent}
+use Rattle.society_core.specs.Candidates.{AddsCandidates, transactions_sent}
 use Rattle.society_core.specs.Book.{front, numbers_to}
 use Rattle.society_core.specs.Owners.{CutWork, versions_of_transmission}
 use Rattle.society_core.proofs.LineNumbers.{listed_at, listed_in, listed_length, longer_line, one_of_within, there_in_line}
@@ -35,7 +35,7 @@ loop-number-preserved c =
     let same = c.deref-number-items.ensures.value ∙ c.in_ok-numbers.ensures ∙ ap numbers_to c.value-2.ensures.value in
     let number : c.number-item.result ≡ suc i = listed_at c.deref-number-items.result.now key.number i c.number-item.result same c.loop-number-test.true c.number-item.is ∙ add-one i in
     let more = λ (n : ℕ). versions_of_transmission office book key n (transactions_sent book key.sender n) in
-    subst (λ (ws : List CutWork). Adds (holders_of c.args.kind office) (is_tallied c.args.tally.now) ws c.args.candidates.now.items c.add_versions.new.candidates.items)
+    subst (λ (ws : List CutWork). AddsCandidates (holders_of c.args.kind office) (is_tallied c.args.tally.now) ws c.args.candidates.now.items c.add_versions.new.candidates.items)
     (ap (λ (n : ℕ). versions_to office book key i ++ more n) number ∙ sym (ap (versions_to office book key) (add-one i) ∙ versions_to_next office book key i))
     (adds_then (holders_of c.args.kind office) (is_tallied c.args.tally.now) (versions_to office book key i) (more c.number-item.result) c.args.candidates.now.items c.loop-number.candidates.items c.add_versions.new.candidates.items c.loop-number.invariant c.in_ok-add_versions.ensures)
 
@@ -44,4 +44,4 @@ returns c =
     let same = c.deref-number-items.ensures.value ∙ c.in_ok-numbers.ensures ∙ ap numbers_to c.value-2.ensures.value in
     let long = listed_length c.deref-number-items.result.now c.args.key.now.number same in
     let end : c.loop-number.number-index ≡ c.args.key.now.number = omega (arith, long, c.loop-number.auto.number-index-end, c.loop-number-test.false) in
-    subst (λ (n : ℕ). Adds (holders_of c.args.kind c.args.office.now) (is_tallied c.args.tally.now) (versions_to c.args.office.now c.args.book.now c.args.key.now n) c.args.candidates.now.items c.loop-number.candidates.items) end c.loop-number.invariant
+    subst (λ (n : ℕ). AddsCandidates (holders_of c.args.kind c.args.office.now) (is_tallied c.args.tally.now) (versions_to c.args.office.now c.args.book.now c.args.key.now n) c.args.candidates.now.items c.loop-number.candidates.items) end c.loop-number.invariant

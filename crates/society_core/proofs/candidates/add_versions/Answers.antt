@@ -8,7 +8,7 @@ use Rattle.cwr_files.specs.Transaction.{number_of_work}
 use Rattle.cwr_files.specs.declared.transmission.Transaction.{Transaction}
 use Rattle.cwr_files.specs.declared.transmission.Transmission.{Transmission}
 use Rattle.society_core.specs.Points.{is_tallied}
-use Rattle.society_core.specs.Candidates.{Adds, is_version_by, transactions_sent, work_where}
+use Rattle.society_core.specs.Candidates.{AddsCandidates, is_version_by, transactions_sent, work_where}
 use Rattle.society_core.specs.Owners.{CutWork, is_version_at, versions_of_transmission}
 use Rattle.works_core.specs.Line.{verdicts_at}
 use Rattle.works_core.specs.Numbered.{JudgedTransmission, has_number}
@@ -48,7 +48,7 @@ loop-place-preserved c =
     ∙ ap (λ (n : ℕ). versions_of_transmission office book key c.args.number (take place ts) ++ work_where (is_version_at office book key c.args.number n (number_of_work t)) key.sender t) count in
     let same : is_version_by c.args.line.now.transmissions key.number c.args.number place (number_of_work t) ≡ is_version_at office book key c.args.number place (number_of_work t) =
     ap (λ (l : List JudgedTransmission). is_version_by l key.number c.args.number place (number_of_work t)) c.requires.line ∙ is_version_same office book key c.args.number place (number_of_work t) in
-    subst (λ (ws : List CutWork). Adds (holders_of c.args.kind office) (is_tallied c.args.tally.now) ws c.args.candidates.now.items c.add_transaction.new.candidates.items)
+    subst (λ (ws : List CutWork). AddsCandidates (holders_of c.args.kind office) (is_tallied c.args.tally.now) ws c.args.candidates.now.items c.add_transaction.new.candidates.items)
     (ap (λ (b : Bool). versions_of_transmission office book key c.args.number (take place ts) ++ work_where b key.sender t) same ∙ sym step)
     (adds_then (holders_of c.args.kind office) (is_tallied c.args.tally.now) (versions_of_transmission office book key c.args.number (take place ts)) (work_where (is_version_by c.args.line.now.transmissions key.number c.args.number place (number_of_work t)) key.sender t) c.args.candidates.now.items c.loop-place.candidates.items c.add_transaction.new.candidates.items c.loop-place.invariant c.in_ok-add_transaction.ensures)
 
@@ -58,4 +58,4 @@ returns c =
     let told = c.in-Some.ensures.1 ∙ ap (λ (l : List JudgedTransmission). verdicts_at l c.args.number) c.requires.line in
     let count : length c.in-Some.verdicts.now ≡ length ts = ap (λ vs. length vs) told ∙ verdicts_counted_in c.args.office.now c.args.book.now c.args.key.now.sender c.args.key.now.number c.args.number c.requires.within in
     let all : take c.loop-place.place ts ≡ ts = take_all c.loop-place.place ts (omega (arith, count, c.loop-place-test.false)) in
-    subst (λ (xs : List Transaction). Adds (holders_of c.args.kind c.args.office.now) (is_tallied c.args.tally.now) (versions_of_transmission c.args.office.now c.args.book.now c.args.key.now c.args.number xs) c.args.candidates.now.items c.loop-place.candidates.items) all c.loop-place.invariant
+    subst (λ (xs : List Transaction). AddsCandidates (holders_of c.args.kind c.args.office.now) (is_tallied c.args.tally.now) (versions_of_transmission c.args.office.now c.args.book.now c.args.key.now c.args.number xs) c.args.candidates.now.items c.loop-place.candidates.items) all c.loop-place.invariant

@@ -1,9 +1,9 @@
 use Rattle.std.proofs.Common.{take}
 use Rattle.society_core.specs.Points.{is_tallied}
-use Rattle.society_core.specs.Candidates.{Adds, transactions_sent}
+use Rattle.society_core.specs.Candidates.{AddsCandidates, transactions_sent}
 use Rattle.society_core.specs.Owners.{versions_of_transmission}
 use Rattle.society_core.proofs.candidates.add_versions.Given as goal
 use Rattle.society_core.specs.Pools.{holders_of}
 
 abbrev pub invariant-loop-place : goal.invariant-loop-place
-invariant-loop-place l = Adds (holders_of l.kind l.office) (is_tallied l.tally) (versions_of_transmission l.office l.book l.key l.number (take l.place (transactions_sent l.book l.key.sender l.number))) l.initial.candidates.items l.candidates.items
+invariant-loop-place l = AddsCandidates (holders_of l.kind l.office) (is_tallied l.tally) (versions_of_transmission l.office l.book l.key l.number (take l.place (transactions_sent l.book l.key.sender l.number))) l.initial.candidates.items l.candidates.items

@@ -22,17 +22,17 @@ loop-request-preserved g c =
     let after = c.answer-answer.new.desk in
     record {
       room = omega (arith, length_is, c.push.ensures.capacity);
-      clean = λ still. c.loop-request.invariant.clean (c.answer-answer.ensures.goes.clean still);
-      office = c.answer-answer.ensures.goes.office ∙ c.loop-request.invariant.office;
+      clean = λ still. c.loop-request.invariant.clean (c.answer-answer.ensures.proceeds.goes.clean still);
+      office = c.answer-answer.ensures.proceeds.goes.office ∙ c.loop-request.invariant.office;
       ran =
           subst
           (λ (xs : List Request). AppendsRun (state first).office (state first).book (state after).book (state after).is_clean xs c.reserve.new.self.items c.push.new.self.items)
           (sym (take_more requests index request c.loop-request-test.true ∙ ap (λ (x : Request). take index requests ++ x ∷ []) (sym c.request-item.is)))
           (appends_more (state first).office (state first).book (state before).book (state after).book (state before).is_clean (state after).is_clean (take index requests) c.reserve.new.self.items c.loop-request.answers.items c.push.new.self.items request c.answer-answer.result c.loop-request.invariant.ran
-          c.answer-answer.ensures.goes.clean
+          c.answer-answer.ensures.proceeds.goes.clean
           (λ still.
           subst (λ (x : Office). Step x (state before).book (query_of request) (reply_of c.answer-answer.result) (state after).book) c.loop-request.invariant.office
-          (c.answer-answer.ensures.step still))
+          (c.answer-answer.ensures.proceeds.step still))
           items_are);
     }
 

@@ -1,11 +1,11 @@
 use Rattle.std.proofs.Common.{[], ◌∷◌, pos, refl}
 use Rattle.sqlite.specs.Held.{state}
-use Rattle.society_rows.specs.Layout.{credits}
+use Rattle.society_rows.specs.Layout.{credits_table}
 use Rattle.society_rows.specs.Rows.{credit_values}
 use Rattle.society_rows.specs.Stored.{HasLayout, Adds}
-use Rattle.society_rows.proofs.Effects.{writes_by}
-use Rattle.society_rows.proofs.CreditTable.{insert_text, adds_row, settled, insert_is}
-use Rattle.society_rows.proofs.Told.{insert_tells}
+use Rattle.society_rows.proofs.changes.Effects.{writes_by}
+use Rattle.society_rows.proofs.each_table.CreditTable.{insert_text, adds_row, settled, insert_is}
+use Rattle.society_rows.proofs.errors.Told.{insert_tells}
 use Rattle.society_rows.proofs.credits.add_credit.Goals as goal
 
 pub returns-clause-written : goal.returns-clause-written
@@ -13,7 +13,7 @@ returns-clause-written g c =
     let row = c.args.row.now in
     let old = state g.S.Store c.args.tx.now.conn.now in
     let new = state g.S.Store c.run.new.tx.conn.now in
-    writes_by HasLayout old new insert_text (credit_values row) c.run.result (Adds credits (credit_values row ∷ [])) (λ clean inside. rw (c.to_sql.ensures, c.to_sql-2.ensures, c.to_sql-3.ensures) at (c.run.ensures.ran clean inside)) c.run.ensures.survives
+    writes_by HasLayout old new insert_text (credit_values row) c.run.result (Adds credits_table (credit_values row ∷ [])) (λ clean inside. rw (c.to_sql.ensures, c.to_sql-2.ensures, c.to_sql-3.ensures) at (c.run.ensures.ran clean inside)) c.run.ensures.survives
     (λ count. adds_row (pos row.pool) (pos row.line) row.isrc.now row.account.now row.units old new count)
 
 pub returns-clause-told : goal.returns-clause-told

@@ -1,9 +1,9 @@
 use Rattle.std.proofs.Common.{◌≡◌}
 use Rattle.std.specs.Slice.Iter.{chunks_rest, chunks_size}
 use Rattle.sqlite.specs.Held.{state}
-use Rattle.society_rows.specs.Layout.{credits}
+use Rattle.society_rows.specs.Layout.{credits_table}
 use Rattle.society_rows.specs.Rows.{credit_values}
-use Rattle.society_rows.proofs.ListWrites.{AddsSome}
+use Rattle.society_rows.proofs.changes.ListWrites.{AddsSome}
 use Rattle.society_rows.proofs.credits.add_credits.Given as goal
 
 abbrev pub invariant-loop-part : goal.invariant-loop-part
@@ -12,5 +12,5 @@ invariant-loop-part g l = record {
   finite : (goal.iterator-loop-part g).is_finite l.part-iterator;
   size : chunks_size l.part-iterator ≡ 2;
   same_reference : l.tx.conn.ghost_name ≡ l.initial.tx.conn.ghost_name;
-  some : AddsSome credits credit_values l.rows (chunks_rest l.part-iterator) (state g.S.Store l.initial.tx.conn.now) (state g.S.Store l.tx.conn.now);
+  some : AddsSome credits_table credit_values l.rows (chunks_rest l.part-iterator) (state g.S.Store l.initial.tx.conn.now) (state g.S.Store l.tx.conn.now);
 }

@@ -1,11 +1,11 @@
 use Rattle.std.proofs.Common.{[], ◌∷◌, ◌++◌, refl}
 use Rattle.sqlite.specs.Held.{state}
-use Rattle.society_rows.specs.Layout.{credits}
+use Rattle.society_rows.specs.Layout.{credits_table}
 use Rattle.society_rows.specs.Rows.{credit_values}
 use Rattle.society_rows.specs.Stored.{HasLayout, Adds}
-use Rattle.society_rows.proofs.Effects.{writes_by}
-use Rattle.society_rows.proofs.CreditTable.{pair_text, adds_pair, settled, pair_is}
-use Rattle.society_rows.proofs.Told.{insert_tells}
+use Rattle.society_rows.proofs.changes.Effects.{writes_by}
+use Rattle.society_rows.proofs.each_table.CreditTable.{pair_text, adds_pair, settled, pair_is}
+use Rattle.society_rows.proofs.errors.Told.{insert_tells}
 use Rattle.society_rows.proofs.credits.add_pair.Goals as goal
 
 pub returns-clause-written : goal.returns-clause-written
@@ -14,7 +14,7 @@ returns-clause-written g c =
     let two = c.args.two.now in
     let old = state g.S.Store c.args.tx.now.conn.now in
     let new = state g.S.Store c.run.new.tx.conn.now in
-    writes_by HasLayout old new pair_text (credit_values one ++ credit_values two) c.run.result (Adds credits (credit_values one ∷ credit_values two ∷ []))
+    writes_by HasLayout old new pair_text (credit_values one ++ credit_values two) c.run.result (Adds credits_table (credit_values one ∷ credit_values two ∷ []))
     (λ clean inside. rw (c.to_sql.ensures, c.to_sql-2.ensures, c.to_sql-3.ensures, c.to_sql-4.ensures, c.to_sql-5.ensures, c.to_sql-6.ensures) at (c.run.ensures.ran clean inside)) c.run.ensures.survives (λ count. adds_pair one two old new count)
 
 pub returns-clause-told : goal.returns-clause-told

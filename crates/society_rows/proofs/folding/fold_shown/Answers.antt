@@ -7,7 +7,7 @@ use Rattle.sqlite.proofs.Callers.{begun_plain}
 use Rattle.society_rows.specs.Folds.{ReadsAlone, HasTaken, AreShownFirst, StopsOver}
 use Rattle.society_rows.specs.Stored.{HasLayout}
 use Rattle.society_rows.specs.declared.fault.RowFault.TheVariants.{Unread}
-use Rattle.society_rows.proofs.RowFolds.{plain_asked, told_over, commits_nothing, survives_on, same_on, plain_under, fails_alone, refused_alone, stopped_alone, ends_alone, HasGone, gone_given, goes_on, given_first, refused_over, stops_for, err_as}
+use Rattle.society_rows.proofs.readings.RowFolds.{plain_asked, told_over, commits_nothing, survives_on, same_on, plain_under, fails_alone, refused_alone, stopped_alone, ends_alone, HasGone, gone_given, goes_on, given_first, refused_over, stops_for, err_as}
 use Rattle.society_rows.proofs.folding.fold_shown.Goals as goal
 
 pub returns-in_err-rows-clause-taken : goal.returns-in_err-rows-clause-taken

@@ -4,7 +4,7 @@ use Rattle.sqlite.specs.Held.{state}
 use Rattle.sqlite.specs.Values.{bound}
 use Rattle.society_rows.specs.Folds.{HasTaken, OfOtherLayout}
 use Rattle.society_rows.specs.Stored.{HasLayout}
-use Rattle.society_rows.proofs.RowFolds.{HasGone}
+use Rattle.society_rows.proofs.readings.RowFolds.{HasGone}
 use Rattle.society_rows.proofs.folding.fold_shown.Given as goal
 
 abbrev pub invariant-rows : goal.invariant-rows

@@ -1,4 +1,4 @@
-use Rattle.society_rows.proofs.KeyEquality.{text_key, number_key, text_number_key, text_text_key}
+use Rattle.society_rows.proofs.readings.KeyEquality.{text_key, number_key, text_number_key, text_text_key}
 use Rattle.society_rows.proofs.keys.keys_are_values.Goals as goal
 
 pub returns : goal.returns

@@ -5,10 +5,10 @@ use Rattle.sqlite_value.specs.Order.{column}
 use Rattle.sqlite_trees.specs.View.{is_int}
 use Rattle.society_rows.specs.Stored.{AreNumbered}
 use Rattle.society_rows.specs.TableNames.{table_called, rowids_text}
-use Rattle.society_rows.proofs.Effects.{handed_on}
-use Rattle.society_rows.proofs.Queries.{reads_by}
-use Rattle.society_rows.proofs.RowidQueries.{rowids_are, rowids_read, numbered_by, reads_of, reads_not}
-use Rattle.society_rows.proofs.Told.{query_tells}
+use Rattle.society_rows.proofs.changes.Effects.{handed_on}
+use Rattle.society_rows.proofs.readings.Queries.{reads_by}
+use Rattle.society_rows.proofs.readings.RowidQueries.{rowids_are, rowids_read, numbered_by, reads_of, reads_not}
+use Rattle.society_rows.proofs.errors.Told.{query_tells}
 use Rattle.society_rows.proofs.numbering.are_numbered.Goals as goal
 
 pub returns-in_err-rows-clause-read : goal.returns-in_err-rows-clause-read

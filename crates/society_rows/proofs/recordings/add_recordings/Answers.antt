@@ -4,8 +4,8 @@ use Rattle.sqlite.specs.Held.{state}
 use Rattle.society_rows.specs.Layout.{recordings}
 use Rattle.society_rows.specs.Rows.{recording_values}
 use Rattle.society_rows.specs.Stored.{HasLayout}
-use Rattle.society_rows.proofs.Told.{tells_after}
-use Rattle.society_rows.proofs.ListWrites.{some_first, some_next, some_fails, some_left, some_all}
+use Rattle.society_rows.proofs.errors.Told.{tells_after}
+use Rattle.society_rows.proofs.changes.ListWrites.{some_first, some_next, some_fails, some_left, some_all}
 use Rattle.society_rows.proofs.recordings.add_recordings.Goals as goal
 
 pub loop-part-init : goal.loop-part-init

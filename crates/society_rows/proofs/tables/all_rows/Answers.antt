@@ -2,8 +2,8 @@ use Rattle.std.proofs.Common.{[], true}
 use Rattle.sqlite.specs.Held.{state}
 use Rattle.society_rows.specs.Reads.{Lists}
 use Rattle.society_rows.specs.TableNames.{table_called, listing_width, listing_text}
-use Rattle.society_rows.proofs.Listings.{is_plain, lists_called, listing_reads, listing_tells}
-use Rattle.society_rows.proofs.Queries.{reads_by}
+use Rattle.society_rows.proofs.readings.Listings.{is_plain, lists_called, listing_reads, listing_tells}
+use Rattle.society_rows.proofs.readings.Queries.{reads_by}
 use Rattle.society_rows.proofs.tables.all_rows.Goals as goal
 
 pub returns-clause-read : goal.returns-clause-read

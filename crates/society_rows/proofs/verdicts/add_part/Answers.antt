@@ -2,7 +2,7 @@ use Rattle.std.proofs.Common.{arith}
 use Rattle.sqlite.specs.Held.{state}
 use Rattle.society_rows.specs.Layout.{verdicts}
 use Rattle.society_rows.specs.Rows.{verdict_values}
-use Rattle.society_rows.proofs.ListWrites.{adds_empty}
+use Rattle.society_rows.proofs.changes.ListWrites.{adds_empty}
 use Rattle.society_rows.proofs.verdicts.add_part.Goals as goal
 
 pub returns-in-empty-clause-written : goal.returns-in-empty-clause-written

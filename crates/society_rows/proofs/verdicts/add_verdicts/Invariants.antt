@@ -3,7 +3,7 @@ use Rattle.std.specs.Slice.Iter.{chunks_rest, chunks_size}
 use Rattle.sqlite.specs.Held.{state}
 use Rattle.society_rows.specs.Layout.{verdicts}
 use Rattle.society_rows.specs.Rows.{verdict_values}
-use Rattle.society_rows.proofs.ListWrites.{AddsSome}
+use Rattle.society_rows.proofs.changes.ListWrites.{AddsSome}
 use Rattle.society_rows.proofs.verdicts.add_verdicts.Given as goal
 
 abbrev pub invariant-loop-part : goal.invariant-loop-part

@@ -3,7 +3,7 @@ use Rattle.std.specs.Slice.Iter.{chunks_rest, chunks_size}
 use Rattle.sqlite.specs.Held.{state}
 use Rattle.society_rows.specs.Layout.{versions}
 use Rattle.society_rows.specs.Rows.{version_values}
-use Rattle.society_rows.proofs.ListWrites.{AddsSome}
+use Rattle.society_rows.proofs.changes.ListWrites.{AddsSome}
 use Rattle.society_rows.proofs.versions.add_versions.Given as goal
 
 abbrev pub invariant-loop-part : goal.invariant-loop-part

@@ -9,11 +9,11 @@ use Rattle.society_rows.specs.declared.tables.TableName.{TableName}
 use Rattle.society_rows.specs.declared.tables.TableName.TheVariants as name
 use Rattle.society_book.specs.Kept.{HoldsBook}
 use Rattle.society_tables.specs.Opening.{Agree}
-use Rattle.society_tables.proofs.ComesAgain.{clean_before, shows_still}
-use Rattle.society_tables.proofs.OpenLemmas.{as_inspected, inspected_then}
-use Rattle.society_tables.proofs.RowsAgain.{aside_told}
-use Rattle.society_tables.proofs.SameTables.{agree_more}
-use Rattle.society_tables.proofs.Failing.{failed_passed, failed_then}
+use Rattle.society_tables.proofs.anew.ComesAgain.{clean_before, shows_still}
+use Rattle.society_tables.proofs.opened.OpenLemmas.{as_inspected, inspected_then}
+use Rattle.society_tables.proofs.anew.RowsAgain.{aside_told}
+use Rattle.society_tables.proofs.alike.SameTables.{agree_more}
+use Rattle.society_tables.proofs.opened.Failing.{failed_passed, failed_then}
 use Rattle.society_tables.specs.declared.audit_fault.AuditFault.TheVariants.{Store}
 use Rattle.society_tables.proofs.comparing.named_agree.Goals as goal
 
@@ -25,10 +25,7 @@ loop-table-preserved g c =
     let x : TableName = get_or names c.loop-table.table-index name.Office in
     record {
       same = c.table_agrees-in-loop-table.ensures.same ∙ c.loop-table.invariant.same;
-      idle = c.table_agrees-in-loop-table.ensures.idle;
-      idle_memory = c.table_agrees-in-loop-table.ensures.idle_memory;
       agree = inspected_then old (state g.S.Store c.loop-table.conn) (state g.S.Store c.table_agrees-in-loop-table.new.conn) tt (Ok tt) _ _ _
-          (λ is_open. c.is_autocommit-settled.ensures.settled (rw (c.is_autocommit-settled.ensures.value, c.requires.ours) refl) is_open)
           c.loop-table.invariant.agree c.in_ok-table_agrees-2.ensures.agree
           (λ y before here has. (
             (before has).0,
@@ -53,7 +50,7 @@ returns-in_err-table_agrees-2-clause-passes g c o b clean shows has holds =
     let same = sym c.loop-table.invariant.same in
     aside_told _ _ c.from_residual-in_err-table_agrees-2.result c.from_residual-in_err-table_agrees-2.ensures.1
     (c.in_err-table_agrees-2.ensures.passes o b clean
-    (shows_still o b _ _ _ _ (λ is_open. c.is_autocommit-settled.ensures.settled (rw (c.is_autocommit-settled.ensures.value, c.requires.ours) refl) is_open) c.loop-table.invariant.agree mid shows)
+    (shows_still o b _ _ _ _ c.loop-table.invariant.agree mid shows)
     (subst HasLayout same has) (subst (λ (db : Database). HoldsBook o b db.trees) same holds))
 
 pub returns-in_err-table_agrees-clause-failed : goal.returns-in_err-table_agrees-clause-failed
@@ -61,5 +58,5 @@ returns-in_err-table_agrees-clause-failed g c = failed_passed Store _ _ c.in_err
 
 pub returns-in_err-table_agrees-2-clause-failed : goal.returns-in_err-table_agrees-2-clause-failed
 returns-in_err-table_agrees-2-clause-failed g c =
-    failed_then Store _ _ _ (Ok tt) c.from_residual-in_err-table_agrees-2.result _ (λ is_open. c.is_autocommit-settled.ensures.settled (rw (c.is_autocommit-settled.ensures.value, c.requires.ours) refl) is_open) c.loop-table.invariant.agree c.in_err-table_agrees-2.ensures.agree.survives
+    failed_then Store _ _ _ (Ok tt) c.from_residual-in_err-table_agrees-2.result _ c.loop-table.invariant.agree c.in_err-table_agrees-2.ensures.agree.survives
     (failed_passed Store _ _ c.in_err-table_agrees-2.field-0.0 c.from_residual-in_err-table_agrees-2.result _ c.in_err-table_agrees-2.ensures.agree c.in_err-table_agrees-2.ensures.failed c.from_residual-in_err-table_agrees-2.ensures.1)

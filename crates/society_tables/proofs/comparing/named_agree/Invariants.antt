@@ -11,8 +11,6 @@ use Rattle.society_tables.proofs.comparing.named_agree.Given as goal
 abbrev pub invariant-loop-table : goal.invariant-loop-table
 invariant-loop-table g l = record {
   same : (state over_memory l.memory).now ≡ (state over_memory l.fn.memory).now;
-  idle : l.conn.in_transaction ≡ false;
-  idle_memory : l.memory.in_transaction ≡ false;
   agree : Inspects {X = Unit {0}} {E = AuditFault} (state g.S.Store l.fn.conn) (state g.S.Store l.conn) (Ok tt)
       (λ db _. HasLayout (state over_memory l.fn.memory).now → Agree (name.Office ∷ take l.table-index l.tables) (state over_memory l.fn.memory).now.trees db);
 }

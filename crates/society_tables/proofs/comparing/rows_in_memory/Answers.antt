@@ -1,5 +1,5 @@
 use Rattle.std.proofs.Common.{◌∙◌, refl, sym}
-use Rattle.society_book.proofs.AskLemmas.{clean_is}
+use Rattle.society_book.proofs.shown.AskLemmas.{clean_is}
 use Rattle.society_tables.proofs.comparing.rows_in_memory.Goals as goal
 
 pub returns-in-Ok-clause-rows : goal.returns-in-Ok-clause-rows
@@ -7,8 +7,8 @@ returns-in-Ok-clause-rows c = (rw c.in-Ok.is at c.rows_of_table.ensures.asked).f
 
 pub returns-in-Ok-clause-same : goal.returns-in-Ok-clause-same
 returns-in-Ok-clause-same c =
-    (c.rows_of_table.ensures.asked.undone (clean_is _ refl) refl).0 ∙ sym (c.is_autocommit-settled.ensures.settled (rw (c.is_autocommit-settled.ensures.value, c.requires) refl) refl)
+    (c.rows_of_table.ensures.asked.undone (clean_is _ refl) refl).0 ∙ sym (c.rows_of_table.ensures.asked.settled refl)
 
 pub returns-in-Err-clause-same : goal.returns-in-Err-clause-same
 returns-in-Err-clause-same c =
-    (c.rows_of_table.ensures.asked.undone (clean_is _ refl) refl).0 ∙ sym (c.is_autocommit-settled.ensures.settled (rw (c.is_autocommit-settled.ensures.value, c.requires) refl) refl)
+    (c.rows_of_table.ensures.asked.undone (clean_is _ refl) refl).0 ∙ sym (c.rows_of_table.ensures.asked.settled refl)

@@ -1,6 +1,6 @@
-use Rattle.society_tables.proofs.ComesAgain.{fails_aside}
-use Rattle.society_tables.proofs.OpenLemmas.{inspects_of}
-use Rattle.society_tables.proofs.Failing.{failed_row}
+use Rattle.society_tables.proofs.anew.ComesAgain.{fails_aside}
+use Rattle.society_tables.proofs.opened.OpenLemmas.{inspects_of}
+use Rattle.society_tables.proofs.opened.Failing.{failed_row}
 use Rattle.society_tables.proofs.comparing.rows_of_table.Goals as goal
 
 pub returns-clause-asked : goal.returns-clause-asked

@@ -2,11 +2,11 @@ use Rattle.std.proofs.Common.{◌∙◌, Ok, subst, sym}
 use Rattle.society_tables.specs.Rebuilding.{IsAside}
 use Rattle.std.proofs.lemmas.Bool.{false≢true}
 use Rattle.society_rows.specs.TableNames.{listing_width, table_called}
-use Rattle.society_tables.proofs.OneListing.{listed_alike}
-use Rattle.society_tables.proofs.OpenLemmas.{then_inspected}
-use Rattle.society_tables.proofs.RowsAgain.{aside_told}
-use Rattle.society_tables.proofs.SameTables.{same_listed}
-use Rattle.society_tables.proofs.Failing.{by_memory, failed_never, failed_passed}
+use Rattle.society_tables.proofs.alike.OneListing.{listed_alike}
+use Rattle.society_tables.proofs.opened.OpenLemmas.{then_inspected}
+use Rattle.society_tables.proofs.anew.RowsAgain.{aside_told}
+use Rattle.society_tables.proofs.alike.SameTables.{same_listed}
+use Rattle.society_tables.proofs.opened.Failing.{by_memory, failed_never, failed_passed}
 use Rattle.society_tables.specs.declared.audit_fault.AuditFault.TheVariants.{Store}
 use Rattle.society_tables.proofs.comparing.table_agrees.Goals as goal
 

@@ -15,32 +15,34 @@ use Rattle.society_book.specs.DerivedRows.{has_sent}
 use Rattle.society_tables.specs.Opening.{Agree}
 use Rattle.society_book.specs.Runs.{is_among}
 use Rattle.society_tables.specs.declared.audit_fault.AuditFault.{AuditFault}
-use Rattle.society_tables.proofs.AuditStart.{begins_aside, ends_whole, no_lines}
-use Rattle.society_tables.proofs.OpenLemmas.{inspected_then}
+use Rattle.society_tables.proofs.audit.AuditStart.{begins_aside, ends_whole, no_lines}
+use Rattle.society_tables.proofs.opened.OpenLemmas.{inspected_then}
 use Rattle.society_tables.proofs.confirming.lines_and_pools_agree.Goals as goal
 
-pub returns-clause-confirmed : goal.returns-clause-confirmed
-returns-clause-confirmed g c =
-    let o = c.args.office.now in
-    let senders = c.args.senders.now in
-    let old = state g.S.Store c.args.conn.now in
-    let first : Database = (state over_memory c.args.memory.now).now in
-    let lined : Database = (state over_memory c.put_lines.new.memory).now in
-    let mid : Database = (state over_memory c.named_agree.new.memory).now in
-    let last : Database = (state over_memory c.close_all.new.memory).now in
-    let settled : IsTrue old.is_open → old.now ≡ old.committed = λ is_open. c.is_autocommit-settled.ensures.settled (rw (c.is_autocommit-settled.ensures.value, c.requires.ours) refl) is_open in
-    let Lined : Trees → Type 0 = λ db. (book : Book) → HasTransmissions book db → AllByRecursion (λ s. has_sent book s ≡ true) senders → HasLayout first → length (ascending bytes_cmp senders) ≡ length senders
-    → HasLines o book (λ _. false) first.trees → HasLayout lined × KeepsUnlined first.trees lined.trees × HasLines o book (is_among senders) lined.trees in
-    let Works : Trees → Type 0 = λ db. HasLayout lined → Agree (name.Office ∷ works_names) lined.trees db in
-    inspected_then {E = AuditFault} old (state g.S.Store c.close_all.new.conn) _ tt c.named_agree-2.result (λ db _. (Lined db × Works db) × ClosesAside o db mid last) _ _ settled
-    (inspected_then {E = AuditFault} old (state g.S.Store c.named_agree.new.conn) (state g.S.Store c.close_all.new.conn) tt (Ok tt) (λ db _. Lined db × Works db) (λ db _. ClosesAside o db mid last) (λ db _. (Lined db × Works db) × ClosesAside o db mid last) settled
-    (inspected_then {E = AuditFault} old (state g.S.Store c.put_lines.new.conn) (state g.S.Store c.named_agree.new.conn) tt (Ok tt) (λ db _. Lined db) (λ db _. Works db) (λ db _. Lined db × Works db) settled c.in_ok-put_lines.ensures.lined c.in_ok-named_agree.ensures.agree (λ y a b. (a, b)))
-    c.in_ok-close_all.ensures.closed (λ y a b. (a, b)))
-    c.named_agree-2.ensures.agree
-    (λ y before agree sound kept these laid empty numbered.
-    let db = old.now.trees in
-    let b = book_of db in
-    let lines = before.0.0 b kept.transmissions these.each laid these.once (no_lines o b first.trees empty) in
-    let works = before.0.1 lines.0 in
-    ends_whole o db lined last (begins_aside o db first.trees lined senders sound kept these empty lines.0 lines.1 lines.2 works.1)
-    (subst (λ (m : Database). ClosesAside o db m last) c.named_agree.ensures.same before.1) agree numbered)
+pub returns : goal.returns
+returns g c =
+    record {
+      confirmed =
+          let o = c.args.office.now in
+          let senders = c.args.senders.now in
+          let old = state g.S.Store c.args.conn.now in
+          let first : Database = (state over_memory c.args.memory.now).now in
+          let lined : Database = (state over_memory c.put_lines.new.memory).now in
+          let mid : Database = (state over_memory c.named_agree.new.memory).now in
+          let last : Database = (state over_memory c.close_all.new.memory).now in
+          let Lined : Trees → Type 0 = λ db. (book : Book) → HasTransmissions book db → AllByRecursion (λ s. has_sent book s ≡ true) senders → HasLayout first → length (ascending bytes_cmp senders) ≡ length senders
+          → HasLines o book (λ _. false) first.trees → HasLayout lined × KeepsUnlined first.trees lined.trees × HasLines o book (is_among senders) lined.trees in
+          let Works : Trees → Type 0 = λ db. HasLayout lined → Agree (name.Office ∷ works_names) lined.trees db in
+          inspected_then {E = AuditFault} old (state g.S.Store c.close_all.new.conn) _ tt c.named_agree-2.result (λ db _. (Lined db × Works db) × ClosesAside o db mid last) _ _
+          (inspected_then {E = AuditFault} old (state g.S.Store c.named_agree.new.conn) (state g.S.Store c.close_all.new.conn) tt (Ok tt) (λ db _. Lined db × Works db) (λ db _. ClosesAside o db mid last) (λ db _. (Lined db × Works db) × ClosesAside o db mid last)
+          (inspected_then {E = AuditFault} old (state g.S.Store c.put_lines.new.conn) (state g.S.Store c.named_agree.new.conn) tt (Ok tt) (λ db _. Lined db) (λ db _. Works db) (λ db _. Lined db × Works db) c.in_ok-put_lines.ensures.lined c.in_ok-named_agree.ensures.agree (λ y a b. (a, b)))
+          c.in_ok-close_all.ensures.closed (λ y a b. (a, b)))
+          c.named_agree-2.ensures.agree
+          (λ y before agree sound kept these laid empty numbered.
+          let db = old.now.trees in
+          let b = book_of db in
+          let lines = before.0.0 b kept.transmissions these.each laid these.once (no_lines o b first.trees empty) in
+          let works = before.0.1 lines.0 in
+          ends_whole o db lined last (begins_aside o db first.trees lined senders sound kept these empty lines.0 lines.1 lines.2 works.1)
+          (subst (λ (m : Database). ClosesAside o db m last) c.named_agree.ensures.same before.1) agree numbered);
+    }

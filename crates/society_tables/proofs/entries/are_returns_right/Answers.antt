@@ -5,15 +5,18 @@ use Rattle.society_rows.specs.Layout as layout
 use Rattle.society_core.specs.declared.return_key.ReturnKey.{ReturnKey}
 use Rattle.society_tables.specs.Auditing.{GoneOver, take_over, is_right_return}
 use Rattle.society_book.specs.BookRows.{is_return_row, return_key_of}
-use Rattle.society_tables.proofs.AloneReads.{reads_as}
-use Rattle.society_book.proofs.BookLemmas.{returns_tie}
-use Rattle.society_tables.proofs.EntryRows.{entries_taken}
+use Rattle.society_tables.proofs.audit.AloneReads.{reads_as}
+use Rattle.society_book.proofs.rows_alike.BookLemmas.{returns_tie}
+use Rattle.society_tables.proofs.audit.EntryRows.{entries_taken}
 use Rattle.society_tables.proofs.entries.are_returns_right.Goals as goal
 
-pub returns-in_ok-are_distinct_returns-clause-read : goal.returns-in_ok-are_distinct_returns-clause-read
-returns-in_ok-are_distinct_returns-clause-read g c =
-    let old = state g.S.Store c.args.conn.now in
-    let gone : GoneOver ReturnKey = record { keys = c.rows.inside.keys.items; are_right = c.rows.inside.are_right } in
-    reads_as old (state g.S.Store c.fold_table.new.conn) tt (Ok c.in_ok-are_distinct_returns.field-0) _ _ c.in_ok-fold_table.ensures.taken
-    (λ taken is.
-    (entries_taken returns_total exact_returns is_return_row return_key_of (λ q r. returns_tie q (return_key_of r)) is_right_return layout.returns 2 old.now.trees taken.rows gone taken.these (c.rows.view_is ∙ taken.folded ∙ ap (λ (ks : List ReturnKey). fold (take_over is_right_return return_key_of) (record { keys = ks; are_right = true }) taken.rows) c.new.ensures.items) c.if-are_right.true (c.in_ok-are_distinct_returns.ensures is)).0)
+pub returns-in_ok-are_distinct_returns : goal.returns-in_ok-are_distinct_returns
+returns-in_ok-are_distinct_returns g c =
+    record {
+      read =
+          let old = state g.S.Store c.args.conn.now in
+          let gone : GoneOver ReturnKey = record { keys = c.rows.inside.keys.items; are_right = c.rows.inside.are_right } in
+          reads_as old (state g.S.Store c.fold_table.new.conn) tt (Ok c.in_ok-are_distinct_returns.field-0) _ _ c.in_ok-fold_table.ensures.taken
+          (λ taken is.
+          (entries_taken returns_total exact_returns is_return_row return_key_of (λ q r. returns_tie q (return_key_of r)) is_right_return layout.returns 2 old.now.trees taken.rows gone taken.these (c.rows.view_is ∙ taken.folded ∙ ap (λ (ks : List ReturnKey). fold (take_over is_right_return return_key_of) (record { keys = ks; are_right = true }) taken.rows) c.new.ensures.items) c.if-are_right.true (c.in_ok-are_distinct_returns.ensures is)).0);
+    }

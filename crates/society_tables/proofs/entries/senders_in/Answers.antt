@@ -7,25 +7,28 @@ use Rattle.society_core.specs.declared.transmission_key.TransmissionKey.{Transmi
 use Rattle.society_rows.specs.Layout as layout
 use Rattle.society_tables.specs.Auditing.{GoneOver, take_over, is_right_sent}
 use Rattle.society_book.specs.BookRows.{is_transmission_row, transmission_key_of}
-use Rattle.society_tables.proofs.AloneReads.{reads_as}
-use Rattle.society_book.proofs.BookLemmas.{transmissions_tie}
-use Rattle.society_tables.proofs.EntryRows.{entries_taken, senders_taken}
+use Rattle.society_tables.proofs.audit.AloneReads.{reads_as}
+use Rattle.society_book.proofs.rows_alike.BookLemmas.{transmissions_tie}
+use Rattle.society_tables.proofs.audit.EntryRows.{entries_taken, senders_taken}
 use Rattle.society_tables.proofs.entries.senders_in.Goals as goal
 
 the_some : {X : Type 0} (x y : X) → Some x ≡ Some y → x ≡ y
 the_some x y e = cc
 
-pub returns-then-branch-clause-read : goal.returns-then-branch-clause-read
-returns-then-branch-clause-read g c =
-    let old = state g.S.Store c.args.conn.now in
-    let gone : GoneOver TransmissionKey = record { keys = c.rows.inside.keys.items; are_right = c.rows.inside.are_right } in
-    reads_as old (state g.S.Store c.fold_table.new.conn) tt (Ok (Some c.in_ok-senders.senders)) _ _ c.in_ok-fold_table.ensures.taken
-    (λ taken senders is.
-    let found =
-    entries_taken transmissions_total exact_transmissions is_transmission_row transmission_key_of (λ q r. transmissions_tie q (transmission_key_of r)) is_right_sent layout.transmissions 2 old.now.trees taken.rows gone taken.these (c.rows.view_is ∙ taken.folded ∙ ap (λ (ks : List TransmissionKey). fold (take_over is_right_sent transmission_key_of) (record { keys = ks; are_right = true }) taken.rows) c.new.ensures.items) c.if-are_right.true
-    (c.in_ok-are_distinct.ensures c.if-branch.true) in (
-      found.0,
-      ap (λ (v : Vec (List ℕ) Global). v.items) (sym (the_some _ _ is)) ∙ c.in_ok-senders.ensures
-          ∙ ap (λ (ks : List TransmissionKey). ascending bytes_cmp (Rattle.std.proofs.Common.map (λ (key : TransmissionKey). key.sender) ks)) c.as_slice.ensures.value
-          ∙ senders_taken old.now.trees taken.rows c.rows.inside.keys.items taken.these found.1,
-    ))
+pub returns-then-branch : goal.returns-then-branch
+returns-then-branch g c =
+    record {
+      read =
+          let old = state g.S.Store c.args.conn.now in
+          let gone : GoneOver TransmissionKey = record { keys = c.rows.inside.keys.items; are_right = c.rows.inside.are_right } in
+          reads_as old (state g.S.Store c.fold_table.new.conn) tt (Ok (Some c.in_ok-senders.senders)) _ _ c.in_ok-fold_table.ensures.taken
+          (λ taken senders is.
+          let found =
+          entries_taken transmissions_total exact_transmissions is_transmission_row transmission_key_of (λ q r. transmissions_tie q (transmission_key_of r)) is_right_sent layout.transmissions 2 old.now.trees taken.rows gone taken.these (c.rows.view_is ∙ taken.folded ∙ ap (λ (ks : List TransmissionKey). fold (take_over is_right_sent transmission_key_of) (record { keys = ks; are_right = true }) taken.rows) c.new.ensures.items) c.if-are_right.true
+          (c.in_ok-are_distinct.ensures c.if-branch.true) in (
+            found.0,
+            ap (λ (v : Vec (List ℕ) Global). v.items) (sym (the_some _ _ is)) ∙ c.in_ok-senders.ensures
+                ∙ ap (λ (ks : List TransmissionKey). ascending bytes_cmp (Rattle.std.proofs.Common.map (λ (key : TransmissionKey). key.sender) ks)) c.as_slice.ensures.value
+                ∙ senders_taken old.now.trees taken.rows c.rows.inside.keys.items taken.these found.1,
+          ));
+    }

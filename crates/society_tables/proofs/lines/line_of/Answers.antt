@@ -4,21 +4,24 @@ use Rattle.sqlite.specs.Steps.{over_memory}
 use Rattle.society_tables.specs.Auditing.{SettlesLine}
 use Rattle.society_book.specs.Runs.{Notes}
 use Rattle.society_tables.specs.declared.audit_fault.AuditFault.{AuditFault}
-use Rattle.society_book.proofs.AskLemmas.{clean_is}
-use Rattle.society_tables.proofs.LineAudits.{line_more}
-use Rattle.society_tables.proofs.OpenLemmas.{inspects_of, then_inspected}
+use Rattle.society_book.proofs.shown.AskLemmas.{clean_is}
+use Rattle.society_tables.proofs.audit.LineAudits.{line_more}
+use Rattle.society_tables.proofs.opened.OpenLemmas.{inspects_of, then_inspected}
 use Rattle.society_tables.proofs.lines.line_of.Goals as goal
 
-pub returns-clause-lined : goal.returns-clause-lined
-returns-clause-lined g c =
-    let before = (state over_memory c.args.memory.now).now.trees in
-    let after = (state over_memory c.settle_line.new.conn).now.trees in
-    let s = c.args.sender.now in
-    then_inspected {D = AuditFault} _ _ c.in_ok-run.run' (Ok tt) _ _ (inspects_of _ _ _ _ c.in_ok-run.ensures.asked)
-    (λ found book has sent laid.
-    let settled = c.in_ok-settle_line.ensures.settled.written (clean_is _ refl) laid in
-    let its : SettlesLine s c.in_ok-run.run'.notes before after = subst (λ (notes : List Notes). SettlesLine s notes before after) c.noted.ensures settled.1 in (
-      settled.0,
-      its.others,
-      λ of_these apart lines. line_more c.args.office.now book s c.in_ok-run.run'.notes (found book has) of_these apart sent before after its lines,
-    ))
+pub returns : goal.returns
+returns g c =
+    record {
+      lined =
+          let before = (state over_memory c.args.memory.now).now.trees in
+          let after = (state over_memory c.settle_line.new.conn).now.trees in
+          let s = c.args.sender.now in
+          then_inspected {D = AuditFault} _ _ c.in_ok-run.run' (Ok tt) _ _ (inspects_of _ _ _ _ c.in_ok-run.ensures.asked)
+          (λ found book has sent laid.
+          let settled = c.in_ok-settle_line.ensures.settled.written (clean_is _ refl) laid in
+          let its : SettlesLine s c.in_ok-run.run'.notes before after = subst (λ (notes : List Notes). SettlesLine s notes before after) c.noted.ensures settled.1 in (
+            settled.0,
+            its.others,
+            λ of_these apart lines. line_more c.args.office.now book s c.in_ok-run.run'.notes (found book has) of_these apart sent before after its lines,
+          ));
+    }

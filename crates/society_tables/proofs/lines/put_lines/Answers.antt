@@ -7,17 +7,15 @@ use Rattle.sqlite.specs.Steps.{over_memory}
 use Rattle.society_rows.specs.Stored.{HasLayout}
 use Rattle.society_tables.specs.Auditing.{HasLines}
 use Rattle.society_book.specs.Runs.{is_among}
-use Rattle.society_tables.proofs.LineAudits.{unlined_same, unlined_then}
-use Rattle.society_tables.proofs.OpenLemmas.{as_inspected, inspected_then}
+use Rattle.society_tables.proofs.audit.LineAudits.{unlined_same, unlined_then}
+use Rattle.society_tables.proofs.opened.OpenLemmas.{as_inspected, inspected_then}
 use Rattle.sqlite_trees.proofs.ListLemmas.{all-get_or}
 use Rattle.society_book.specs.DerivedRows.{has_sent}
-use Rattle.society_tables.proofs.SenderLists.{not_before}
+use Rattle.society_tables.proofs.audit.SenderLists.{not_before}
 use Rattle.society_tables.proofs.lines.put_lines.Goals as goal
 
 pub loop-sender-init : goal.loop-sender-init
 loop-sender-init g c = record {
-  idle = c.table_agrees.ensures.idle;
-  idle_memory = c.table_agrees.ensures.idle_memory;
   lined = as_inspected _ _ (Ok tt) _ _ c.in_ok-table_agrees.ensures.agree
       (λ y agree book has sent laid once lines. (
         subst HasLayout (sym c.table_agrees.ensures.same) laid,
@@ -33,10 +31,7 @@ loop-sender-preserved g c =
     let x = c.sender-item.result in
     let after = (state over_memory c.line_of.new.memory).now.trees in
     record {
-      idle = c.line_of.ensures.idle;
-      idle_memory = c.line_of.ensures.idle_memory;
       lined = inspected_then _ _ _ tt (Ok tt) _ _ _
-          (λ is_open. c.is_autocommit-settled.ensures.settled (rw (c.is_autocommit-settled.ensures.value, c.requires.ours) refl) is_open)
           c.loop-sender.invariant.lined c.in_ok-line_of.ensures.lined
           (λ y before here book has sent laid once lines.
           let within : i < length all = omega (arith, c.loop-sender-test.true) in
@@ -52,10 +47,13 @@ loop-sender-preserved g c =
           ));
     }
 
-pub returns-clause-lined : goal.returns-clause-lined
-returns-clause-lined g c =
-    let all = c.args.senders.now in
-    as_inspected _ _ (Ok tt) _ _ c.loop-sender.invariant.lined
-    (λ y before book has sent laid once lines.
-    let so_far = before book has sent laid once lines in
-    (so_far.0, so_far.1, subst (λ (xs : List (List ℕ)). HasLines c.args.office.now book (is_among xs) (state over_memory c.loop-sender.memory).now.trees) (take_all c.loop-sender.sender-index all c.loop-sender-test.false) so_far.2))
+pub returns : goal.returns
+returns g c =
+    record {
+      lined =
+          let all = c.args.senders.now in
+          as_inspected _ _ (Ok tt) _ _ c.loop-sender.invariant.lined
+          (λ y before book has sent laid once lines.
+          let so_far = before book has sent laid once lines in
+          (so_far.0, so_far.1, subst (λ (xs : List (List ℕ)). HasLines c.args.office.now book (is_among xs) (state over_memory c.loop-sender.memory).now.trees) (take_all c.loop-sender.sender-index all c.loop-sender-test.false) so_far.2));
+    }

@@ -16,8 +16,6 @@ use Rattle.society_tables.proofs.lines.put_lines.Given as goal
 -- the lines of the senders so far have been put
 abbrev pub invariant-loop-sender : goal.invariant-loop-sender
 invariant-loop-sender g l = record {
-  idle : l.conn.in_transaction ≡ false;
-  idle_memory : l.memory.in_transaction ≡ false;
   lined : Inspects {X = Unit {0}} {E = AuditFault} (state g.S.Store l.fn.conn) (state g.S.Store l.conn) (Ok tt)
       (λ db _. (book : Book) → HasTransmissions book db → AllByRecursion (λ sender. has_sent book sender ≡ true) l.senders → HasLayout (state over_memory l.fn.memory).now → length (ascending bytes_cmp l.senders) ≡ length l.senders
       → HasLines l.office book (λ _. false) (state over_memory l.fn.memory).now.trees

@@ -8,9 +8,9 @@ use Rattle.society_book.specs.Sources.{HasTransmissions}
 use Rattle.society_book.specs.Steps.{Looks}
 use Rattle.society_book.specs.Columns.{blob_at}
 use Rattle.society_book.specs.Runs.{RunValue, notes_in, take_row}
-use Rattle.society_tables.proofs.LineAudits.{whole_run}
-use Rattle.society_book.proofs.RunBooks.{taken_rows}
-use Rattle.society_book.proofs.StepLemmas.{does_open_then, looks_as, looks_inside, looks_of}
+use Rattle.society_tables.proofs.audit.LineAudits.{whole_run}
+use Rattle.society_book.proofs.lines.RunBooks.{taken_rows}
+use Rattle.society_book.proofs.together.StepLemmas.{does_open_then, looks_as, looks_inside, looks_of}
 use Rattle.society_tables.proofs.lines.run_inside.Goals as goal
 
 pub returns-clause-looks : goal.returns-clause-looks

@@ -2,25 +2,29 @@ use Rattle.std.proofs.Common.{◌∙◌, [], ap, map, w64}
 use Rattle.std.proofs.lemmas.Int.{to_z-of_z}
 use Rattle.society_book.specs.Outcomes.{settled}
 use Rattle.society_book.specs.Runs.{KnowsRun, behind_run, is_among}
-use Rattle.society_tables.proofs.AloneReads.{ok_also}
-use Rattle.society_tables.proofs.LineWrites.{settles_by}
-use Rattle.society_book.proofs.RunLines.{knows_each}
+use Rattle.society_tables.proofs.audit.AloneReads.{ok_also}
+use Rattle.society_tables.proofs.audit.LineWrites.{settles_by}
+use Rattle.society_book.proofs.lines.RunLines.{knows_each}
 use Rattle.society_tables.proofs.lines.settle_line.Goals as goal
 use Rattle.std.proofs.Common.{List, ℕ, subst, sym}
 
-pub returns-clause-settled : goal.returns-clause-settled
-returns-clause-settled g c = record {
-  written = λ clean has.
-      let notes = c.args.run.now in
-      let asked = c.as_slice.result.now in
-      let knows : KnowsRun (is_among asked) notes = subst (λ (works : List (List ℕ)). KnowsRun (is_among works) notes) (sym (c.as_slice.ensures.value ∙ c.in_ok-works.ensures)) (knows_each notes) in
-      let ends = c.in_ok-outcomes.ensures.ends (is_among asked) [] c.in_ok-end.ensures knows in
-      let their = ap (map settled) c.as_slice-2.ensures.value ∙ c.in_ok-outcomes.ensures.settled (is_among asked) [] c.in_ok-end.ensures knows in
-      ok_also c.write_line.result
-      (λ written. (
-        written.0,
-        settles_by c.args.sender.now c.as_bytes.result.now notes c.as_slice-2.result.now c.in-Ok.front c.works.result _ c.as_bytes.ensures.bytes c.in-Ok.ensures.1 c.in_ok-column_of.ensures.value
-            (c.works.ensures (is_among asked) (behind_run [] 1 notes) ends) their _ _ written.1,
-      ))
-      ((rw (to_z-of_z w64 c.in_ok-column_of.field-0 c.in_ok-column_of.ensures.range) at c.write_line.ensures.written).written clean has);
-}
+pub returns : goal.returns
+returns g c =
+    record {
+      settled =
+          record {
+            written = λ clean has.
+                let notes = c.args.run.now in
+                let asked = c.as_slice.result.now in
+                let knows : KnowsRun (is_among asked) notes = subst (λ (works : List (List ℕ)). KnowsRun (is_among works) notes) (sym (c.as_slice.ensures.value ∙ c.in_ok-works.ensures)) (knows_each notes) in
+                let ends = c.in_ok-outcomes.ensures.ends (is_among asked) [] c.in_ok-end.ensures knows in
+                let their = ap (map settled) c.as_slice-2.ensures.value ∙ c.in_ok-outcomes.ensures.settled (is_among asked) [] c.in_ok-end.ensures knows in
+                ok_also c.write_line.result
+                (λ written. (
+                  written.0,
+                  settles_by c.args.sender.now c.as_bytes.result.now notes c.as_slice-2.result.now c.in-Ok.front c.works.result _ c.as_bytes.ensures.bytes c.in-Ok.ensures.1 c.in_ok-column_of.ensures.value
+                      (c.works.ensures (is_among asked) (behind_run [] 1 notes) ends) their _ _ written.1,
+                ))
+                ((rw (to_z-of_z w64 c.in_ok-column_of.field-0 c.in_ok-column_of.ensures.range) at c.write_line.ensures.written).written clean has);
+          };
+    }

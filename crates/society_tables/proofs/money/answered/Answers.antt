@@ -1,5 +1,5 @@
 use Rattle.std.proofs.Common.{◌∙◌, refl, sym}
-use Rattle.society_book.proofs.AskLemmas.{clean_is}
+use Rattle.society_book.proofs.shown.AskLemmas.{clean_is}
 use Rattle.society_tables.proofs.money.answered.Goals as goal
 
 pub returns-clause-rows : goal.returns-clause-rows
@@ -7,4 +7,4 @@ returns-clause-rows c = c.ask.ensures.asked.found (clean_is _ refl)
 
 pub returns-clause-same : goal.returns-clause-same
 returns-clause-same c =
-    (c.ask.ensures.asked.undone (clean_is _ refl) refl).0 ∙ sym (c.is_autocommit-settled.ensures.settled (rw (c.is_autocommit-settled.ensures.value, c.requires) refl) refl)
+    (c.ask.ensures.asked.undone (clean_is _ refl) refl).0 ∙ sym (c.ask.ensures.asked.settled refl)

@@ -13,8 +13,8 @@ use Rattle.society_core.specs.declared.return_key.ReturnKey.{ReturnKey}
 use Rattle.society_rows.specs.Stored.{HasLayout}
 use Rattle.society_tables.specs.Auditing.{IsOpenReturn, mixed}
 use Rattle.society_book.specs.Kept.{HoldsBook}
-use Rattle.society_tables.proofs.Mixed.{one_more}
-use Rattle.society_tables.proofs.OpenLemmas.{inspected_then, inspects_of, then_inspected}
+use Rattle.society_tables.proofs.audit.Mixed.{one_more}
+use Rattle.society_tables.proofs.opened.OpenLemmas.{inspected_then, inspects_of, then_inspected}
 use Rattle.society_tables.proofs.money.are_open_returns.Goals as goal
 
 -- an answer of yes is what it says
@@ -26,8 +26,6 @@ as_open old new memory free key is asked = then_inspected {D = AuditFault} old n
 pub loop-key-init : goal.loop-key-init
 loop-key-init g c = record {
   same = refl;
-  idle = c.ask.ensures.idle;
-  idle_memory = c.requires.theirs;
   free = then_inspected {D = AuditFault} _ _ c.in_ok-ask.field-0 (Ok tt) _ _ (inspects_of _ _ _ _ c.in_ok-ask.ensures.asked) (λ listed laid o b holds. tt);
 }
 
@@ -38,10 +36,7 @@ loop-key-preserved g c =
     let x = c.key-item.result in
     record {
       same = c.is_open_return.ensures.same ∙ c.loop-key.invariant.same;
-      idle = c.is_open_return.ensures.idle;
-      idle_memory = c.is_open_return.ensures.idle_memory;
       free = inspected_then {E = AuditFault} _ _ _ tt (Ok tt) _ (λ db _. HasLayout (state over_memory c.loop-key.memory).now → (o : Office) (b : Book) → HoldsBook o b (mixed db (state over_memory c.loop-key.memory).now.trees) → IsOpenReturn b x) _
-          (λ is_open. c.is_autocommit-settled.ensures.settled (rw (c.is_autocommit-settled.ensures.value, c.requires.ours) refl) is_open)
           c.loop-key.invariant.free (as_open _ _ _ c.in_ok-is_open_return.field-0 _ c.if-not-branch.false c.in_ok-is_open_return.ensures.free)
           (λ y before here laid o b holds.
           one_more (IsOpenReturn b) all i _ x (omega (arith, c.loop-key-test.true)) c.key-item.is (before laid o b holds)
@@ -52,3 +47,6 @@ pub returns-clause-free : goal.returns-clause-free
 returns-clause-free g c =
     then_inspected {D = AuditFault} _ _ tt (Ok true) _ _ c.loop-key.invariant.free
     (λ before laid free o b holds. subst (λ (l : List ReturnKey). AllByRecursion (IsOpenReturn b) l) (take_all c.loop-key.key-index c.args.keys.now c.loop-key-test.false) (before laid o b holds))
+
+pub returns-then-not-branch-clause-same : goal.returns-then-not-branch-clause-same
+returns-then-not-branch-clause-same g c = c.is_open_return.ensures.same ∙ c.loop-key.invariant.same

@@ -15,8 +15,6 @@ use Rattle.society_tables.proofs.money.are_open_returns.Given as goal
 abbrev pub invariant-loop-key : goal.invariant-loop-key
 invariant-loop-key g l = record {
   same : (state over_memory l.memory).now ≡ (state over_memory l.fn.memory).now;
-  idle : l.conn.in_transaction ≡ false;
-  idle_memory : l.memory.in_transaction ≡ false;
   free : Inspects {X = Unit {0}} {E = AuditFault} (state g.S.Store l.fn.conn) (state g.S.Store l.conn) (Ok tt)
       (λ db _. HasLayout (state over_memory l.fn.memory).now → (office : Office) (book : Book) → HoldsBook office book (mixed db (state over_memory l.fn.memory).now.trees)
       → AllByRecursion (IsOpenReturn book) (take l.key-index l.keys));

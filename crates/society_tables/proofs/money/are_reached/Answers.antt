@@ -17,7 +17,6 @@ loop-key-preserved c =
     let x = c.key-item.result in
     record {
       same = c.is_reached.ensures.same ∙ c.loop-key.invariant.same;
-      idle = c.is_reached.ensures.idle;
       reached = λ has o b db holds.
           let p : TransmissionKey → Bool = is_applied b in
           let its : p x ≡ true = c.in_ok-is_reached.ensures.reached (subst HasLayout (sym c.loop-key.invariant.same) has) c.if-not-branch.false o b db (subst (λ (d : Database). HoldsBook o b (mixed db d.trees)) (sym c.loop-key.invariant.same) holds) in

@@ -13,7 +13,6 @@ use Rattle.society_tables.proofs.money.are_reached.Given as goal
 abbrev pub invariant-loop-key : goal.invariant-loop-key
 invariant-loop-key l = record {
   same : (state over_memory l.memory).now ≡ (state over_memory l.fn.memory).now;
-  idle : l.memory.in_transaction ≡ false;
   reached : HasLayout (state over_memory l.fn.memory).now → (office : Office) (book : Book) (db : Trees) → HoldsBook office book (mixed db (state over_memory l.fn.memory).now.trees)
       → list_all (is_applied book) (take l.key-index l.cut) ≡ true;
 }

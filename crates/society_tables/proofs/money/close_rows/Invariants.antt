@@ -9,8 +9,6 @@ use Rattle.society_tables.proofs.money.close_rows.Given as goal
 -- the pools of the rows so far are closed
 abbrev pub invariant-loop-row : goal.invariant-loop-row
 invariant-loop-row g l = record {
-  idle : l.conn.in_transaction ≡ false;
-  idle_memory : l.memory.in_transaction ≡ false;
   closed : Inspects {X = Unit {0}} {E = AuditFault} (state g.S.Store l.fn.conn) (state g.S.Store l.conn) (Ok tt)
       (λ db _. ClosesAside l.office db (state over_memory l.fn.memory).now (state over_memory l.memory).now);
 }

@@ -10,7 +10,7 @@ use Rattle.society_rows.specs.Stored.{HasLayout}
 use Rattle.society_tables.specs.Auditing.{mixed}
 use Rattle.society_book.specs.Kept.{HoldsBook}
 use Rattle.society_tables.specs.declared.audit_fault.AuditFault.{AuditFault}
-use Rattle.society_tables.proofs.OpenLemmas.{then_inspected}
+use Rattle.society_tables.proofs.opened.OpenLemmas.{then_inspected}
 use Rattle.society_tables.proofs.money.is_closable.Goals as goal
 
 pub returns-clause-closable : goal.returns-clause-closable
@@ -24,3 +24,15 @@ returns-clause-closable g c =
       reached = subst (λ (cut : List TransmissionKey). list_all (is_applied b) cut ≡ true) c.cut.ensures.value (c.in_ok-are_reached.ensures.reached (subst HasLayout (sym two) laid) reached o b db (subst (λ (m : Database). HoldsBook o b (mixed db m.trees)) (sym two) holds));
       returns = subst (λ (keys : List ReturnKey). AllByRecursion (IsOpenReturn b) keys) c.returns.ensures.value (returns laid c.if-not-branch.false o b holds);
     })
+
+pub returns-in_err-is_open_pool-clause-same : goal.returns-in_err-is_open_pool-clause-same
+returns-in_err-is_open_pool-clause-same g c = c.is_open_pool.ensures.same ∙ c.are_open_returns.ensures.same
+
+pub returns-then-not-branch-2-clause-same : goal.returns-then-not-branch-2-clause-same
+returns-then-not-branch-2-clause-same g c = c.is_open_pool.ensures.same ∙ c.are_open_returns.ensures.same
+
+pub returns-in_err-are_reached-clause-same : goal.returns-in_err-are_reached-clause-same
+returns-in_err-are_reached-clause-same g c = c.are_reached.ensures.same ∙ (c.is_open_pool.ensures.same ∙ c.are_open_returns.ensures.same)
+
+pub returns-clause-same : goal.returns-clause-same
+returns-clause-same g c = c.are_reached.ensures.same ∙ (c.is_open_pool.ensures.same ∙ c.are_open_returns.ensures.same)

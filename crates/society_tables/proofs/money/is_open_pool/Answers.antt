@@ -1,5 +1,5 @@
 use Rattle.std.proofs.Common.{◌≡◌, ◌∙◌, [], sym}
-use Rattle.society_tables.proofs.Mixed.{none_listed, pool_open}
+use Rattle.society_tables.proofs.audit.Mixed.{none_listed, pool_open}
 use Rattle.society_tables.proofs.money.is_open_pool.Goals as goal
 
 pub returns-clause-free : goal.returns-clause-free

@@ -1,9 +1,9 @@
 use Rattle.std.proofs.Common.{◌∙◌, Ok, false}
 use Rattle.std.proofs.lemmas.Bool.{false≢true}
 use Rattle.society_rows.specs.declared.fault.RowFault.{RowFault}
-use Rattle.society_book.proofs.KeyRows.{refilled_by}
-use Rattle.society_tables.proofs.Mixed.{return_there, some_listed}
-use Rattle.society_tables.proofs.OpenLemmas.{inspects_of, then_inspected}
+use Rattle.society_book.proofs.rows_alike.KeyRows.{refilled_by}
+use Rattle.society_tables.proofs.audit.Mixed.{return_there, some_listed}
+use Rattle.society_tables.proofs.opened.OpenLemmas.{inspects_of, then_inspected}
 use Rattle.society_tables.proofs.money.is_open_return.Goals as goal
 
 pub returns-clause-free : goal.returns-clause-free

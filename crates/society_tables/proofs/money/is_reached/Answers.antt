@@ -3,7 +3,7 @@ use Rattle.std.proofs.lemmas.Bool.Decides.{nat_tests}
 use Rattle.society_core.specs.Book.{front}
 use Rattle.society_core.proofs.LineNumbers.{one_of_by}
 use Rattle.society_book.specs.Shown.{ShowFront}
-use Rattle.society_tables.proofs.Mixed.{front_shown}
+use Rattle.society_tables.proofs.audit.Mixed.{front_shown}
 use Rattle.society_tables.proofs.money.is_reached.Goals as goal
 
 at_most : (n m : ℕ) → nat_le n m ≡ true → n ≤ m

@@ -1,6 +1,6 @@
 use Rattle.std.proofs.Common.{◌≡◌, ◌∙◌, [], sym}
-use Rattle.society_book.proofs.KeyRows.{refilled_by}
-use Rattle.society_tables.proofs.Mixed.{none_listed, return_unpaid}
+use Rattle.society_book.proofs.rows_alike.KeyRows.{refilled_by}
+use Rattle.society_tables.proofs.audit.Mixed.{none_listed, return_unpaid}
 use Rattle.society_tables.proofs.money.is_unpaid.Goals as goal
 
 pub returns-clause-unpaid : goal.returns-clause-unpaid

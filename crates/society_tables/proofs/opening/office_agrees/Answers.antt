@@ -8,14 +8,14 @@ use Rattle.society_rows.specs.declared.fault.RowFault.{RowFault}
 use Rattle.society_rows.specs.Stored.{rows_in}
 use Rattle.sqlite_trees.specs.Tree.{Trees}
 use Rattle.society_book.specs.Kept.{office_row}
-use Rattle.society_tables.specs.Opening.{TellsOffice, audit_fault_by, opened_by}
+use Rattle.society_tables.specs.Opening.{TellsOffice, audit_fault_by, open_fault_by}
 use Rattle.society_tables.specs.declared.open_fault.OpenFault.{OpenFault}
 use Rattle.society_tables.specs.declared.open_fault.OpenFault.TheVariants as fault
-use Rattle.society_tables.proofs.OpenLemmas.{inspects_of, then_inspected}
-use Rattle.society_tables.proofs.OpenTold.{failed_not_damaged, failed_office, told_likewise}
-use Rattle.society_tables.proofs.SameTables.{all_pass}
-use Rattle.society_tables.proofs.OpenTold.{there_by}
-use Rattle.society_tables.proofs.Failing.{failed_never, office_failed}
+use Rattle.society_tables.proofs.opened.OpenLemmas.{inspects_of, then_inspected}
+use Rattle.society_tables.proofs.opened.OpenTold.{failed_not_damaged, failed_office, told_likewise}
+use Rattle.society_tables.proofs.alike.SameTables.{all_pass}
+use Rattle.society_tables.proofs.opened.OpenTold.{there_by}
+use Rattle.society_tables.proofs.opened.Failing.{failed_never, office_failed}
 use Rattle.society_tables.specs.declared.open_fault.OpenFault.TheVariants.{Store}
 use Rattle.society_tables.proofs.opening.office_agrees.Goals as goal
 
@@ -31,18 +31,18 @@ is_told : (o : Office) (db : Trees) (rows : List Row) (width : _) (r : Result (U
 is_told o db rows width (Ok x) lists told = tt
 is_told o db rows width (Err e) lists told = told_likewise o (rows_in layout.office db) rows e (any_order db rows width lists) told
 
-fails : (o : Office) (rows : List Row) (f : RowFault) (r : Result (Unit {0}) OpenFault) → IsErrAnd r (λ e. e ≡ opened_by (audit_fault_by f)) → IfErr r (TellsOffice o rows)
+fails : (o : Office) (rows : List Row) (f : RowFault) (r : Result (Unit {0}) OpenFault) → IsErrAnd r (λ e. e ≡ open_fault_by (audit_fault_by f)) → IfErr r (TellsOffice o rows)
 fails o rows f (Ok x) h = tt
 fails o rows f (Err e) h = subst (TellsOffice o rows) (sym h) (failed_office o rows f)
 
 pub returns-clause-asked : goal.returns-clause-asked
 returns-clause-asked g c =
-    then_inspected _ _ _ c.is_office.result _ _ (inspects_of {E = OpenFault} _ _ _ _ c.in_ok-rows.ensures.asked)
-    (λ lists. is_here c.args.office.now _ _ _ c.is_office.result lists (rw (sym c.as_slice.ensures.value) c.is_office.ensures.same))
+    then_inspected _ _ _ c.check_office.result _ _ (inspects_of {E = OpenFault} _ _ _ _ c.in_ok-rows.ensures.asked)
+    (λ lists. is_here c.args.office.now _ _ _ c.check_office.result lists (rw (sym c.as_slice.ensures.value) c.check_office.ensures.same))
 
 pub returns-clause-told : goal.returns-clause-told
 returns-clause-told g c clean has =
-    is_told c.args.office.now _ _ _ c.is_office.result (c.in_ok-rows.ensures.asked.found clean has) (rw (sym c.as_slice.ensures.value) c.is_office.ensures.told)
+    is_told c.args.office.now _ _ _ c.check_office.result (c.in_ok-rows.ensures.asked.found clean has) (rw (sym c.as_slice.ensures.value) c.check_office.ensures.told)
 
 pub returns-in_err-rows-clause-told : goal.returns-in_err-rows-clause-told
 returns-in_err-rows-clause-told g c clean has = fails c.args.office.now _ c.in_err-rows.field-0.0 c.from_residual.result c.from_residual.ensures.1
@@ -57,4 +57,4 @@ pub returns-in_err-rows-clause-failed : goal.returns-in_err-rows-clause-failed
 returns-in_err-rows-clause-failed g c = office_failed _ _ c.in_err-rows.field-0.0 c.from_residual.result _ c.in_err-rows.ensures.asked c.in_err-rows.ensures.medium c.from_residual.ensures.1
 
 pub returns-clause-failed : goal.returns-clause-failed
-returns-clause-failed g c = failed_never Store _ _ _ c.is_office.result _ (inspects_of {E = OpenFault} _ _ _ _ c.in_ok-rows.ensures.asked) c.is_office.ensures.read
+returns-clause-failed g c = failed_never Store _ _ _ c.check_office.result _ (inspects_of {E = OpenFault} _ _ _ _ c.in_ok-rows.ensures.asked) c.check_office.ensures.read

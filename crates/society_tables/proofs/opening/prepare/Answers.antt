@@ -1,18 +1,17 @@
-use Rattle.std.proofs.Common.{refl}
-use Rattle.society_tables.proofs.OpenedLemmas.{no_failure, opens_audited, opens_begun, opens_other}
+use Rattle.society_tables.proofs.opened.OpenedLemmas.{no_failure, opens_audited, opens_begun, opens_other}
 use Rattle.society_tables.specs.declared.open_fault.OpenFault.TheVariants.{Schema}
 use Rattle.society_tables.proofs.opening.prepare.Goals as goal
 
 pub returns-in-Nothing-clause-opens : goal.returns-in-Nothing-clause-opens
 returns-in-Nothing-clause-opens g c =
-    opens_begun c.args.office.now _ _ c.begin.result (λ is_open. c.is_autocommit-settled.ensures.settled (rw (c.is_autocommit-settled.ensures.value, c.requires) refl) is_open)
-    c.in-Nothing.ensures c.begin.ensures.created c.begin.ensures.neither c.begin.ensures.told c.begin.ensures.crash
+    opens_begun c.args.office.now _ _ c.begin.result c.in-Nothing.ensures.settled
+    c.in-Nothing.ensures.found c.begin.ensures.created c.begin.ensures.neither c.begin.ensures.told c.begin.ensures.crash
 
 pub returns-in-Layout-clause-opens : goal.returns-in-Layout-clause-opens
 returns-in-Layout-clause-opens g c =
-    opens_audited c.args.office.now _ _ c.audit.result (λ is_open. c.is_autocommit-settled.ensures.settled (rw (c.is_autocommit-settled.ensures.value, c.requires) refl) is_open)
-    c.in-Layout.ensures c.audit.ensures.whole c.audit.ensures.told c.audit.ensures.damaged c.audit.ensures.failed
+    opens_audited c.args.office.now _ _ c.audit.result c.in-Layout.ensures.settled
+    c.in-Layout.ensures.found c.audit.ensures.whole c.audit.ensures.told c.audit.ensures.damaged c.audit.ensures.failed
 
 pub returns-in-Other-clause-opens : goal.returns-in-Other-clause-opens
 returns-in-Other-clause-opens g c =
-    opens_other c.args.office.now _ Schema no_failure (λ is_open. c.is_autocommit-settled.ensures.settled (rw (c.is_autocommit-settled.ensures.value, c.requires) refl) is_open) (c.in-Other.ensures.0, λ has. absurd (c.in-Other.ensures.1 has))
+    opens_other c.args.office.now _ Schema no_failure c.in-Other.ensures.settled (c.in-Other.ensures.found.0, λ has. absurd (c.in-Other.ensures.found.1 has))

@@ -1,7 +1,7 @@
 -- The pool of a row is closed by the order of its rows, or memory failed.
-use Rattle.society_book.specs.Columns.{number_at}
-use Rattle.society_tables.proofs.OrdersAgain.{aside_on}
-use Rattle.society_tables.proofs.PoolsAgain.{closed_as}
+use Rattle.society_book.specs.Columns.{whole_number_at}
+use Rattle.society_tables.proofs.anew.OrdersAgain.{aside_on}
+use Rattle.society_tables.proofs.anew.PoolsAgain.{closed_as}
 use Rattle.society_tables.proofs.rebuilding.close_pool.Goals as goal
 
 pub returns-in_err-pool-clause-passes : goal.returns-in_err-pool-clause-passes
@@ -11,4 +11,4 @@ returns-in_err-pool-clause-passes c b sound closed cuts paid part =
 pub returns-clause-passes : goal.returns-clause-passes
 returns-clause-passes c b sound closed cuts paid part =
     let it = c.in_ok-pool.ensures.passes b sound closed cuts paid in
-    closed_as b _ _ c.close_with.result _ (number_at 0 c.args.row.now) _ closed.order it.0 it.1 closed.there (λ here. c.close_with.ensures.passes b sound here part)
+    closed_as b _ _ c.close_with.result _ (whole_number_at 0 c.args.row.now) _ closed.order it.0 it.1 closed.there (λ here. c.close_with.ensures.passes b sound here part)

@@ -1,7 +1,7 @@
 -- The pools of all rows are closed, so the book is whole, or memory failed.
 use Rattle.std.proofs.Common.{◌∙◌, refl}
-use Rattle.society_tables.proofs.OrdersAgain.{aside_on}
-use Rattle.society_tables.proofs.PoolsWhole.{closed_here, more_closed, none_closed, whole_book}
+use Rattle.society_tables.proofs.anew.OrdersAgain.{aside_on}
+use Rattle.society_tables.proofs.anew.PoolsWhole.{closed_here, more_closed, none_closed, whole_book}
 use Rattle.society_tables.proofs.rebuilding.close_pools.Goals as goal
 
 pub loop-row-init : goal.loop-row-init

@@ -6,7 +6,7 @@ use Rattle.society_core.specs.Book.{Book, IsSound}
 use Rattle.society_book.specs.BookRows.{book_of, cut_rows, is_of_pool, paid_rows, pool_rows}
 use Rattle.society_book.specs.Columns.{HasRows}
 use Rattle.society_tables.specs.Rebuilding.{without_pools}
-use Rattle.society_tables.proofs.PoolsWhole.{AllClosed}
+use Rattle.society_tables.proofs.anew.PoolsWhole.{AllClosed}
 use Rattle.society_tables.proofs.rebuilding.close_pools.Given as goal
 
 abbrev pub invariant-loop-row : goal.invariant-loop-row

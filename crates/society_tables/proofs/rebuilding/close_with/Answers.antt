@@ -1,6 +1,6 @@
 -- A pool of the book is closed by its order, or memory failed.
 use Rattle.std.proofs.Common.{Ok, Err, refl}
-use Rattle.society_tables.proofs.PoolsAgain.{closed_again}
+use Rattle.society_tables.proofs.anew.PoolsAgain.{closed_again}
 use Rattle.society_tables.proofs.rebuilding.close_with.Goals as goal
 
 pub returns-in-Ok-clause-passes : goal.returns-in-Ok-clause-passes

@@ -2,18 +2,18 @@
 use Rattle.std.proofs.Common.{◌≡◌, ◌∙◌, ap, subst, sym}
 use Rattle.std.proofs.lemmas.Bool.{false≢true}
 use Rattle.society_rows.specs.Forms.{IsOfForms, pool_forms}
-use Rattle.society_book.specs.Columns.{number_at}
-use Rattle.society_tables.proofs.OrdersAgain.{all_cuts, all_paid, amount_in, amount_read, aside_on, faultless_read, not_some, number_of_pool, number_taken, order_read, pool_form, the_same}
+use Rattle.society_book.specs.Columns.{whole_number_at}
+use Rattle.society_tables.proofs.anew.OrdersAgain.{all_cuts, all_paid, amount_in, amount_read, aside_on, faultless_read, not_some, number_of_pool, number_taken, order_read, pool_form, the_same}
 use Rattle.society_tables.proofs.rebuilding.pool_of_row.Goals as goal
 
 pub returns-in_default-clause-passes : goal.returns-in_default-clause-passes
 returns-in_default-clause-passes c b sound closed cuts paid =
-    absurd (false≢true (c.in_default.ensures.read (subst (IsOfForms pool_forms) (sym closed.form) (pool_form b sound (number_at 0 c.args.row.now) closed.order closed.there))))
+    absurd (false≢true (c.in_default.ensures.read (subst (IsOfForms pool_forms) (sym closed.form) (pool_form b sound (whole_number_at 0 c.args.row.now) closed.order closed.there))))
 
 pub returns-in_default-from_u32-clause-passes : goal.returns-in_default-from_u32-clause-passes
 returns-in_default-from_u32-clause-passes c b sound closed cuts paid =
-    let q = number_at 0 c.args.row.now in
-    let taken = number_taken c.in-Ok.row.pool q (ap (number_at 0) c.in-Ok.ensures.value) (number_of_pool b sound q closed.order closed.there) in
+    let q = whole_number_at 0 c.args.row.now in
+    let taken = number_taken c.in-Ok.row.pool q (ap (whole_number_at 0) c.in-Ok.ensures.value) (number_of_pool b sound q closed.order closed.there) in
     absurd (not_some q (sym c.in_default-from_u32.is ∙ c.from_u32.ensures ∙ taken))
 
 pub returns-in_err-cut-clause-passes : goal.returns-in_err-cut-clause-passes
@@ -26,8 +26,8 @@ returns-in_err-returns-clause-passes c b sound closed cuts paid =
 
 pub returns-in_err-order-clause-passes : goal.returns-in_err-order-clause-passes
 returns-in_err-order-clause-passes c b sound closed cuts paid =
-    let q = number_at 0 c.args.row.now in
-    let same = ap (number_at 0) c.in-Ok.ensures.value in
+    let q = whole_number_at 0 c.args.row.now in
+    let same = ap (whole_number_at 0) c.in-Ok.ensures.value in
     let amount = amount_read c.in-Ok.row.amount closed.order.amount (ap amount_in (c.in-Ok.ensures.value ∙ closed.form)) (sound.orders q closed.order closed.there).amount in
     let of_cut = c.as_slice.ensures.value ∙ c.in_ok-cut.ensures.passes (all_cuts b sound c.args.cuts.now cuts) in
     let of_paid = c.as_slice-2.ensures.value ∙ c.in_ok-returns.ensures.passes (all_paid b sound c.args.paid.now paid) in
@@ -36,8 +36,8 @@ returns-in_err-order-clause-passes c b sound closed cuts paid =
 
 pub returns-clause-passes : goal.returns-clause-passes
 returns-clause-passes c b sound closed cuts paid =
-    let q = number_at 0 c.args.row.now in
-    let same : c.in-Ok.row.pool ≡ q = ap (number_at 0) c.in-Ok.ensures.value in
+    let q = whole_number_at 0 c.args.row.now in
+    let same : c.in-Ok.row.pool ≡ q = ap (whole_number_at 0) c.in-Ok.ensures.value in
     let amount = amount_read c.in-Ok.row.amount closed.order.amount (ap amount_in (c.in-Ok.ensures.value ∙ closed.form)) (sound.orders q closed.order closed.there).amount in
     let taken = number_taken c.in-Ok.row.pool q same (number_of_pool b sound q closed.order closed.there) in
     let pool : c.in-Some.pool ≡ q = the_same c.in-Some.pool q (sym c.in-Some.is ∙ c.from_u32.ensures ∙ taken) in

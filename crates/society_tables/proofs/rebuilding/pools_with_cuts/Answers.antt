@@ -3,11 +3,11 @@ use Rattle.sqlite_value.specs.Order.{Row}
 use Rattle.society_rows.specs.Layout as layout
 use Rattle.society_book.specs.BookRows.{paid_rows, is_of_pool}
 use Rattle.society_book.specs.Columns.{HasRows}
-use Rattle.society_tables.proofs.AddLemmas.{any_told}
-use Rattle.society_tables.proofs.ComesAgain.{listed_rows}
-use Rattle.society_tables.proofs.OpenLemmas.{then_inspected}
-use Rattle.society_tables.proofs.RowsAgain.{aside_told}
-use Rattle.society_tables.proofs.Failing.{failed_never, failed_passed}
+use Rattle.society_tables.proofs.store.AddLemmas.{any_told}
+use Rattle.society_tables.proofs.anew.ComesAgain.{listed_rows}
+use Rattle.society_tables.proofs.opened.OpenLemmas.{then_inspected}
+use Rattle.society_tables.proofs.anew.RowsAgain.{aside_told}
+use Rattle.society_tables.proofs.opened.Failing.{failed_never, failed_passed}
 use Rattle.society_tables.specs.declared.audit_fault.AuditFault.TheVariants.{Store}
 use Rattle.society_tables.proofs.rebuilding.pools_with_cuts.Goals as goal
 

@@ -5,7 +5,7 @@ use Rattle.sqlite.specs.Steps.{over_memory}
 use Rattle.sqlite_value.specs.Order.{Row}
 use Rattle.society_book.specs.BookRows.{book_of}
 use Rattle.society_tables.specs.Rebuilding.{AllSent, IsSent, SentOn}
-use Rattle.society_tables.proofs.RowsAgain.{all_here, aside_told, sent_more}
+use Rattle.society_tables.proofs.anew.RowsAgain.{all_here, aside_told, sent_more}
 use Rattle.society_tables.proofs.rebuilding.put_transmissions.Goals as goal
 
 pub loop-row-preserved : goal.loop-row-preserved

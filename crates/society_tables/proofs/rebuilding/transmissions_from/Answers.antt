@@ -3,11 +3,11 @@ use Rattle.sqlite_value.specs.Order.{Row}
 use Rattle.society_rows.specs.Layout as layout
 use Rattle.society_book.specs.BookRows.{is_transmission_row, transmission_rows}
 use Rattle.society_book.specs.Columns.{HasRows}
-use Rattle.society_tables.proofs.AddLemmas.{any_told}
-use Rattle.society_tables.proofs.ComesAgain.{empty_within, listed_rows, sent_end}
-use Rattle.society_tables.proofs.OpenLemmas.{then_inspected}
-use Rattle.society_tables.proofs.RowsAgain.{all_sent, aside_told}
-use Rattle.society_tables.proofs.Failing.{failed_never, failed_passed}
+use Rattle.society_tables.proofs.store.AddLemmas.{any_told}
+use Rattle.society_tables.proofs.anew.ComesAgain.{empty_within, listed_rows, sent_end}
+use Rattle.society_tables.proofs.opened.OpenLemmas.{then_inspected}
+use Rattle.society_tables.proofs.anew.RowsAgain.{all_sent, aside_told}
+use Rattle.society_tables.proofs.opened.Failing.{failed_never, failed_passed}
 use Rattle.society_tables.specs.declared.audit_fault.AuditFault.TheVariants.{Store}
 use Rattle.society_tables.proofs.rebuilding.transmissions_from.Goals as goal
 

@@ -4,8 +4,8 @@ use Rattle.sqlite_schema.specs.declared.schema.Table.{Table}
 use Rattle.sqlite_trees.specs.Tree.{Trees}
 use Rattle.society_rows.specs.Layout as layout
 use Rattle.society_rows.specs.Layout.{all_tables}
-use Rattle.society_book.proofs.RunWrites.{KeptBut, both_of}
-use Rattle.society_book.proofs.StepLemmas.{does_of, does_then}
+use Rattle.society_book.proofs.lines.RunWrites.{KeptBut, both_of}
+use Rattle.society_book.proofs.together.StepLemmas.{does_of, does_then}
 use Rattle.society_tables.proofs.references.add_bare.Goals as goal
 
 abbrev KeptUnreferred : Trees → Trees → Table → Type 0

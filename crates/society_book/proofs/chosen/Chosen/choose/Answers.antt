@@ -1,5 +1,5 @@
 use Rattle.std.proofs.Common.{◌∙◌, sym}
-use Rattle.society_book.proofs.CutChoices.{chooses_kept}
+use Rattle.society_book.proofs.cuts.CutChoices.{chooses_kept}
 use Rattle.society_book.proofs.chosen.Chosen.choose.Goals as goal
 
 pub returns-in-Some : goal.returns-in-Some

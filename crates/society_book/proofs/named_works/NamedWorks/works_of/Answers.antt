@@ -1,8 +1,8 @@
 use Rattle.std.proofs.Common.{◌≡◌, ◌∙◌, IfOk, ap, bytes_eq, rules}
 use Rattle.std.specs.List.{list_any}
 use Rattle.society_book.specs.CutWorks.{has_work}
-use Rattle.society_book.proofs.CutNotes.{any_bytes}
-use Rattle.society_book.proofs.StepLemmas.{more}
+use Rattle.society_book.proofs.cuts.CutNotes.{any_bytes}
+use Rattle.society_book.proofs.together.StepLemmas.{more}
 use Rattle.society_book.proofs.named_works.NamedWorks.works_of.Goals as goal
 
 pub returns-in-Some : goal.returns-in-Some

@@ -1,6 +1,6 @@
 use Rattle.std.proofs.Common.{◌≡◌, IsTrue, drop}
 use Rattle.society_core.specs.Answers.{first_refusal, return_refusal}
-use Rattle.society_core.specs.State.{Asks}
+use Rattle.society_core.specs.State.{ChangesNothing}
 use Rattle.society_core.proofs.desk.Desk.check_returns.Given as goal
 
 -- nothing changed so far, and what is due is due of the rest
@@ -8,6 +8,6 @@ abbrev pub invariant-loop-key : goal.invariant-loop-key
 invariant-loop-key g l =
     let state = g.S.Store.state in
     record {
-      asks : Asks (state l.initial.self-inside.store) (state l.self-inside.store);
+      asks : ChangesNothing (state l.initial.self-inside.store) (state l.self-inside.store);
       due : IsTrue (state l.self-inside.store).is_clean → first_refusal (return_refusal (state l.initial.self-inside.store).book) l.returns ≡ first_refusal (return_refusal (state l.initial.self-inside.store).book) (drop l.key-index l.returns);
     }

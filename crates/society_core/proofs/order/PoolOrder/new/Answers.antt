@@ -6,6 +6,7 @@ use Rattle.work_ids.specs.Numbers.{is_return_number, is_transmission_number}
 use Rattle.work_ids.specs.SenderKey.{is_sender_key}
 use Rattle.society_core.specs.Keys.{ascending, return_cmp, return_key, transmission_cmp, transmission_key}
 use Rattle.society_core.specs.Orders.{IsOrder, has_repeat, is_out_of_range, is_too_long, names_twice, order_fault, order_of, return_pair, same_numbered, same_sender, sent_pair}
+use Rattle.society_core.specs.declared.order_fault.OrderFault.TheVariants.{OutOfRange, TooLong, NamedTwice}
 use Rattle.society_core.specs.declared.return_key.ReturnKey.{ReturnKey}
 use Rattle.society_core.specs.declared.transmission_key.TransmissionKey.{TransmissionKey}
 use Rattle.society_core.proofs.Ascending.{ascending_again, ascending_length}
@@ -19,13 +20,13 @@ none_is o e = ap is_none e
 -- numbers that make an order, of senders, have its limits
 order_is_kept : (amount : ℕ) (cut returns : List (List ℕ × ℕ)) → list_all (λ (c : List ℕ × ℕ). is_sender_key c.0) cut ≡ true → order_fault amount cut returns ≡ None → IsOrder (order_of amount cut returns)
 order_is_kept amount cut returns senders_are none =
-    let in_range = told_none (is_out_of_range amount cut returns) 2 _ none in
-    let short = told_none (is_too_long cut returns) 3 _ in_range.1 in
+    let in_range = told_none (is_out_of_range amount cut returns) OutOfRange _ none in
+    let short = told_none (is_too_long cut returns) TooLong _ in_range.1 in
     let sent_in_range = list_all (λ (c : List ℕ × ℕ). is_transmission_number c.1) cut in
     let returned_in_range = list_all (λ (r : List ℕ × ℕ). is_return_number r.1) returns in
     let large = (neither_holds (nat_lt 1000000000000 amount) (not sent_in_range) (neither_holds (nat_lt 1000000000000 amount || not sent_in_range) (not returned_in_range) in_range.0).0).0 in
     let few = neither_holds (nat_lt 200 (length cut)) (nat_lt 1000 (length returns)) short.0 in
-    let once = told_none (names_twice cut returns) 4 _ short.1 in
+    let once = told_none (names_twice cut returns) NamedTwice _ short.1 in
     let each = neither_holds (has_repeat same_sender cut) (has_repeat same_numbered returns) once.0 in
     let within : amount ≤ 1000000000000 = ltb-false 1000000000000 amount large in
     let senders : length cut ≤ 200 = ltb-false 200 (length cut) few.0 in

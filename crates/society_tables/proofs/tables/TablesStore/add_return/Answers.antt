@@ -6,10 +6,10 @@ use Rattle.society_core.proofs.Stores.{return_entry}
 use Rattle.society_rows.specs.Layout as layout
 use Rattle.society_book.specs.BookRows.{book_of, return_row}
 use Rattle.society_book.specs.Shown.{Comes}
-use Rattle.society_tables.proofs.AddLemmas.{addition, any_told, one_truth, rests_after}
-use Rattle.society_book.proofs.KeyRows.{refilled_by}
-use Rattle.society_tables.proofs.StoreQuestions.{below_greatest}
-use Rattle.society_tables.proofs.ReturnAdds.{return_added}
+use Rattle.society_tables.proofs.store.AddLemmas.{addition, any_told, one_truth, rests_after}
+use Rattle.society_book.proofs.rows_alike.KeyRows.{refilled_by}
+use Rattle.society_tables.proofs.store.StoreQuestions.{below_greatest}
+use Rattle.society_tables.proofs.store.ReturnAdds.{return_added}
 use Rattle.society_tables.proofs.tables.TablesStore.add_return.Goals as goal
 
 pub invariant_of-self-clause-rests : goal.invariant_of-self-clause-rests

@@ -3,8 +3,8 @@ use Rattle.std.proofs.Math.Logic.{∥∥₁_map}
 use Rattle.society_core.specs.Book.{front, with_transmission}
 use Rattle.society_book.specs.BookRows.{book_of}
 use Rattle.society_book.specs.Steps.{Arrives, ArrivesTo}
-use Rattle.society_tables.proofs.AddLemmas.{addition, rests_after}
-use Rattle.society_tables.proofs.StoreQuestions.{below_greatest, one_number}
+use Rattle.society_tables.proofs.store.AddLemmas.{addition, rests_after}
+use Rattle.society_tables.proofs.store.StoreQuestions.{below_greatest, one_number}
 use Rattle.society_tables.proofs.tables.TablesStore.add_transmission.Goals as goal
 
 pub invariant_of-self-clause-rests : goal.invariant_of-self-clause-rests

@@ -1,6 +1,6 @@
 use Rattle.std.proofs.Common.{◌≡◌}
 use Rattle.society_core.specs.Book.{front}
-use Rattle.society_tables.proofs.StoreQuestions.{below_greatest, one_number, question_by, still_rests}
+use Rattle.society_tables.proofs.store.StoreQuestions.{below_greatest, one_number, question_by, still_rests}
 use Rattle.society_tables.proofs.tables.TablesStore.front.Goals as goal
 
 pub invariant_of-self-clause-rests : goal.invariant_of-self-clause-rests

@@ -1,7 +1,7 @@
 use Rattle.std.proofs.Common.{◌<◌, ◌++◌, ◌∷◌, [], List, sym, ap, subst, ◌∙◌}
 use Rattle.std.proofs.lemmas.List.{map_push}
 use Rattle.share_rules.specs.declared.office.Office.{Office}
-use Rattle.works_core.specs.Kept.{IsKept, kept_line}
+use Rattle.works_core.specs.Kept.{IsKeptLine, kept_line}
 use Rattle.works_core.specs.Line.{judged_in}
 use Rattle.works_core.specs.LineValue.{SenderLineValue}
 use Rattle.works_core.specs.Numbered.{IsRising, JudgedTransmission, last_number}
@@ -30,7 +30,7 @@ invariant_of-self-2 c =
     ∙ ap (λ (vs : List Verdict). vs ++ verdicts_from (judged_of (placed_line line)) c.as_slice.result.now) c.in_ok-verdicts.ensures.items
     ∙ ap (verdicts_from (judged_of (placed_line line))) c.as_slice.ensures.value in
     let stand = ap (placed_behind (placed_line line) c.args.number 0) c.as_slice.ensures.value ∙ sym (placed_push [] line y) ∙ ap placed_line (sym lined) in
-    subst (λ (xs : List KeptTransmission). IsKept xs c.settle_all.new.works) (sym all)
+    subst (λ (xs : List KeptTransmission). IsKeptLine xs c.settle_all.new.works) (sym all)
     (record {
       rises = subst (IsRising 0) (sym lined) (rising_push 0 line y c.self.invariant.rises (subst (λ (v : SenderLineValue). last_number 0 v.transmissions < c.args.number) (sym c.self.view_is) c.requires.above));
       told = kept_push [] kept x c.self.invariant.told told;

@@ -1,10 +1,11 @@
 use Rattle.std.proofs.Common.{ℕ, ◌+◌, cond, List, ◌∷◌, ◌++◌, [], Some, is_some, length, if◌then◌else◌, sym, ap, ◌∙◌, arith}
 use Rattle.std.specs.HashMap.{get}
 use Rattle.std.specs.Str.{bytes_eq}
-use Rattle.works_core.specs.Tracks.{same_key, key_of, linked_versions, accepted_in}
+use Rattle.works_core.specs.Tracks.{same_key, work_key_of, linked_versions, accepted_in}
 use Rattle.works_core.specs.Versions.{judged_of, placed_at}
 use Rattle.works_core.specs.declared.judged.Judged.TheVariants.{Clean}
 use Rattle.works_core.specs.declared.version.LinkedVersion.{LinkedVersion}
+use Rattle.works_core.specs.declared.version.WorkVersion.{WorkVersion}
 use Rattle.works_core.proofs.EndLemmas.{linked_is, taken}
 use Rattle.works_core.proofs.NextLemmas.{revision_within}
 use Rattle.works_core.proofs.TrackLemmas.{last_registered, last_within, last_index-accepted, linked_versions-accepted, length-linked_versions, works_in-taken}
@@ -35,16 +36,17 @@ returns-in-Accepted-clause-tracks c = λ past tracks.
     record {
       last = λ w.
           c.append.ensures.last w
-          ∙ ap (λ (i : ℕ). cond (bytes_eq work w) (Some i) (get same_key c.args.self.now.last (key_of w))) index
+          ∙ ap (λ (i : ℕ). cond (bytes_eq work w) (Some i) (get same_key c.args.self.now.last (work_key_of w))) index
           ∙ ap (cond (bytes_eq work w) (Some (accepted_in past))) (tracks.last w)
           ∙ sym (last_index-accepted past t w known.accepted);
       versions =
           c.append.ensures.versions
+          ∙ ap (λ (v : WorkVersion). c.args.self.now.versions.items ++ record { version = v; before = c.copied-before.result } ∷ []) c.version-version.ensures
           ∙ ap (λ (xs : List LinkedVersion). xs ++ linked ∷ []) tracks.versions
           ∙ ap (λ (l : LinkedVersion). linked_versions past ++ l ∷ []) (linked_is c.args.kind work past c.args.place.transmission c.args.place.place c.in-Accepted.ordinal c.in-Accepted.revision c.copied-before.result known is)
           ∙ sym (linked_versions-accepted past t known.accepted);
       count =
           c.append.ensures.count
-          ∙ ap (λ (n : ℕ). n + (if is_some (get same_key c.args.self.now.last (key_of work)) then 0 else 1)) tracks.count
-          ∙ works_in-taken (judged_of past) c.args.kind work (get same_key c.args.self.now.last (key_of work)) known.accepted (ap is_some (tracks.last work) ∙ last_registered work past);
+          ∙ ap (λ (n : ℕ). n + (if is_some (get same_key c.args.self.now.last (work_key_of work)) then 0 else 1)) tracks.count
+          ∙ works_in-taken (judged_of past) c.args.kind work (get same_key c.args.self.now.last (work_key_of work)) known.accepted (ap is_some (tracks.last work) ∙ last_registered work past);
     }

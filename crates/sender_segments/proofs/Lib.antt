@@ -1,0 +1,7 @@
+pub mod Grows
+pub mod Members
+pub mod Ranks
+pub mod Reached
+pub mod Rising
+pub mod Ways
+mod Worked

@@ -1,0 +1,8 @@
+-- The works of a cut.
+pub mod CutRows
+pub mod CutSets
+pub mod CutNames
+pub mod CutCandidates
+pub mod CutNotes
+pub mod CutChoices
+pub mod WorksHeld

@@ -1,0 +1,97 @@
+-- The rows of a run that are written in one transaction, table after table.
+use Rattle.std.proofs.Common.{◌≡◌, ◌≢◌, ◌∙◌, ◌++◌, [], ◌∷◌, List, true, sym, subst, arith, IsPermutation}
+use Rattle.std.specs.List.{AllByRecursion}
+use Rattle.std.proofs.lemmas.List.Sorted.{IsPermutation-trans}
+use Rattle.sqlite.specs.Effect.{Database}
+use Rattle.sqlite_schema.specs.declared.schema.Table.{Table}
+use Rattle.sqlite_trees.specs.Tree.{Trees, rowid}
+use Rattle.sqlite_trees.specs.View.{is_int}
+use Rattle.sqlite_value.specs.Order.{Row}
+use Rattle.society_rows.specs.Layout as layout
+use Rattle.society_rows.specs.Layout.{all_tables, written_out}
+use Rattle.society_rows.specs.Stored.{Adds, put_over, rows_in}
+use Rattle.society_book.specs.Shown.{Runs, AddsTold, Waits}
+use Rattle.society_book.proofs.lines.RunTables.{rows_kept, same_permutation}
+
+-- that a table is as it was where it is none of these
+abbrev pub KeptBut : Table → Trees → Trees → Table → Type 0
+KeptBut a old new t = t.tree ≢ a.tree → new t.tree ≡ old t.tree
+
+abbrev KeptOfLine : Trees → Trees → Table → Type 0
+KeptOfLine old new t = t.tree ≢ layout.transmissions.tree → t.tree ≢ layout.fronts.tree → new t.tree ≡ old t.tree
+
+abbrev pub KeptOfTold : Trees → Trees → Table → Type 0
+KeptOfTold old new t = t.tree ≢ layout.verdicts.tree → t.tree ≢ layout.versions.tree → t.tree ≢ layout.recordings.tree → new t.tree ≡ old t.tree
+
+abbrev KeptOfRun : Trees → Trees → Table → Type 0
+KeptOfRun old new t = t.tree ≢ layout.transmissions.tree → t.tree ≢ layout.fronts.tree → t.tree ≢ layout.verdicts.tree → t.tree ≢ layout.versions.tree → t.tree ≢ layout.recordings.tree → new t.tree ≡ old t.tree
+
+-- what holds of the tables of a sender's line
+pub record EachOf (P : Table → Type 0) : Type 0 where
+  pub transmissions : P layout.transmissions
+  pub fronts : P layout.fronts
+  pub verdicts : P layout.verdicts
+  pub versions : P layout.versions
+  pub recordings : P layout.recordings
+
+pub each_of : (P : Table → Type 0) → AllByRecursion P all_tables → EachOf P
+unfolding all_tables written_out
+each_of P all = record {
+  transmissions = all.1.0;
+  fronts = all.1.1.1.1.1.1.0;
+  verdicts = all.1.1.1.1.1.1.1.0;
+  versions = all.1.1.1.1.1.1.1.1.0;
+  recordings = all.1.1.1.1.1.1.1.1.1.0;
+}
+
+pub both_of : (P Q R : Table → Type 0) (ts : List Table) → ((t : Table) → P t → Q t → R t) → AllByRecursion P ts → AllByRecursion Q ts → AllByRecursion R ts
+both_of P Q R [] f p q = tt
+both_of P Q R (t ∷ ts) f p q = (f t p.0 q.0, both_of P Q R ts f p.1 q.1)
+
+pub permuted_to : (xs : List Row) (ys zs : List Row) → zs ≡ ys → IsPermutation xs ys → IsPermutation xs zs
+permuted_to xs ys zs e p = subst (IsPermutation xs) (sym e) p
+
+pub permuted_from : (more : List Row) (xs ys zs : List Row) → ys ≡ xs → IsPermutation (more ++ ys) zs → IsPermutation (more ++ xs) zs
+permuted_from more xs ys zs e p = subst (λ (l : List Row). IsPermutation (more ++ l) zs) e p
+
+-- versions that were added, and then recordings
+pub tells_works : (told named : List Row) (old mid new : Database) → Adds layout.versions told old mid → Adds layout.recordings named mid new → AddsTold [] told named old.trees new.trees
+unfolding all_tables written_out
+tells_works told named old mid new first second =
+    let early = each_of (KeptBut layout.versions old.trees mid.trees) first.others in
+    let later = each_of (KeptBut layout.recordings mid.trees new.trees) second.others in
+    record {
+      verdicts = same_permutation (sym (rows_kept layout.verdicts old.trees new.trees (later.verdicts (λ e. omega (arith, e)) ∙ early.verdicts (λ e. omega (arith, e)))));
+      versions = permuted_to (told ++ rows_in layout.versions old.trees) _ _ (rows_kept layout.versions mid.trees new.trees (later.versions (λ e. omega (arith, e)))) first.rows;
+      recordings = permuted_from named _ _ _ (rows_kept layout.recordings old.trees mid.trees (early.recordings (λ e. omega (arith, e)))) second.rows;
+      others = both_of (KeptBut layout.versions old.trees mid.trees) (KeptBut layout.recordings mid.trees new.trees) (KeptOfTold old.trees new.trees) all_tables (λ t p q x y z. q z ∙ p y) first.others second.others;
+    }
+
+-- verdicts that were added, and then those
+pub tells_all : (judged told named : List Row) (old mid new : Database) → Adds layout.verdicts judged old mid → AddsTold [] told named mid.trees new.trees → AddsTold judged told named old.trees new.trees
+unfolding all_tables written_out
+tells_all judged told named old mid new first second =
+    let early = each_of (KeptBut layout.verdicts old.trees mid.trees) first.others in
+    record {
+      verdicts = IsPermutation-trans (judged ++ rows_in layout.verdicts old.trees) (rows_in layout.verdicts mid.trees) (rows_in layout.verdicts new.trees) first.rows second.verdicts;
+      versions = permuted_from told _ _ _ (rows_kept layout.versions old.trees mid.trees (early.versions (λ e. omega (arith, e)))) second.versions;
+      recordings = permuted_from named _ _ _ (rows_kept layout.recordings old.trees mid.trees (early.recordings (λ e. omega (arith, e)))) second.recordings;
+      others = both_of (KeptBut layout.verdicts old.trees mid.trees) (KeptOfTold mid.trees new.trees) (KeptOfTold old.trees new.trees) all_tables (λ t p q x y z. q x y z ∙ p x) first.others second.others;
+    }
+
+-- a transmission and a front, and then those
+pub runs_by : (row front : Row) (judged told named : List Row) (old mid new : Trees) → Waits row front old mid → AddsTold judged told named mid new → Runs row front judged told named old new
+unfolding all_tables written_out
+runs_by row front judged told named old mid new first second =
+    let early = each_of (KeptOfLine old mid) first.others in
+    let later = each_of (KeptOfTold mid new) second.others in
+    let same_fronts = later.fronts (λ e. omega (arith, e)) (λ e. omega (arith, e)) (λ e. omega (arith, e)) in
+    record {
+      rows = permuted_to ((row ∷ []) ++ rows_in layout.transmissions old) _ _ (rows_kept layout.transmissions mid new (later.transmissions (λ e. omega (arith, e)) (λ e. omega (arith, e)) (λ e. omega (arith, e)))) first.rows;
+      put = λ h. permuted_to (put_over front (rows_in layout.fronts old)) _ _ (rows_kept layout.fronts mid new same_fronts) (first.put h);
+      numbered = λ h. subst (AllByRecursion (λ r. is_int (rowid r) ≡ true)) (sym same_fronts) (first.numbered h);
+      verdicts = permuted_from judged _ _ _ (rows_kept layout.verdicts old mid (early.verdicts (λ e. omega (arith, e)) (λ e. omega (arith, e)))) second.verdicts;
+      versions = permuted_from told _ _ _ (rows_kept layout.versions old mid (early.versions (λ e. omega (arith, e)) (λ e. omega (arith, e)))) second.versions;
+      recordings = permuted_from named _ _ _ (rows_kept layout.recordings old mid (early.recordings (λ e. omega (arith, e)) (λ e. omega (arith, e)))) second.recordings;
+      others = both_of (KeptOfLine old mid) (KeptOfTold mid new) (KeptOfRun old new) all_tables (λ t p q a b x y z. q x y z ∙ p a b) first.others second.others;
+    }

@@ -1,0 +1,14 @@
+-- What the rows show that answer a question.
+pub mod AskLemmas
+pub mod QuestionLemmas
+pub mod FrontRows
+pub mod AccountTexts
+pub mod AccountRows
+pub mod PaidRows
+pub mod VerdictRows
+pub mod AckRows
+pub mod WorkRows
+pub mod HeldRows
+pub mod CreditParts
+pub mod CreditRows
+pub mod OrderRows

@@ -1,0 +1,3 @@
+-- Statements of one transaction, together.
+pub mod StepLemmas
+pub mod AloneLemmas

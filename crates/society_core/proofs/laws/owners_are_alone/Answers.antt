@@ -1,0 +1,5 @@
+use Rattle.society_core.proofs.OwnerLemmas.{owns_alone}
+use Rattle.society_core.proofs.laws.owners_are_alone.Goals as goal
+
+pub returns : goal.returns
+returns c = owns_alone

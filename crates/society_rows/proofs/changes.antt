@@ -1,0 +1,13 @@
+-- What statements that write do, for every table.
+pub mod Adds
+pub mod Casts
+pub mod Columns
+pub mod Effects
+pub mod Inserts
+pub mod ListWrites
+pub mod Parts
+pub mod Puts
+pub mod References
+pub mod Rowids
+pub mod UpsertParts
+pub mod Upserts

@@ -1,0 +1,7 @@
+-- The texts that make the tables, and what they define.
+pub mod Booleans
+pub mod Called
+pub mod Creates
+pub mod NewBooks
+pub mod OneChecks
+pub mod Texts

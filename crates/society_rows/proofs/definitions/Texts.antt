@@ -1,0 +1,74 @@
+-- What the texts of the layout define.
+use Rattle.std.proofs.Common.{◌≡◌, ℕ, List, [], ◌∷◌, take, refl}
+use Rattle.std.specs.List.{fold}
+use Rattle.sqlite_schema.specs.declared.schema.Table.{Table}
+use Rattle.sqlite_schema.specs.declared.schema.Schema.{Schema}
+use Rattle.sqlite_catalog.specs.Change.{created}
+use Rattle.sqlite_tied.specs.Compute.{everything}
+use Rattle.sqlite.specs.Listing.{understood}
+use Rattle.society_rows.specs.Layout.{written_out, layout, all_tables, no_schema, office, transmissions, returns, pools, pool_cuts, pool_returns, fronts, verdicts, versions, recordings, credits_table, balances}
+use Rattle.society_rows.specs.Texts.{all_texts, office_text, transmissions_text, returns_text, pools_text, pool_cuts_text, pool_returns_text, fronts_text, verdicts_text, versions_text, recordings_text, credits_text, balances_text}
+use Rattle.society_rows.proofs.definitions.Creates.{IsDefinition}
+
+pub layout_is : layout.tables ≡ all_tables
+unfolding written_out
+layout_is = refl
+
+office_is : IsDefinition (fold created no_schema (take 0 all_tables)) office_text office
+unfolding understood everything written_out
+office_is = record { command = refl; whole = refl; plain = (refl, refl); single = (refl, refl); defines = refl; uncounted = refl }
+
+transmissions_is : IsDefinition (fold created no_schema (take 1 all_tables)) transmissions_text transmissions
+unfolding understood everything written_out
+transmissions_is = record { command = refl; whole = refl; plain = (refl, refl); single = (refl, refl); defines = refl; uncounted = refl }
+
+returns_is : IsDefinition (fold created no_schema (take 2 all_tables)) returns_text returns
+unfolding understood everything written_out
+returns_is = record { command = refl; whole = refl; plain = (refl, refl); single = (refl, refl); defines = refl; uncounted = refl }
+
+pools_is : IsDefinition (fold created no_schema (take 3 all_tables)) pools_text pools
+unfolding understood everything written_out
+pools_is = record { command = refl; whole = refl; plain = (refl, refl); single = (refl, refl); defines = refl; uncounted = refl }
+
+pool_cuts_is : IsDefinition (fold created no_schema (take 4 all_tables)) pool_cuts_text pool_cuts
+unfolding understood everything written_out
+pool_cuts_is = record { command = refl; whole = refl; plain = (refl, refl); single = (refl, refl); defines = refl; uncounted = refl }
+
+pool_returns_is : IsDefinition (fold created no_schema (take 5 all_tables)) pool_returns_text pool_returns
+unfolding understood everything written_out
+pool_returns_is = record { command = refl; whole = refl; plain = (refl, refl); single = (refl, refl); defines = refl; uncounted = refl }
+
+fronts_is : IsDefinition (fold created no_schema (take 6 all_tables)) fronts_text fronts
+unfolding understood everything written_out
+fronts_is = record { command = refl; whole = refl; plain = (refl, refl); single = (refl, refl); defines = refl; uncounted = refl }
+
+verdicts_is : IsDefinition (fold created no_schema (take 7 all_tables)) verdicts_text verdicts
+unfolding understood everything written_out
+verdicts_is = record { command = refl; whole = refl; plain = (refl, refl); single = (refl, refl); defines = refl; uncounted = refl }
+
+versions_is : IsDefinition (fold created no_schema (take 8 all_tables)) versions_text versions
+unfolding understood everything written_out
+versions_is = record { command = refl; whole = refl; plain = (refl, refl); single = (refl, refl); defines = refl; uncounted = refl }
+
+recordings_is : IsDefinition (fold created no_schema (take 9 all_tables)) recordings_text recordings
+unfolding understood everything written_out
+recordings_is = record { command = refl; whole = refl; plain = (refl, refl); single = (refl, refl); defines = refl; uncounted = refl }
+
+credits_is : IsDefinition (fold created no_schema (take 10 all_tables)) credits_text credits_table
+unfolding understood everything written_out
+credits_is = record { command = refl; whole = refl; plain = (refl, refl); single = (refl, refl); defines = refl; uncounted = refl }
+
+balances_is : IsDefinition (fold created no_schema (take 11 all_tables)) balances_text balances
+unfolding understood everything written_out
+balances_is = record { command = refl; whole = refl; plain = (refl, refl); single = (refl, refl); defines = refl; uncounted = refl }
+
+-- each text makes its table under the schema of those before it
+abbrev pub AreDefinitions : Schema → List (List ℕ) → List Table → Type 0
+AreDefinitions before [] [] = Unit {0}
+AreDefinitions before [] (table ∷ tables) = ⊥
+AreDefinitions before (text ∷ texts) [] = ⊥
+AreDefinitions before (text ∷ texts) (table ∷ tables) = IsDefinition before text table × AreDefinitions (created before table) texts tables
+
+pub all_are : AreDefinitions no_schema all_texts all_tables
+unfolding all_tables
+all_are = (office_is, (transmissions_is, (returns_is, (pools_is, (pool_cuts_is, (pool_returns_is, (fronts_is, (verdicts_is, (versions_is, (recordings_is, (credits_is, (balances_is, tt))))))))))))

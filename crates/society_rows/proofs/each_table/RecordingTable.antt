@@ -1,0 +1,88 @@
+-- The statements over the table of recordings of versions.
+use Rattle.std.proofs.Common.{◌≡◌, ℕ, ℤ, true, List, [], ◌∷◌, codes, Ok, refl, ◌++◌}
+use Rattle.sqlite_value.specs.declared.value.Value.TheVariants.{Null, Int, Text}
+use Rattle.sqlite_value.specs.declared.keys.Collation.TheVariants.{Binary}
+use Rattle.sqlite_value.specs.declared.keys.Key.{Key}
+use Rattle.sqlite_value.specs.Keys.{ascending}
+use Rattle.sqlite_value.specs.Order.{Row}
+use Rattle.sqlite_sql.specs.Term.{Term, lit, col}
+use Rattle.sqlite_schema.specs.declared.command.Command.TheVariants.{Insert}
+use Rattle.sqlite_schema.specs.declared.command.Source.TheVariants.{Values}
+use Rattle.sqlite_tied.specs.Compute.{everything}
+use Rattle.sqlite.specs.Listing.{understood}
+use Rattle.sqlite.specs.State.{State, ExecutesInside, Shown}
+use Rattle.sqlite.proofs.Callers.{IsPlain, command_of}
+use Rattle.society_rows.specs.Layout.{written_out, layout, recordings}
+use Rattle.society_rows.specs.Reads.{Lists}
+use Rattle.society_rows.specs.Rows.{recording_values}
+use Rattle.society_rows.specs.declared.recordings.RecordingRow.{RecordingRow}
+use Rattle.society_rows.specs.Stored.{HasLayout, Adds}
+use Rattle.society_rows.proofs.readings.Answers.{picked}
+use Rattle.society_rows.proofs.changes.Casts.{cast_null, cast_int}
+use Rattle.society_rows.proofs.errors.Failures.{IsSingle}
+use Rattle.society_rows.proofs.changes.Inserts.{IsSettled, Stores, inserts}
+use Rattle.society_rows.proofs.readings.Queries.{IsQuery, IsListing, lists_by}
+
+pub settled : IsSettled recordings 9
+unfolding understood everything written_out
+settled = record { listed = refl; uncounted = refl; unstamped = refl }
+
+abbrev terms : List Term
+terms = lit Null ∷ col 0 0 ∷ col 0 1 ∷ col 0 2 ∷ col 0 3 ∷ []
+
+abbrev pub insert_text : List ℕ
+insert_text = codes "INSERT INTO recordings (sender, work, revision, isrc) VALUES (?1, ?2, ?3, ?4)"
+
+pub insert_is : (command_of (understood layout insert_text) ≡ Insert 9 (Values terms 5)) × IsPlain (understood layout insert_text) × IsSingle insert_text 4 (understood layout insert_text)
+unfolding understood everything written_out
+insert_is = (refl, (refl, refl), (refl, refl))
+
+abbrev row_of : List ℕ → List ℕ → ℤ → List ℕ → Row
+row_of sender work revision isrc = Text sender ∷ Text work ∷ Int revision ∷ Text isrc ∷ []
+
+stores : (sender : List ℕ) (work : List ℕ) (revision : ℤ) (isrc : List ℕ) → Stores recordings (Null ∷ Text sender ∷ Text work ∷ Int revision ∷ Text isrc ∷ []) (row_of sender work revision isrc)
+unfolding written_out
+stores sender work revision isrc rows = rw (cast_null, cast_int revision)
+
+pub adds_row : (sender : List ℕ) (work : List ℕ) (revision : ℤ) (isrc : List ℕ) (old new : State) (count : ℕ) → HasLayout old.now → ExecutesInside 0 insert_text (row_of sender work revision isrc) old new (Ok count) → Adds recordings (row_of sender work revision isrc ∷ []) old.now new.now
+adds_row sender work revision isrc old new count has h =
+    inserts recordings 9 settled old new insert_text (row_of sender work revision isrc) terms 5 ((Null ∷ Text sender ∷ Text work ∷ Int revision ∷ Text isrc ∷ []) ∷ []) (row_of sender work revision isrc ∷ []) (Ok count) insert_is.0 insert_is.1 refl (stores sender work revision isrc, tt) has h
+
+abbrev pair_terms : List Term
+pair_terms = lit Null ∷ col 0 0 ∷ col 0 1 ∷ col 0 2 ∷ col 0 3 ∷ lit Null ∷ col 0 4 ∷ col 0 5 ∷ col 0 6 ∷ col 0 7 ∷ []
+
+abbrev pub pair_text : List ℕ
+pair_text = codes "INSERT INTO recordings (sender, work, revision, isrc) VALUES (?1, ?2, ?3, ?4), (?5, ?6, ?7, ?8)"
+
+pub pair_is : (command_of (understood layout pair_text) ≡ Insert 9 (Values pair_terms 5)) × IsPlain (understood layout pair_text) × IsSingle pair_text 8 (understood layout pair_text)
+unfolding understood everything written_out
+pair_is = (refl, (refl, refl), (refl, refl))
+
+pub adds_pair : (r s : RecordingRow) (old new : State) (count : ℕ) → HasLayout old.now → ExecutesInside 0 pair_text (recording_values r ++ recording_values s) old new (Ok count) → Adds recordings (recording_values r ∷ recording_values s ∷ []) old.now new.now
+adds_pair r s old new count has h =
+    inserts recordings 9 settled old new pair_text (recording_values r ++ recording_values s) pair_terms 5 ((Null ∷ recording_values r) ∷ (Null ∷ recording_values s) ∷ []) (recording_values r ∷ recording_values s ∷ []) (Ok count) pair_is.0 pair_is.1 refl
+    (stores r.sender.now r.work.now r.revision r.isrc.now, (stores s.sender.now s.work.now s.revision s.isrc.now, tt)) has h
+
+abbrev project : List Term
+project = col 1 1 ∷ col 1 2 ∷ col 1 3 ∷ col 1 4 ∷ []
+
+abbrev order : List (Term × Key)
+order = (col 1 1, ascending Binary) ∷ (col 1 2, ascending Binary) ∷ (col 1 3, ascending Binary) ∷ (col 1 4, ascending Binary) ∷ []
+
+abbrev shown_names : List (List ℕ)
+shown_names = codes "sender" ∷ codes "work" ∷ codes "revision" ∷ codes "isrc" ∷ []
+
+abbrev pub all_recordings_text : List ℕ
+all_recordings_text = codes "SELECT sender, work, revision, isrc FROM recordings ORDER BY sender, work, revision, isrc"
+
+pub all_recordings_is : IsQuery all_recordings_text 0 (picked 16 ([]) project order) shown_names
+unfolding understood everything written_out
+all_recordings_is = record { command = refl; plain = (refl, refl); unlisted = refl; single = (refl, refl) }
+
+all_recordings_listing : IsListing recordings ([]) project order ([]) (λ _. true) 4
+unfolding written_out
+all_recordings_listing = record { shows = λ r. refl; tests = λ r. refl; orders = λ a b. refl }
+
+pub all_recordings_lists : (old new : State) (rows : List Row) → HasLayout old.now → Shown all_recordings_text ([]) old new rows → Lists recordings (λ _. true) 4 old.now.trees rows
+unfolding written_out
+all_recordings_lists = lists_by recordings all_recordings_text ([]) project order shown_names all_recordings_is ([]) (λ _. true) 4 all_recordings_listing

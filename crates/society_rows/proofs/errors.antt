@@ -1,0 +1,5 @@
+-- What a call tells of an error.
+pub mod Failures
+pub mod Refusals
+pub mod Told
+pub mod ToldTables

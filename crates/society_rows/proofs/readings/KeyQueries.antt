@@ -1,0 +1,71 @@
+-- Queries that show the keys of rows alone.
+use Rattle.std.proofs.Common.{◌≡◌, ℕ, ℤ, Bool, List, [], ◌∷◌, take, codes, refl}
+use Rattle.sqlite_value.specs.declared.value.Value.TheVariants.{Int, Text}
+use Rattle.sqlite_value.specs.declared.keys.Collation.TheVariants.{Binary}
+use Rattle.sqlite_value.specs.declared.keys.Key.{Key}
+use Rattle.sqlite_value.specs.Keys.{ascending, rising}
+use Rattle.sqlite_value.specs.Order.{Row}
+use Rattle.sqlite_sql.specs.declared.ops.BinaryOp.TheVariants.{Compare}
+use Rattle.sqlite_sql.specs.declared.ops.CompareOp.TheVariants.{Eq, Gt}
+use Rattle.sqlite_sql.specs.Program.{overlay}
+use Rattle.sqlite_sql.specs.Term.{Term, Env, eval_all, col, op2}
+use Rattle.sqlite_schema.specs.declared.schema.Table.{Table}
+use Rattle.sqlite_tied.specs.Compute.{everything}
+use Rattle.sqlite.specs.Listing.{understood}
+use Rattle.sqlite.specs.State.{State, Shown}
+use Rattle.society_rows.specs.Layout.{written_out, transmissions, returns}
+use Rattle.society_rows.specs.Reads.{ListsKeys, has_key, is_above}
+use Rattle.society_rows.specs.Stored.{HasLayout}
+use Rattle.society_rows.proofs.readings.Answers.{picked}
+use Rattle.society_rows.proofs.readings.CutRows.{whole_answer}
+use Rattle.society_rows.proofs.readings.Queries.{IsQuery, IsListing, answer_of, listed}
+use Rattle.society_rows.proofs.each_table.ReturnTable.{return_at_listing}
+use Rattle.society_rows.proofs.each_table.TransmissionTable.{transmissions_above_listing}
+
+-- what is shown of a row's columns is its first ones
+keys_by : (table : Table) (text : List ℕ) {count : ℕ} (filters project cut : List Term) (order : List (Term × Key)) (names : List (List ℕ)) → IsQuery text count (picked table.tree filters cut order) names
+    → (params : Row) (passes : Row → Bool) (width : ℕ) → IsListing table filters project order params passes width → ((env : Env) → eval_all cut env ≡ take width (eval_all project env))
+    → (old new : State) (rows : List Row) → HasLayout old.now → Shown text params old new rows → ListsKeys table passes width old.now.trees rows
+keys_by table text filters project cut order names is params passes width listing cuts old new rows has h =
+    let answer = whole_answer table.tree filters project cut order width cuts (overlay old.now.trees []) params rows (answer_of text (picked table.tree filters cut order) names is params old new rows has h) in
+    let found = listed table filters project order params passes (rising width []) listing old.now.trees answer.0 answer.1 in
+    record { whole = answer.0; listed = record { rows = found.0; sorted = found.1 }; cut = answer.2 }
+
+abbrev project : List Term
+project = col 1 1 ∷ col 1 2 ∷ col 1 3 ∷ []
+
+abbrev cut : List Term
+cut = col 1 1 ∷ col 1 2 ∷ []
+
+abbrev order : List (Term × Key)
+order = (col 1 1, ascending Binary) ∷ (col 1 2, ascending Binary) ∷ []
+
+abbrev above : List Term
+above = op2 (Compare Eq Binary) (col 1 1) (col 0 0) ∷ op2 (Compare Gt Binary) (col 1 2) (col 0 1) ∷ []
+
+abbrev same_key : List Term
+same_key = op2 (Compare Eq Binary) (col 1 1) (col 0 0) ∷ op2 (Compare Eq Binary) (col 1 2) (col 0 1) ∷ []
+
+abbrev pub numbers_above_text : List ℕ
+numbers_above_text = codes "SELECT sender, number FROM transmissions WHERE sender = ?1 AND number > ?2 ORDER BY sender, number"
+
+pub numbers_above_is : IsQuery numbers_above_text 2 (picked 1 above cut order) (codes "sender" ∷ codes "number" ∷ [])
+unfolding understood everything written_out
+numbers_above_is = record { command = refl; plain = (refl, refl); unlisted = refl; single = (refl, refl) }
+
+pub numbers_above_lists : (sender : List ℕ) (number : ℤ) (old new : State) (rows : List Row) → HasLayout old.now → Shown numbers_above_text (Text sender ∷ Int number ∷ []) old new rows → ListsKeys transmissions (is_above (Text sender) (Int number)) 2 old.now.trees rows
+unfolding written_out
+numbers_above_lists sender number =
+    keys_by transmissions numbers_above_text above project cut order (codes "sender" ∷ codes "number" ∷ []) numbers_above_is (Text sender ∷ Int number ∷ []) (is_above (Text sender) (Int number)) 2 (transmissions_above_listing sender number) (λ env. refl)
+
+abbrev pub return_known_text : List ℕ
+return_known_text = codes "SELECT reporter, number FROM returns WHERE reporter = ?1 AND number = ?2 ORDER BY reporter, number"
+
+pub return_known_is : IsQuery return_known_text 2 (picked 3 same_key cut order) (codes "reporter" ∷ codes "number" ∷ [])
+unfolding understood everything written_out
+return_known_is = record { command = refl; plain = (refl, refl); unlisted = refl; single = (refl, refl) }
+
+pub return_known_lists : (reporter : List ℕ) (number : ℤ) (old new : State) (rows : List Row) → HasLayout old.now → Shown return_known_text (Text reporter ∷ Int number ∷ []) old new rows → ListsKeys returns (has_key (Text reporter ∷ Int number ∷ [])) 2 old.now.trees rows
+unfolding written_out
+return_known_lists reporter number =
+    keys_by returns return_known_text same_key project cut order (codes "reporter" ∷ codes "number" ∷ []) return_known_is (Text reporter ∷ Int number ∷ []) (has_key (Text reporter ∷ Int number ∷ [])) 2 (return_at_listing reporter number) (λ env. refl)

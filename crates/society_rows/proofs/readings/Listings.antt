@@ -1,0 +1,120 @@
+-- The query that shows all rows of a table, for each table.
+use Rattle.std.proofs.Common.{List, [], ◌++◌, Vec, Result, true, refl}
+use Rattle.std.specs.declared.alloc.Global.{Global}
+use Rattle.sqlite_value.specs.Order.{Row}
+use Rattle.sqlite_tied.specs.Compute.{everything}
+use Rattle.sqlite.specs.Listing.{understood}
+use Rattle.sqlite.specs.State.{State, HasCleanDisk, IsUnchanged, Shown, Begins}
+use Rattle.sqlite.proofs.Callers.{IsPlain}
+use Rattle.society_rows.specs.declared.fault.RowFault.{RowFault}
+use Rattle.society_rows.specs.declared.tables.TableName.{TableName}
+use Rattle.society_rows.specs.declared.tables.TableName.TheVariants as name
+use Rattle.society_rows.specs.Effects.{ErrsByMedium, OnlyFails}
+use Rattle.society_rows.specs.Folds.{IsAsked}
+use Rattle.society_rows.specs.Layout.{layout, written_out}
+use Rattle.society_rows.specs.Reads.{Lists, Selected}
+use Rattle.society_rows.specs.Stored.{HasLayout}
+use Rattle.society_rows.specs.TableNames.{table_called, listing_width, listing_text}
+use Rattle.society_rows.proofs.readings.RowFolds.{query_asked, whole_listed}
+use Rattle.society_rows.proofs.errors.Told.{query_reads, query_tells}
+use Rattle.society_rows.proofs.each_table.OfficeTable.{all_offices_is, all_offices_lists}
+use Rattle.society_rows.proofs.each_table.TransmissionTable.{all_transmissions_is, all_transmissions_lists}
+use Rattle.society_rows.proofs.each_table.ReturnTable.{all_returns_is, all_returns_lists}
+use Rattle.society_rows.proofs.each_table.PoolTable.{all_pools_is, all_pools_lists}
+use Rattle.society_rows.proofs.each_table.PoolCutTable.{all_pool_cuts_is, all_pool_cuts_lists}
+use Rattle.society_rows.proofs.each_table.PoolReturnTable.{all_pool_returns_is, all_pool_returns_lists}
+use Rattle.society_rows.proofs.each_table.FrontTable.{all_fronts_is, all_fronts_lists}
+use Rattle.society_rows.proofs.each_table.VerdictTable.{all_verdicts_is, all_verdicts_lists}
+use Rattle.society_rows.proofs.each_table.VersionTable.{all_versions_is, all_versions_lists}
+use Rattle.society_rows.proofs.each_table.RecordingTable.{all_recordings_is, all_recordings_lists}
+use Rattle.society_rows.proofs.each_table.CreditTable.{all_credits_is, all_credits_lists}
+use Rattle.society_rows.proofs.each_table.BalanceTable.{all_balances_is, all_balances_lists}
+
+pub is_plain : (table : TableName) → IsPlain (understood layout (listing_text table))
+is_plain name.Office = all_offices_is.plain
+is_plain name.Transmissions = all_transmissions_is.plain
+is_plain name.Returns = all_returns_is.plain
+is_plain name.Pools = all_pools_is.plain
+is_plain name.PoolCuts = all_pool_cuts_is.plain
+is_plain name.PoolReturns = all_pool_returns_is.plain
+is_plain name.Fronts = all_fronts_is.plain
+is_plain name.Verdicts = all_verdicts_is.plain
+is_plain name.Versions = all_versions_is.plain
+is_plain name.Recordings = all_recordings_is.plain
+is_plain name.Credits = all_credits_is.plain
+is_plain name.Balances = all_balances_is.plain
+
+pub lists_called : (table : TableName) (old new : State) (rows : List Row) → HasLayout old.now → Shown (listing_text table) [] old new rows → Lists (table_called table) (λ _. true) (listing_width table) old.now.trees rows
+lists_called name.Office = all_offices_lists
+lists_called name.Transmissions = all_transmissions_lists
+lists_called name.Returns = all_returns_lists
+lists_called name.Pools = all_pools_lists
+lists_called name.PoolCuts = all_pool_cuts_lists
+lists_called name.PoolReturns = all_pool_returns_lists
+lists_called name.Fronts = all_fronts_lists
+lists_called name.Verdicts = all_verdicts_lists
+lists_called name.Versions = all_versions_lists
+lists_called name.Recordings = all_recordings_lists
+lists_called name.Credits = all_credits_lists
+lists_called name.Balances = all_balances_lists
+
+pub is_asked : (table : TableName) → IsAsked (listing_text table) 0 (understood layout (listing_text table))
+is_asked name.Office = query_asked _ all_offices_is
+is_asked name.Transmissions = query_asked _ all_transmissions_is
+is_asked name.Returns = query_asked _ all_returns_is
+is_asked name.Pools = query_asked _ all_pools_is
+is_asked name.PoolCuts = query_asked _ all_pool_cuts_is
+is_asked name.PoolReturns = query_asked _ all_pool_returns_is
+is_asked name.Fronts = query_asked _ all_fronts_is
+is_asked name.Verdicts = query_asked _ all_verdicts_is
+is_asked name.Versions = query_asked _ all_versions_is
+is_asked name.Recordings = query_asked _ all_recordings_is
+is_asked name.Credits = query_asked _ all_credits_is
+is_asked name.Balances = query_asked _ all_balances_is
+
+-- what it tells of an error
+pub listing_tells : (table : TableName) (old new : State) (result : Result (Vec Row Global) RowFault) → (HasCleanDisk new → Selected (listing_text table) [] old new result) → OnlyFails old new result
+listing_tells name.Office = query_tells all_offices_is [] refl
+listing_tells name.Transmissions = query_tells all_transmissions_is [] refl
+listing_tells name.Returns = query_tells all_returns_is [] refl
+listing_tells name.Pools = query_tells all_pools_is [] refl
+listing_tells name.PoolCuts = query_tells all_pool_cuts_is [] refl
+listing_tells name.PoolReturns = query_tells all_pool_returns_is [] refl
+listing_tells name.Fronts = query_tells all_fronts_is [] refl
+listing_tells name.Verdicts = query_tells all_verdicts_is [] refl
+listing_tells name.Versions = query_tells all_versions_is [] refl
+listing_tells name.Recordings = query_tells all_recordings_is [] refl
+listing_tells name.Credits = query_tells all_credits_is [] refl
+listing_tells name.Balances = query_tells all_balances_is [] refl
+
+-- it errs by want of memory, or where it may fail
+pub listing_reads : (table : TableName) (old new : State) (result : Result (Vec Row Global) RowFault) → (HasCleanDisk new → Selected (listing_text table) [] old new result) → ErrsByMedium old new result
+unfolding understood everything written_out
+listing_reads name.Office = query_reads all_offices_is refl
+listing_reads name.Transmissions = query_reads all_transmissions_is refl
+listing_reads name.Returns = query_reads all_returns_is refl
+listing_reads name.Pools = query_reads all_pools_is refl
+listing_reads name.PoolCuts = query_reads all_pool_cuts_is refl
+listing_reads name.PoolReturns = query_reads all_pool_returns_is refl
+listing_reads name.Fronts = query_reads all_fronts_is refl
+listing_reads name.Verdicts = query_reads all_verdicts_is refl
+listing_reads name.Versions = query_reads all_versions_is refl
+listing_reads name.Recordings = query_reads all_recordings_is refl
+listing_reads name.Credits = query_reads all_credits_is refl
+listing_reads name.Balances = query_reads all_balances_is refl
+
+-- what such a query shows first is the first of the table's rows
+pub first_called : (table : TableName) (old new : State) (rows : List Row) → HasLayout old.now → Begins (listing_text table) [] old rows × IsUnchanged old new
+    → (after : List Row) × Lists (table_called table) (λ _. true) (listing_width table) old.now.trees (rows ++ after)
+first_called name.Office old new = whole_listed _ _ _ all_offices_is [] old new (Lists (table_called name.Office) (λ _. true) (listing_width name.Office)) (all_offices_lists old new)
+first_called name.Transmissions old new = whole_listed _ _ _ all_transmissions_is [] old new (Lists (table_called name.Transmissions) (λ _. true) (listing_width name.Transmissions)) (all_transmissions_lists old new)
+first_called name.Returns old new = whole_listed _ _ _ all_returns_is [] old new (Lists (table_called name.Returns) (λ _. true) (listing_width name.Returns)) (all_returns_lists old new)
+first_called name.Pools old new = whole_listed _ _ _ all_pools_is [] old new (Lists (table_called name.Pools) (λ _. true) (listing_width name.Pools)) (all_pools_lists old new)
+first_called name.PoolCuts old new = whole_listed _ _ _ all_pool_cuts_is [] old new (Lists (table_called name.PoolCuts) (λ _. true) (listing_width name.PoolCuts)) (all_pool_cuts_lists old new)
+first_called name.PoolReturns old new = whole_listed _ _ _ all_pool_returns_is [] old new (Lists (table_called name.PoolReturns) (λ _. true) (listing_width name.PoolReturns)) (all_pool_returns_lists old new)
+first_called name.Fronts old new = whole_listed _ _ _ all_fronts_is [] old new (Lists (table_called name.Fronts) (λ _. true) (listing_width name.Fronts)) (all_fronts_lists old new)
+first_called name.Verdicts old new = whole_listed _ _ _ all_verdicts_is [] old new (Lists (table_called name.Verdicts) (λ _. true) (listing_width name.Verdicts)) (all_verdicts_lists old new)
+first_called name.Versions old new = whole_listed _ _ _ all_versions_is [] old new (Lists (table_called name.Versions) (λ _. true) (listing_width name.Versions)) (all_versions_lists old new)
+first_called name.Recordings old new = whole_listed _ _ _ all_recordings_is [] old new (Lists (table_called name.Recordings) (λ _. true) (listing_width name.Recordings)) (all_recordings_lists old new)
+first_called name.Credits old new = whole_listed _ _ _ all_credits_is [] old new (Lists (table_called name.Credits) (λ _. true) (listing_width name.Credits)) (all_credits_lists old new)
+first_called name.Balances old new = whole_listed _ _ _ all_balances_is [] old new (Lists (table_called name.Balances) (λ _. true) (listing_width name.Balances)) (all_balances_lists old new)

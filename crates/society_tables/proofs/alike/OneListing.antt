@@ -1,0 +1,210 @@
+-- Tables that hold one book are listed alike.
+use Rattle.std.proofs.Common.{◌≡◌, ◌∙◌, ◌==◌, ◌+◌, ℕ, pos, Bool, true, false, cond, List, [], ◌∷◌, Option, Some, None, is_some, filter, length, refl, sym, ap, subst, arith, bytes_eq, IsPermutation}
+use Rattle.std.specs.List.{AllByRecursion, enumerate_from, range_with_len}
+use Rattle.std.proofs.lemmas.Bool.Decides.{nat_tests}
+use Rattle.std.proofs.lemmas.List.Sorted.{IsPermutation-trans}
+use Rattle.std.proofs.lemmas.Slice.Eq.{bytes_eq-Decides}
+use Rattle.cwr_files.specs.declared.transmission.Transaction.{Transaction}
+use Rattle.pool_split.specs.declared.claim.Credit.{Credit}
+use Rattle.share_rules.specs.declared.office.Office.{Office}
+use Rattle.sqlite_keyed.proofs.ListLemmas.{IsPermutation-filter, all-append, all-flat_map, all-map, all_of}
+use Rattle.sqlite_schema.specs.declared.schema.Table.{Table}
+use Rattle.sqlite_sql.proofs.QueryLemmas.{key_cmp_total}
+use Rattle.sqlite_sql.specs.Query.{key_cmp}
+use Rattle.sqlite_trees.specs.Tree.{Trees}
+use Rattle.sqlite_value.specs.Keys.{rising}
+use Rattle.sqlite_value.specs.Order.{Row}
+use Rattle.sqlite_value.specs.declared.value.Value.TheVariants.{Int, Text}
+use Rattle.society_core.specs.Book.{Book, body_at, front, order_at, return_at}
+use Rattle.society_core.specs.Keys.{ascending, bytes_cmp}
+use Rattle.society_core.specs.Orders.{Order}
+use Rattle.society_core.specs.Pools.{credits_of}
+use Rattle.society_core.specs.declared.return_key.ReturnKey.{ReturnKey}
+use Rattle.society_core.specs.declared.transmission_key.TransmissionKey.{TransmissionKey}
+use Rattle.society_rows.specs.Layout as layout
+use Rattle.society_rows.specs.Reads.{Lists}
+use Rattle.society_rows.specs.Stored.{rows_in}
+use Rattle.society_rows.specs.TableNames.{listing_width, table_called}
+use Rattle.society_rows.specs.declared.tables.TableName.{TableName}
+use Rattle.society_rows.specs.declared.tables.TableName.TheVariants as name
+use Rattle.society_book.specs.BookRows.{cut_row, cut_rows, is_of_pool, is_return_row, is_transmission_row, paid_row, paid_rows, pool_row, pool_rows, return_key_of, return_row, return_rows, row_of_some, rows_of_order, transmission_key_of, transmission_row, transmission_rows}
+use Rattle.society_book.specs.Columns.{HasRows, whole_number_at, text_at}
+use Rattle.society_book.specs.DerivedRows.{Telling, balance_rows, balance_rows_by, credit_row, credit_rows, credit_rows_by, credits_to, front_rows, has_sent, is_named, tells_recordings, tells_verdict, tells_version, told_by, told_from, told_to_front, work_text, works_to}
+use Rattle.society_book.specs.Kept.{HoldsBook, office_row}
+use Rattle.society_book.proofs.rows_alike.BookLemmas.{IsRefilled, refilled}
+use Rattle.society_book.proofs.rows_alike.KeyRows.{both_same}
+use Rattle.society_book.proofs.rows_alike.RowLemmas.{all_rows, one_else}
+use Rattle.society_tables.proofs.alike.RowTies.{IsTold, Kind, Number, Words, one_row}
+use Rattle.society_tables.proofs.alike.SameTables.{all_pass}
+use Rattle.society_tables.proofs.alike.SortedOnce.{as_many, sorted_once}
+use Rattle.works_core.specs.declared.verdict.Verdict.{Verdict}
+use Rattle.works_core.specs.declared.verdict.Verdict.TheVariants.{Accepted, Rejected}
+use Rattle.works_core.specs.Recordings.{isrcs_of}
+
+-- what a table lists, in any order
+all_listed : (table : Table) (width : ℕ) (db : Trees) (xs : List Row) → Lists table (λ _. true) width db xs → IsPermutation (rows_in table db) xs
+all_listed table width db xs lists = subst (λ rows. IsPermutation rows xs) (all_pass (rows_in table db)) lists.rows
+
+module _ {K : Type 0} (is_of : K → Row → Bool) (key_of : Row → K) (own : (r : Row) → is_of (key_of r) r ≡ true) (expected : K → List Row) (kinds : List Kind) (found : Row → List Row) (told : (q : K) → AllByRecursion (IsTold kinds found) (expected q)) where
+  listed_has : (table : Table) (db : Trees) (xs : List Row) → HasRows is_of expected (rows_in table db) → Lists table (λ _. true) (length kinds) db xs → HasRows is_of expected xs
+  listed_has table db xs has lists q =
+      IsPermutation-trans (expected q) (filter (is_of q) (rows_in table db)) (filter (is_of q) xs) (has q) (IsPermutation-filter (is_of q) (rows_in table db) xs (all_listed table (length kinds) db xs lists))
+
+  -- tables with the same rows of each key are listed alike, where the columns that list a row tell which it is
+  listed_once : (table : Table) (one two : Trees) (xs ys : List Row) → HasRows is_of expected (rows_in table one) → HasRows is_of expected (rows_in table two) → Lists table (λ _. true) (length kinds) one xs → Lists table (λ _. true) (length kinds) two ys → xs ≡ ys
+  listed_once table one two xs ys has also lists others =
+      let cmp = key_cmp 0 (rising (length kinds) []) in
+      let total = key_cmp_total (rising (length kinds) []) 0 in
+      let first = listed_has table one xs has lists in
+      let second = listed_has table two ys also others in
+      let xs_told = all_rows is_of key_of own (IsTold kinds found) expected xs first told in
+      let ys_told = all_rows is_of key_of own (IsTold kinds found) expected ys second told in
+      sorted_once cmp total (IsTold kinds found) (one_row kinds found) xs ys xs_told ys_told lists.sorted others.sorted
+      (λ r here. as_many cmp total (IsTold kinds found) (one_row kinds found) (is_of (key_of r)) r here (own r) (expected (key_of r)) xs xs_told (first (key_of r))
+      ∙ sym (as_many cmp total (IsTold kinds found) (one_row kinds found) (is_of (key_of r)) r here (own r) (expected (key_of r)) ys ys_told (second (key_of r))))
+
+-- a row that is listed by all its columns
+abbrev alone : Row → List Row
+alone row = row ∷ []
+
+same_number : (n : ℕ) → (n == n) ≡ true
+same_number n = grind (arith, nat_tests)
+
+same_name : (name : List ℕ) → bytes_eq name name ≡ true
+same_name name = (bytes_eq-Decides name name).1 refl
+
+abbrev key_kinds : List Kind
+key_kinds = Words ∷ Number ∷ []
+
+module _ (b : Book) where
+  abbrev sent : Row → List Row
+  sent row = transmission_rows b (transmission_key_of row)
+
+  sent_told : (q : TransmissionKey) (x : Option (List ℕ)) → body_at b q.sender q.number ≡ x → AllByRecursion (IsTold key_kinds sent) (row_of_some (transmission_row q) x)
+  sent_told q None is = tt
+  sent_told q (Some body) is = (((refl, (refl, tt)), ap (row_of_some (transmission_row q)) is), tt)
+
+  abbrev returned : Row → List Row
+  returned row = return_rows b (return_key_of row)
+
+  returned_told : (q : ReturnKey) (x : Option (List ℕ)) → return_at b q ≡ x → (is_some x ≡ true → IsRefilled q) → AllByRecursion (IsTold key_kinds returned) (row_of_some (return_row q) x)
+  returned_told q None is whole = tt
+  returned_told q (Some body) is whole =
+      let back : return_key_of (return_row q body) ≡ q = λ i. record { reporter = whole refl i; number = q.number } in
+      (((refl, (refl, tt)), ap (return_rows b) back ∙ ap (row_of_some (return_row q)) is), tt)
+
+  abbrev closed : Row → List Row
+  closed row = pool_rows b (whole_number_at 0 row)
+
+  closed_told : (q : ℕ) (x : Option Order) → order_at b q ≡ x → AllByRecursion (IsTold (Number ∷ []) closed) (row_of_some (pool_row q) x)
+  closed_told q None is = tt
+  closed_told q (Some order) is = (((refl, tt), ap (row_of_some (pool_row q)) is), tt)
+
+  cuts_told : (q : ℕ) (x : Option Order) → AllByRecursion (IsTold (Number ∷ Words ∷ Number ∷ []) alone) (rows_of_order (cut_row q) (λ order. order.cut) x)
+  cuts_told q None = tt
+  cuts_told q (Some order) = all-map (IsTold (Number ∷ Words ∷ Number ∷ []) alone) (cut_row q) (λ key. ((refl, (refl, (refl, tt))), refl)) order.cut
+
+  paid_told : (q : ℕ) (x : Option Order) → AllByRecursion (IsTold (Words ∷ Number ∷ Number ∷ []) alone) (rows_of_order (paid_row q) (λ order. order.returns) x)
+  paid_told q None = tt
+  paid_told q (Some order) = all-map (IsTold (Words ∷ Number ∷ Number ∷ []) alone) (paid_row q) (λ key. ((refl, (refl, (refl, tt))), refl)) order.returns
+
+module _ (kinds : List Kind) (tells : Telling) (each : (sender : List ℕ) (number place : ℕ) (transaction : Transaction) (verdict : Verdict) → AllByRecursion (IsTold kinds alone) (tells sender number place transaction verdict)) where
+  from_place : (sender : List ℕ) (number place : ℕ) (transactions : List Transaction) (verdicts : List Verdict) → AllByRecursion (IsTold kinds alone) (told_from tells sender number place transactions verdicts)
+  from_place sender number place [] verdicts = tt
+  from_place sender number place (transaction ∷ transactions) [] = tt
+  from_place sender number place (transaction ∷ transactions) (verdict ∷ verdicts) =
+      all-append (IsTold kinds alone) (tells sender number place transaction verdict) (told_from tells sender number (place + 1) transactions verdicts)
+      (each sender number place transaction verdict) (from_place sender number (place + 1) transactions verdicts)
+
+  line_told : (o : Office) (b : Book) (sender : List ℕ) → AllByRecursion (IsTold kinds alone) (told_to_front tells o b sender)
+  line_told o b sender =
+      all-flat_map (IsTold kinds alone) (told_by tells o b sender) (range_with_len 1 (front b sender))
+      (all_of (λ number. AllByRecursion (IsTold kinds alone) (told_by tells o b sender number)) (λ number. from_place sender number 0 _ _) (range_with_len 1 (front b sender)))
+
+abbrev verdict_kinds : List Kind
+verdict_kinds = Words ∷ Number ∷ Number ∷ Number ∷ Number ∷ Number ∷ []
+
+verdict_told : (sender : List ℕ) (number place : ℕ) (transaction : Transaction) (verdict : Verdict) → AllByRecursion (IsTold verdict_kinds alone) (tells_verdict sender number place transaction verdict)
+verdict_told sender number place transaction (Rejected fault) = (((refl, (refl, (refl, (refl, (refl, (refl, tt)))))), refl), tt)
+verdict_told sender number place transaction (Accepted ordinal revision) = (((refl, (refl, (refl, (refl, (refl, (refl, tt)))))), refl), tt)
+
+abbrev version_kinds : List Kind
+version_kinds = Words ∷ Words ∷ Number ∷ Number ∷ Number ∷ Number ∷ []
+
+version_told : (sender : List ℕ) (number place : ℕ) (transaction : Transaction) (verdict : Verdict) → AllByRecursion (IsTold version_kinds alone) (tells_version sender number place transaction verdict)
+version_told sender number place transaction (Rejected fault) = tt
+version_told sender number place transaction (Accepted ordinal revision) = (((refl, (refl, (refl, (refl, (refl, (refl, tt)))))), refl), tt)
+
+abbrev recording_kinds : List Kind
+recording_kinds = Words ∷ Words ∷ Number ∷ Words ∷ []
+
+recording_told : (sender : List ℕ) (number place : ℕ) (transaction : Transaction) (verdict : Verdict) → AllByRecursion (IsTold recording_kinds alone) (tells_recordings sender number place transaction verdict)
+recording_told sender number place transaction (Rejected fault) = tt
+recording_told sender number place transaction (Accepted ordinal revision) =
+    all-map (IsTold recording_kinds alone) (λ isrc. Text sender ∷ Text (work_text transaction) ∷ Int (pos revision) ∷ Text isrc ∷ []) (λ isrc. ((refl, (refl, (refl, (refl, tt)))), refl)) (ascending bytes_cmp (isrcs_of transaction))
+
+abbrev credit_kinds : List Kind
+credit_kinds = Number ∷ Number ∷ Words ∷ Words ∷ Number ∷ []
+
+module _ (o : Office) (b : Book) where
+  credits_told : (q : ℕ) (x : Option Order) → AllByRecursion (IsTold credit_kinds alone) (credit_rows_by o b q x)
+  credits_told q None = tt
+  credits_told q (Some order) = all-map (IsTold credit_kinds alone) (λ (line : ℕ × Credit). credit_row q line.0 line.1) (λ line. ((refl, (refl, (refl, (refl, (refl, tt))))), refl)) (enumerate_from 0 (credits_of o b order))
+
+  abbrev reached : Row → List Row
+  reached row = front_rows o b (text_at 0 row)
+
+  reached_told : (q : List ℕ) → AllByRecursion (IsTold (Words ∷ []) reached) (front_rows o b q)
+  reached_told q = by_case (has_sent b q) refl
+    where
+      by_case : (x : Bool) → has_sent b q ≡ x → AllByRecursion (IsTold (Words ∷ []) reached) (cond x ((Text q ∷ Int (pos (front b q)) ∷ Int (pos (works_to o b q)) ∷ []) ∷ []) [])
+      by_case true is = (((refl, tt), ap (λ x. cond x ((Text q ∷ Int (pos (front b q)) ∷ Int (pos (works_to o b q)) ∷ []) ∷ []) []) is), tt)
+      by_case false is = tt
+
+  abbrev owed : Row → List Row
+  owed row = balance_rows o b (text_at 0 row)
+
+  owed_told : (q : List ℕ) (cs : List Credit) → credits_to o b q ≡ cs → AllByRecursion (IsTold (Words ∷ []) owed) (balance_rows_by q cs)
+  owed_told q [] is = tt
+  owed_told q (c ∷ cs) is = (((refl, tt), ap (balance_rows_by q) is), tt)
+
+  office_alone : (db : Trees) (xs : List Row) → HoldsBook o b db → Lists layout.office (λ _. true) 1 db xs → xs ≡ office_row o ∷ []
+  office_alone db xs holds lists = one_else (office_row o) xs (subst (λ rows. IsPermutation rows xs) holds.registered (all_listed layout.office 1 db xs lists))
+
+-- tables that hold one book are listed alike
+pub listed_alike : (o : Office) (b : Book) (one two : Trees) → HoldsBook o b one → HoldsBook o b two → (t : TableName) (xs ys : List Row)
+    → Lists (table_called t) (λ _. true) (listing_width t) one xs → Lists (table_called t) (λ _. true) (listing_width t) two ys → xs ≡ ys
+listed_alike o b one two holds also name.Office xs ys lists others = office_alone o b one xs holds lists ∙ sym (office_alone o b two ys also others)
+listed_alike o b one two holds also name.Transmissions xs ys lists others =
+    listed_once is_transmission_row transmission_key_of (λ r. both_same (text_at 0 r) (whole_number_at 1 r)) (transmission_rows b) key_kinds (sent b) (λ q. sent_told b q (body_at b q.sender q.number) refl)
+    layout.transmissions one two xs ys holds.kept.transmissions also.kept.transmissions lists others
+listed_alike o b one two holds also name.Returns xs ys lists others =
+    listed_once is_return_row return_key_of (λ r. both_same (return_key_of r).reporter (whole_number_at 1 r)) (return_rows b) key_kinds (returned b) (λ q. returned_told b q (return_at b q) refl (refilled b (rows_in layout.returns one) holds.kept.returns q))
+    layout.returns one two xs ys holds.kept.returns also.kept.returns lists others
+listed_alike o b one two holds also name.Pools xs ys lists others =
+    listed_once (is_of_pool 0) (whole_number_at 0) (λ r. same_number (whole_number_at 0 r)) (pool_rows b) (Number ∷ []) (closed b) (λ q. closed_told b q (order_at b q) refl)
+    layout.pools one two xs ys holds.kept.pools also.kept.pools lists others
+listed_alike o b one two holds also name.PoolCuts xs ys lists others =
+    listed_once (is_of_pool 0) (whole_number_at 0) (λ r. same_number (whole_number_at 0 r)) (cut_rows b) (Number ∷ Words ∷ Number ∷ []) alone (λ q. cuts_told b q (order_at b q))
+    layout.pool_cuts one two xs ys holds.kept.cuts also.kept.cuts lists others
+listed_alike o b one two holds also name.PoolReturns xs ys lists others =
+    listed_once (is_of_pool 2) (whole_number_at 2) (λ r. same_number (whole_number_at 2 r)) (paid_rows b) (Words ∷ Number ∷ Number ∷ []) alone (λ q. paid_told b q (order_at b q))
+    layout.pool_returns one two xs ys holds.kept.paid also.kept.paid lists others
+listed_alike o b one two holds also name.Fronts xs ys lists others =
+    listed_once is_named (text_at 0) (λ r. same_name (text_at 0 r)) (front_rows o b) (Words ∷ []) (reached o b) (reached_told o b)
+    layout.fronts one two xs ys holds.derived.fronts also.derived.fronts lists others
+listed_alike o b one two holds also name.Verdicts xs ys lists others =
+    listed_once is_named (text_at 0) (λ r. same_name (text_at 0 r)) (told_to_front tells_verdict o b) verdict_kinds alone (line_told verdict_kinds tells_verdict verdict_told o b)
+    layout.verdicts one two xs ys holds.derived.verdicts also.derived.verdicts lists others
+listed_alike o b one two holds also name.Versions xs ys lists others =
+    listed_once is_named (text_at 0) (λ r. same_name (text_at 0 r)) (told_to_front tells_version o b) version_kinds alone (line_told version_kinds tells_version version_told o b)
+    layout.versions one two xs ys holds.derived.versions also.derived.versions lists others
+listed_alike o b one two holds also name.Recordings xs ys lists others =
+    listed_once is_named (text_at 0) (λ r. same_name (text_at 0 r)) (told_to_front tells_recordings o b) recording_kinds alone (line_told recording_kinds tells_recordings recording_told o b)
+    layout.recordings one two xs ys holds.derived.recordings also.derived.recordings lists others
+listed_alike o b one two holds also name.Credits xs ys lists others =
+    listed_once (λ pool row. pool == whole_number_at 0 row) (whole_number_at 0) (λ r. same_number (whole_number_at 0 r)) (credit_rows o b) credit_kinds alone (λ q. credits_told o b q (order_at b q))
+    layout.credits_table one two xs ys holds.derived.credits also.derived.credits lists others
+listed_alike o b one two holds also name.Balances xs ys lists others =
+    listed_once is_named (text_at 0) (λ r. same_name (text_at 0 r)) (balance_rows o b) (Words ∷ []) (owed o b) (λ q. owed_told o b q (credits_to o b q) refl)
+    layout.balances one two xs ys holds.derived.balances also.derived.balances lists others

@@ -1,0 +1,45 @@
+-- What the steps of an opening find, and which rows pass them (representation).
+use Rattle.std.specs.Prelude.{IfErr, IsTrue, Result, ⊤}
+use Rattle.share_rules.specs.declared.office.Office.{Office}
+use Rattle.sqlite.specs.State.{HasCleanDisk, State}
+use Rattle.sqlite_schema.specs.declared.schema.Table.{Table}
+use Rattle.society_core.specs.Book.{Book, IsSound}
+use Rattle.society_rows.specs.Layout as layout
+use Rattle.society_rows.specs.Stored.{AreNumbered, HasLayout, rows_in}
+use Rattle.society_tables.specs.Opening.{HoldsOne, IsOpenable, ShowsAs, TellsDatabase, TellsOffice}
+use Rattle.society_tables.specs.Rebuilding.{Passes, ShowsBook}
+use Rattle.society_tables.specs.declared.audit_fault.AuditFault.{AuditFault}
+use Rattle.society_tables.specs.declared.open_fault.OpenFault.{OpenFault}
+
+-- over layout 2 a fault says this of the rows of the office
+abbrev pub TellsOfOffice : {X : Type 0} → Office → Result X OpenFault → State → State → Type 0
+TellsOfOffice office result old new = HasCleanDisk new → HasLayout old.now → IfErr result (TellsOffice office (rows_in layout.office old.now.trees))
+
+-- a table passes whose rowids are whole numbers
+abbrev pub PassesNumbered : {X : Type 0} → Table → Result X AuditFault → State → State → Type 0
+PassesNumbered table result old new =
+    HasCleanDisk new → (IsTrue old.is_open → HasLayout old.now × AreNumbered table old.now.trees) → Passes result (λ _. ⊤)
+
+-- tables that hold this book of this office pass
+abbrev pub PassesBook : {X : Type 0} → Office → Book → Result X AuditFault → State → State → Type 0
+PassesBook office book result old new = HasCleanDisk new → ShowsBook office book old → Passes result (λ _. ⊤)
+
+-- tables that hold a sound book of this office pass
+abbrev pub PassesOffice : {X : Type 0} → Office → Result X AuditFault → State → State → Type 0
+PassesOffice office result old new = (b : Book) → HasCleanDisk new → IsSound b → ShowsBook office b old → Passes result (λ _. ⊤)
+
+-- of layout 2, what was committed holds a sound book of the office, and is shown as it was
+abbrev pub AuditsOffice : Office → State → State → Type 0
+AuditsOffice office old new = HasCleanDisk new → IsTrue old.is_open → HasLayout old.committed → HoldsOne office old.committed.trees × ShowsAs old.committed new
+
+-- what was committed had no table, or those of layout 2
+abbrev pub WasOpenable : State → State → Type 0
+WasOpenable old new = HasCleanDisk new → IsTrue old.is_open → IsOpenable old.committed
+
+-- a fault says this of what was committed
+abbrev pub TellsCommitted : Office → OpenFault → State → State → Type 0
+TellsCommitted office fault old new = HasCleanDisk new → IsTrue old.is_open → TellsDatabase office old.committed fault
+
+-- the connection shows what was committed, if it is open
+abbrev pub ShowsCommitted : State → State → Type 0
+ShowsCommitted old new = HasCleanDisk new → ShowsAs old.committed new

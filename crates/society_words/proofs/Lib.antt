@@ -1,0 +1,4 @@
+pub mod OptionLemmas
+pub mod RefusalLemmas
+pub mod WordLemmas
+pub mod Worked

@@ -1,0 +1,7 @@
+//! What the program's arguments ask for: to replay, to serve a database or to audit one, each at an office, or to tell of the arguments.
+#![tactic(auto)]
+
+mod command_line;
+mod words;
+
+pub use words::{Database, Place, Words, words_in};
