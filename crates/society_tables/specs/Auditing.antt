@@ -133,7 +133,7 @@ works_names = name.Versions ∷ name.Recordings ∷ []
 
 -- every table but those of the office, of transmissions and of returns
 abbrev pub money_names : List TableName
-money_names = name.Pools ∷ name.PoolCuts ∷ name.PoolReturns ∷ name.Fronts ∷ name.Verdicts ∷ name.Versions ∷ name.Recordings ∷ name.Credits ∷ name.Balances ∷ []
+money_names = name.Pools ∷ name.PoolCuts ∷ name.PoolReturns ∷ name.Fronts ∷ name.Verdicts ∷ name.Versions ∷ name.Recordings ∷ name.Credits ∷ name.Balances ∷ name.SegmentEnds ∷ name.MechanicalPools ∷ []
 
 -- what an order names is open: the book has the return, and no pool pays it
 abbrev pub IsOpenReturn : Book → ReturnKey → Type 0

@@ -13,11 +13,11 @@ use Rattle.society_tables.specs.declared.open_fault.OpenFault.{OpenFault}
 abbrev pub WhenOpen : connection.State → connection.State → Type 0 → Type 0
 WhenOpen old new P = connection.HasCleanDisk new → IsTrue old.is_open → P
 
--- the database has layout 2, and holds a sound book of the office with exactly what is derived from it
+-- the database has layout 3, and holds a sound book of the office with exactly what is derived from it
 abbrev pub HoldsOffice : Office → Database → Type 0
 HoldsOffice office db = HasLayout db × HoldsOne office db.trees
 
--- what was committed has layout 2 and holds a sound book of the office, and is shown as it was
+-- what was committed has layout 3 and holds a sound book of the office, and is shown as it was
 abbrev pub FindsOffice : Office → connection.State → connection.State → Type 0
 FindsOffice office old new = WhenOpen old new (HasLayout old.committed × HoldsOne office old.committed.trees × ShowsAs old.committed new)
 
@@ -37,6 +37,6 @@ FindsBook old new = IsTrue new.is_clean → new.book ≡ old.book
 abbrev pub FindsLeft : store.State → store.State → Type 0
 FindsLeft old new = IsTrue new.is_clean → old.left new.book
 
--- said of what any crash leaves of a store over this connection, where that has layout 2
+-- said of what any crash leaves of a store over this connection, where that has layout 3
 abbrev pub AfterAnyCrash : connection.State → connection.State → Type 0 → Type 0
 AfterAnyCrash s found P = IsLeftBy s found → HasLayout found.committed → P

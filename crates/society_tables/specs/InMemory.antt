@@ -28,7 +28,7 @@ memory_book held = book_of (in_memory held).trees
 abbrev pub OfMixed : Database → (Book → Type 0) → Type 0
 OfMixed memory Says = (office : Office) (book : Book) (db : Trees) → HoldsBook office book (mixed db memory.trees) → Says book
 
--- over layout 2 an answer of yes says this of every such book
+-- over layout 3 an answer of yes says this of every such book
 abbrev pub TellsMixed : Database → Result Bool RowFault → (Book → Type 0) → Type 0
 TellsMixed memory result Says = HasLayout memory → IfOk result (λ told. IsTrue told → OfMixed memory Says)
 

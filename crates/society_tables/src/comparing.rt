@@ -17,7 +17,7 @@ use sqlite::{Alter, MemStore, Row};
 use sqlite_value::order::is_same;
 
 /// The tables after the first.
-const OTHER_TABLES: [TableName; 11] = [
+const OTHER_TABLES: [TableName; 13] = [
     TableName::Transmissions,
     TableName::Returns,
     TableName::Pools,
@@ -29,6 +29,8 @@ const OTHER_TABLES: [TableName; 11] = [
     TableName::Recordings,
     TableName::Credits,
     TableName::Balances,
+    TableName::SegmentEnds,
+    TableName::MechanicalPools,
 ];
 
 /// All rows of a table, by its key, read in a transaction that is rolled back.

@@ -211,11 +211,11 @@ fn is_bare<S: Alter>(conn: &Idle<S>) -> bool
 impl<S: Alter> Tables<S> {
     /// The tables of an office in a database, which gets them where it has no table, index or view.
     ///
-    /// Where it has those of layout 2 they are audited: they have to be this office's, and exactly what the requests that
+    /// Where it has those of layout 3 they are audited: they have to be this office's, and exactly what the requests that
     /// they keep make of an empty book. The audit changes no row. `Schema` where there is something else, or no office that can
     /// be read; `OtherOffice` where the tables are another office's; `Damaged` where they are not what they should be; `Memory`
     /// and `Store` where memory or the database failed, so tables that hold a sound book of the office are opened else. Of tables
-    /// of layout 2 `Store` says that the medium failed in this opening, or the connection was shut or has a limit of steps. After a
+    /// of layout 3 `Store` says that the medium failed in this opening, or the connection was shut or has a limit of steps. After a
     /// fault the connection comes back, in no transaction, and the database is as it was committed.
     pub fn open(
         alloc: Global,
