@@ -17,8 +17,8 @@ use Rattle.work_ids.specs.declared.account.Account.{Account}
 use Rattle.works_core.specs.declared.verdict.Verdict.{Verdict}
 
 -- what the book has under a transmission's number, with the sender's front where it is these bytes
-abbrev pub IsKnownAs : State → List ℕ → ℕ → List ℕ → KnownTransmission → Type 0
-IsKnownAs s sender number body known = known ≡ known_with_front (front s.book sender) (known_as s.book sender number body)
+abbrev pub KnowsAs : State → List ℕ → ℕ → List ℕ → KnownTransmission → Type 0
+KnowsAs s sender number body known = known ≡ known_with_front (front s.book sender) (known_as s.book sender number body)
 
 -- the acknowledgement of a sender's transmission, none where its number is not in the line
 abbrev pub IsAckOf : State → List ℕ → ℕ → Option (Vec ℕ Global) → Type 0
@@ -53,7 +53,7 @@ abbrev pub IsBalanceOf : State → Account → ℕ → Type 0
 IsBalanceOf s account units = units ≡ balance s.office s.book account
 
 -- a sender's transmission is added, and the sender's front is told then
-abbrev pub AddsSent : State → State → List ℕ → ℕ → List ℕ → Result ℕ StoreFault → Type 0
-AddsSent old new sender number body result =
+abbrev pub AddsArrival : State → State → List ℕ → ℕ → List ℕ → Result ℕ StoreFault → Type 0
+AddsArrival old new sender number body result =
     let next = with_transmission old.book sender number body in
     Addition old new next result (λ n. n ≡ front next sender)

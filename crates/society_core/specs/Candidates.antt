@@ -76,9 +76,9 @@ is_version_by line cut number place (Err fault) = false
 abbrev pub work_where : Bool → List ℕ → Transaction → List CutWork
 work_where is_version sender transaction = if is_version then cut_work sender transaction ∷ [] else []
 
--- the candidates of a transaction of a sender are added
-abbrev pub AddsTransaction : Kind → Office → Tally → List ℕ → Transaction → List Candidate → List Candidate → Type 0
-AddsTransaction kind office tally sender transaction old new = AddsWorks kind office tally (cut_work sender transaction ∷ []) old new
+-- the candidates of a work of the cut are added: of this transaction of a sender
+abbrev pub AddsWork : Kind → Office → Tally → List ℕ → Transaction → List Candidate → List Candidate → Type 0
+AddsWork kind office tally sender transaction old new = AddsWorks kind office tally (cut_work sender transaction ∷ []) old new
 
 -- the candidates of a transaction are added where it is the version that its work has at a cut of a line
 abbrev pub AddsVersion : Kind → Office → Tally → List JudgedTransmission → TransmissionKey → ℕ → ℕ → Transaction → List Candidate → List Candidate → Type 0
@@ -86,8 +86,8 @@ AddsVersion kind office tally line key number place transaction old new =
     AddsWorks kind office tally (work_where (is_version_by line key.number number place (number_of_work transaction)) key.sender transaction) old new
 
 -- the candidates of those of a transmission's transactions are added that are versions at its sender's cut
-abbrev pub AddsTransmission : Kind → Office → Tally → Book → TransmissionKey → ℕ → List Candidate → List Candidate → Type 0
-AddsTransmission kind office tally book key number old new =
+abbrev pub AddsSent : Kind → Office → Tally → Book → TransmissionKey → ℕ → List Candidate → List Candidate → Type 0
+AddsSent kind office tally book key number old new =
     AddsWorks kind office tally (versions_of_transmission office book key number (transactions_sent book key.sender number)) old new
 
 -- the candidates of a sender's works are added as they are at its cut

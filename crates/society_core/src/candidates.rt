@@ -2,7 +2,7 @@
 ghost use Rattle.std.specs.Prelude.{◌≡◌, ◌&&◌, IfOk, OnOk, not, true};
 ghost use Rattle.std.specs.BTreeSet.{contains};
 ghost use Rattle.society_core.specs.Book.{IsSound, is_applied, is_one_of, is_there, numbers_to, transmissions_to};
-ghost use Rattle.society_core.specs.Candidates.{AddsSender, AddsTransaction, AddsTransmission, AddsVersion, AppendsCandidates, AreFor, ListsOnce, ReachesCut};
+ghost use Rattle.society_core.specs.Candidates.{AddsSender, AddsWork, AddsSent, AddsVersion, AppendsCandidates, AreFor, ListsOnce, ReachesCut};
 ghost use Rattle.society_core.specs.Keys.{bytes_cmp};
 ghost use Rattle.society_core.specs.Owners.{is_at, works_of_cut};
 ghost use Rattle.society_core.specs.Points.{is_tallied};
@@ -87,7 +87,7 @@ pub fn add_candidates(
     transaction: &Transaction<'_>,
     candidates: &mut Vec<Candidate>,
 ) -> Result<(), AllocError>
-    ensures { OnOk result (AddsTransaction kind office.now tally.now sender.now transaction.now candidates.old.items candidates.new.items) }
+    ensures { OnOk result (AddsWork kind office.now tally.now sender.now transaction.now candidates.old.items candidates.new.items) }
 {
     let named = tallied_isrcs(alloc, tally, transaction)?;
     if named.is_empty() {
@@ -163,7 +163,7 @@ fn add_versions(
     requires line { line.now.transmissions ≡ line_of office.now (transmissions_to book.now key.now.sender key.now.number) }
     requires within { is_one_of (numbers_to key.now.number) number ≡ true }
     requires there { is_there book.now key.now.sender number ≡ true }
-    ensures { OnOk result (AddsTransmission kind office.now tally.now book.now key.now number candidates.old.items candidates.new.items) }
+    ensures { OnOk result (AddsSent kind office.now tally.now book.now key.now number candidates.old.items candidates.new.items) }
 {
     let transmission = transmission_of(alloc, book, &key.sender, number)?;
     let Some(verdicts) = line.verdicts(number) else {

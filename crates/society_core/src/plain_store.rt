@@ -1,6 +1,6 @@
 //! A store in memory.
 ghost use Rattle.std.specs.Prelude.{◌≡◌, is_ok, true};
-ghost use Rattle.society_core.specs.Asked.{IsFrontOf, IsKnownAs};
+ghost use Rattle.society_core.specs.Asked.{IsFrontOf, KnowsAs};
 ghost use Rattle.society_core.specs.Book.{IsSound};
 ghost use Rattle.society_core.specs.Plain.{AsksPlain};
 
@@ -58,7 +58,7 @@ impl Store for PlainStore {
         number: TransmissionNumber,
         body: &[u8],
     ) -> Result<KnownTransmission, StoreFault>
-        ensures question { AsksPlain self.old.office self.old.book self.new.office self.new.book result (λ s. IsKnownAs s sender.now number body.now) }
+        ensures question { AsksPlain self.old.office self.old.book self.new.office self.new.book result (λ s. KnowsAs s sender.now number body.now) }
         ensures never { is_ok result ≡ true }
     {
         Ok(known_in(&self.book, sender, number, body))

@@ -3,7 +3,7 @@ ghost use Rattle.std.specs.Prelude.{◌≡◌, IsTrue, None, ⊤};
 ghost use Rattle.cwr_files.specs.FileFault.{file_fault};
 ghost use Rattle.perf_returns.specs.Returns.{return_fault};
 ghost use Rattle.society_core.specs.Answers.{close_refusal, payment_in, pool_known_as};
-ghost use Rattle.society_core.specs.Asked.{AddsSent, AreCreditsOf, AreVerdictsOf, IsAckOf, IsBalanceOf, IsFrontOf, IsKnownAs, IsReturnKnownAs, IsStandingOf, IsWorkOf};
+ghost use Rattle.society_core.specs.Asked.{AddsArrival, AreCreditsOf, AreVerdictsOf, IsAckOf, IsBalanceOf, IsFrontOf, KnowsAs, IsReturnKnownAs, IsStandingOf, IsWorkOf};
 ghost use Rattle.society_core.specs.Book.{body_at, order_at, return_at, with_pool, with_return};
 ghost use Rattle.society_core.specs.State.{Addition, IsState, Question, State};
 
@@ -99,7 +99,7 @@ pub trait Store {
         number: TransmissionNumber,
         body: &[u8],
     ) -> Result<KnownTransmission, StoreFault>
-        ensures question { Question (state self.old) (state self.new) result (IsKnownAs (state self.old) sender.now number body.now) };
+        ensures question { Question (state self.old) (state self.new) result (KnowsAs (state self.old) sender.now number body.now) };
 
     /// The acknowledgement of a sender's transmission, none where its number is not in the line.
     fn ack(
@@ -170,7 +170,7 @@ pub trait Store {
     ) -> Result<u32, StoreFault>
         requires free { IsTrue (state self.old).is_clean → body_at (state self.old).book reader.sender number ≡ None }
         requires right { file_fault reader.sender reader.body ≡ None }
-        ensures { AddsSent (state self.old) (state self.new) reader.sender number reader.body result };
+        ensures { AddsArrival (state self.old) (state self.new) reader.sender number reader.body result };
 
     /// Adds a return under a key that is free. After an error the book is as before.
     fn add_return(&mut self, alloc: Global, key: &ReturnKey, body: &[u8]) -> Result<(), StoreFault>
