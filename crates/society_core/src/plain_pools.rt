@@ -1,5 +1,5 @@
 //! Returns and pools as the book in memory has them: points, claims and credits computed anew.
-ghost use Rattle.std.specs.Prelude.{◌≡◌, ◌≤◌, ◌++◌, IfOk, List, OnOk, is_some, length, map, option_map, sum, true};
+ghost use Rattle.std.specs.Prelude.{◌≡◌, ◌≤◌, IfOk, List, OnOk, is_some, length, map, sum, true};
 ghost use Rattle.perf_returns.specs.declared.performance.Performance.{Performance as Row};
 ghost use Rattle.pool_split.specs.Credits.{units_of};
 ghost use Rattle.society_core.specs.Accounts.{same_account};

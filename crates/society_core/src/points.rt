@@ -1,5 +1,5 @@
 //! The points of the recordings of a pool's performances.
-ghost use Rattle.std.specs.Prelude.{◌≡◌, ◌+◌, ◌<◌, ◌≤◌, ◌++◌, ◌∷◌, [], List, ℕ, IfOk, OnOk, bytes_eq, length};
+ghost use Rattle.std.specs.Prelude.{◌≡◌, ◌+◌, ◌<◌, ◌≤◌, ◌∷◌, [], List, ℕ, IfOk, bytes_eq, length};
 ghost use Rattle.std.specs.List.{list_any};
 ghost use Rattle.perf_returns.specs.declared.performance.Performance.{Performance as Row};
 ghost use Rattle.society_core.specs.Points.{HasPoints, Tallies, TalliesOn, is_tallied, points_by_recording, points_of};
