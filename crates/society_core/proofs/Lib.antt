@@ -8,6 +8,7 @@ pub mod OrderFaults
 pub mod SameOrders
 pub mod Books
 pub mod Closes
+pub mod CleanStores
 pub mod Stores
 pub mod ClaimLemmas
 pub mod Found

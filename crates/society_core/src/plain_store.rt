@@ -1,9 +1,8 @@
 //! A store in memory.
 ghost use Rattle.std.specs.Prelude.{◌≡◌, is_ok, true};
-ghost use Rattle.society_core.specs.Answers.{known_as, known_with_front};
-ghost use Rattle.society_core.specs.Book.{IsSound, front};
-ghost use Rattle.society_core.specs.Plain.{plain_state};
-ghost use Rattle.society_core.specs.State.{Question};
+ghost use Rattle.society_core.specs.Asked.{IsFrontOf, KnowsAs};
+ghost use Rattle.society_core.specs.Book.{IsSound};
+ghost use Rattle.society_core.specs.Plain.{AsksPlain};
 
 use crate::answers::{SenderStatus, Work};
 use crate::order::PoolOrder;
@@ -59,7 +58,7 @@ impl Store for PlainStore {
         number: TransmissionNumber,
         body: &[u8],
     ) -> Result<KnownTransmission, StoreFault>
-        ensures question { Question (plain_state self.old.office self.old.book) (plain_state self.new.office self.new.book) result (λ known. known ≡ known_with_front (front self.old.book sender.now) (known_as self.old.book sender.now number body.now)) }
+        ensures question { AsksPlain self.old.office self.old.book self.new.office self.new.book result (λ s. KnowsAs s sender.now number body.now) }
         ensures never { is_ok result ≡ true }
     {
         Ok(known_in(&self.book, sender, number, body))
@@ -75,7 +74,7 @@ impl Store for PlainStore {
     }
 
     fn front(&mut self, sender: &SenderKey) -> Result<u32, StoreFault>
-        ensures question { Question (plain_state self.old.office self.old.book) (plain_state self.new.office self.new.book) result (λ number. number ≡ front self.old.book sender.now) }
+        ensures question { AsksPlain self.old.office self.old.book self.new.office self.new.book result (λ s. IsFrontOf s sender.now) }
         ensures never { is_ok result ≡ true }
     {
         Ok(self.book.front(sender))
