@@ -8,7 +8,7 @@ use Rattle.society_rows.specs.declared.fault.RowFault.{RowFault}
 use Rattle.society_rows.specs.declared.questions.Question.{Question}
 use Rattle.society_rows.specs.declared.questions.Question.TheVariants as question
 use Rattle.society_rows.specs.Layout.{office, transmissions, returns, pools, pool_cuts, pool_returns, fronts, verdicts, versions, credits_table, balances, segment_ends, mechanical_pools}
-use Rattle.society_rows.specs.Reads.{Lists, ListsKeys, IsFirstOf, has_key, has_at, is_above, is_between}
+use Rattle.society_rows.specs.Reads.{Lists, ListsKeys, IsFirstOf, has_key, has_at, is_above, is_above_and_below}
 use Rattle.society_rows.specs.Stored.{HasLayout}
 
 -- the rows that answer the question
@@ -17,7 +17,7 @@ RowsAnswer question.Office = Lists office (λ _. true) 1
 RowsAnswer (question.Front sender) = Lists fronts (has_key (Text sender.now ∷ [])) 1
 RowsAnswer (question.Transmission sender number) = Lists transmissions (has_key (Text sender.now ∷ Int (pos number) ∷ [])) 2
 RowsAnswer (question.NumbersAbove sender number) = ListsKeys transmissions (is_above (Text sender.now) (Int (pos number))) 2
-RowsAnswer (question.NumbersBetween sender above below) = ListsKeys transmissions (is_between (Text sender.now) (Int (pos above)) (Int (pos below))) 2
+RowsAnswer (question.NumbersBetween sender above below) = ListsKeys transmissions (is_above_and_below (Text sender.now) (Int (pos above)) (Int (pos below))) 2
 RowsAnswer (question.Ends sender) = Lists segment_ends (has_key (Text sender.now ∷ [])) 2
 RowsAnswer (question.Return reporter number) = Lists returns (has_key (Text reporter.now ∷ Int (pos number) ∷ [])) 2
 RowsAnswer (question.HasReturn reporter number) = ListsKeys returns (has_key (Text reporter.now ∷ Int (pos number) ∷ [])) 2

@@ -44,8 +44,8 @@ abbrev pub precedes : Value → Value → Bool
 precedes v w = is_true (binary (Compare Lt Binary) v w)
 
 -- the first column is this value, and the second is above that one and below another
-abbrev pub is_between : Value → Value → Value → Row → Bool
-is_between key least most row = equal Binary (column row 0) key && (exceeds (column row 1) least && precedes (column row 1) most)
+abbrev pub is_above_and_below : Value → Value → Value → Row → Bool
+is_above_and_below key least most row = equal Binary (column row 0) key && (exceeds (column row 1) least && precedes (column row 1) most)
 
 -- the rows of the table that pass, each once, ascending by so many of their first columns
 pub record Lists (table : Table) (passes : Row → Bool) (width : ℕ) (db : Trees) (found : List Row) : Type 0 where

@@ -18,6 +18,7 @@ mod layout;
 mod mechanical_pools;
 mod numbering;
 mod office;
+mod pairing;
 mod pool_cuts;
 mod pool_returns;
 mod pools;

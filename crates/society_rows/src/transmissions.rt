@@ -5,7 +5,7 @@ ghost use Rattle.society_rows.specs.declared.fault.RowFault.TheVariants.{Unread}
 ghost use Rattle.society_rows.specs.Effects.{Writes, IsAllOrNothing, LeavesFirst, OnlyFails, OnlyFailsInside};
 ghost use Rattle.society_rows.specs.Forms.{IsRead, transmission_forms, transmission_key_forms};
 ghost use Rattle.society_rows.specs.Layout.{transmissions};
-ghost use Rattle.society_rows.specs.Reads.{Lists, ListsKeys, Reads, has_key, is_above, is_between};
+ghost use Rattle.society_rows.specs.Reads.{Lists, ListsKeys, Reads, has_key, is_above, is_above_and_below};
 ghost use Rattle.society_rows.specs.Rows.{transmission_values, transmission_key_values};
 ghost use Rattle.society_rows.specs.Stored.{HasLayout, Adds};
 ghost use Rattle.society_rows.specs.Between.{within};
@@ -152,7 +152,7 @@ pub fn numbers_between<S: Alter>(
 ) -> Result<Vec<Row>, RowFault>
     ensures same_reference { tx.new.conn.ghost_name ≡ tx.old.conn.ghost_name }
     ensures read { within S.Store tx.old tx.new Reads result
-        (λ db rows. ListsKeys transmissions (is_between (Text sender.now) (Int (pos above)) (Int (pos below))) 2 db rows.items) }
+        (λ db rows. ListsKeys transmissions (is_above_and_below (Text sender.now) (Int (pos above)) (Int (pos below))) 2 db rows.items) }
     ensures told { within S.Store tx.old tx.new OnlyFails result }
 {
     select(

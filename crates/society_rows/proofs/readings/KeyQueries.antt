@@ -14,7 +14,7 @@ use Rattle.sqlite_tied.specs.Compute.{everything}
 use Rattle.sqlite.specs.Listing.{understood}
 use Rattle.sqlite.specs.State.{State, Shown}
 use Rattle.society_rows.specs.Layout.{written_out, transmissions, returns}
-use Rattle.society_rows.specs.Reads.{ListsKeys, has_key, is_above, is_between}
+use Rattle.society_rows.specs.Reads.{ListsKeys, has_key, is_above, is_above_and_below}
 use Rattle.society_rows.specs.Stored.{HasLayout}
 use Rattle.society_rows.proofs.readings.Answers.{picked}
 use Rattle.society_rows.proofs.readings.CutRows.{whole_answer}
@@ -68,10 +68,10 @@ pub numbers_between_is : IsQuery numbers_between_text 3 (picked 1 between cut or
 unfolding understood everything written_out
 numbers_between_is = record { command = refl; plain = (refl, refl); unlisted = refl; single = (refl, refl) }
 
-pub numbers_between_lists : (sender : List ℕ) (low high : ℤ) (old new : State) (rows : List Row) → HasLayout old.now → Shown numbers_between_text (Text sender ∷ Int low ∷ Int high ∷ []) old new rows → ListsKeys transmissions (is_between (Text sender) (Int low) (Int high)) 2 old.now.trees rows
+pub numbers_between_lists : (sender : List ℕ) (low high : ℤ) (old new : State) (rows : List Row) → HasLayout old.now → Shown numbers_between_text (Text sender ∷ Int low ∷ Int high ∷ []) old new rows → ListsKeys transmissions (is_above_and_below (Text sender) (Int low) (Int high)) 2 old.now.trees rows
 unfolding written_out
 numbers_between_lists sender low high =
-    keys_by transmissions numbers_between_text between project cut order (codes "sender" ∷ codes "number" ∷ []) numbers_between_is (Text sender ∷ Int low ∷ Int high ∷ []) (is_between (Text sender) (Int low) (Int high)) 2 (transmissions_between_listing sender low high) (λ env. refl)
+    keys_by transmissions numbers_between_text between project cut order (codes "sender" ∷ codes "number" ∷ []) numbers_between_is (Text sender ∷ Int low ∷ Int high ∷ []) (is_above_and_below (Text sender) (Int low) (Int high)) 2 (transmissions_between_listing sender low high) (λ env. refl)
 
 abbrev pub return_known_text : List ℕ
 return_known_text = codes "SELECT reporter, number FROM returns WHERE reporter = ?1 AND number = ?2 ORDER BY reporter, number"
