@@ -13,3 +13,6 @@ returns-in-Ok-clause-reads g c =
 pub returns-in-Err-clause-reads : goal.returns-in-Err-clause-reads
 returns-in-Err-clause-reads g c =
     ReadsOn-failed _ _ _ _ _ _ _ _ _ c.make_room.ensures.bytes c.make_room.ensures.turns c.in-Err.ensures.bytes c.in-Err.ensures.uncounted c.args.reader.now.reads_fit
+
+pub returns-in-Err-clause-fault : goal.returns-in-Err-clause-fault
+returns-in-Err-clause-fault g c = search rules
