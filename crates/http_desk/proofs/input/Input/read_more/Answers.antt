@@ -19,3 +19,12 @@ returns-in-Err-clause-fault g c = search rules
 
 pub returns-in-Ok-eq0-clause-reads : goal.returns-in-Ok-eq0-clause-reads
 returns-in-Ok-eq0-clause-reads g c = search rules
+
+pub returns-in-Ok-eq0-clause-end : goal.returns-in-Ok-eq0-clause-end
+returns-in-Ok-eq0-clause-end g c = search rules
+
+pub returns-in-Ok-eq0-clause-met : goal.returns-in-Ok-eq0-clause-met
+returns-in-Ok-eq0-clause-met g c = search rules
+
+pub returns-in-Ok-eq0-clause-kept : goal.returns-in-Ok-eq0-clause-kept
+returns-in-Ok-eq0-clause-kept g c = search rules
