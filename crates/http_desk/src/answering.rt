@@ -1,7 +1,7 @@
 //! The next request of a connection is answered: a transmission's body is fed while it comes, any other is read first.
 ghost use Rattle.std.specs.Prelude.{◌≡◌, ◌+◌, drop, Ok, IfOk, IfErr, OnOk, OnErr};
 ghost use Rattle.society_core.specs.Requests.{reply_of};
-ghost use Rattle.http_desk.specs.Answering.{Comes, ComesNext, IsLeftIn, IsReadyNext, is_end};
+ghost use Rattle.http_desk.specs.Answering.{CameNext, ComesNext, IsLeftIn, IsReadyNext, is_end};
 ghost use Rattle.http_desk.specs.Counted.{ends_of, failures_of, MeetsEnd};
 ghost use Rattle.http_desk.specs.Head.{HasHead};
 ghost use Rattle.http_desk.specs.Input.{unread, FailsBy};
@@ -216,7 +216,7 @@ pub(crate) fn answer_upcoming<S: Store, R: Read, W: Write>(
     room: &mut Room,
 ) -> Result<Next, FaultKind>
     requires ready { IsReady room.old }
-    ensures comes { IfOk result (Comes S.state R.remaining desk.old desk.new reader.old reader.new
+    ensures comes { IfOk result (CameNext S.state R.remaining desk.old desk.new reader.old reader.new
         room.old.input room.new.input) }
     ensures stops { IfErr result (IsLeftIn S.state R.remaining W.contents desk.old desk.new reader.old reader.new
         writer.old writer.new room.old room.new) }
