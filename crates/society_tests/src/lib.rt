@@ -1,8 +1,6 @@
-//! Tests of what the program does: streams of requests, arguments, connections, and a file that is opened again.
+//! Tests of what the program does: ends of streams, arguments, connections, and a file that is opened again.
 #![tactic(auto)]
 
-#[cfg(test)]
-mod ample_tests;
 #[cfg(test)]
 mod checks;
 #[cfg(test)]
@@ -13,13 +11,5 @@ mod database_tests;
 mod day_tests;
 #[cfg(test)]
 mod ending_tests;
-#[cfg(test)]
-mod http_tests;
-#[cfg(test)]
-mod limit_tests;
-#[cfg(test)]
-mod samples;
-#[cfg(test)]
-mod streams;
 #[cfg(test)]
 mod word_tests;
