@@ -155,6 +155,10 @@ pub record HoldsAside (office : Office) (bodies : Trees) (memory : Database) : T
 abbrev pub ClosesAside : Office → Trees → Database → Database → Type 0
 ClosesAside office bodies old new = HoldsAside office bodies old → HoldsAside office bodies new
 
+-- so it is beside the database that an answer was read from
+abbrev pub StaysAside : Office → Database → Database → Trees → Unit {0} → Type 0
+StaysAside office old new db done = ClosesAside office db old new
+
 -- these are the senders of a book's transmissions, each once
 pub record AreSenders (book : Book) (senders : List (List ℕ)) : Type 0 where
   pub each : AllByRecursion (λ sender. has_sent book sender ≡ true) senders
