@@ -3,7 +3,7 @@ use crate::checks::told;
 use std::process::Abort;
 use std::test::Fail;
 use work_ids::{
-    Account, FileNumber, IdFault, IpiName, Isrc, Iswc, PartyNumber, PoolNumber, Reporter,
+    Account, IdFault, IpiName, Isrc, Iswc, PartyNumber, PoolNumber, Reporter,
     ReturnNumber, Segment, SegmentEnd, SegmentFault, SenderKey, SpelledNumber, TransmissionNumber,
     WorkNumber, check_digit, dated_text, read_file_name,
 };
@@ -213,16 +213,16 @@ const RANKS: [(u32, Option<(Segment, u32)>); 8] = [
 
 /// Checks that a number of a segment has this rank, and is the number with it.
 fn check_rank(rt: &impl Abort, segment: Segment, sequence: u32, rank: u32) {
-    let ranked = FileNumber::from_rank(rank);
-    told(rt, "made", FileNumber::new(segment, sequence), ranked);
-    let made = FileNumber::new(segment, sequence).map(|number| number.rank());
+    let ranked = TransmissionNumber::from_u32(rank);
+    told(rt, "made", TransmissionNumber::new(segment, sequence), ranked);
+    let made = TransmissionNumber::new(segment, sequence).map(|number| number.value());
     told(rt, "rank", made, Some(rank));
 }
 
 #[test]
 fn ranks_of_file_numbers(rt: HostRuntime) {
     for (rank, wanted) in RANKS {
-        let parts = FileNumber::from_rank(rank).map(|number| (number.segment(), number.sequence()));
+        let parts = TransmissionNumber::from_u32(rank).map(|number| (number.segment(), number.sequence()));
         told(&rt, "parts", (rank, parts), (rank, wanted));
         if let Some((segment, sequence)) = wanted {
             check_rank(&rt, segment, sequence, rank);
@@ -233,11 +233,11 @@ fn ranks_of_file_numbers(rt: HostRuntime) {
 #[test]
 fn order_of_file_numbers(rt: HostRuntime) {
     let ascending = [
-        FileNumber::new(Segment::Plain, 2),
-        FileNumber::new(Segment::Plain, 999_999),
-        FileNumber::new(Segment::Year(0), 9_999),
-        FileNumber::new(Segment::Year(25), 9_999),
-        FileNumber::new(Segment::Year(26), 1),
+        TransmissionNumber::new(Segment::Plain, 2),
+        TransmissionNumber::new(Segment::Plain, 999_999),
+        TransmissionNumber::new(Segment::Year(0), 9_999),
+        TransmissionNumber::new(Segment::Year(25), 9_999),
+        TransmissionNumber::new(Segment::Year(26), 1),
     ];
     for index in 1..ascending.len() {
         let is_less = ascending[index - 1] < ascending[index];
@@ -297,7 +297,7 @@ fn spelled_numbers(rt: HostRuntime) {
             Some(1_260_001),
         ),
     ] {
-        let rank = spelled.number().map(|number| number.rank());
+        let rank = spelled.number().map(|number| number.value());
         told(&rt, "rank", (spelled, rank), (spelled, wanted));
     }
 }
@@ -330,13 +330,13 @@ const NAMES: [(&str, Option<u32>); 20] = [
 fn file_names(rt: HostRuntime) {
     for (name, wanted) in NAMES {
         let number = read_file_name(name.as_bytes(), 900);
-        told(&rt, name, number.map(|number| number.rank()), wanted);
+        told(&rt, name, number.map(|number| number.value()), wanted);
     }
     let small = read_file_name(b"CW260012EXA_007.V22", 7);
     told(
         &rt,
         "007",
-        small.map(|number| number.rank()),
+        small.map(|number| number.value()),
         Some(1_260_012),
     );
 }

@@ -5,5 +5,7 @@
 #![tactic(auto)]
 
 mod front;
+mod leads;
 
 pub use front::{Numbers, first_rank, front_from, sequence};
+pub use leads::is_up_to;

@@ -23,6 +23,7 @@ pub mod CandidateLemmas
 pub mod CreditLemmas
 pub mod PoolLemmas
 pub mod HeldLemmas
+pub mod NumbersThere
 pub mod SoundRuns
 pub mod LineNumbers
 pub mod Lines

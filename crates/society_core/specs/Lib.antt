@@ -13,6 +13,7 @@ pub mod Requests
 pub mod Answers
 pub mod Runs
 pub mod State
+pub mod Ends
 pub mod Entries
 pub mod Faults
 pub mod Headline

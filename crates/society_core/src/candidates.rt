@@ -13,7 +13,6 @@ ghost use Rattle.works_core.specs.Recordings.{isrcs_of};
 ghost use Rattle.works_core.specs.Versions.{work_at};
 
 use crate::claim_list::Candidate;
-use crate::line::numbers_up_to;
 use crate::order::PoolOrder;
 use crate::plain_book::PlainBook;
 use crate::plain_lines::{line_to, transmission_of};
@@ -162,7 +161,7 @@ fn add_versions(
 ) -> Result<(), AllocError>
     requires sound { IsSound book.now }
     requires line { line.now.transmissions ≡ line_of office.now (transmissions_to book.now key.now.sender key.now.number) }
-    requires within { is_one_of (numbers_to key.now.number) number ≡ true }
+    requires within { is_one_of (numbers_to book.now key.now.sender key.now.number) number ≡ true }
     requires there { is_there book.now key.now.sender number ≡ true }
     ensures { OnOk result (AddsCandidates (holders_of kind office.now) (is_tallied tally.now) (versions_of_transmission office.now book.now key.now number (transactions_sent book.now key.now.sender number)) candidates.old.items candidates.new.items) }
 {
@@ -205,7 +204,7 @@ fn add_sender(
     ensures { OnOk result (AddsCandidates (holders_of kind office.now) (is_tallied tally.now) (versions_at_cut office.now book.now key.now) candidates.old.items candidates.new.items) }
 {
     let line = line_to(alloc, office, book, &key.sender, key.number.value())?;
-    let numbers = numbers_up_to(alloc, key.number.value())?;
+    let numbers = book.numbers_to(alloc, &key.sender, key.number.value())?;
     for number in &numbers {
         add_versions(
             alloc, kind, office, tally, book, key, &line, *number, candidates,

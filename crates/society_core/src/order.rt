@@ -6,7 +6,7 @@ ghost use Rattle.society_core.specs.Keys.{ascending, return_cmp, return_key, tra
 ghost use Rattle.society_core.specs.Orders.{IsOrder, Order, OrdersAs, has_repeat, is_out_of_range, names_return, order_fault, same_numbered, same_order, same_sender};
 ghost use Rattle.society_core.specs.declared.return_key.ReturnKey.{ReturnKey as KeyOfReturn};
 ghost use Rattle.society_core.specs.declared.transmission_key.TransmissionKey.{TransmissionKey as KeyOfTransmission};
-ghost use Rattle.work_ids.specs.Numbers.{is_return_number, is_transmission_number, number_where};
+ghost use Rattle.work_ids.specs.Numbers.{is_plain_number, is_return_number, number_where};
 ghost use Rattle.work_ids.specs.SenderKey.{is_sender_key};
 
 use crate::order_fault::OrderFault;
@@ -76,12 +76,12 @@ impl Model for PoolOrder {
     ghost invariant = { λ o. IsOrder (record { amount = o.amount; cut = o.cut.items; returns = o.returns.items }) };
 }
 
-// The number of a transmission, where it is within its limits.
+// The plain number of a transmission, where it is within its limits.
 fn transmission_number(number: u64) -> Option<TransmissionNumber>
-    ensures { result ≡ number_where is_transmission_number number }
+    ensures { result ≡ number_where is_plain_number number }
 {
     let number = u32::try_from(number).ok()?;
-    TransmissionNumber::from_u32(number)
+    TransmissionNumber::plain(number)
 }
 
 // The number of a return, where it is within its limits.
@@ -138,7 +138,7 @@ fn has_repeated_return(returns: &[(Reporter, u64)]) -> bool
 
 // Whether the numbers of a cut are all within their limits.
 fn are_transmission_numbers(cut: &[(SenderKey, u64)]) -> bool
-    ensures { result ≡ list_all (λ c. is_transmission_number c.1) cut.now }
+    ensures { result ≡ list_all (λ c. is_plain_number c.1) cut.now }
 {
     cut.iter().all(|key| transmission_number(key.1).is_some())
 }
@@ -179,7 +179,7 @@ fn order_fault(
 
 // The key of a sender's transmission.
 fn transmission_key(sender: SenderKey, number: u64) -> TransmissionKey
-    requires { is_transmission_number number ≡ true }
+    requires { is_plain_number number ≡ true }
     ensures key { result ≡ transmission_key sender number }
     ensures sender { is_sender_key sender ≡ true }
 {
@@ -196,7 +196,7 @@ fn transmission_keys(
     alloc: Global,
     cut: &[(SenderKey, u64)],
 ) -> Result<Vec<TransmissionKey>, AllocError>
-    requires { list_all (λ c. is_transmission_number c.1) cut.now ≡ true }
+    requires { list_all (λ c. is_plain_number c.1) cut.now ≡ true }
     ensures keys { IfOk result (λ keys. keys.items ≡ map (λ c. transmission_key c.0 c.1) cut.now) }
     ensures senders { IfOk result (λ _. list_all (λ c. is_sender_key c.0) cut.now ≡ true) }
 {
@@ -222,7 +222,7 @@ fn ascending_cut(
     alloc: Global,
     cut: &[(SenderKey, u64)],
 ) -> Result<Vec<TransmissionKey>, AllocError>
-    requires { list_all (λ c. is_transmission_number c.1) cut.now ≡ true }
+    requires { list_all (λ c. is_plain_number c.1) cut.now ≡ true }
     ensures keys { IfOk result (λ keys. keys.items ≡ ascending transmission_cmp (map (λ c. transmission_key c.0 c.1) cut.now)) }
     ensures senders { IfOk result (λ _. list_all (λ c. is_sender_key c.0) cut.now ≡ true) }
 {
