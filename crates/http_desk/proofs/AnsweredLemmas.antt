@@ -1,5 +1,5 @@
 -- Lemmas on requests that were answered in turn: one after another, what follows for the book, and what no later failure takes away.
-use Rattle.std.proofs.Common.{◌≡◌, ⊎_elim, inl, ℕ, suc, List, [], ◌∷◌, ◌++◌, length, map, refl, sym, ◌∙◌, ap, subst}
+use Rattle.std.proofs.Common.{◌≡◌, ◌≤◌, ⊎_elim, inl, ℕ, suc, List, [], ◌∷◌, ◌++◌, length, map, refl, sym, ◌∙◌, ap, subst, arith}
 use Rattle.std.specs.Prelude.{IsTrue}
 use Rattle.std.proofs.lemmas.List.{length-map, map-append}
 use Rattle.share_rules.specs.declared.office.Office.{Office}
@@ -8,7 +8,8 @@ use Rattle.society_core.specs.Book.{Book}
 use Rattle.society_core.specs.Entries.{Entry, IsIn}
 use Rattle.society_core.specs.Requests.{Query, Reply}
 use Rattle.society_core.specs.Runs.{Proceeds, Run}
-use Rattle.society_core.specs.State.{IsState, State}
+use Rattle.society_core.specs.State.{IsState, State, StaysClean}
+use Rattle.society_core.proofs.CleanStores.{stays_through}
 use Rattle.society_core.proofs.HeadlineLemmas.{holds_what_came, step_keeps}
 use Rattle.http_desk.specs.Part.{Part}
 use Rattle.http_desk.specs.Path.{request_of}
@@ -46,6 +47,32 @@ answered_clean state (q ∷ qs) (r ∷ rs) a b first clean = first.1.proceeds.go
 answered_clean state [] (r ∷ rs) a b first clean = absurd first
 answered_clean state (q ∷ qs) [] a b first clean = absurd first
 
+-- a medium that told the truth told it before
+answered_honest : {S : Type 0} (state : S → State) (qs : List Query) (rs : List Reply) (a b : S) → Answered state qs rs a b
+    → IsTrue (state b).is_honest → IsTrue (state a).is_honest
+answered_honest {S} state [] [] a b same honest = subst (λ (d : S). IsTrue (state d).is_honest) same honest
+answered_honest state (q ∷ qs) (r ∷ rs) a b first honest = first.1.proceeds.goes.honest (answered_honest state qs rs first.0 b first.2 honest)
+answered_honest state [] (r ∷ rs) a b first honest = absurd first
+answered_honest state (q ∷ qs) [] a b first honest = absurd first
+
+-- no fault of it is forgotten
+answered_faults : {S : Type 0} (state : S → State) (qs : List Query) (rs : List Reply) (a b : S) → Answered state qs rs a b
+    → (state a).faults ≤ (state b).faults
+answered_faults {S} state [] [] a b same = let e : (state b).faults ≡ (state a).faults = ap (λ (d : S). (state d).faults) same in omega arith
+answered_faults state (q ∷ qs) (r ∷ rs) a b first =
+    omega (arith, first.1.proceeds.goes.faults, answered_faults state qs rs first.0 b first.2)
+answered_faults state [] (r ∷ rs) a b first = absurd first
+answered_faults state (q ∷ qs) [] a b first = absurd first
+
+-- a store that is clean stays clean, unless its medium fails
+answered_stays : {S : Type 0} (state : S → State) (qs : List Query) (rs : List Reply) (a b : S) → Answered state qs rs a b → StaysClean (state a) (state b)
+answered_stays {S} state [] [] a b same = λ honest clean. inl (subst (λ (d : S). IsTrue (state d).is_clean) (sym same) clean)
+answered_stays state (q ∷ qs) (r ∷ rs) a b first =
+    stays_through (state a) (state first.0) (state b) first.1.proceeds.goes.stays (answered_stays state qs rs first.0 b first.2)
+    (answered_honest state qs rs first.0 b first.2) first.1.proceeds.goes.faults (answered_faults state qs rs first.0 b first.2)
+answered_stays state [] (r ∷ rs) a b first = absurd first
+answered_stays state (q ∷ qs) [] a b first = absurd first
+
 -- a clean store's book is that of a run
 answered_run : {S : Type 0} (state : S → State) (qs : List Query) (rs : List Reply) (a b : S) → Answered state qs rs a b
     → IsTrue (state b).is_clean → Run (state a).office (state a).book qs rs (state b).book
@@ -67,6 +94,7 @@ answered_so state parts replies desk new_desk steps = record {
   each = answered_each state (map request_of parts) replies desk new_desk steps ∙ length-map parts request_of;
   office = answered_office state (map request_of parts) replies desk new_desk steps;
   steps = steps;
+  stays = answered_stays state (map request_of parts) replies desk new_desk steps;
   run = answered_run state (map request_of parts) replies desk new_desk steps;
   came = λ clean. holds_what_came _ _ (map request_of parts) replies _ (answered_run state (map request_of parts) replies desk new_desk steps clean);
 }

@@ -102,6 +102,8 @@ stays store query = record {
   clean = λ is. is;
   honest = λ is. is;
   failures = omega arith;
+  faults = omega arith;
+  stays = λ honest clean. inl clean;
   crash = λ honest book left. inl left;
 }
 

@@ -8,8 +8,10 @@ use Rattle.http_desk.specs.declared.answering.Next.TheVariants.{Request, Ended}
 use Rattle.http_desk.specs.declared.counted.Counted.{Counted}
 use Rattle.http_desk.specs.declared.fault.FaultKind.{FaultKind}
 use Rattle.http_desk.specs.declared.input.Input.{Input}
+use Rattle.http_desk.specs.declared.room.Room.{Room}
 use Rattle.http_desk.specs.declared.told.Told.{Told}
 use Rattle.http_desk.specs.Input.{unread, ReadsBy}
+use Rattle.http_desk.specs.Outbox.{waiting}
 use Rattle.http_desk.specs.Part.{Part, print_part, IsPart}
 use Rattle.http_desk.specs.Reads.{Awaits}
 use Rattle.http_desk.specs.Serves.{Steps}
@@ -53,3 +55,12 @@ pub record IsLeft {S R W : Type 0} (state : S → State) (remaining : Known R) (
   pub same : new_desk ≡ desk
   pub stops : StopsBy kind bytes new_input.turns (failures_between reader new_reader) (failures_between writer new_writer)
       (bytes_known contents writer) (bytes_known contents new_writer) waiting
+
+-- a request or the end came next
+abbrev pub Comes : {S R : Type 0} → (S → State) → Known R → S → S → Counted R → Counted R → Input → Input → Next → Type 0
+Comes state remaining desk new_desk reader new_reader input new_input next = ComesNext state remaining desk new_desk reader new_reader input new_input (Ok next)
+
+-- why no request came, by what is in the room
+abbrev pub IsLeftIn : {S R W : Type 0} → (S → State) → Known R → Known W → S → S → Counted R → Counted R → Counted W → Counted W → Room → Room → FaultKind → Type 0
+IsLeftIn state remaining contents desk new_desk reader new_reader writer new_writer room new_room =
+    IsLeft state remaining contents desk new_desk reader new_reader writer new_writer room.input new_room.input (waiting room.outbox)

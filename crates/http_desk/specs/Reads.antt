@@ -92,3 +92,9 @@ abbrev pub ReadsAsRequests : List ℕ → List Part → End → Type 0
 ReadsAsRequests bytes parts end =
     (front : List Part) × (last : List Part) × (rest : List ℕ)
     × (parts ≡ front ++ last) × Cuts bytes front rest × Ends rest last end
+
+-- two readings of the same bytes as requests are one; a refusal of memory, which bytes do not tell, stays out of it
+abbrev pub IsCutOneWay : Type 0
+IsCutOneWay =
+    (bytes : List ℕ) (parts others : List Part) (end other : End) → ReadsAsRequests bytes parts end → ReadsAsRequests bytes others other
+    → end ≢ Busy → other ≢ Busy → (parts ≡ others) × (end ≡ other)

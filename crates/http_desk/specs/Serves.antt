@@ -7,7 +7,7 @@ use Rattle.society_core.specs.Entries.{Entry, IsIn}
 use Rattle.society_core.specs.Headline.{OneContent, HoldsWhatCame}
 use Rattle.society_core.specs.Requests.{Query, Reply}
 use Rattle.society_core.specs.Runs.{Calls, Run}
-use Rattle.society_core.specs.State.{State, Rises}
+use Rattle.society_core.specs.State.{State, Rises, StaysClean}
 use Rattle.http_desk.specs.declared.connection.Served.{Served}
 use Rattle.http_desk.specs.declared.connection_end.End.{End}
 use Rattle.http_desk.specs.declared.counted.Counted.{Counted}
@@ -39,11 +39,14 @@ Answered {S} state (query ∷ queries) (reply ∷ replies) desk new_desk =
 Answered state [] (reply ∷ replies) desk new_desk = ⊥
 Answered state (query ∷ queries) [] desk new_desk = ⊥
 
--- the requests of a connection were answered in turn; from that follows what is told of the book where the store is clean at the end
+-- The requests of a connection were answered in turn; from that follows what is told of the book where the store is clean at the end.
+-- A store that was clean before the first of them is clean behind the last, and so behind each, as long as its medium told the truth and
+-- the count of its faults did not rise: then all that is promised of a clean store holds of every call.
 pub record AreAnswered {S : Type 0} (state : S → State) (parts : List Part) (replies : List Reply) (desk new_desk : S) : Type 0 where
   pub each : length replies ≡ length parts
   pub office : (state new_desk).office ≡ (state desk).office
   pub steps : Answered state (map request_of parts) replies desk new_desk
+  pub stays : StaysClean (state desk) (state new_desk)
   pub run : IsTrue (state new_desk).is_clean → Run (state desk).office (state desk).book (map request_of parts) replies (state new_desk).book
   pub came : IsTrue (state new_desk).is_clean → OneContent (state desk).book (map request_of parts) replies
       → HoldsWhatCame (state desk).book (map request_of parts) replies (state new_desk).book
@@ -63,6 +66,11 @@ pub record AnsweredThrough {S : Type 0} (state : S → State) (queries more : Li
   pub stays : IsTrue (state middle).is_clean → IsTrue (state new_desk).is_clean → (entry : Entry) → IsIn (state middle).book entry → IsIn (state new_desk).book entry
   pub left : IsTrue (state middle).is_clean → IsTrue (state new_desk).is_honest → (book : Book) → (state new_desk).left book
       → (entry : Entry) → IsIn (state middle).book entry → IsIn book entry
+
+-- what was answered while the store was clean stays, whatever requests come behind it
+abbrev pub AnswersStay : {S : Type 0} → (S → State) → Type 0
+AnswersStay {S} state =
+    (queries more : List Query) (replies : List Reply) (desk new_desk : S) → Answered state (queries ++ more) replies desk new_desk → AnsweredThrough state queries more replies desk new_desk
 
 -- all bytes were read as requests, and what was written is their answers and then the text of the end, and nothing else; where the reader's bytes are known they are those
 pub record Serves {S : Type 0} (state : S → State) (known : Option (List ℕ)) (desk new_desk : S) (holds new_holds : Option (List ℕ)) (requests : ℕ) : Type 0 where

@@ -1,8 +1,8 @@
 -- Representation, not meaning: an answer with the body that was made for it before it is sent.
-use Rattle.std.specs.Prelude.{◌≡◌, ◌⊎◌, ℕ, List, ⊤}
+use Rattle.std.specs.Prelude.{◌≡◌, ◌⊎◌, ℕ, Bool, List, ⊤}
 use Rattle.society_core.specs.Requests.{Reply, Showed, Refused, Showing, Acknowledged, reply_of}
 use Rattle.society_core.specs.declared.refusal.Refusal.TheVariants.{Unavailable}
-use Rattle.http_desk.specs.Text.{showing_text}
+use Rattle.http_desk.specs.Text.{reply_text, showing_text}
 use Rattle.http_desk.specs.declared.told.Told.{Told}
 
 -- memory is asked for the text of what is shown: not for that of an acknowledgement, which was looked up as it is sent
@@ -28,6 +28,10 @@ HasBody other body = ⊤
 -- what is told
 abbrev pub told_reply : Told → Reply
 told_reply told = reply_of told.answer
+
+-- the text of what is told
+abbrev pub told_text : Told → Bool → List ℕ
+told_text told close = reply_text (told_reply told) close
 
 -- the body that the answer asks was made
 abbrev pub IsReadyToSend : Told → Type 0

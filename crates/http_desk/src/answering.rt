@@ -1,11 +1,11 @@
 //! The next request of a connection is answered: a transmission's body is fed while it comes, any other is read first.
 ghost use Rattle.std.specs.Prelude.{◌≡◌, ◌+◌, drop, Ok, IfOk, IfErr, OnOk, OnErr, IsTrue};
 ghost use Rattle.society_core.specs.Requests.{reply_of};
-ghost use Rattle.http_desk.specs.Answering.{ComesNext, IsLeft, IsReadyNext, is_end};
+ghost use Rattle.http_desk.specs.Answering.{Comes, ComesNext, IsLeftIn, IsReadyNext, is_end};
 ghost use Rattle.http_desk.specs.Counted.{ends_of, failures_of, MeetsEnd};
 ghost use Rattle.http_desk.specs.Head.{HasHead};
 ghost use Rattle.http_desk.specs.Input.{unread, FailsBy};
-ghost use Rattle.http_desk.specs.Outbox.{waiting, SendsTo};
+ghost use Rattle.http_desk.specs.Outbox.{SendsTo};
 ghost use Rattle.http_desk.specs.Room.{IsReady};
 ghost use Rattle.http_desk.specs.Serves.{IsAnswered};
 ghost use Rattle.http_desk.specs.Told.{IsReadyToSend, told_reply};
@@ -226,10 +226,10 @@ pub(crate) fn answer_upcoming<S: Store, R: Read, W: Write>(
     room: &mut Room,
 ) -> Result<Next, FaultKind>
     requires ready { IsReady room.old }
-    ensures comes { IfOk result (λ next. ComesNext S.state R.remaining desk.old desk.new reader.old reader.new
-        room.old.input room.new.input (Ok next)) }
-    ensures stops { IfErr result (IsLeft S.state R.remaining W.contents desk.old desk.new reader.old reader.new
-        writer.old writer.new room.old.input room.new.input (waiting room.old.outbox)) }
+    ensures comes { IfOk result (Comes S.state R.remaining desk.old desk.new reader.old reader.new
+        room.old.input room.new.input) }
+    ensures stops { IfErr result (IsLeftIn S.state R.remaining W.contents desk.old desk.new reader.old reader.new
+        writer.old writer.new room.old room.new) }
     ensures sends { OnOk result (SendsTo W.contents writer.old writer.new room.old.outbox room.new.outbox) }
     ensures told { IfOk result IsReadyNext }
     ensures office { (S.state desk.new).office ≡ (S.state desk.old).office }

@@ -6,8 +6,8 @@ ghost use Rattle.http_desk.specs.Input.{unread};
 ghost use Rattle.http_desk.specs.Outbox.{waiting, PutsText};
 ghost use Rattle.http_desk.specs.Room.{IsReady};
 ghost use Rattle.http_desk.specs.Serves.{ClosesBy, FailsToClose, IsServed, IsGivenUp, KeepsTurns, NeitherFails};
-ghost use Rattle.http_desk.specs.Text.{reply_text, ending};
-ghost use Rattle.http_desk.specs.Told.{IsReadyToSend, told_reply};
+ghost use Rattle.http_desk.specs.Text.{ending};
+ghost use Rattle.http_desk.specs.Told.{IsReadyToSend, told_text};
 
 use crate::answering::{Next, answer_upcoming};
 use crate::connection_end::End;
@@ -38,7 +38,7 @@ fn send<W: Write>(
     requires ready { IsReady room.old }
     requires told { IsReadyToSend told.now }
     ensures gathers { PutsText W.contents result writer.old writer.new room.old.outbox room.new.outbox
-        (reply_text (told_reply told.now) close) }
+        (told_text told.now close) }
     ensures kept { OnOk result (failures_of writer.new ≡ failures_of writer.old) }
     ensures failed { OnErr result (Rises (failures_of writer.old) (failures_of writer.new)) }
     ensures input { room.new.input ≡ room.old.input }

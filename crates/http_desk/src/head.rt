@@ -1,9 +1,6 @@
 //! Heads of requests, read by `httparse`.
-ghost use Rattle.std.specs.Prelude.{◌≤◌, length};
-ghost use Rattle.httparse.specs.Grammar.{RequestHead, print_request};
-ghost use Rattle.httparse.specs.Spans.{IsRequestAt, IsRequestWithin};
-ghost use Rattle.http_desk.specs.Head.{Means};
-ghost use Rattle.http_desk.specs.Part.{max_head, max_fields};
+ghost use Rattle.httparse.specs.Spans.{IsRequestWithin};
+ghost use Rattle.http_desk.specs.Head.{Means, WeighsAs};
 
 use crate::body_length::{BodyLength, body_length_by_fields, closes, is_put};
 use httparse::Status;
@@ -72,8 +69,7 @@ pub(crate) fn read_head(bytes: &[u8]) -> Reading
 // What a head within the limits comes to, by its method and fields.
 fn weigh(bytes: &[u8], headers: &[HeaderSpan], spans: &RequestSpans) -> Reading
     requires { IsRequestWithin bytes.now headers.now spans.now }
-    ensures { (head : RequestHead) → IsRequestAt bytes.now headers.now spans.now head
-        → length (print_request head) ≤ max_head → length head.fields ≤ max_fields → Means result bytes.now }
+    ensures { WeighsAs bytes.now headers.now spans.now result }
 {
     let fields = &headers[..spans.headers];
     let method = spans.method.of(bytes);

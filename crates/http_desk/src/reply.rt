@@ -3,9 +3,9 @@ ghost use Rattle.std.specs.Prelude.{◌≡◌, ◌++◌, OnOk, OnErr};
 ghost use Rattle.http_desk.specs.Counted.{failures_of};
 ghost use Rattle.http_desk.specs.Outbox.{waiting, Emits, PutsText};
 ghost use Rattle.society_core.specs.State.{Rises};
-ghost use Rattle.http_desk.specs.Told.{HasText, IsReadyToSend, told_reply};
+ghost use Rattle.http_desk.specs.Told.{HasText, IsReadyToSend, told_text};
 ghost use Rattle.society_core.specs.Requests.{showing_of};
-ghost use Rattle.http_desk.specs.Text.{arrival_status, receipt_status, refusal_status, refused_text, showing_text, showing_type, reply_text, ending};
+ghost use Rattle.http_desk.specs.Text.{arrival_status, receipt_status, refusal_status, refused_text, showing_text, showing_type, ending};
 
 use crate::connection_end::End;
 use crate::counted::{Counted, NotWritten};
@@ -106,7 +106,7 @@ pub(crate) fn put_reply<W: Write>(
 ) -> Result<(), NotWritten>
     requires ready { IsReadyToSend told.now }
     ensures gathers { PutsText W.contents result writer.old writer.new outbox.old outbox.new
-        (reply_text (told_reply told.now) close) }
+        (told_text told.now close) }
     ensures kept { OnOk result (failures_of writer.new ≡ failures_of writer.old) }
     ensures failed { OnErr result (Rises (failures_of writer.old) (failures_of writer.new)) }
 {

@@ -15,11 +15,12 @@ use Rattle.sqlite_trees.specs.Tree.{Trees}
 use Rattle.sqlite_value.specs.Order.{Row}
 use Rattle.society_rows.specs.declared.fault.RowFault.{RowFault}
 use Rattle.society_core.specs.Book.{Book, is_applied, version_in}
-use Rattle.society_core.specs.Candidates.{AddsCandidates, ReachesCut, StandFor, rows_of_return, transactions_sent, work_where}
+pub use Rattle.society_core.specs.Candidates.{AddsWorks, AreFor}
+use Rattle.society_core.specs.Candidates.{ReachesCut, rows_of_return, transactions_sent, work_where}
 use Rattle.society_core.specs.Orders.{Order}
 use Rattle.society_core.specs.Owners.{CutWork, versions_at_cut, versions_of_transmission, works_of_cut}
 use Rattle.society_core.specs.Points.{Tallies, is_tallied, rows_named}
-use Rattle.society_core.specs.Pools.{credits_of, holders_of}
+use Rattle.society_core.specs.Pools.{credits_of}
 use Rattle.society_core.specs.declared.claim_list.Candidate.{Candidate}
 use Rattle.society_core.specs.declared.return_key.ReturnKey.{ReturnKey}
 use Rattle.society_core.specs.declared.points.Tally.{Tally}
@@ -30,14 +31,6 @@ use Rattle.society_book.specs.Sources.{HoldsWorks}
 use Rattle.society_book.specs.declared.chosen.Chosen.{Chosen}
 use Rattle.society_book.specs.declared.named_works.NamedWorks.{NamedWorks}
 use Rattle.works_core.specs.declared.version.WorkVersion.{WorkVersion}
-
--- the candidates have those of these works more, for the recordings that were played, with their holders in this right
-abbrev pub AddsWorks : Kind → Office → Tally → List CutWork → List Candidate → List Candidate → Type 0
-AddsWorks kind office tally works old new = AddsCandidates (holders_of kind office) (is_tallied tally) works old new
-
--- they are the candidates of these works
-abbrev pub AreFor : Kind → Office → Tally → List CutWork → List Candidate → Type 0
-AreFor kind office tally works candidates = StandFor (holders_of kind office) (is_tallied tally) works candidates
 
 -- the candidates of the versions at a sender's cut are added that stand in one transmission
 abbrev pub AddsOfTransmission : Kind → Office → Tally → TransmissionKey → ℕ → Chosen → List Candidate → List Candidate → Trees → Type 0

@@ -54,6 +54,7 @@ tables_state office s failures = record {
   office = office;
   book = book_of s.now.trees;
   failures = failures;
+  faults = s.faults;
   is_clean = s.is_clean && s.is_open;
   is_honest = s.is_clean;
   left = LeftBy office s;

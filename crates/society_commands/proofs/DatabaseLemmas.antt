@@ -4,11 +4,12 @@ use Rattle.std.specs.Prelude.{IfErr, IfOk, IsErrAnd, MatchResult}
 use Rattle.std.proofs.lemmas.Bool.{false≢true}
 use Rattle.share_rules.specs.declared.office.Office.{Office}
 use Rattle.sqlite.specs.State as connection
+use Rattle.sqlite_trees.specs.Tree.{Trees}
 use Rattle.society_core.specs.Book.{empty_book}
 use Rattle.society_rows.specs.Effects.{MayFail}
 use Rattle.society_rows.specs.NewBook.{IsBare}
 use Rattle.society_rows.specs.Stored.{HasLayout}
-use Rattle.society_book.proofs.shown.AskLemmas.{clean_is, first_true, second_true}
+use Rattle.society_book.proofs.shown.AskLemmas.{clean_is, first_true, second_true, still_open}
 use Rattle.society_book.specs.BookRows.{book_of}
 use Rattle.society_book.specs.Kept.{tables_state}
 use Rattle.society_tables.specs.Existing.{WhenOpen}
@@ -18,13 +19,15 @@ use Rattle.society_tables.specs.declared.open_fault.OpenFault.TheVariants.{Empty
 use Rattle.society_commands.specs.Connections.{IsNotOpened, IsOver}
 
 -- tables that were opened are those of the office, over what the connection was found with
-is_over : (office held : Office) (found begun : connection.State) (failures : ℕ) → held ≡ office
+is_over : {Commits : Trees → Type 0} (office held : Office) (found begun : connection.State) (failures : ℕ) → connection.Survives found begun Commits → held ≡ office
     → (connection.HasCleanDisk begun → IsTrue found.is_open → IsOpenable found.committed)
     → (connection.HasCleanDisk begun → IsTrue found.is_open → IsBare found.committed → book_of begun.now.trees ≡ empty_book)
     → (connection.HasCleanDisk begun → IsTrue found.is_open → HasLayout found.committed → HoldsOne office found.committed.trees × ShowsAs found.committed begun)
     → IsOver office false found (tables_state held begun failures)
-is_over office held found begun failures same known bare kept = record {
+is_over office held found begun failures survives same known bare kept = record {
   office_is = same;
+  faults = survives.counts;
+  clean = still_open found begun survives;
   there = λ existing opened clean. absurd (false≢true existing);
   known = λ opened clean. known (clean_is begun.is_clean (first_true begun.is_clean begun.is_open clean)) opened;
   bare = λ opened clean. bare (clean_is begun.is_clean (first_true begun.is_clean begun.is_open clean)) opened;
@@ -34,12 +37,14 @@ is_over office held found begun failures same known bare kept = record {
 }
 
 -- and tables that were there already
-is_over_there : (office held : Office) (found begun : connection.State) (failures : ℕ) → held ≡ office
+is_over_there : {Commits : Trees → Type 0} (office held : Office) (found begun : connection.State) (failures : ℕ) → connection.Survives found begun Commits → held ≡ office
     → (IsTrue found.is_open → IsBare found.committed → ⊥)
     → (connection.HasCleanDisk begun → IsTrue found.is_open → HasLayout found.committed × HoldsOne office found.committed.trees × ShowsAs found.committed begun)
     → IsOver office true found (tables_state held begun failures)
-is_over_there office held found begun failures same empty kept = record {
+is_over_there office held found begun failures survives same empty kept = record {
   office_is = same;
+  faults = survives.counts;
+  clean = still_open found begun survives;
   there = λ existing opened clean. (kept (clean_is begun.is_clean (first_true begun.is_clean begun.is_open clean)) opened).0;
   known = λ opened clean. inr (kept (clean_is begun.is_clean (first_true begun.is_clean begun.is_open clean)) opened).0;
   bare = λ opened clean none. absurd (empty opened none);
@@ -54,17 +59,19 @@ module _ {T C : Type 0} (office : Office) (found : connection.State) (held : T �
       → IfOk r (λ t. connection.HasCleanDisk (shown t) → IsTrue found.is_open → IsOpenable found.committed)
       → IfOk r (λ t. connection.HasCleanDisk (shown t) → IsTrue found.is_open → IsBare found.committed → book_of (shown t).now.trees ≡ empty_book)
       → IfOk r (λ t. connection.HasCleanDisk (shown t) → IsTrue found.is_open → HasLayout found.committed → HoldsOne office found.committed.trees × ShowsAs found.committed (shown t))
+      → MatchResult r (λ t. SurvivesOpening office found (shown t)) (λ e. SurvivesOpening office found (left e.1))
       → IfOk r (λ t. IsOver office false found (tables_state (held t) (shown t) (failures t)))
-  over_any (Ok t) same known bare kept = is_over office (held t) found (shown t) (failures t) same known bare kept
-  over_any (Err e) same known bare kept = tt
+  over_any (Ok t) same known bare kept crash = is_over office (held t) found (shown t) (failures t) crash same known bare kept
+  over_any (Err e) same known bare kept crash = tt
 
   -- and where none may
   pub over_existing : (P : OpenFault × C → Type 0) (r : Result T (OpenFault × C)) → IfOk r (λ t. held t ≡ office)
       → (IsTrue found.is_open → IsBare found.committed → IsErrAnd r P)
       → IfOk r (λ t. connection.HasCleanDisk (shown t) → IsTrue found.is_open → HasLayout found.committed × HoldsOne office found.committed.trees × ShowsAs found.committed (shown t))
+      → MatchResult r (λ t. connection.Survives found (shown t) (λ db. ⊥)) (λ e. connection.Survives found (left e.1) (λ db. ⊥))
       → IfOk r (λ t. IsOver office true found (tables_state (held t) (shown t) (failures t)))
-  over_existing P (Ok t) same empty kept = is_over_there office (held t) found (shown t) (failures t) same (λ opened none. empty opened none) kept
-  over_existing P (Err e) same empty kept = tt
+  over_existing P (Ok t) same empty kept crash = is_over_there office (held t) found (shown t) (failures t) crash same (λ opened none. empty opened none) kept
+  over_existing P (Err e) same empty kept crash = tt
 
   -- what was not opened, where a book may begin
   pub not_any : (r : Result T (OpenFault × C)) → IfErr r (λ e. connection.HasCleanDisk (left e.1) → IsTrue found.is_open → TellsDatabase office found.committed e.0)

@@ -14,7 +14,7 @@ use Rattle.society_commands.specs.Replays.{BreaksOff}
 
 -- a store of an office to which nothing has come
 abbrev nothing_yet : Office → State
-nothing_yet office = record { office = office; book = empty_book; failures = 0; is_clean = true; is_honest = true; left = λ book. ⊥ }
+nothing_yet office = record { office = office; book = empty_book; failures = 0; faults = 0; is_clean = true; is_honest = true; left = λ book. ⊥ }
 
 known_or_none : (known : Option (List ℕ)) → IfSome known (λ all. all ≡ unwrap_or known [])
 known_or_none None = tt

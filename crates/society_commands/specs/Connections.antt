@@ -18,7 +18,7 @@ use Rattle.sqlite_disk.specs.declared.Disk.{Ghosts}
 use Rattle.sqlite_store.specs.declared.store.FileStore.{FileStore}
 use Rattle.society_core.specs.Book.{empty_book}
 use Rattle.society_core.specs.Requests.{Reply}
-use Rattle.society_core.specs.State.{Rises, State}
+use Rattle.society_core.specs.State.{HasFailed, Rises, State}
 use Rattle.society_rows.specs.Effects.{MayFail}
 use Rattle.society_rows.specs.NewBook.{IsBare}
 use Rattle.society_rows.specs.Stored.{HasLayout}
@@ -105,9 +105,12 @@ StopsServingStore state desk new_desk contents out new_out connections =
 
 -- What a store shows that is opened over what a connection was found with: it is the office's; where there was no table its book is
 -- empty, and where there were those of layout 2 they held a sound book with what is derived from it, and that is its book. Where the
--- database had to be an office's already, there were.
+-- database had to be an office's already, there were. Over a connection that was found open it is clean, unless its disk failed or did
+-- not tell the truth.
 pub record IsOver (office : Office) (existing : Bool) (found : connection.State) (begun : State) : Type 0 where
   pub office_is : begun.office ≡ office
+  pub faults : found.faults ≤ begun.faults
+  pub clean : IsTrue begun.is_honest → IsTrue found.is_open → IsTrue begun.is_clean ⊎ HasFailed found.faults begun.faults
   pub there : IsTrue existing → IsTrue found.is_open → IsTrue begun.is_clean → HasLayout found.committed
   pub known : IsTrue found.is_open → IsTrue begun.is_clean → IsOpenable found.committed
   pub bare : IsTrue found.is_open → IsTrue begun.is_clean → IsBare found.committed → begun.book ≡ empty_book

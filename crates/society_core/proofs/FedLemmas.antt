@@ -57,6 +57,8 @@ proceeds-alike old new sender number body bytes reply f laws a b p = record {
     clean = p.goes.clean;
     honest = p.goes.honest;
     failures = p.goes.failures;
+    faults = p.goes.faults;
+    stays = p.goes.stays;
     crash = λ honest book left.
         elim (p.goes.crash honest book left) [
           | inl before ↦ inl before

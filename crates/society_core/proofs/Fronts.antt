@@ -65,7 +65,7 @@ within_base (x ∷ es) q e h = by_case (eq_by_cmp segment_cmp q x.0) refl
         omega (arith, later)
 
 -- a way that has come behind the plain segment was led there by an end
-led_there : (ends : StatedEnds) (h : ℕ) → 1 ≤ (way_to ends h).at → (g : ℕ) × (e : End) × (ends g ≡ Some e) × (e.next ≡ (way_to ends h).at)
+pub led_there : (ends : StatedEnds) (h : ℕ) → 1 ≤ (way_to ends h).at → (g : ℕ) × (e : End) × (ends g ≡ Some e) × (e.next ≡ (way_to ends h).at)
 led_there ends zero some = absurd (omega (arith, some))
 led_there ends (suc h) some = ⊎_elim here apart (eqb_tells (way_to ends h).at h)
   where

@@ -8,6 +8,7 @@ pub mod OrderFaults
 pub mod SameOrders
 pub mod Books
 pub mod Closes
+pub mod CleanStores
 pub mod Stores
 pub mod ClaimLemmas
 pub mod Found
@@ -25,6 +26,7 @@ pub mod PoolLemmas
 pub mod HeldLemmas
 pub mod NumbersThere
 pub mod SoundRuns
+pub mod Statements
 pub mod LineNumbers
 pub mod Lines
 pub mod Numbers

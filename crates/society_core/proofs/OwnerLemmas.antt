@@ -25,7 +25,7 @@ use Rattle.works_core.proofs.CleanLemmas.{clean_has_number, number_filled, numbe
 use Rattle.society_core.specs.Book.{Book, body_at, is_one_of, numbers_to, transaction_at, version_in}
 use Rattle.society_core.specs.Candidates.{transactions_sent}
 use Rattle.society_core.specs.Orders.{IsOrder, Order, has_repeat, is_out_of_range, is_too_long, names_twice, return_pair, same_numbered, same_sender, sent_pair}
-use Rattle.society_core.specs.Owners.{CutWork, NamesAlone, NamesAt, NamesAtCut, Owns, cut_work, is_at, is_version_at, names_recording, number_or_none, sole, versions_at_cut, works_of_cut}
+use Rattle.society_core.specs.Owners.{CutWork, NamesAlone, NamesAt, NamesAtCut, Owns, cut_work, is_at, is_version_at, names_recording, sole, versions_at_cut, works_of_cut}
 use Rattle.society_core.specs.declared.order_fault.OrderFault.TheVariants.{NamedTwice, OutOfRange, TooLong}
 use Rattle.society_core.specs.declared.transmission_key.TransmissionKey.{TransmissionKey}
 use Rattle.society_core.proofs.CandidateLemmas.{all_append, both, versions_over}
@@ -91,9 +91,17 @@ only_first false e = absurd (false≢true e)
 
 -- ---- works apart
 
+-- the number of a work of the cut, nothing where its transaction has none, which is that of no version
+abbrev number_or_none : Result (List ℕ) IdFault → List ℕ
+number_or_none (Ok work) = work
+number_or_none (Err fault) = []
+
+abbrev work_of : CutWork → List ℕ
+work_of w = number_or_none (number_of_work w.transaction)
+
 -- two works are not the same work of one sender
 abbrev Differs : CutWork → CutWork → Type 0
-Differs a b = a.sender ≡ b.sender → a.work ≡ b.work → ⊥
+Differs a b = a.sender ≡ b.sender → work_of a ≡ work_of b → ⊥
 
 -- each work stands once in a list
 abbrev AreApart : List CutWork → Type 0
@@ -118,13 +126,14 @@ module _ (office : Office) (book : Book) (key : TransmissionKey) where
   -- a work of the cut is that of a version, which is where the limits say
   record IsVersion (Limits : WorkVersion → Type 0) (w : CutWork) : Type 0 where
     sender : w.sender ≡ key.sender
+    numbered : number_of_work w.transaction ≡ Ok (work_of w)
     version : WorkVersion
-    its : version_in office book key.sender w.work key.number ≡ Some version
+    its : version_in office book key.sender (work_of w) key.number ≡ Some version
     there : transaction_at book key.sender version.transmission version.place ≡ Some w.transaction
     within : Limits version
 
   version_as : (L M : WorkVersion → Type 0) → ((v : WorkVersion) → L v → M v) → (w : CutWork) → IsVersion L w → IsVersion M w
-  version_as L M f w is = record { sender = is.sender; version = is.version; its = is.its; there = is.there; within = f is.version is.within }
+  version_as L M f w is = record { sender = is.sender; numbered = is.numbered; version = is.version; its = is.its; there = is.there; within = f is.version is.within }
 
   same_some : (v w : WorkVersion) → ◌≡◌ {A = Option WorkVersion} (Some v) (Some w) → v ≡ w
   same_some v w e = cc
@@ -155,6 +164,7 @@ module _ (office : Office) (book : Book) (key : TransmissionKey) where
           let at : (v.transmission ≡ number) × (v.place ≡ place) = (same_number v.transmission number parts.0, same_number v.place place parts.1) in
           record {
             sender = refl;
+            numbered = read ∙ ap (λ (w : List ℕ). let r : Result (List ℕ) IdFault = Ok w in r) (sym (ap number_or_none read));
             version = v;
             its = ap (λ (r : Result (List ℕ) IdFault). version_in office book key.sender (number_or_none r) key.number) read ∙ e;
             there = ap₂ (λ (n k : ℕ). transaction_at book key.sender n k) at.0 at.1 ∙ there;
@@ -323,14 +333,14 @@ module _ (office : Office) (book : Book) (key : TransmissionKey) where
   bytes_itself a = (bytes_eq-Decides a a).1 refl
 
   -- a version that names a recording is found among the works of the sender's cut
-  found_naming : (isrc work : List ℕ) → NamesAt office book isrc work key → list_any (λ w. names_recording isrc w && (bytes_eq w.sender key.sender && bytes_eq w.work work)) (versions_at_cut office book key) ≡ true
+  found_naming : (isrc work : List ℕ) → NamesAt office book isrc work key → list_any (λ w. names_recording isrc w && (bytes_eq w.sender key.sender && bytes_eq (work_of w) work)) (versions_at_cut office book key) ≡ true
   found_naming isrc work named =
       let v = named.version in
       let t = named.transaction in
       let numbered : number_of_work t ≡ Ok work = version_numbered work v t named.its named.there in
       let one = version_in_line office book key.sender work key.number v named.its in
       let at : is_at v.transmission v.place (Some v) ≡ true = both_hold (v.transmission == v.transmission) (v.place == v.place) (same_itself v.transmission) (same_itself v.place) in
-      found_over (λ w. names_recording isrc w && (bytes_eq w.sender key.sender && bytes_eq w.work work)) (numbers_to book key.sender key.number) v.transmission v.place t one named.there
+      found_over (λ w. names_recording isrc w && (bytes_eq w.sender key.sender && bytes_eq (work_of w) work)) (numbers_to book key.sender key.number) v.transmission v.place t one named.there
       (ap (is_version_at office book key v.transmission v.place) numbered ∙ ap (is_at v.transmission v.place) named.its ∙ at)
       (both_hold (names_recording isrc (cut_work key.sender t)) (bytes_eq key.sender key.sender && bytes_eq (number_or_none (number_of_work t)) work) named.names
       (both_hold (bytes_eq key.sender key.sender) (bytes_eq (number_or_none (number_of_work t)) work) (bytes_itself key.sender)
@@ -377,18 +387,18 @@ module _ (office : Office) (book : Book) where
       (versions_of key))
 
   -- what names a recording at the cut is found
-  found_in_cut : (keys : List TransmissionKey) (isrc sender work : List ℕ) → Some_of (λ key. (key.sender ≡ sender) × NamesAt office book isrc work key) keys → list_any (λ w. names_recording isrc w && (bytes_eq w.sender sender && bytes_eq w.work work)) (flat_map (versions_at_cut office book) keys) ≡ true
+  found_in_cut : (keys : List TransmissionKey) (isrc sender work : List ℕ) → Some_of (λ key. (key.sender ≡ sender) × NamesAt office book isrc work key) keys → list_any (λ w. names_recording isrc w && (bytes_eq w.sender sender && bytes_eq (work_of w) work)) (flat_map (versions_at_cut office book) keys) ≡ true
   found_in_cut [] isrc sender work none = absurd none
   found_in_cut (key ∷ keys) isrc sender work naming =
-      let q = λ (w : CutWork). names_recording isrc w && (bytes_eq w.sender sender && bytes_eq w.work work) in
+      let q = λ (w : CutWork). names_recording isrc w && (bytes_eq w.sender sender && bytes_eq (work_of w) work) in
       list_any-append q (versions_at_cut office book key) (flat_map (versions_at_cut office book) keys) ∙ by_case naming (found_in_cut keys isrc sender work)
     where
       by_case : (((key.sender ≡ sender) × NamesAt office book isrc work key) ⊎ Some_of (λ k. (k.sender ≡ sender) × NamesAt office book isrc work k) keys) →
-          (Some_of (λ k. (k.sender ≡ sender) × NamesAt office book isrc work k) keys → list_any (λ w. names_recording isrc w && (bytes_eq w.sender sender && bytes_eq w.work work)) (flat_map (versions_at_cut office book) keys) ≡ true) →
-          (list_any (λ w. names_recording isrc w && (bytes_eq w.sender sender && bytes_eq w.work work)) (versions_at_cut office book key) || list_any (λ w. names_recording isrc w && (bytes_eq w.sender sender && bytes_eq w.work work)) (flat_map (versions_at_cut office book) keys)) ≡ true
+          (Some_of (λ k. (k.sender ≡ sender) × NamesAt office book isrc work k) keys → list_any (λ w. names_recording isrc w && (bytes_eq w.sender sender && bytes_eq (work_of w) work)) (flat_map (versions_at_cut office book) keys) ≡ true) →
+          (list_any (λ w. names_recording isrc w && (bytes_eq w.sender sender && bytes_eq (work_of w) work)) (versions_at_cut office book key) || list_any (λ w. names_recording isrc w && (bytes_eq w.sender sender && bytes_eq (work_of w) work)) (flat_map (versions_at_cut office book) keys)) ≡ true
       by_case (inl here) rest =
           either_first _ _
-          (subst (λ (s : List ℕ). list_any (λ w. names_recording isrc w && (bytes_eq w.sender s && bytes_eq w.work work)) (versions_at_cut office book key) ≡ true) here.0
+          (subst (λ (s : List ℕ). list_any (λ w. names_recording isrc w && (bytes_eq w.sender s && bytes_eq (work_of w) work)) (versions_at_cut office book key) ≡ true) here.0
           (found_naming office book key isrc work here.1))
       by_case (inr later) rest = either_second _ _ (rest later)
 
@@ -397,29 +407,40 @@ module _ (office : Office) (book : Book) where
     naming = filter (names_recording isrc) (works_of_cut office book order)
 
     -- the work of a list that names a recording at the cut
-    names_of : (w : CutWork) → IsOfCut order.cut w → names_recording isrc w ≡ true → NamesAtCut office book order isrc w.sender w.work
+    names_of : (w : CutWork) → IsOfCut order.cut w → names_recording isrc w ≡ true → NamesAtCut office book order isrc w.sender (work_of w)
     names_of w is names =
-        any_of (λ key. (key.sender ≡ w.sender) × NamesAt office book isrc w.work key) order.cut
-        (some_as (λ key. IsVersion office book key (λ _. ⊤) w) (λ key. (key.sender ≡ w.sender) × NamesAt office book isrc w.work key) order.cut
+        any_of (λ key. (key.sender ≡ w.sender) × NamesAt office book isrc (work_of w) key) order.cut
+        (some_as (λ key. IsVersion office book key (λ _. ⊤) w) (λ key. (key.sender ≡ w.sender) × NamesAt office book isrc (work_of w) key) order.cut
         (λ key its. (sym its.sender, record { version = its.version; its = its.its; transaction = w.transaction; there = its.there; names = names }))
         is)
 
-    all_name : AllByRecursion (λ w. NamesAtCut office book order isrc w.sender w.work) naming
+    all_name : AllByRecursion (λ w. NamesAtCut office book order isrc w.sender (work_of w)) naming
     all_name = each naming (filter_all (IsOfCut order.cut) (names_recording isrc) (works_of_cut office book order) (all_of_cut order.cut)) (all_pass (names_recording isrc) (works_of_cut office book order))
       where
-        each : (ws : List CutWork) → AllByRecursion (IsOfCut order.cut) ws → AllByRecursion (λ w. names_recording isrc w ≡ true) ws → AllByRecursion (λ w. NamesAtCut office book order isrc w.sender w.work) ws
+        each : (ws : List CutWork) → AllByRecursion (IsOfCut order.cut) ws → AllByRecursion (λ w. names_recording isrc w ≡ true) ws → AllByRecursion (λ w. NamesAtCut office book order isrc w.sender (work_of w)) ws
         each [] are pass = tt
         each (w ∷ ws) are pass = (names_of w are.0 pass.0, each ws are.1 pass.1)
 
-    found_among : (sender work : List ℕ) → NamesAtCut office book order isrc sender work → list_any (λ w. bytes_eq w.sender sender && bytes_eq w.work work) naming ≡ true
+    -- and has a number
+    numbered_of : (keys : List TransmissionKey) (w : CutWork) → IsOfCut keys w → number_of_work w.transaction ≡ Ok (work_of w)
+    numbered_of [] w is = absurd is
+    numbered_of (key ∷ keys) w (inl here) = here.numbered
+    numbered_of (key ∷ keys) w (inr later) = numbered_of keys w later
+
+    all_numbered : AllByRecursion (λ w. number_of_work w.transaction ≡ Ok (work_of w)) naming
+    all_numbered =
+        filter_all (λ w. number_of_work w.transaction ≡ Ok (work_of w)) (names_recording isrc) (works_of_cut office book order)
+        (all_as (IsOfCut order.cut) (λ w. number_of_work w.transaction ≡ Ok (work_of w)) (works_of_cut office book order) (numbered_of order.cut) (all_of_cut order.cut))
+
+    found_among : (sender work : List ℕ) → NamesAtCut office book order isrc sender work → list_any (λ w. bytes_eq w.sender sender && bytes_eq (work_of w) work) naming ≡ true
     found_among sender work named =
-        sym (any_filtered (names_recording isrc) (λ w. bytes_eq w.sender sender && bytes_eq w.work work) (works_of_cut office book order))
+        sym (any_filtered (names_recording isrc) (λ w. bytes_eq w.sender sender && bytes_eq (work_of w) work) (works_of_cut office book order))
         ∙ found_in_cut order.cut isrc sender work (some_of (λ key. (key.sender ≡ sender) × NamesAt office book isrc work key) order.cut named)
 
-    same_pair : (w : CutWork) (sender work : List ℕ) → (bytes_eq w.sender sender && bytes_eq w.work work) ≡ true → (sender ≡ w.sender) × (work ≡ w.work)
+    same_pair : (w : CutWork) (sender work : List ℕ) → (bytes_eq w.sender sender && bytes_eq (work_of w) work) ≡ true → (sender ≡ w.sender) × (work ≡ work_of w)
     same_pair w sender work is =
-        let parts = both (bytes_eq w.sender sender) (bytes_eq w.work work) is in
-        (sym ((bytes_eq-Decides w.sender sender).0 parts.0), sym ((bytes_eq-Decides w.work work).0 parts.1))
+        let parts = both (bytes_eq w.sender sender) (bytes_eq (work_of w) work) is in
+        (sym ((bytes_eq-Decides w.sender sender).0 parts.0), sym ((bytes_eq-Decides (work_of w) work).0 parts.1))
 
     alone_of : (sender work : List ℕ) → Owns office book order isrc sender work → NamesAlone office book order isrc sender work
     alone_of sender work owns = by_list naming refl owns.1
@@ -433,24 +454,26 @@ module _ (office : Office) (book : Book) where
         by_list (x ∷ []) is e =
             let same : x ≡ owns.0 = cc in
             let senders : x.sender ≡ sender = ap (λ (w : CutWork). w.sender) same ∙ owns.2 in
-            let works : x.work ≡ work = ap (λ (w : CutWork). w.work) same ∙ owns.3 in
-            let named = (subst (AllByRecursion (λ w. NamesAtCut office book order isrc w.sender w.work)) is all_name).0 in
+            let works : work_of x ≡ work = ap number_or_none (ap (λ (w : CutWork). number_of_work w.transaction) same ∙ owns.3) in
+            let named = (subst (AllByRecursion (λ w. NamesAtCut office book order isrc w.sender (work_of w))) is all_name).0 in
             record {
               names = subst (λ (s : List ℕ). NamesAtCut office book order isrc s work) senders (subst (λ (w : List ℕ). NamesAtCut office book order isrc x.sender w) works named);
               alone = λ other another naming_too.
-                  let found = same_pair x other another (only_first _ (subst (λ (ws : List CutWork). list_any (λ w. bytes_eq w.sender other && bytes_eq w.work another) ws ≡ true) is (found_among other another naming_too))) in
+                  let found = same_pair x other another (only_first _ (subst (λ (ws : List CutWork). list_any (λ w. bytes_eq w.sender other && bytes_eq (work_of w) another) ws ≡ true) is (found_among other another naming_too))) in
                   (found.0 ∙ senders, found.1 ∙ works);
             }
 
     owns_of : (sender work : List ℕ) → has_repeat same_sender (map sent_pair order.cut) ≡ false → NamesAlone office book order isrc sender work → Owns office book order isrc sender work
-    owns_of sender work once alone = by_list naming refl all_name (apart_filtered (names_recording isrc) (works_of_cut office book order) (apart_of_cut order.cut once)) (found_among sender work alone.names)
+    owns_of sender work once alone = by_list naming refl all_name all_numbered (apart_filtered (names_recording isrc) (works_of_cut office book order) (apart_of_cut order.cut once)) (found_among sender work alone.names)
       where
-        by_list : (ws : List CutWork) → naming ≡ ws → AllByRecursion (λ w. NamesAtCut office book order isrc w.sender w.work) ws → AreApart ws → list_any (λ w. bytes_eq w.sender sender && bytes_eq w.work work) ws ≡ true → Owns office book order isrc sender work
-        by_list [] is named apart found = absurd (false≢true found)
-        by_list (x ∷ []) is named apart found = let its = alone.alone x.sender x.work named.0 in (x, ap sole is, its.0, its.1)
-        by_list (x ∷ y ∷ more) is named apart found =
-            let one = alone.alone x.sender x.work named.0 in
-            let two = alone.alone y.sender y.work named.1.0 in
+        by_list : (ws : List CutWork) → naming ≡ ws → AllByRecursion (λ w. NamesAtCut office book order isrc w.sender (work_of w)) ws → AllByRecursion (λ w. number_of_work w.transaction ≡ Ok (work_of w)) ws → AreApart ws → list_any (λ w. bytes_eq w.sender sender && bytes_eq (work_of w) work) ws ≡ true → Owns office book order isrc sender work
+        by_list [] is named numbers apart found = absurd (false≢true found)
+        by_list (x ∷ []) is named numbers apart found =
+            let its = alone.alone x.sender (work_of x) named.0 in
+            (x, ap sole is, its.0, numbers.0 ∙ ap (λ (w : List ℕ). let r : Result (List ℕ) IdFault = Ok w in r) its.1)
+        by_list (x ∷ y ∷ more) is named numbers apart found =
+            let one = alone.alone x.sender (work_of x) named.0 in
+            let two = alone.alone y.sender (work_of y) named.1.0 in
             absurd (apart.0.0 (one.0 ∙ sym two.0) (one.1 ∙ sym two.1))
 
 none_of : {X : Type 0} (o : Option X) → is_none o ≡ true → o ≡ None

@@ -7,11 +7,18 @@ use Rattle.perf_returns.specs.Returns.{performances_in}
 use Rattle.perf_returns.specs.declared.performance.Performance.{Performance}
 use Rattle.society_core.specs.declared.return_key.ReturnKey.{ReturnKey}
 use Rattle.share_rules.specs.declared.holder.Holder.{Holder}
+use Rattle.share_rules.specs.declared.kind.Kind.{Kind}
+use Rattle.share_rules.specs.declared.office.Office.{Office}
+use Rattle.cwr_files.specs.Transaction.{number_of_work}
 use Rattle.society_core.specs.Book.{Book, body_at, is_applied, return_at}
 use Rattle.society_core.specs.Claims.{is_candidate_for}
 use Rattle.society_core.specs.Orders.{IsOrder, Order}
-use Rattle.society_core.specs.Owners.{CutWork, cut_work, is_at, names_recording}
+use Rattle.society_core.specs.Owners.{CutWork, cut_work, is_at, names_recording, versions_at_cut, versions_of_transmission}
+use Rattle.society_core.specs.Points.{is_tallied}
+use Rattle.society_core.specs.Pools.{holders_of}
 use Rattle.society_core.specs.declared.claim_list.Candidate.{Candidate}
+use Rattle.society_core.specs.declared.points.Tally.{Tally}
+use Rattle.society_core.specs.declared.transmission_key.TransmissionKey.{TransmissionKey}
 use Rattle.work_ids.specs.declared.fault.IdFault.{IdFault}
 use Rattle.works_core.specs.Versions.{work_at}
 use Rattle.works_core.specs.Numbered.{JudgedTransmission}
@@ -40,6 +47,18 @@ ListsOnce of_these named listed = (isrc : List ℕ) → of_these isrc ≡ true �
 abbrev pub candidate_with : List ℕ → List ℕ → List Holder → List ℕ → Candidate
 candidate_with sender work holders isrc = record { isrc = isrc; sender = sender; work = work; holders = holders }
 
+-- the candidates that a work makes for these recordings are appended, each with these holders
+abbrev pub AppendsCandidates : List ℕ → List ℕ → List Holder → List (List ℕ) → List Candidate → List Candidate → Type 0
+AppendsCandidates sender work holders isrcs old new = new ≡ old ++ map (candidate_with sender work holders) isrcs
+
+-- the candidates have those of these works more, for the recordings that were played, with their holders in this right
+abbrev pub AddsWorks : Kind → Office → Tally → List CutWork → List Candidate → List Candidate → Type 0
+AddsWorks kind office tally works old new = AddsCandidates (holders_of kind office) (is_tallied tally) works old new
+
+-- they are the candidates of these works
+abbrev pub AreFor : Kind → Office → Tally → List CutWork → List Candidate → Type 0
+AreFor kind office tally works candidates = StandFor (holders_of kind office) (is_tallied tally) works candidates
+
 -- the transactions of a sender's transmission
 abbrev pub transactions_sent : Book → List ℕ → ℕ → List Transaction
 transactions_sent book sender n = transactions_of (transmission_in (unwrap_or (body_at book sender n) []))
@@ -56,6 +75,24 @@ is_version_by line cut number place (Err fault) = false
 -- a transaction as the version of its work, where it is one
 abbrev pub work_where : Bool → List ℕ → Transaction → List CutWork
 work_where is_version sender transaction = if is_version then cut_work sender transaction ∷ [] else []
+
+-- the candidates of a work of the cut are added: of this transaction of a sender
+abbrev pub AddsWork : Kind → Office → Tally → List ℕ → Transaction → List Candidate → List Candidate → Type 0
+AddsWork kind office tally sender transaction old new = AddsWorks kind office tally (cut_work sender transaction ∷ []) old new
+
+-- the candidates of a transaction are added where it is the version that its work has at a cut of a line
+abbrev pub AddsVersion : Kind → Office → Tally → List JudgedTransmission → TransmissionKey → ℕ → ℕ → Transaction → List Candidate → List Candidate → Type 0
+AddsVersion kind office tally line key number place transaction old new =
+    AddsWorks kind office tally (work_where (is_version_by line key.number number place (number_of_work transaction)) key.sender transaction) old new
+
+-- the candidates of those of a transmission's transactions are added that are versions at its sender's cut
+abbrev pub AddsSent : Kind → Office → Tally → Book → TransmissionKey → ℕ → List Candidate → List Candidate → Type 0
+AddsSent kind office tally book key number old new =
+    AddsWorks kind office tally (versions_of_transmission office book key number (transactions_sent book key.sender number)) old new
+
+-- the candidates of a sender's works are added as they are at its cut
+abbrev pub AddsSender : Kind → Office → Tally → Book → TransmissionKey → List Candidate → List Candidate → Type 0
+AddsSender kind office tally book key old new = AddsWorks kind office tally (versions_at_cut office book key) old new
 
 -- each return that an order names is there (profile)
 abbrev pub HasReturns : Book → Order → Type 0

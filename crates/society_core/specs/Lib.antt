@@ -14,9 +14,11 @@ pub mod Answers
 pub mod Runs
 pub mod State
 pub mod Ends
+pub mod Asked
 pub mod Entries
 pub mod Faults
 pub mod Headline
+pub mod Laws
 pub mod Growth
 pub use Rattle.ack_files.specs.Acknowledgement
 pub use Rattle.cwr_files.specs.Contents

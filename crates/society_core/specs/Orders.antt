@@ -1,5 +1,5 @@
 -- Orders that close a pool: an amount, a cut of each sender's works, and the returns that are paid.
-use Rattle.std.specs.Prelude.{ℕ, Bool, true, false, not, List, [], ◌∷◌, ◌==◌, ◌&&◌, ◌||◌, ◌≡◌, Option, Some, None, is_none, if◌then◌else◌, Result, Ok, Err, bytes_eq, length, map, nat_lt, nat_le, refl}
+use Rattle.std.specs.Prelude.{ℕ, Bool, true, false, not, List, [], ◌∷◌, ◌==◌, ◌&&◌, ◌||◌, ◌≡◌, ◌↔◌, Contains, Option, Some, None, is_none, if◌then◌else◌, Result, Ok, Err, bytes_eq, length, map, nat_lt, nat_le, refl}
 use Rattle.std.specs.Cmp.Lexicographic.{pointwise}
 use Rattle.std.specs.Coded.{Coded, code_by, coded×, coded_ℕ, coded_list}
 use Rattle.std.specs.List.{list_any, list_all}
@@ -111,3 +111,9 @@ pub record IsOrder (order : Order) : Type 0 where
   pub sender_keys : list_all (λ key. is_sender_key key.sender) order.cut ≡ true
   pub cut : ascending transmission_cmp order.cut ≡ order.cut
   pub returns : ascending return_cmp order.returns ≡ order.returns
+
+-- orders of one amount with the same transmissions in their cuts and the same returns are one
+abbrev pub OrdersAreSets : Type 0
+OrdersAreSets =
+    (a b : Order) → IsOrder a → IsOrder b → a.amount ≡ b.amount → ((key : TransmissionKey) → Contains a.cut key ↔ Contains b.cut key)
+    → ((key : ReturnKey) → Contains a.returns key ↔ Contains b.returns key) → a ≡ b

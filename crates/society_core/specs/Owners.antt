@@ -12,10 +12,9 @@ use Rattle.society_core.specs.Book.{Book, transaction_at, transmissions_to, vers
 use Rattle.society_core.specs.Orders.{Order}
 use Rattle.society_core.specs.declared.transmission_key.TransmissionKey.{TransmissionKey}
 
--- the version of a sender's work at a cut: whose it is, the work's number, and its transaction
+-- the version of a sender's work at a cut: whose it is, and its transaction, which has the work's number
 pub record CutWork : Type 0 where
   pub sender : List ℕ
-  pub work : List ℕ
   pub transaction : Transaction
 
 -- whether a version is the transaction at this place
@@ -28,14 +27,9 @@ abbrev pub is_version_at : Office → Book → TransmissionKey → ℕ → ℕ �
 is_version_at office book key number place (Ok work) = is_at number place (version_in office book key.sender work key.number)
 is_version_at office book key number place (Err fault) = false
 
--- the work number that was read, nothing where there is none
-abbrev pub number_or_none : Result (List ℕ) IdFault → List ℕ
-number_or_none (Ok work) = work
-number_or_none (Err fault) = []
-
 -- a transaction as the version of its work at a cut
 abbrev pub cut_work : List ℕ → Transaction → CutWork
-cut_work sender transaction = record { sender = sender; work = number_or_none (number_of_work transaction); transaction = transaction }
+cut_work sender transaction = record { sender = sender; transaction = transaction }
 
 -- those of a transmission's transactions that are the versions of their works at a sender's cut
 abbrev pub versions_of_transmission : Office → Book → TransmissionKey → ℕ → List Transaction → List CutWork
@@ -68,7 +62,7 @@ owner office book order isrc = sole (filter (names_recording isrc) (works_of_cut
 -- a sender's work owns a recording
 abbrev pub Owns : Office → Book → Order → List ℕ → List ℕ → List ℕ → Type 0
 Owns office book order isrc sender work =
-    (owned : CutWork) × (owner office book order isrc ≡ Some owned) × (owned.sender ≡ sender) × (owned.work ≡ work)
+    (owned : CutWork) × (owner office book order isrc ≡ Some owned) × (owned.sender ≡ sender) × (number_of_work owned.transaction ≡ Ok work)
 
 -- the version of a work at its sender's cut names a recording
 pub record NamesAt (office : Office) (book : Book) (isrc work : List ℕ) (key : TransmissionKey) : Type 0 where

@@ -1,5 +1,5 @@
 -- What the performances of a pool's returns come to, for each recording.
-use Rattle.std.specs.Prelude.{ℕ, ◌≡◌, ◌*◌, ◌≤◌, Bool, List, [], Option, Some, None, is_some, if◌then◌else◌, map, unwrap_or, bytes_eq}
+use Rattle.std.specs.Prelude.{ℕ, ◌≡◌, ◌*◌, ◌≤◌, ◌++◌, Bool, List, [], Option, Some, None, OnOk, Result, is_some, if◌then◌else◌, map, unwrap_or, bytes_eq}
 use Rattle.std.specs.BTreeMap as tree
 use Rattle.std.specs.List.{AllByRecursion, filter, flat_map, list_any, sum_by}
 use Rattle.perf_returns.specs.Returns.{performances_in}
@@ -45,6 +45,10 @@ HasPoints row = (1 ≤ points_of row) × (points_of row ≤ 10000000000)
 pub record Tallies (tally : Tally) (rows : List Performance) : Type 0 where
   pub points : (isrc : List ℕ) → tree.get bytes_cmp tally.totals isrc ≡ points_known rows isrc
   pub played : AllByRecursion HasPoints rows
+
+-- behind these performances a tally gets these more
+abbrev pub TalliesOn : {T E : Type 0} → Tally → List Performance → List Performance → Result T E → Tally → Type 0
+TalliesOn old rows more result new = Tallies old rows → OnOk result (Tallies new (rows ++ more))
 
 -- whether a tally has points for a recording
 abbrev pub is_tallied : Tally → List ℕ → Bool

@@ -4,6 +4,7 @@ use Rattle.share_rules.specs.declared.office.Office.{Office}
 use Rattle.society_core.specs.Book.{Book}
 use Rattle.society_core.specs.Requests.{Query, StatesFaulty, ClosesFaulty, Inquires, AsksElsewhere, Reply, Refused, query_of, reply_of}
 use Rattle.society_core.specs.Answers.{answer, next}
+use Rattle.society_core.specs.Headline.{TellsWhatCame}
 use Rattle.society_core.specs.State.{ChangesNothing, Goes, State}
 use Rattle.society_core.specs.declared.inquiry.Inquiry.{Inquiry}
 use Rattle.society_core.specs.declared.refusal.Refusal.{Refusal}
@@ -58,3 +59,11 @@ pub record AppendsRun (office : Office) (before after : Book) (is_clean : Bool) 
   pub appended : new ≡ old ++ more
   pub count : length more ≡ length requests
   pub run : IsTrue is_clean → Run office before (map query_of requests) (map reply_of more) after
+
+-- the answers to requests are appended, and lead from what a store showed to what it shows
+abbrev pub AppendsAnswers : State → State → List Request → List Answer → List Answer → Type 0
+AppendsAnswers before after requests old new = AppendsRun before.office before.book after.book after.is_clean requests old new
+
+-- and where the store is clean at the end they tell what its book holds
+abbrev pub TellsWhatStoreHolds : State → State → List Request → List Answer → List Answer → Type 0
+TellsWhatStoreHolds before after requests old new = IsTrue after.is_clean → TellsWhatCame before.book after.book requests old new

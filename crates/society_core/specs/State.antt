@@ -1,16 +1,18 @@
 -- What a store shows of itself: whose it is, its book, and what a crash may leave.
-use Rattle.std.specs.Prelude.{ℕ, ◌≡◌, ◌≤◌, ◌<◌, ◌-◌, ◌^◌, ◌⊎◌, Bool, IsTrue, Result, Err, IfErr, IfOk, OnErr, OnOk}
+use Rattle.std.specs.Prelude.{ℕ, ◌≡◌, ◌≤◌, ◌<◌, ◌+◌, ◌-◌, ◌^◌, ◌⊎◌, min, Bool, IsTrue, Result, Err, IfErr, IfOk, OnErr, OnOk}
 use Rattle.share_rules.specs.declared.office.Office.{Office}
 use Rattle.society_core.specs.Book.{Book, IsSound}
 use Rattle.society_core.specs.declared.store.StoreFault.{StoreFault}
 use Rattle.society_core.specs.declared.store.StoreFault.TheVariants.{Memory, Refused}
 
--- a store: its office and book, how often its medium failed, whether the medium still works and has told the truth, and the
--- books that a crash may leave; contents that stand for no book leave every book, so none of them goes unseen
+-- a store: its office and book, how often it refused, how often its medium failed or refused by the medium's own count, whether the
+-- medium still works and has told the truth, and the books that a crash may leave; contents that stand for no book leave every book, so
+-- none of them goes unseen
 pub record State : Type 1 where
   pub office : Office
   pub book : Book
   pub failures : ℕ
+  pub faults : ℕ
   pub is_clean : Bool
   pub is_honest : Bool
   pub left : Book → Type 0
@@ -21,12 +23,23 @@ pub record IsState (s : State) : Type 0 where
   pub at_rest : IsTrue s.is_clean → (book : Book) → s.left book → book ≡ s.book
   pub sound : IsTrue s.is_clean → IsSound s.book
 
--- a call keeps the office; clean and honest only fall, failures only rise, and a crash may leave what it could before or what the call commits
+-- a medium failed or refused between two counts of its faults: the count rose, or it stands at the greatest number of 64 bits
+abbrev pub HasFailed : ℕ → ℕ → Type 0
+HasFailed old new = min (old + 1) (2 ^ 64 - 1) ≤ new
+
+-- a clean store stays clean, unless its medium failed or did not tell the truth
+abbrev pub StaysClean : State → State → Type 0
+StaysClean old new = IsTrue new.is_honest → IsTrue old.is_clean → IsTrue new.is_clean ⊎ HasFailed old.faults new.faults
+
+-- a call keeps the office; clean and honest only fall, and clean only by a failure; both counts only rise, and a crash may leave what it
+-- could before or what the call commits
 pub record Goes (old new : State) (Commits : Book → Type 0) : Type 0 where
   pub office : new.office ≡ old.office
   pub clean : IsTrue new.is_clean → IsTrue old.is_clean
   pub honest : IsTrue new.is_honest → IsTrue old.is_honest
   pub failures : old.failures ≤ new.failures
+  pub faults : old.faults ≤ new.faults
+  pub stays : StaysClean old new
   pub crash : IsTrue new.is_honest → (book : Book) → new.left book → old.left book ⊎ (IsTrue old.is_clean × Commits book)
 
 -- a question changes nothing

@@ -1,13 +1,11 @@
 //! The candidates for the recordings of a pool: the works of its cut, each by the version that it has there.
-ghost use Rattle.std.specs.Prelude.{◌≡◌, ◌&&◌, ◌++◌, ◌∷◌, [], IfOk, OnOk, map, not, true};
+ghost use Rattle.std.specs.Prelude.{◌≡◌, ◌&&◌, IfOk, OnOk, not, true};
 ghost use Rattle.std.specs.BTreeSet.{contains};
-ghost use Rattle.cwr_files.specs.Transaction.{number_of_work};
 ghost use Rattle.society_core.specs.Book.{IsSound, is_applied, is_one_of, is_there, numbers_to, transmissions_to};
-ghost use Rattle.society_core.specs.Candidates.{AddsCandidates, ListsOnce, ReachesCut, StandFor, candidate_with, is_version_by, transactions_sent, work_where};
+ghost use Rattle.society_core.specs.Candidates.{AddsSender, AddsWork, AddsSent, AddsVersion, AppendsCandidates, AreFor, ListsOnce, ReachesCut};
 ghost use Rattle.society_core.specs.Keys.{bytes_cmp};
-ghost use Rattle.society_core.specs.Owners.{cut_work, is_at, versions_at_cut, versions_of_transmission, works_of_cut};
+ghost use Rattle.society_core.specs.Owners.{is_at, works_of_cut};
 ghost use Rattle.society_core.specs.Points.{is_tallied};
-ghost use Rattle.society_core.specs.Pools.{holders_of};
 ghost use Rattle.works_core.specs.Line.{line_of};
 ghost use Rattle.works_core.specs.Recordings.{isrcs_of};
 ghost use Rattle.works_core.specs.Versions.{work_at};
@@ -62,7 +60,7 @@ fn append_candidates(
     isrcs: &[Isrc],
     candidates: &mut Vec<Candidate>,
 ) -> Result<(), AllocError>
-    ensures { OnOk result (candidates.new.items ≡ candidates.old.items ++ map (candidate_with sender.now work.now holders.now) isrcs.now) }
+    ensures { OnOk result (AppendsCandidates sender.now work.now holders.now isrcs.now candidates.old.items candidates.new.items) }
 {
     for isrc in isrcs {
         let copies = Vec::from_slice(alloc, holders)?;
@@ -88,7 +86,7 @@ pub fn add_candidates(
     transaction: &Transaction<'_>,
     candidates: &mut Vec<Candidate>,
 ) -> Result<(), AllocError>
-    ensures { OnOk result (AddsCandidates (holders_of kind office.now) (is_tallied tally.now) (cut_work sender.now transaction.now ∷ []) candidates.old.items candidates.new.items) }
+    ensures { OnOk result (AddsWork kind office.now tally.now sender.now transaction.now candidates.old.items candidates.new.items) }
 {
     let named = tallied_isrcs(alloc, tally, transaction)?;
     if named.is_empty() {
@@ -127,7 +125,8 @@ fn add_transaction(
     transaction: &Transaction<'_>,
     candidates: &mut Vec<Candidate>,
 ) -> Result<(), AllocError>
-    ensures { OnOk result (AddsCandidates (holders_of kind office.now) (is_tallied tally.now) (work_where (is_version_by line.now.transmissions key.now.number number place (number_of_work transaction.now)) key.now.sender transaction.now) candidates.old.items candidates.new.items) }
+    ensures { OnOk result (AddsVersion kind office.now tally.now line.now.transmissions key.now number place transaction.now
+        candidates.old.items candidates.new.items) }
 {
     let Some(work) = transaction.work_number() else {
         return Ok(());
@@ -163,7 +162,7 @@ fn add_versions(
     requires line { line.now.transmissions ≡ line_of office.now (transmissions_to book.now key.now.sender key.now.number) }
     requires within { is_one_of (numbers_to book.now key.now.sender key.now.number) number ≡ true }
     requires there { is_there book.now key.now.sender number ≡ true }
-    ensures { OnOk result (AddsCandidates (holders_of kind office.now) (is_tallied tally.now) (versions_of_transmission office.now book.now key.now number (transactions_sent book.now key.now.sender number)) candidates.old.items candidates.new.items) }
+    ensures { OnOk result (AddsSent kind office.now tally.now book.now key.now number candidates.old.items candidates.new.items) }
 {
     let transmission = transmission_of(alloc, book, &key.sender, number)?;
     let Some(verdicts) = line.verdicts(number) else {
@@ -201,7 +200,7 @@ fn add_sender(
 ) -> Result<(), AllocError>
     requires sound { IsSound book.now }
     requires applied { is_applied book.now key.now ≡ true }
-    ensures { OnOk result (AddsCandidates (holders_of kind office.now) (is_tallied tally.now) (versions_at_cut office.now book.now key.now) candidates.old.items candidates.new.items) }
+    ensures { OnOk result (AddsSender kind office.now tally.now book.now key.now candidates.old.items candidates.new.items) }
 {
     let line = line_to(alloc, office, book, &key.sender, key.number.value())?;
     let numbers = book.numbers_to(alloc, &key.sender, key.number.value())?;
@@ -224,7 +223,7 @@ pub(crate) fn candidates_of(
 ) -> Result<Vec<Candidate>, AllocError>
     requires sound { IsSound book.now }
     requires reached { ReachesCut book.now order.now }
-    ensures { IfOk result (λ candidates. StandFor (holders_of kind office.now) (is_tallied tally.now) (works_of_cut office.now book.now order.now) candidates.items) }
+    ensures { IfOk result (λ list. AreFor kind office.now tally.now (works_of_cut office.now book.now order.now) list.items) }
 {
     let mut candidates = Vec::new(alloc);
     for key in order.cut() {

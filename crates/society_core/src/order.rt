@@ -1,11 +1,9 @@
 //! Orders that close a pool.
-ghost use Rattle.std.specs.Prelude.{◌≡◌, ◌≤◌, ◌↔◌, Contains, IfOk, length, map, true};
+ghost use Rattle.std.specs.Prelude.{◌≡◌, ◌≤◌, IfOk, length, map, true};
 ghost use Rattle.std.specs.BTreeSet.{IsFromIterResult};
 ghost use Rattle.std.specs.List.{list_all, list_any};
 ghost use Rattle.society_core.specs.Keys.{ascending, return_cmp, return_key, transmission_cmp, transmission_key};
-ghost use Rattle.society_core.specs.Orders.{IsOrder, Order, OrdersAs, has_repeat, is_out_of_range, names_return, order_fault, same_numbered, same_order, same_sender};
-ghost use Rattle.society_core.specs.declared.return_key.ReturnKey.{ReturnKey as KeyOfReturn};
-ghost use Rattle.society_core.specs.declared.transmission_key.TransmissionKey.{TransmissionKey as KeyOfTransmission};
+ghost use Rattle.society_core.specs.Orders.{IsOrder, OrdersAs, OrdersAreSets, has_repeat, is_out_of_range, names_return, order_fault, same_numbered, same_order, same_sender};
 ghost use Rattle.work_ids.specs.Numbers.{is_plain_number, is_return_number, number_where};
 ghost use Rattle.work_ids.specs.SenderKey.{is_sender_key};
 
@@ -350,5 +348,5 @@ impl PoolOrder {
 /// Orders are sets: orders of one amount with the same transmissions in their cuts and the same returns are one, in
 /// whatever order and however often these were given (profile).
 pub fn orders_are_sets()
-    ensures { (a : Order) → (b : Order) → IsOrder a → IsOrder b → a.amount ≡ b.amount → ((key : KeyOfTransmission) → Contains a.cut key ↔ Contains b.cut key) → ((key : KeyOfReturn) → Contains a.returns key ↔ Contains b.returns key) → a ≡ b }
+    ensures { OrdersAreSets }
 {}

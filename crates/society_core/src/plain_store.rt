@@ -1,9 +1,8 @@
 //! A store in memory.
 ghost use Rattle.std.specs.Prelude.{◌≡◌, is_ok, true};
-ghost use Rattle.society_core.specs.Answers.{place_in, transmission_known};
+ghost use Rattle.society_core.specs.Asked.{IsPlaceOf, KnowsAs};
 ghost use Rattle.society_core.specs.Book.{IsSound};
-ghost use Rattle.society_core.specs.Plain.{plain_state};
-ghost use Rattle.society_core.specs.State.{Question};
+ghost use Rattle.society_core.specs.Plain.{AsksPlain};
 
 use crate::answers::{SenderStatus, Work};
 use crate::order::PoolOrder;
@@ -59,7 +58,7 @@ impl Store for PlainStore {
         number: TransmissionNumber,
         body: &[u8],
     ) -> Result<KnownTransmission, StoreFault>
-        ensures question { Question (plain_state self.old.office self.old.book) (plain_state self.new.office self.new.book) result (λ known. known ≡ transmission_known self.old.book sender.now number body.now) }
+        ensures question { AsksPlain self.old.office self.old.book self.new.office self.new.book result (λ s. KnowsAs s sender.now number body.now) }
         ensures never { is_ok result ≡ true }
     {
         Ok(known_in(&self.book, sender, number, body))
@@ -79,7 +78,7 @@ impl Store for PlainStore {
         sender: &SenderKey,
         number: TransmissionNumber,
     ) -> Result<Place, StoreFault>
-        ensures question { Question (plain_state self.old.office self.old.book) (plain_state self.new.office self.new.book) result (λ place. place ≡ place_in self.old.book sender.now number) }
+        ensures question { AsksPlain self.old.office self.old.book self.new.office self.new.book result (λ s. IsPlaceOf s sender.now number) }
         ensures never { is_ok result ≡ true }
     {
         Ok(self.book.place(sender, number))

@@ -1,8 +1,8 @@
 //! The points of the recordings of a pool's performances.
-ghost use Rattle.std.specs.Prelude.{◌≡◌, ◌+◌, ◌<◌, ◌≤◌, ◌++◌, ◌∷◌, [], List, ℕ, IfOk, OnOk, bytes_eq, length};
+ghost use Rattle.std.specs.Prelude.{◌≡◌, ◌+◌, ◌<◌, ◌≤◌, ◌∷◌, [], List, ℕ, IfOk, bytes_eq, length};
 ghost use Rattle.std.specs.List.{list_any};
 ghost use Rattle.perf_returns.specs.declared.performance.Performance.{Performance as Row};
-ghost use Rattle.society_core.specs.Points.{HasPoints, Tallies, is_tallied, points_by_recording, points_of};
+ghost use Rattle.society_core.specs.Points.{HasPoints, Tallies, TalliesOn, is_tallied, points_by_recording, points_of};
 
 use perf_returns::Performance;
 use std::alloc::{AllocError, Global};
@@ -36,7 +36,7 @@ impl Tally {
 
     // Adds one performance.
     fn add(&mut self, row: &Performance) -> Result<(), AllocError>
-        ensures { (rows : List Row) → length rows < 10000000 → Tallies self.old rows → OnOk result (Tallies self.new (rows ++ row.now ∷ [])) }
+        ensures { (rows : List Row) → length rows < 10000000 → TalliesOn self.old rows (row.now ∷ []) result self.new }
     {
         let points = points_of(row);
         let known = self.totals.get(&row.isrc).copied().unwrap_or(0);
@@ -47,7 +47,7 @@ impl Tally {
 
     /// Adds the performances of a return, behind those that came before, up to 10,000,000 in all (profile).
     pub fn add_all(&mut self, more: &[Performance]) -> Result<(), AllocError>
-        ensures { (rows : List Row) → length rows + length more.now ≤ 10000000 → Tallies self.old rows → OnOk result (Tallies self.new (rows ++ more.now)) }
+        ensures { (rows : List Row) → length rows + length more.now ≤ 10000000 → TalliesOn self.old rows more.now result self.new }
     {
         for row in more {
             self.add(row)?;

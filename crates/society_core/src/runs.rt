@@ -1,8 +1,8 @@
 //! Runs: what is answered to a list of requests, one after another.
 ghost use Rattle.std.specs.Prelude.{◌≡◌, IsTrue, OnOk, OnErr};
-ghost use Rattle.society_core.specs.Headline.{TellsWhatCame};
 ghost use Rattle.society_core.specs.Requests.{query_of, reply_of};
-ghost use Rattle.society_core.specs.Runs.{AppendsRun, Calls};
+ghost use Rattle.society_core.specs.Runs.{AppendsAnswers, Calls, TellsWhatStoreHolds};
+ghost use Rattle.society_core.specs.State.{StaysClean};
 
 use crate::answers::Answer;
 use crate::desk::Desk;
@@ -55,11 +55,12 @@ pub fn run<S: Store>(
     requests: &[Request<'_>],
     answers: &mut Vec<Answer>,
 ) -> Result<(), AllocError>
-    ensures ran { OnOk result (AppendsRun (S.state desk.old).office (S.state desk.old).book (S.state desk.new).book (S.state desk.new).is_clean requests.now answers.old.items answers.new.items) }
+    ensures ran { OnOk result (AppendsAnswers (S.state desk.old) (S.state desk.new) requests.now answers.old.items answers.new.items) }
     // Whatever was lost, repeated or reordered, the book holds exactly what came, each content once.
-    ensures headline { OnOk result (IsTrue (S.state desk.new).is_clean → TellsWhatCame (S.state desk.old).book (S.state desk.new).book requests.now answers.old.items answers.new.items) }
+    ensures headline { OnOk result (TellsWhatStoreHolds (S.state desk.old) (S.state desk.new) requests.now answers.old.items answers.new.items) }
     ensures office { (S.state desk.new).office ≡ (S.state desk.old).office }
     ensures clean { IsTrue (S.state desk.new).is_clean → IsTrue (S.state desk.old).is_clean }
+    ensures stays { StaysClean (S.state desk.old) (S.state desk.new) }
     ensures err { OnErr result ((desk.new ≡ desk.old) × (answers.new.items ≡ answers.old.items)) }
 {
     answers.reserve(requests.len())?;

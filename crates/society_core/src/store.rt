@@ -1,13 +1,11 @@
 //! What keeps the office's book.
-ghost use Rattle.std.specs.Prelude.{◌≡◌, IsTrue, None, option_map, ⊤};
+ghost use Rattle.std.specs.Prelude.{◌≡◌, IsTrue, None, ⊤};
 ghost use Rattle.cwr_files.specs.FileFault.{file_fault};
 ghost use Rattle.perf_returns.specs.Returns.{return_fault};
-ghost use Rattle.society_core.specs.Answers.{close_refusal, end_known, payment_in, place_in, pool_known_as, return_known_as, shown_in, transmission_known};
-ghost use Rattle.society_core.specs.Book.{ack, body_at, end_at, front, held, order_at, return_at, shown_verdicts, with_end, with_pool, with_return, with_transmission};
+ghost use Rattle.society_core.specs.Answers.{close_refusal, payment_in, pool_known_as};
+ghost use Rattle.society_core.specs.Asked.{AddsArrival, AreCreditsOf, AreVerdictsOf, IsAckOf, IsBalanceOf, IsPlaceOf, KnowsAs, KnowsEndAs, AddsEnd, IsReturnKnownAs, IsStandingOf, IsWorkOf};
+ghost use Rattle.society_core.specs.Book.{body_at, end_at, order_at, return_at, with_pool, with_return};
 ghost use Rattle.society_core.specs.Ends.{ended_before, number_past, place_stated};
-ghost use Rattle.sender_segments.specs.Ways.{end_stated};
-ghost use Rattle.society_core.specs.Pools.{balance, credits_of};
-ghost use Rattle.society_core.specs.Requests.{shown_of, standing_of, Stands};
 ghost use Rattle.society_core.specs.State.{Addition, IsState, Question, State};
 
 use crate::answers::{SenderStatus, Work};
@@ -126,7 +124,7 @@ pub trait Store {
         number: TransmissionNumber,
         body: &[u8],
     ) -> Result<KnownTransmission, StoreFault>
-        ensures question { Question (state self.old) (state self.new) result (λ known. known ≡ transmission_known (state self.old).book sender.now number body.now) };
+        ensures question { Question (state self.old) (state self.new) result (KnowsAs (state self.old) sender.now number body.now) };
 
     /// The acknowledgement of a sender's transmission, none where its number is not in the line.
     fn ack(
@@ -135,7 +133,7 @@ pub trait Store {
         sender: &SenderKey,
         number: TransmissionNumber,
     ) -> Result<Option<Vec<u8>>, StoreFault>
-        ensures { Question (state self.old) (state self.new) result (λ text. option_map (λ bytes. bytes.items) text ≡ ack (state self.old).office (state self.old).book sender.now number) };
+        ensures { Question (state self.old) (state self.new) result (IsAckOf (state self.old) sender.now number) };
 
     /// Where a number of a sender stands.
     fn place(
@@ -143,15 +141,15 @@ pub trait Store {
         sender: &SenderKey,
         number: TransmissionNumber,
     ) -> Result<Place, StoreFault>
-        ensures question { Question (state self.old) (state self.new) result (λ place. place ≡ place_in (state self.old).book sender.now number) };
+        ensures question { Question (state self.old) (state self.new) result (IsPlaceOf (state self.old) sender.now number) };
 
     /// What the book has of the segment of an end.
     fn known_end(&mut self, sender: &SenderKey, end: &SegmentEnd) -> Result<KnownEnd, StoreFault>
-        ensures { Question (state self.old) (state self.new) result (λ known. known ≡ end_known (state self.old).book sender.now (place_stated end.now) (end_stated end.now)) };
+        ensures { Question (state self.old) (state self.new) result (KnowsEndAs (state self.old) sender.now end.now) };
 
     /// How a sender stands: its front, and the numbers of its held transmissions, ascending.
     fn standing(&mut self, alloc: Global, sender: &SenderKey) -> Result<SenderStatus, StoreFault>
-        ensures { Question (state self.old) (state self.new) result (λ status. standing_of status ≡ Stands (front (state self.old).book sender.now) (held (state self.old).book sender.now)) };
+        ensures { Question (state self.old) (state self.new) result (IsStandingOf (state self.old) sender.now) };
 
     /// A sender's work as its version at the sender's front shows it, none where it has none.
     fn work(
@@ -160,7 +158,7 @@ pub trait Store {
         sender: &SenderKey,
         work: &WorkNumber,
     ) -> Result<Option<Work>, StoreFault>
-        ensures { Question (state self.old) (state self.new) result (λ shown. option_map shown_of shown ≡ shown_in (state self.old).office (state self.old).book sender.now work.now) };
+        ensures { Question (state self.old) (state self.new) result (IsWorkOf (state self.old) sender.now work.now) };
 
     /// The verdicts of a sender's transmission, none where its number is not in the line.
     fn verdicts(
@@ -169,11 +167,11 @@ pub trait Store {
         sender: &SenderKey,
         number: TransmissionNumber,
     ) -> Result<Option<Vec<Verdict>>, StoreFault>
-        ensures { Question (state self.old) (state self.new) result (λ verdicts. option_map (λ list. list.items) verdicts ≡ shown_verdicts (state self.old).office (state self.old).book sender.now number) };
+        ensures { Question (state self.old) (state self.new) result (AreVerdictsOf (state self.old) sender.now number) };
 
     /// Whether the book has a return, another one under its key, or none.
     fn known_return(&mut self, key: &ReturnKey, body: &[u8]) -> Result<Known, StoreFault>
-        ensures { Question (state self.old) (state self.new) result (λ known. known ≡ return_known_as (state self.old).book key.now body.now) };
+        ensures { Question (state self.old) (state self.new) result (IsReturnKnownAs (state self.old) key.now body.now) };
 
     /// Whether a return is there and paid.
     fn payment(&mut self, key: &ReturnKey) -> Result<Payment, StoreFault>
@@ -189,11 +187,11 @@ pub trait Store {
         alloc: Global,
         pool: PoolNumber,
     ) -> Result<Option<Vec<Credit>>, StoreFault>
-        ensures { Question (state self.old) (state self.new) result (λ credits. option_map (λ list. list.items) credits ≡ option_map (credits_of (state self.old).office (state self.old).book) (order_at (state self.old).book pool)) };
+        ensures { Question (state self.old) (state self.new) result (AreCreditsOf (state self.old) pool) };
 
     /// The balance of an account, in units of money.
     fn balance(&mut self, alloc: Global, account: &Account) -> Result<u64, StoreFault>
-        ensures { Question (state self.old) (state self.new) result (λ units. units ≡ balance (state self.old).office (state self.old).book account.now) };
+        ensures { Question (state self.old) (state self.new) result (IsBalanceOf (state self.old) account.now) };
 
     /// Adds what a reader was fed, a transmission of its sender, under a number that is free and not above the end of its
     /// segment, and tells where the number stands then. The store may keep the bytes as they lie. After an error the book is
@@ -207,14 +205,14 @@ pub trait Store {
         requires free { IsTrue (state self.old).is_clean → body_at (state self.old).book reader.sender number ≡ None }
         requires within { IsTrue (state self.old).is_clean → ended_before (state self.old).book reader.sender number ≡ None }
         requires right { file_fault reader.sender reader.body ≡ None }
-        ensures { Addition (state self.old) (state self.new) (with_transmission (state self.old).book reader.sender number reader.body) result (λ place. place ≡ place_in (with_transmission (state self.old).book reader.sender number reader.body) reader.sender number) };
+        ensures { AddsArrival (state self.old) (state self.new) reader.sender number reader.body result };
 
     /// Adds an end that a sender stated of a segment without one, above which nothing is, and tells the sender's front then,
     /// as a rank. After an error the book is as before.
     fn add_end(&mut self, alloc: Global, sender: &SenderKey, end: &SegmentEnd) -> Result<u32, StoreFault>
         requires free { IsTrue (state self.old).is_clean → end_at (state self.old).book sender.now (place_stated end.now) ≡ None }
         requires above { IsTrue (state self.old).is_clean → number_past (state self.old).book sender.now (place_stated end.now) end.now.last ≡ None }
-        ensures { Addition (state self.old) (state self.new) (with_end (state self.old).book sender.now (place_stated end.now) (end_stated end.now)) result (λ n. n ≡ front (with_end (state self.old).book sender.now (place_stated end.now) (end_stated end.now)) sender.now) };
+        ensures { AddsEnd (state self.old) (state self.new) sender.now end.now result };
 
     /// Adds a return under a key that is free. After an error the book is as before.
     fn add_return(&mut self, alloc: Global, key: &ReturnKey, body: &[u8]) -> Result<(), StoreFault>

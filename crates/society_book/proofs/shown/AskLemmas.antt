@@ -3,7 +3,7 @@ use Rattle.std.proofs.Common.{◌≡◌, ◌≤◌, ◌⊎◌, inl, inr, ℕ, Re
 use Rattle.std.proofs.lemmas.Bool.{false≢true}
 use Rattle.share_rules.specs.declared.office.Office.{Office}
 use Rattle.society_core.specs.Book.{Book}
-use Rattle.society_core.specs.State.{ChangesNothing, Goes}
+use Rattle.society_core.specs.State.{ChangesNothing, Goes, HasFailed}
 use Rattle.society_book.specs.BookRows.{book_of}
 use Rattle.society_book.specs.Kept.{AsksOf, HoldsOwnBook, IsOfficeBook, LeftBy, Rests, tables_state}
 use Rattle.sqlite.specs.Held.{Held, state}
@@ -46,6 +46,12 @@ pub second_true : (a b : Bool) → IsTrue (a && b) → IsTrue b
 second_true true b h = h
 second_true false b h = absurd (false≢true h)
 
+-- only a fault of its disk shuts a connection, where the disk told the truth
+pub still_open : {Commits : Trees → Type 0} (old new : State) → Survives old new Commits → IsTrue new.is_clean → IsTrue old.is_open → IsTrue (new.is_clean && new.is_open) ⊎ HasFailed old.faults new.faults
+still_open old new survives honest opened =
+    ⊎_elim (λ (still : IsTrue new.is_open). inl (both_true new.is_clean new.is_open honest still)) (λ (failed : HasFailed old.faults new.faults). inr failed)
+    (survives.closes (clean_is new.is_clean honest) opened)
+
 -- what a crash may leave of the connection is left of the store
 pub left_still : (o : Office) (old new : State) (Commits : Trees → Type 0) (Next : Book → Type 0) → Survives old new Commits → ((db : Trees) → Commits db → (book : Book) → (HoldsOwnBook o db → book ≡ book_of db) → Next book) → IsTrue new.is_clean → (book : Book) → LeftBy o new book → LeftBy o old book ⊎ Next book
 left_still o old new Commits Next survives shows clean book left =
@@ -79,6 +85,8 @@ module _ (o : Office) (old new : State) (asks_of : AsksOf old new) where
     clean = clean_before;
     honest = was_clean old.is_clean new.is_clean asks_of.survives.clean;
     failures = more;
+    faults = asks_of.survives.counts;
+    stays = λ honest clean. still_open old new asks_of.survives honest (second_true old.is_clean old.is_open clean);
     crash = λ clean book left. ⊎_elim (λ (before : LeftBy o old book). inl before) (λ (never : ⊥). absurd never) (left_still o old new (λ _. ⊥) (λ _. ⊥) asks_of.survives (λ db never book holds. never) clean book left);
   }
 

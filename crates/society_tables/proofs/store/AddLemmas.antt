@@ -13,7 +13,7 @@ use Rattle.society_book.specs.BookRows.{book_of}
 use Rattle.society_tables.specs.Faults.{Told}
 use Rattle.society_book.specs.Kept.{HoldsOwnBook, HoldsBook, IsAtRest, IsOfficeBook, LeftBy, Rests, tables_state}
 use Rattle.society_book.specs.Shown.{AddsAlone}
-use Rattle.society_book.proofs.shown.AskLemmas.{both_true, clean_is, first_true, second_true, was_clean}
+use Rattle.society_book.proofs.shown.AskLemmas.{both_true, clean_is, first_true, second_true, still_open, was_clean}
 use Rattle.society_book.proofs.rows_alike.BookLemmas.{the_book}
 use Rattle.society_tables.proofs.store.StoreQuestions.{IsAlone, coded_book, ok_alone, told_answer, told_cause, told_on}
 use Rattle.sqlite.specs.Effect.{Database}
@@ -102,6 +102,8 @@ module _ (o : Office) (old new : State) {X : Type 0} (Change : Trees → Trees �
       clean = clean_before;
       honest = clean_then;
       failures = told_on answer result f g told;
+      faults = adds.survives.counts;
+      stays = λ honest clean. still_open old new adds.survives honest (second_true old.is_clean old.is_open clean);
       crash = λ clean book left. left_after rests clean book left;
     };
     cause = told_cause o old new answer result f g told;

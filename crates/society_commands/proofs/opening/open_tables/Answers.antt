@@ -6,7 +6,7 @@ pub returns-then-existing-clause-over : goal.returns-then-existing-clause-over
 returns-then-existing-clause-over g c =
     rw c.if-existing.true
     (over_existing c.args.office.now (state g.M.Store c.args.connection) (λ t. t.office) (λ t. state g.M.Store t.conn) (λ t. t.failures) (state g.M.Store) _
-    c.open_existing.result c.open_existing.ensures.office c.open_existing.ensures.empty c.open_existing.ensures.audited)
+    c.open_existing.result c.open_existing.ensures.office c.open_existing.ensures.empty c.open_existing.ensures.audited c.open_existing.ensures.crash)
 
 pub returns-then-existing-clause-fault : goal.returns-then-existing-clause-fault
 returns-then-existing-clause-fault g c =
@@ -18,7 +18,7 @@ pub returns-else-existing-clause-over : goal.returns-else-existing-clause-over
 returns-else-existing-clause-over g c =
     rw c.if-existing.false
     (over_any c.args.office.now (state g.M.Store c.args.connection) (λ t. t.office) (λ t. state g.M.Store t.conn) (λ t. t.failures) (state g.M.Store)
-    c.open.result c.open.ensures.office c.open.ensures.known c.open.ensures.begun c.open.ensures.audited)
+    c.open.result c.open.ensures.office c.open.ensures.known c.open.ensures.begun c.open.ensures.audited c.open.ensures.crash)
 
 pub returns-else-existing-clause-fault : goal.returns-else-existing-clause-fault
 returns-else-existing-clause-fault g c =

@@ -5,6 +5,7 @@ use Rattle.society_core.specs.Requests.{query_of, reply_of}
 use Rattle.society_core.specs.Runs.{Step, AppendsRun}
 use Rattle.society_core.specs.declared.request.Request.{Request}
 use Rattle.society_core.specs.declared.answers.Answer.{Answer}
+use Rattle.society_core.proofs.CleanStores.{stays_through}
 use Rattle.society_core.proofs.HeadlineLemmas.{tells_what_came}
 use Rattle.society_core.proofs.RunLemmas.{appends_more}
 use Rattle.society_core.proofs.runs.run.Goals as goal
@@ -23,6 +24,11 @@ loop-request-preserved g c =
     record {
       room = omega (arith, length_is, c.push.ensures.capacity);
       clean = λ still. c.loop-request.invariant.clean (c.answer-answer.ensures.proceeds.goes.clean still);
+      honest = λ told. c.loop-request.invariant.honest (c.answer-answer.ensures.proceeds.goes.honest told);
+      faults = omega (arith, c.loop-request.invariant.faults, c.answer-answer.ensures.proceeds.goes.faults);
+      stays =
+          stays_through (state first) (state before) (state after) c.loop-request.invariant.stays c.answer-answer.ensures.proceeds.goes.stays c.answer-answer.ensures.proceeds.goes.honest
+          c.loop-request.invariant.faults c.answer-answer.ensures.proceeds.goes.faults;
       office = c.answer-answer.ensures.proceeds.goes.office ∙ c.loop-request.invariant.office;
       ran =
           subst
