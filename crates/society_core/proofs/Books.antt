@@ -18,7 +18,7 @@ use Rattle.sender_segments.proofs.Grows.{same_numbers, still_reached}
 use Rattle.sender_segments.proofs.LedTo.{has_itself}
 use Rattle.sender_segments.proofs.Reached.{continues}
 use Rattle.society_core.specs.Book.{AreOrderly, Book, IsSound, body_at, empty_book, end_at, ends_of, front, is_applied, is_end_entry, is_entry, is_in_line, is_one_of, is_pool_entry, is_return_entry, is_there, line, numbers_to, order_at, return_at, with_end, with_pool, with_return, with_transmission}
-use Rattle.society_core.specs.Keys.{return_cmp, segment_cmp, segment_key, transmission_key}
+use Rattle.society_core.specs.Keys.{return_cmp, segment_cmp, segment_key, transmission_cmp, transmission_key}
 use Rattle.society_core.specs.Orders.{IsOrder, Order, names_return}
 use Rattle.society_core.specs.declared.return_key.ReturnKey.{ReturnKey}
 use Rattle.society_core.specs.declared.segment_key.SegmentKey.{SegmentKey}

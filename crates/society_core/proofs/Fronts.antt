@@ -1,5 +1,5 @@
 -- A sender's front is the only number that is reached and at which there is a gap.
-use Rattle.std.proofs.Common.{◌≡◌, ℕ, zero, suc, ◌+◌, ◌-◌, ◌<◌, ◌≤◌, max, Bool, true, false, cond, nat_le, ◌&&◌, ◌||◌, List, [], ◌∷◌, ◌++◌, Option, Some, None, is_some, map, refl, ap, sym, subst, ◌∙◌, arith, ⊎_elim}
+use Rattle.std.proofs.Common.{◌≡◌, ℕ, zero, suc, ◌+◌, ◌-◌, ◌<◌, ◌≤◌, ◌==◌, max, Bool, true, false, cond, nat_le, ◌&&◌, ◌||◌, List, [], ◌∷◌, ◌++◌, Option, Some, None, is_some, map, refl, ap, sym, subst, ◌∙◌, arith, ⊎_elim}
 use Rattle.std.specs.List.{list_all, list_any}
 use Rattle.std.specs.Ordering.{eq_by_cmp}
 use Rattle.std.specs.FinMap as finite
@@ -53,21 +53,21 @@ within_base [] q e h = absurd (none h)
   where
     none : ◌≡◌ {A = Option End} None (Some e) → ⊥
     none h = cc
-within_base (x ∷ es) q e h = by_case (eq_by_cmp segment_cmp q x.0) refl
+within_base (x ∷ es) q e h = by_case (eq_by_cmp segment_cmp q x.0) refl (within_base es q e)
   where
-    by_case : (b : Bool) → eq_by_cmp segment_cmp q x.0 ≡ b → base_of e.next ≤ max (base_of x.1.next) (greatest_base (map (λ x. x.1) es))
-    by_case true is =
+    by_case : (b : Bool) → eq_by_cmp segment_cmp q x.0 ≡ b → (finite.find segment_cmp q es ≡ Some e → base_of e.next ≤ greatest_base (map (λ x. x.1) es)) → base_of e.next ≤ max (base_of x.1.next) (greatest_base (map (λ x. x.1) es))
+    by_case true is behind =
         let same : x.1 ≡ e = some_is x.1 e (sym (ap (λ (b : Bool). cond b (Some x.1) (finite.find segment_cmp q es)) is) ∙ h) in
         let base : base_of x.1.next ≡ base_of e.next = ap (λ (y : End). base_of y.next) same in
         omega (arith, base)
-    by_case false is =
-        let later = within_base es q e (sym (ap (λ (b : Bool). cond b (Some x.1) (finite.find segment_cmp q es)) is) ∙ h) in
+    by_case false is behind =
+        let later = behind (sym (ap (λ (b : Bool). cond b (Some x.1) (finite.find segment_cmp q es)) is) ∙ h) in
         omega (arith, later)
 
 -- a way that has come behind the plain segment was led there by an end
 pub led_there : (ends : StatedEnds) (h : ℕ) → 1 ≤ (way_to ends h).at → (g : ℕ) × (e : End) × (ends g ≡ Some e) × (e.next ≡ (way_to ends h).at)
 led_there ends zero some = absurd (omega (arith, some))
-led_there ends (suc h) some = ⊎_elim here apart (eqb_tells (way_to ends h).at h)
+led_there ends (suc h) some = ⊎_elim (here (led_there ends h)) (apart (led_there ends h)) (eqb_tells (way_to ends h).at h)
   where
     Led : ℕ → Type 0
     Led at = (g : ℕ) × (e : End) × (ends g ≡ Some e) × (e.next ≡ at)
@@ -75,12 +75,15 @@ led_there ends (suc h) some = ⊎_elim here apart (eqb_tells (way_to ends h).at 
     still : (w : Way) → way_to ends (suc h) ≡ w → Led w.at → Led (way_to ends (suc h)).at
     still w is led = subst (λ (v : Way). Led v.at) (sym is) led
 
-    before : way_to ends (suc h) ≡ way_to ends h → Led (way_to ends (suc h)).at
-    before same = still (way_to ends h) same (led_there ends h (subst (λ (w : Way). 1 ≤ w.at) same some))
+    Before : Type 0
+    Before = 1 ≤ (way_to ends h).at → Led (way_to ends h).at
 
-    by_end : (o : Option End) → ends h ≡ o → (way_to ends h).at == h ≡ true → Led (way_to ends (suc h)).at
-    by_end None bare is = before (ap (on_by (way_to ends h) h) bare)
-    by_end (Some e) ended is =
+    before : Before → way_to ends (suc h) ≡ way_to ends h → Led (way_to ends (suc h)).at
+    before earlier same = still (way_to ends h) same (earlier (subst (λ (w : Way). 1 ≤ w.at) same some))
+
+    by_end : Before → (o : Option End) → ends h ≡ o → (way_to ends h).at == h ≡ true → Led (way_to ends (suc h)).at
+    by_end earlier None bare is = before earlier (ap (on_by (way_to ends h) h) bare)
+    by_end earlier (Some e) ended is =
         let goes : (way_to ends (suc h)).at ≡ e.next = ap (λ (o : Option End). (on_by (way_to ends h) h o).at) ended ∙ at_end ((way_to ends h).at == h) is in
         (h, e, ended, sym goes)
       where
@@ -88,11 +91,11 @@ led_there ends (suc h) some = ⊎_elim here apart (eqb_tells (way_to ends h).at 
         at_end true is = refl
         at_end false is = absurd (false≢true is)
 
-    here : (((way_to ends h).at == h) ≡ true) × ((way_to ends h).at ≡ h) → Led (way_to ends (suc h)).at
-    here is = by_end (ends h) refl is.0
+    here : Before → (((way_to ends h).at == h) ≡ true) × ((way_to ends h).at ≡ h) → Led (way_to ends (suc h)).at
+    here earlier is = by_end earlier (ends h) refl is.0
 
-    apart : (((way_to ends h).at == h) ≡ false) × ((way_to ends h).at ≡ h → ⊥) → Led (way_to ends (suc h)).at
-    apart is = before (on_apart (way_to ends h) h (ends h) is.1)
+    apart : Before → (((way_to ends h).at == h) ≡ false) × ((way_to ends h).at ≡ h → ⊥) → Led (way_to ends (suc h)).at
+    apart earlier is = before earlier (on_apart (way_to ends h) h (ends h) is.1)
 
 greatest_passes : (p : ℕ → Bool) (limit : ℕ) → p 0 ≡ true → p (greatest_passing limit p) ≡ true
 greatest_passes p zero h = h

@@ -134,8 +134,8 @@ Fits b (Pool p o) = ⊤
 
 -- so it is in each book that has no more
 fits_before : (b c : Book) → ((e : Entry) → IsIn b e → IsIn c e) → (e : Entry) → Fits c e → Fits b e
-fits_before b c keeps (Transmission s n x) fits e stated = fits e (keeps (End s (segment_of n) e) stated)
-fits_before b c keeps (End s g e) fits n x there same = fits n x (keeps (Transmission s n x) there) same
+fits_before b c keeps (Transmission s n x) fits = λ e stated. fits e (keeps (End s (segment_of n) e) stated)
+fits_before b c keeps (End s g e) fits = λ n x there same. fits n x (keeps (Transmission s n x) there) same
 fits_before b c keeps (Return key x) fits = tt
 fits_before b c keeps (Pool p o) fits = tt
 
@@ -367,9 +367,9 @@ run_brought o b (q ∷ qs) [] c run e fits brought = absurd brought
 
 -- where no number came with two contents, nor above an end, what was brought fits what is there
 brought_fits : (o : Office) (b : Book) (qs : List Query) (rs : List Reply) (c : Book) → Run o b qs rs c → OneContent b qs rs → (e : Entry) → IsBrought qs rs e → Fits c e
-brought_fits o b qs rs c run one (Transmission s n x) brought e stated =
+brought_fits o b qs rs c run one (Transmission s n x) brought = λ e stated.
     one.within s n x e (inr brought) (run_came o b qs rs c run (End s (segment_of n) e) stated)
-brought_fits o b qs rs c run one (End s g e) brought n x there same =
+brought_fits o b qs rs c run one (End s g e) brought = λ n x there same.
     one.within s n x e (run_came o b qs rs c run (Transmission s n x) there) (subst (λ (h : ℕ). Came b qs rs (End s h e)) (sym same) (inr brought))
 brought_fits o b qs rs c run one (Return key x) brought = tt
 brought_fits o b qs rs c run one (Pool p u) brought = tt
@@ -396,7 +396,7 @@ past_is_none b s g last k none there same = none_passes (numbers_of b s) none (t
     some_last n (m ∷ ns) e = some_last m ns e
 
     within : (t : Bool) → nat_lt last (sequence_of k) ≡ t → t ≡ false → sequence_of k ≤ last
-    within t is no = not_less last (sequence_of k) (is ∙ no)
+    within t is stops = not_less last (sequence_of k) (is ∙ stops)
       where
         not_less : (a c : ℕ) → nat_lt a c ≡ false → c ≤ a
         not_less a c h = grind (arith, nat_tests)

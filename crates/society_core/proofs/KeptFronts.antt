@@ -84,6 +84,21 @@ module _ (ends : Ends) (key : SegmentKey) (end : End) (t : List ℕ) (free : fin
           none None e = refl
           none (Some x) e = absurd (apart_none x (sym is ∙ inserted_keeps segments_total exact_segments ends key end (segment_key t g) x free e))
 
+-- a sender's front is still reached when a transmission comes
+pub taken_reaches : (m : Transmissions) (ends : Ends) (key : TransmissionKey) (body : List ℕ) → finite.get m key ≡ None → is_reached (is_among (finite.insert m key body) key.sender) (ends_among ends key.sender) (front_in m ends key.sender) ≡ true
+taken_reaches m ends key body free =
+    still_reached (ends_among ends key.sender) (ends_among ends key.sender) (λ g e is. is) (is_among m key.sender) (is_among (finite.insert m key body) key.sender)
+    (λ k there. let found = some_body (finite.get m (transmission_key key.sender k)) there in ap is_some (inserted_keeps transmissions_total exact_transmissions m key body (transmission_key key.sender k) found.0 free found.1))
+    (front_in m ends key.sender) (all_there m ends key.sender)
+
+-- and when an end comes
+pub stated_reaches : (m : Transmissions) (ends : Ends) (key : SegmentKey) (end : End) → finite.get ends key ≡ None → is_reached (is_among m key.sender) (ends_among (finite.insert ends key end) key.sender) (front_in m ends key.sender) ≡ true
+stated_reaches m ends key end free =
+    still_reached (ends_among ends key.sender) (ends_among (finite.insert ends key end) key.sender)
+    (λ g e is. inserted_keeps segments_total exact_segments ends key end (segment_key key.sender g) e free is)
+    (is_among m key.sender) (is_among m key.sender) (λ k there. there)
+    (front_in m ends key.sender) (all_there m ends key.sender)
+
 -- another sender's front stays when a transmission comes
 pub other_front : (b : Book) (s : List ℕ) (n : ℕ) (body : List ℕ) → IsSound b → body_at b s n ≡ None → is_entry s n body ≡ true → IsWithinEnd (ends_of b s) n → (t : List ℕ) → t ≢ s → front b t ≡ front (with_transmission b s n body) t
 other_front b s n body sound free entry fits t apart =

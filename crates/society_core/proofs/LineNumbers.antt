@@ -39,11 +39,11 @@ each_of P (n ∷ ns) each = (each n (is_first n ns), each_of P ns (λ k is. each
 
 pub one_of_all : (P : ℕ → Type 0) (ns : List ℕ) (n : ℕ) → AllByRecursion P ns → is_one_of ns n ≡ true → P n
 one_of_all P [] n all h = absurd (false≢true h)
-one_of_all P (m ∷ ns) n all h = by_case (m == n) refl
+one_of_all P (m ∷ ns) n all h = by_case (m == n) refl (one_of_all P ns n all.1)
   where
-    by_case : (b : Bool) → (m == n) ≡ b → P n
-    by_case true is = let same : m ≡ n = grind (arith, nat_tests) in subst P same all.0
-    by_case false is = one_of_all P ns n all.1 (sym (ap (λ (b : Bool). b || is_one_of ns n) is) ∙ h)
+    by_case : (b : Bool) → (m == n) ≡ b → (is_one_of ns n ≡ true → P n) → P n
+    by_case true is later = let same : m ≡ n = grind (arith, nat_tests) in subst P same all.0
+    by_case false is later = later (sym (ap (λ (b : Bool). b || is_one_of ns n) is) ∙ h)
 
 -- a number is among those that pass a test where it passes and is among all
 pub one_that_passes : (passes : ℕ → Bool) (n : ℕ) (xs : List ℕ) → is_one_of (filter passes xs) n ≡ (passes n && is_one_of xs n)
@@ -75,11 +75,11 @@ one_that_passes passes n (x ∷ xs) = kept (passes x) ∙ ap₂ (λ (t r : Bool)
 -- what all of some numbers pass, one of them passes
 pub one_passes : (passes : ℕ → Bool) (ns : List ℕ) (n : ℕ) → list_all passes ns ≡ true → is_one_of ns n ≡ true → passes n ≡ true
 one_passes passes [] n all h = absurd (false≢true h)
-one_passes passes (m ∷ ns) n all h = by_case (m == n) refl
+one_passes passes (m ∷ ns) n all h = by_case (m == n) refl (one_passes passes ns n (second_holds (passes m) (list_all passes ns) all))
   where
-    by_case : (b : Bool) → (m == n) ≡ b → passes n ≡ true
-    by_case true is = let same : m ≡ n = grind (arith, nat_tests) in subst (λ (k : ℕ). passes k ≡ true) same (first_holds (passes m) (list_all passes ns) all)
-    by_case false is = one_passes passes ns n (second_holds (passes m) (list_all passes ns) all) (sym (ap (λ (b : Bool). b || is_one_of ns n) is) ∙ h)
+    by_case : (b : Bool) → (m == n) ≡ b → (is_one_of ns n ≡ true → passes n ≡ true) → passes n ≡ true
+    by_case true is later = let same : m ≡ n = grind (arith, nat_tests) in subst (λ (k : ℕ). passes k ≡ true) same (first_holds (passes m) (list_all passes ns) all)
+    by_case false is later = later (sym (ap (λ (b : Bool). b || is_one_of ns n) is) ∙ h)
 
 -- numbers that ascend are above where they begin, and at most where they end
 pub ascends_within : (low high : ℕ) (ns : List ℕ) → Ascends low ns high → low ≤ high
@@ -88,16 +88,16 @@ ascends_within low high (n ∷ ns) rise = let first = rise.0 in let rest = ascen
 
 pub ascends_bounds : (low high : ℕ) (ns : List ℕ) (n : ℕ) → Ascends low ns high → is_one_of ns n ≡ true → (low < n) × (n ≤ high)
 ascends_bounds low high [] n rise h = absurd (false≢true h)
-ascends_bounds low high (m ∷ ns) n rise h = by_case (m == n) refl
+ascends_bounds low high (m ∷ ns) n rise h = by_case (m == n) refl (ascends_bounds m high ns n rise.1)
   where
-    by_case : (b : Bool) → (m == n) ≡ b → (low < n) × (n ≤ high)
-    by_case true is =
+    by_case : (b : Bool) → (m == n) ≡ b → (is_one_of ns n ≡ true → (m < n) × (n ≤ high)) → (low < n) × (n ≤ high)
+    by_case true is later =
         let same : m ≡ n = grind (arith, nat_tests) in
         let first = rise.0 in
         let rest = ascends_within m high ns rise.1 in
         (omega (arith, same, first), omega (arith, same, rest))
-    by_case false is =
-        let bounds = ascends_bounds m high ns n rise.1 (sym (ap (λ (b : Bool). b || is_one_of ns n) is) ∙ h) in
+    by_case false is later =
+        let bounds = later (sym (ap (λ (b : Bool). b || is_one_of ns n) is) ∙ h) in
         let first = rise.0 in
         let above = bounds.0 in
         (omega (arith, first, above), bounds.1)

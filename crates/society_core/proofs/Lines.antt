@@ -4,11 +4,13 @@ use Rattle.std.proofs.lemmas.List.{map_push}
 use Rattle.cwr_files.specs.Contents.{transmission_in}
 use Rattle.share_rules.specs.declared.office.Office.{Office}
 use Rattle.works_core.specs.Line.{NumberedTransmission, judged_in, line_of}
+use Rattle.works_core.specs.Versions.{last_version, placed_line, work_at}
+use Rattle.works_core.proofs.NumberLemmas.{up_to_all}
 use Rattle.works_core.specs.Numbered.{IsRising, JudgedTransmission, has_number, last_number, up_to}
 use Rattle.sender_segments.specs.Ascends.{Ascends}
 use Rattle.sender_segments.specs.Ways.{AreRight}
 use Rattle.society_core.specs.Book.{Book, body_at, ends_of, front, is_in_line, is_one_of, numbers_to, sent_under, transmissions_to}
-use Rattle.society_core.proofs.LineNumbers.{is_first, is_later, numbers_rise_to, one_of_own}
+use Rattle.society_core.proofs.LineNumbers.{in_line_of_to, in_line_within, is_first, is_later, numbers_rise_to, one_of_own}
 
 module _ (o : Office) (b : Book) (s : List ℕ) where
   -- what is judged of a sender's transmission, under its number
@@ -73,3 +75,28 @@ module _ (o : Office) (b : Book) (s : List ℕ) where
   -- its numbers rise
   pub line_rises : AreRight (ends_of b s) → (n : ℕ) → IsRising 0 (line_to n)
   line_rises right n = over_rises 0 (front b s) (numbers_to b s n) (numbers_rise_to b s right n)
+
+-- cuts that are not below the last number show the same versions
+pub versions_at_end : (line : List JudgedTransmission) (work : List ℕ) (a b : ℕ) → IsRising 0 line → last_number 0 line ≤ a → last_number 0 line ≤ b → work_at line work a ≡ work_at line work b
+unfolding work_at
+versions_at_end line work a b rises low high =
+    ap (λ (l : List JudgedTransmission). last_version work (placed_line l)) (up_to_all 0 a line rises low ∙ sym (up_to_all 0 b line rises high))
+
+-- the last number of a sound book's line up to its front is that of a transmission, or there is none
+module _ (o : Office) (b : Book) (s : List ℕ) (right : AreRight (ends_of b s)) where
+  abbrev whole : List JudgedTransmission
+  whole = line_to o b s (front b s)
+
+  pub last_in_line : (is_one_of (numbers_to b s (front b s)) (last_number 0 whole) ≡ true) ⊎ (whole ≡ [])
+  last_in_line = by_last (over_last o b s 0 (numbers_to b s (front b s)))
+    where
+      by_last : ((numbers_to b s (front b s) ≡ []) × (last_number 0 whole ≡ 0)) ⊎ (is_one_of (numbers_to b s (front b s)) (last_number 0 whole) ≡ true) → (is_one_of (numbers_to b s (front b s)) (last_number 0 whole) ≡ true) ⊎ (whole ≡ [])
+      by_last (inl none) = inr (ap (line_over o b s) none.0)
+      by_last (inr one) = inl one
+
+  pub last_within : last_number 0 whole ≤ front b s
+  last_within = by_last last_in_line
+    where
+      by_last : (is_one_of (numbers_to b s (front b s)) (last_number 0 whole) ≡ true) ⊎ (whole ≡ []) → last_number 0 whole ≤ front b s
+      by_last (inl one) = in_line_within b s right (last_number 0 whole) (in_line_of_to b s (front b s) (last_number 0 whole) one)
+      by_last (inr none) = let zero_is : last_number 0 whole ≡ 0 = ap (last_number 0) none in omega (arith, zero_is)

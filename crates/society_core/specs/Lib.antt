@@ -8,6 +8,7 @@ pub mod Pools
 pub mod Claims
 pub mod Candidates
 pub mod PlainMaps
+pub mod PlainLines
 pub mod Plain
 pub mod Requests
 pub mod Answers

@@ -1,16 +1,15 @@
 -- Representation, not meaning: the book of maps that lie in memory.
-use Rattle.std.specs.Prelude.{ℕ, ◌≡◌, ◌≤◌, Bool, true, List, Vec, map, refl, unwrap_or}
+use Rattle.std.specs.Prelude.{ℕ, ◌≡◌, ◌≤◌, true, List, Vec, map, refl, unwrap_or}
 use Rattle.std.specs.BTreeMap as tree
 use Rattle.std.specs.BTreeMap.{BTreeMap}
 use Rattle.std.specs.Coded.{Coded, code_by, coded×, coded_ℕ, coded_list}
 use Rattle.std.specs.FinMap as finite
 use Rattle.std.specs.Global.{Global}
 use Rattle.std.specs.Ordering.{nat_cmp}
-use Rattle.sender_segments.specs.Ways.{End, end_stated, is_reached, numbers_up_to}
-use Rattle.society_core.specs.Book.{Book, Ends, Transmissions, ends_among, front_in, is_among, is_one_of}
+use Rattle.sender_segments.specs.Ways.{End, end_stated, is_reached}
+use Rattle.society_core.specs.Book.{Book, Ends, Transmissions, ends_among, front_in, is_among}
 use Rattle.society_core.specs.Keys.{bytes_cmp, coded_end, coded_return_key, coded_segment_key, coded_transmission_key, return_cmp, segment_cmp, transmission_cmp}
 use Rattle.society_core.specs.Orders.{Order, coded_order}
-use Rattle.society_core.specs.declared.line.Line.{Line}
 use Rattle.society_core.specs.declared.return_key.ReturnKey.{ReturnKey}
 use Rattle.society_core.specs.declared.segment_key.SegmentKey.{SegmentKey}
 use Rattle.society_core.specs.declared.transmission_key.TransmissionKey.{TransmissionKey}
@@ -61,7 +60,3 @@ abbrev pub IsReachedBy : BTreeMap (List ℕ) ℕ → Transmissions → Ends → 
 IsReachedBy fronts bodies ends sender =
     (is_reached (is_among bodies sender) (ends_among ends sender) (unwrap_or (tree.get bytes_cmp fronts sender) 0) ≡ true)
     × (unwrap_or (tree.get bytes_cmp fronts sender) 0 ≤ 1999999)
-
--- whether a number is in a line that knows its numbers
-abbrev pub has : Line → ℕ → Bool
-has line number = is_one_of (numbers_up_to (ends_among (ends_kept line.numbers.ends.now) line.numbers.sender) line.front) number

@@ -12,7 +12,8 @@ ghost use Rattle.society_core.specs.Book.{AreOrderly, IsSound, body_at, empty_bo
 ghost use Rattle.society_core.specs.Ends.{is_past, last_number_of, number_past, place_stated};
 ghost use Rattle.society_core.specs.Keys.{bytes_cmp, transmission_cmp};
 ghost use Rattle.society_core.specs.Orders.{IsOrder, names_return};
-ghost use Rattle.society_core.specs.PlainMaps.{HasFronts, IsReachedBy, ends_kept, has, transmissions_of};
+ghost use Rattle.society_core.specs.PlainLines.{has};
+ghost use Rattle.society_core.specs.PlainMaps.{HasFronts, IsReachedBy, ends_kept, transmissions_of};
 
 use crate::line::{Line, front_on};
 use crate::order::PoolOrder;

@@ -1,0 +1,10 @@
+-- Representation, not meaning: the line that a store in memory looks numbers up in.
+use Rattle.std.specs.Prelude.{ℕ, Bool}
+use Rattle.sender_segments.specs.Ways.{numbers_up_to}
+use Rattle.society_core.specs.Book.{ends_among, is_one_of}
+use Rattle.society_core.specs.PlainMaps.{ends_kept}
+use Rattle.society_core.specs.declared.line.Line.{Line}
+
+-- whether a number is in a line
+abbrev pub has : Line → ℕ → Bool
+has line number = is_one_of (numbers_up_to (ends_among (ends_kept line.numbers.ends.now) line.numbers.sender) line.front) number
