@@ -15,7 +15,7 @@ use Rattle.society_core.specs.Book.{AreOrderly, Book, Ends, IsSound, Transmissio
 use Rattle.society_core.specs.Keys.{bytes_cmp, segment_key, transmission_key}
 use Rattle.society_core.specs.declared.segment_key.SegmentKey.{SegmentKey}
 use Rattle.society_core.specs.declared.transmission_key.TransmissionKey.{TransmissionKey}
-use Rattle.society_core.proofs.Books.{AllBelow, some_body, sound_order, stated_order, taken_order}
+use Rattle.society_core.proofs.Books.{AllBelow, front_fits, order_fits, some_body, sound_order, stated_order, taken_order}
 use Rattle.society_core.proofs.Fronts.{all_there, front_gap, front_led, front_only}
 use Rattle.society_core.proofs.KeyOrders.{exact_segments, exact_transmissions, segments_total, transmissions_total}
 use Rattle.society_core.proofs.Inserts.{inserted_from, inserted_keeps, tied}
@@ -34,6 +34,12 @@ zero_kept old new sender puts free s =
     (λ (there : is_at (bytes_cmp sender) s ≡ false).
     ap (λ (o : Option ℕ). unwrap_or o 0) (puts s ∙ ap (λ (t : Bool). cond t (Some 0) (tree.get bytes_cmp old s)) there))
     (cases_Bool (is_at (bytes_cmp sender) s))
+
+-- a front is within the end of its segment
+pub kept_front_fits : (m : Transmissions) (ends : Ends) (s : List ℕ) → AreOrderly m ends s → IsWithinEnd (ends_among ends s) (front_in m ends s)
+kept_front_fits m ends s order =
+    let book : Book = record { transmissions = m; ends = ends; returns = finite.empty; pools = finite.empty } in
+    front_fits book book s order.right (order_fits book s order) (λ k there. there)
 
 -- ends that say the same of a sender, and transmissions that are the same of it, give it one front
 pub same_front : (m n : Transmissions) (ends others : Ends) (s : List ℕ) → AreOrderly n others s
@@ -108,6 +114,7 @@ other_front b s n body sound free entry fits t apart =
 -- and when an end comes, with its line
 pub other_end_front : (b : Book) (s : List ℕ) (g : ℕ) (end : End) → IsSound b → end_at b s g ≡ None → is_end_entry s g end ≡ true → AllBelow b s g end → (t : List ℕ) → t ≢ s
     → (front b t ≡ front (with_end b s g end) t) × (line b t ≡ line (with_end b s g end) t)
+unfolding line
 other_end_front b s g end sound free entry below t apart =
     let after = with_end b s g end in
     let stated = other_stated b.ends (segment_key s g) end t free apart in

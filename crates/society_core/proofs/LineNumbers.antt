@@ -228,6 +228,7 @@ sorted_same (x ∷ xs) (y ∷ ys) one other same =
 module _ (b : Book) (s : List ℕ) where
   -- a number is in the line where the ends lead through it
   pub in_line_is : (n : ℕ) → is_in_line b s n ≡ is_one_of (numbers_led_through b s) n
+  unfolding line
   in_line_is n =
       one_that_passes (is_one_of (numbers_led_through b s)) n (numbers_of b s)
       ∙ ap (λ (t : Bool). is_one_of (numbers_led_through b s) n && t) (there_of_numbers b s n)
@@ -243,6 +244,7 @@ module _ (b : Book) (s : List ℕ) where
 
   -- the line ascends, and so do its numbers up to one
   pub line_ascends : IsStrictlySortedBy nat_cmp (line b s)
+  unfolding line
   line_ascends = IsStrictlySortedBy-filter nat_cmp (is_one_of (numbers_led_through b s)) (numbers_of b s) (numbers_ascend b s)
 
   pub numbers_to_ascend : (n : ℕ) → IsStrictlySortedBy nat_cmp (numbers_to b s n)

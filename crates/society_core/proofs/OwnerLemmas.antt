@@ -311,10 +311,10 @@ module _ (office : Office) (book : Book) (key : TransmissionKey) where
   found_over : (q : CutWork → Bool) (ns : List ℕ) (number place : ℕ) (t : Transaction) → is_one_of ns number ≡ true → slice_get (transactions_sent book key.sender number) place ≡ Some t → is_version_at office book key number place (number_of_work t) ≡ true → q (cut_work key.sender t) ≡ true → list_any q (versions_over office book key ns) ≡ true
   found_over q [] number place t one there is passes = absurd (false≢true one)
   found_over q (n ∷ ns) number place t one there is passes =
-      list_any-append q (works_from n 0 (transactions_sent book key.sender n)) (versions_over office book key ns) ∙ by_case (n == number) refl
+      list_any-append q (works_from n 0 (transactions_sent book key.sender n)) (versions_over office book key ns) ∙ by_case (n == number) refl (λ one. found_over q ns number place t one there is passes)
     where
-      by_case : (e : Bool) → (n == number) ≡ e → (list_any q (works_from n 0 (transactions_sent book key.sender n)) || list_any q (versions_over office book key ns)) ≡ true
-      by_case true here =
+      by_case : (e : Bool) → (n == number) ≡ e → (is_one_of ns number ≡ true → list_any q (versions_over office book key ns) ≡ true) → (list_any q (works_from n 0 (transactions_sent book key.sender n)) || list_any q (versions_over office book key ns)) ≡ true
+      by_case true here later =
           let same : n ≡ number = same_number n number here in
           let first : 0 + place ≡ place = omega arith in
           either_first (list_any q (works_from n 0 (transactions_sent book key.sender n))) (list_any q (versions_over office book key ns))
@@ -322,9 +322,9 @@ module _ (office : Office) (book : Book) (key : TransmissionKey) where
           (subst (λ (m : ℕ). slice_get (transactions_sent book key.sender m) place ≡ Some t) (sym same) there)
           (ap₂ (λ (m i : ℕ). is_version_at office book key m i (number_of_work t)) same first ∙ is)
           passes)
-      by_case false apart =
+      by_case false apart later =
           either_second (list_any q (works_from n 0 (transactions_sent book key.sender n))) (list_any q (versions_over office book key ns))
-          (found_over q ns number place t (sym (ap (λ (r : Bool). r || is_one_of ns number) apart) ∙ one) there is passes)
+          (later (sym (ap (λ (r : Bool). r || is_one_of ns number) apart) ∙ one))
 
   same_itself : (n : ℕ) → (n == n) ≡ true
   same_itself n = (unsigned_Decides n n).1 refl
@@ -355,7 +355,7 @@ module _ (office : Office) (book : Book) where
 
   versions_of : (key : TransmissionKey) → AllByRecursion (IsVersion office book key (λ _. ⊤)) (versions_at_cut office book key)
   versions_of key =
-      all_as (IsVersion office book key (UpTo office book key key.number)) (IsVersion office book key (λ _. ⊤)) (versions_at_cut office book key)
+      all_as (IsVersion office book key (OneOf office book key (numbers_to book key.sender key.number))) (IsVersion office book key (λ _. ⊤)) (versions_at_cut office book key)
       (version_as office book key (OneOf office book key (numbers_to book key.sender key.number)) (λ _. ⊤) (λ v is. tt)) (versions_all office book key (numbers_to book key.sender key.number))
 
   all_of_cut : (keys : List TransmissionKey) → AllByRecursion (IsOfCut keys) (flat_map (versions_at_cut office book) keys)

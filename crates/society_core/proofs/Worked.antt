@@ -1,8 +1,9 @@
 -- Worked values of the book's numbers and of what a put is answered.
-use Rattle.std.specs.Prelude.{ℕ, ◌≡◌, false, true, [], ◌∷◌, Some, None, nat_le, refl, codes}
+use Rattle.std.specs.Prelude.{ℕ, ◌≡◌, false, true, [], ◌∷◌, Some, None, filter, refl, codes}
 use Rattle.std.proofs.Common.{Less, Greater}
-use Rattle.society_core.specs.Answers.{arrival_at, known_by, put_answer, shown_answer}
-use Rattle.society_core.specs.Book.{empty_book, greatest_of, greatest_to, is_one_of, numbers_to}
+use Rattle.society_core.specs.Answers.{arrival_at, known_by, place_of, put_answer, shown_answer}
+use Rattle.society_core.specs.Book.{empty_book, greatest_of}
+use Rattle.society_core.specs.Ends.{is_past, last_below, last_number_of}
 use Rattle.society_core.specs.Orders.{order_fault}
 use Rattle.society_core.specs.Owners.{sole}
 use Rattle.society_core.specs.Requests.{Refused}
@@ -12,29 +13,23 @@ use Rattle.society_core.specs.Keys.{transmission_cmp, transmission_key}
 use Rattle.society_core.specs.declared.answers.Standing.TheVariants.{Applied, Held}
 use Rattle.society_core.specs.declared.store.Known.TheVariants.{Absent, Other, Same}
 
--- the greatest number that passes
-up_to_three : greatest_to 5 (λ n. nat_le n 3) ≡ 3
-up_to_three = refl
+-- what is applied, and what is held
+in_the_line : arrival_at false (place_of 3 true) ≡ record { known = false; front = 3; standing = Applied }
+in_the_line = refl
 
-none_passes : greatest_to 5 (λ n. nat_le 9 n) ≡ 0
-none_passes = refl
+not_in_the_line : arrival_at false (place_of 3 false) ≡ record { known = false; front = 3; standing = Held }
+not_in_the_line = refl
 
--- the numbers of a line begin with 1
-line_to_three : numbers_to 3 ≡ 1 ∷ 2 ∷ 3 ∷ []
-line_to_three = refl
+-- the end of a segment, above which a number is
+above_the_end : last_below 2 (Some (record { last = 1; next = 27 })) ≡ Some 1
+above_the_end = refl
 
-last_of_it : is_one_of (numbers_to 3) 3 ≡ true
-last_of_it = refl
+at_the_end : last_below 1 (Some (record { last = 1; next = 27 })) ≡ None
+at_the_end = refl
 
-none_before : is_one_of (numbers_to 3) 0 ≡ false
-none_before = refl
-
--- applied up to the front, held above it
-at_the_front : arrival_at false 3 3 ≡ record { known = false; front = 3; standing = Applied }
-at_the_front = refl
-
-above_the_front : arrival_at false 4 3 ≡ record { known = false; front = 3; standing = Held }
-above_the_front = refl
+-- the numbers of a year above a last one
+past_one : last_number_of (filter (is_past 27 1) (1 ∷ 1260001 ∷ 1260002 ∷ 1270009 ∷ [])) ≡ Some 1260002
+past_one = refl
 
 -- what is under a number
 nothing_there : known_by (codes "A") None ≡ Absent

@@ -147,7 +147,7 @@ abbrev pub numbers_led_through : Book → List ℕ → List ℕ
 numbers_led_through book sender = numbers_up_to (ends_of book sender) (front book sender)
 
 -- the numbers of a sender's line, ascending: those of its transmissions that its ends lead through up to its front; these are applied (profile)
-abbrev pub line : Book → List ℕ → List ℕ
+unfoldable pub line : Book → List ℕ → List ℕ
 line book sender = filter (is_one_of (numbers_led_through book sender)) (numbers_of book sender)
 
 -- the numbers of a sender's line up to one of them, in order

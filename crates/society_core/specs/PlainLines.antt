@@ -7,4 +7,4 @@ use Rattle.society_core.specs.declared.line.Line.{Line}
 
 -- whether a number is in a line
 abbrev pub has : Line → ℕ → Bool
-has line number = is_one_of (numbers_up_to (ends_among (ends_kept line.numbers.ends.now) line.numbers.sender) line.front) number
+has line number = is_one_of (numbers_up_to (ends_among (ends_kept line.ends.now) line.sender) line.front) number

@@ -69,9 +69,12 @@ pub(crate) fn front_on(
 /// A sender's line: it knows which numbers are in it.
 #[derive(Drop)]
 pub(crate) struct Line<'a> {
-    numbers: SenderNumbers<'a>,
+    transmissions: &'a BTreeMap<TransmissionKey, Vec<u8>>,
+    ends: &'a BTreeMap<SegmentKey, SegmentEnd>,
+    sender: SenderKey,
     front: u32,
-    ghost reached: { front ≡ front_in (transmissions_of numbers.transmissions.now) (ends_kept numbers.ends.now) numbers.sender },
+    ghost orderly: { AreOrderly (transmissions_of transmissions.now) (ends_kept ends.now) sender },
+    ghost reached: { front ≡ front_in (transmissions_of transmissions.now) (ends_kept ends.now) sender },
 }
 
 impl<'a> Line<'a> {
@@ -84,23 +87,27 @@ impl<'a> Line<'a> {
     ) -> Line<'a>
         requires front { front ≡ front_in (transmissions_of transmissions.now) (ends_kept ends.now) sender.now }
         requires orderly { AreOrderly (transmissions_of transmissions.now) (ends_kept ends.now) sender.now }
-        ensures transmissions { result.numbers.transmissions ≡ transmissions.entry }
-        ensures ends { result.numbers.ends ≡ ends.entry }
-        ensures sender { result.numbers.sender ≡ sender.now }
+        ensures ends { result.ends ≡ ends.entry }
+        ensures sender { result.sender ≡ sender.now }
         ensures front { result.front ≡ front }
     {
-        let numbers = SenderNumbers {
+        Line {
             transmissions,
             ends,
             sender: *sender,
-        };
-        Line { numbers, front }
+            front,
+        }
     }
 
     /// Whether a number is in the line.
     pub(crate) fn has(&self, number: TransmissionNumber) -> bool
-        ensures { result ≡ is_one_of (numbers_up_to (ends_among (ends_kept self.now.numbers.ends.now) self.now.numbers.sender) self.now.front) number }
+        ensures { result ≡ is_one_of (numbers_up_to (ends_among (ends_kept self.now.ends.now) self.now.sender) self.now.front) number }
     {
-        is_up_to(&self.numbers, self.front, number.value())
+        let numbers = SenderNumbers {
+            transmissions: self.transmissions,
+            ends: self.ends,
+            sender: self.sender,
+        };
+        is_up_to(&numbers, self.front, number.value())
     }
 }

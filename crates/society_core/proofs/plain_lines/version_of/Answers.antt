@@ -22,12 +22,12 @@ returns-in_default c =
     let line = c.in_ok-line.ensures.line ∙ ap (line_to office book sender) c.front.ensures in
     let last : c.front-2.result ≡ last_number 0 (line_to office book sender f) = c.front-2.ensures.front ∙ ap (last_number 0) line in
     let not_one = not_passed is_transmission_number c.front-2.result (sym c.from_u32.ensures ∙ c.in_default.is) in
-    by_last (last_in_line office book sender order.right)
+    by_last (line_to office book sender f) c.args.work.now f (last_in_line office book sender order.right)
     (λ one. false≢true (sym (ap is_transmission_number (sym last) ∙ not_one) ∙ order.numbers (last_number 0 (line_to office book sender f)) (there_in_line book sender (last_number 0 (line_to office book sender f)) (in_line_of_to book sender f (last_number 0 (line_to office book sender f)) one))))
   where
-    by_last : {P : Type 0} {line : List JudgedTransmission} {work : List ℕ} {cut : ℕ} → P ⊎ (line ≡ []) → (P → ⊥) → ◌≡◌ {A = Option WorkVersion} None (work_at line work cut)
-    by_last (inl one) never = absurd (never one)
-    by_last {work = work} {cut = cut} (inr none) never = sym (ap (λ (l : List JudgedTransmission). work_at l work cut) none)
+    by_last : {P : Type 0} (line : List JudgedTransmission) (work : List ℕ) (cut : ℕ) → P ⊎ (line ≡ []) → (P → ⊥) → ◌≡◌ {A = Option WorkVersion} None (work_at line work cut)
+    by_last line work cut (inl one) never = absurd (never one)
+    by_last line work cut (inr none) never = sym (ap (λ (l : List JudgedTransmission). work_at l work cut) none)
 
 pub returns : goal.returns
 returns c =

@@ -1,0 +1,17 @@
+use Rattle.std.proofs.Common.{ℕ, List, ap, subst, sym}
+use Rattle.society_core.specs.Book.{AreOrderly, Book, with_end}
+use Rattle.society_core.proofs.Books.{sound_order}
+use Rattle.sender_segments.specs.Ways.{end_stated}
+use Rattle.society_core.specs.Ends.{place_stated}
+use Rattle.society_core.proofs.plain_book.PlainBook.insert_end.Goals as goal
+
+pub insert_end_with_front-requires-clause-orderly : goal.insert_end_with_front-requires-clause-orderly
+insert_end_with_front-requires-clause-orderly c = λ s.
+    subst (λ (b : Book). AreOrderly b.transmissions b.ends s) (sym c.self.view_is) (sound_order c.args.self.now c.requires.sound s)
+
+pub insert_end_with_front-requires-clause-after : goal.insert_end_with_front-requires-clause-after
+insert_end_with_front-requires-clause-after c = λ s.
+    let end = c.args.end.now in
+    subst (λ (g : ℕ). AreOrderly (with_end c.self.inside-book c.args.sender.now g (end_stated end)).transmissions (with_end c.self.inside-book c.args.sender.now g (end_stated end)).ends s) (sym c.place.ensures)
+    (subst (λ (b : Book). AreOrderly (with_end b c.args.sender.now (place_stated end) (end_stated end)).transmissions (with_end b c.args.sender.now (place_stated end) (end_stated end)).ends s) (sym c.self.view_is)
+    (sound_order (with_end c.args.self.now c.args.sender.now (place_stated end) (end_stated end)) c.requires.after s))
