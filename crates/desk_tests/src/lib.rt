@@ -5,6 +5,7 @@
 mod checks;
 #[cfg(test)]
 mod desk_rows;
+pub mod failing_store;
 #[cfg(test)]
 mod feeding_tests;
 #[cfg(test)]

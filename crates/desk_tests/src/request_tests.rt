@@ -1,13 +1,14 @@
 //! Requests over bytes: which heads are taken and what their bodies are, which targets stand for what, and how answers are written.
 use crate::checks::told;
 use crate::desk_rows::new_desk;
+use crate::failing_store::FailingStore;
 use crate::streams::{answer, ask, served};
 use society_core::{Desk, Store};
 use std::alloc::{AllocError, Global};
 use std::process::Abort;
 use std::str;
 use std::test::Fail;
-use test_bodies::{EMPTY, EMPTY_ACK, REGISTERED, REVISED, changed};
+use test_bodies::{EMPTY, EMPTY_ACK, REGISTERED, REVISED, changed, office};
 
 const UNKNOWN: &str = "{\"error\":\"unknown\"}";
 
@@ -317,5 +318,42 @@ fn answers_to_returns(rt: HostRuntime) -> Result<(), Fail> {
             (request, TEN_PLAYS, "201 Created", stored),
             (request, TEN_PLAYS, "200 OK", stored),
         ],
+    )
+}
+
+/// Requests that ask the store, whose bodies have no fault that is found without it.
+const ASKING: [(&str, &[u8]); 9] = [
+    ("PUT /v1/senders/PB000000012/transmissions/1", REGISTERED),
+    ("GET /v1/senders/PB000000012/acks/1", b""),
+    ("GET /v1/senders/PB000000012", b""),
+    ("GET /v1/senders/PB000000012/verdicts/1", b""),
+    ("GET /v1/senders/PB000000012/works/W1", b""),
+    ("PUT /v1/returns/RADIO1/1", TEN_PLAYS),
+    ("PUT /v1/pools/1", ORDER),
+    ("GET /v1/pools/1", b""),
+    ("GET /v1/accounts/UNCLAIMED", b""),
+];
+
+/// Where the store's medium fails, the office is unavailable to each of them; what needs no store is answered as ever.
+#[test]
+fn a_medium_that_fails(rt: HostRuntime) -> Result<(), Fail> {
+    let alloc = rt.alloc();
+    let mut desk = Desk::new(FailingStore::new(&office()?));
+    for (request, body) in ASKING {
+        let status = "503 Service Unavailable";
+        let row = (request, body, status, "{\"error\":\"busy\"}");
+        check_rows(&rt, alloc, &mut desk, &[row])?;
+    }
+    check_unknown(&rt, alloc, &mut desk, NO_TARGETS.as_slice(), REGISTERED)?;
+    check_rows(
+        &rt,
+        alloc,
+        &mut desk,
+        &[(
+            "PUT /v1/pools/1",
+            b"{}",
+            "422 Unprocessable Entity",
+            "{\"error\":\"order\",\"fault\":1}",
+        )],
     )
 }
