@@ -14,7 +14,7 @@ use test_bodies::{REGISTERED, changed, office};
 const BODIES: [&str; 1] = ["SELECT number, body FROM transmissions ORDER BY number"];
 
 /// Changes of rows that no requests leave so.
-const DAMAGES: [&str; 12] = [
+const DAMAGES: [&str; 14] = [
     "UPDATE balances SET units = 502 WHERE account = 'I00000000199'",
     "UPDATE fronts SET front = 4",
     "DELETE FROM versions",
@@ -28,6 +28,8 @@ const DAMAGES: [&str; 12] = [
     // A play of another recording.
     "UPDATE returns SET body = x'697372632c706c6179732c7365636f6e64730a4154414243323630303030322c31302c3230300a'",
     "UPDATE credits SET line = 9 WHERE line = 0; UPDATE credits SET line = 0 WHERE line = 1; UPDATE credits SET line = 1 WHERE line = 9",
+    "INSERT INTO segment_ends (sender, segment, last, next) VALUES ('PB000000012', -1, 3, 26)",
+    "INSERT INTO mechanical_pools (pool) VALUES (7)",
 ];
 
 /// Makes changes.
@@ -132,8 +134,29 @@ fn another_office_is_told_before_damage(rt: HostRuntime) -> Result<(), Fail> {
 
 #[test]
 fn another_layout_is_no_office(rt: HostRuntime) -> Result<(), Fail> {
-    let later = "UPDATE office SET layout = 9";
-    check_changed(&rt, rt.alloc(), later, OpenFault::Schema)
+    for changes in [
+        "UPDATE office SET layout = 9",
+        "UPDATE office SET layout = 2",
+    ] {
+        check_changed(&rt, rt.alloc(), changes, OpenFault::Schema)?;
+    }
+    Ok(())
+}
+
+#[test]
+fn the_tables_of_layout_2_are_no_office(rt: HostRuntime) -> Result<(), Fail> {
+    let alloc = rt.alloc();
+    let older =
+        "DROP TABLE mechanical_pools; DROP TABLE segment_ends; UPDATE office SET layout = 2";
+    let tables = TABLES;
+    let (statements, _) = tables.split_at(12);
+    check_refused(
+        &rt,
+        alloc,
+        damaged(alloc, older)?,
+        statements,
+        OpenFault::Schema,
+    )
 }
 
 #[test]

@@ -6,7 +6,7 @@ use std::str;
 use std::test::Fail;
 
 /// How the rows of each table are read, each behind the table's name; of a transmission its body is left out.
-pub const TABLES: [&str; 12] = [
+pub const TABLES: [&str; 14] = [
     "SELECT 'office', one, layout, society, territory, name FROM office ORDER BY one",
     "SELECT 'transmissions', sender, number FROM transmissions ORDER BY sender, number",
     "SELECT 'fronts', sender, front, works FROM fronts ORDER BY sender",
@@ -19,6 +19,8 @@ pub const TABLES: [&str; 12] = [
     "SELECT 'pool_returns', reporter, number, pool FROM pool_returns ORDER BY reporter, number",
     "SELECT 'credits', pool, line, isrc, account, units FROM credits ORDER BY pool, line",
     "SELECT 'balances', account, units FROM balances ORDER BY account",
+    "SELECT 'segment_ends', sender, segment, last, next FROM segment_ends ORDER BY sender, segment",
+    "SELECT 'mechanical_pools', pool FROM mechanical_pools ORDER BY pool",
 ];
 
 /// Appends a value: a number in digits, and else the text.

@@ -14,7 +14,7 @@ use test_bodies::office;
 
 /// What a registration, its revision and a file with no group leave, in whichever order they come.
 const THREE_FILES: [&str; 11] = [
-    "office|1|2|900|40|EXAMPLE SOCIETY",
+    "office|1|3|900|40|EXAMPLE SOCIETY",
     "transmissions|PB000000012|1",
     "transmissions|PB000000012|2",
     "transmissions|PB000000012|3",
@@ -29,7 +29,7 @@ const THREE_FILES: [&str; 11] = [
 
 /// What a registration, two files with no group, a return and a pool over it leave.
 const CLOSED_POOL: [&str; 18] = [
-    "office|1|2|900|40|EXAMPLE SOCIETY",
+    "office|1|3|900|40|EXAMPLE SOCIETY",
     "transmissions|PB000000012|1",
     "transmissions|PB000000012|2",
     "transmissions|PB000000012|3",

@@ -16,7 +16,7 @@ use Rattle.matchit.specs.Params.{walk, part_of, wild_from, wild_stop, AllText, n
 use Rattle.matchit.specs.Router.{RouteOf}
 use Rattle.matchit.proofs.OnLiterals.{matchit_on_literals}
 use Rattle.http_desk.specs.declared.routes.Route.{Route}
-use Rattle.http_desk.specs.Path.{office_routes, is_path, is_path_byte}
+use Rattle.http_desk.specs.Path.{office_routes, is_path, is_path_byte, with_book_routes, with_file_routes}
 
 -- ---- what holds of each route holds of the one that is found
 
@@ -104,7 +104,7 @@ AllText-walk pattern text path (name ∷ rest) token at t p = (
 
 -- the texts of the routes are ASCII
 routes_ascii : AllKeys (λ (route : RouteOf Route). is_ascii_text route.text ≡ true) office_routes
-unfolding office_routes matchit_on_literals
+unfolding office_routes with_book_routes with_file_routes matchit_on_literals
 routes_ascii = (refl, (refl, (refl, (refl, (refl, (refl, (refl, (refl, tt))))))))
 
 pub route_text : (path : List ℕ) (route : RouteOf Route) → first office_routes path ≡ Some route → IsAscii path

@@ -1,6 +1,6 @@
 -- Lemmas on a connection: what was served so far, one more request, and its end.
 use Rattle.std.proofs.Common.{◌≡◌, ◌≢◌, inl, inr, ℕ, ◌+◌, ◌*◌, ◌<◌, ◌≤◌, Bool, true, false, List, [], ◌∷◌, ◌++◌, length, Option, Result, Ok, Err, refl, sym, ◌∙◌, ap, subst, arith, append_assoc, length-append}
-use Rattle.std.specs.Prelude.{IfSome, IfOk, IfErr, unwrap_or, ◌^◌}
+use Rattle.std.specs.Prelude.{IfSome, IfOk, IfErr, IsTrue, unwrap_or, ◌^◌}
 use Rattle.std.specs.List.{flat_map, AllByRecursion}
 use Rattle.std.proofs.lemmas.List.{append-nil}
 use Rattle.std.proofs.lemmas.Grind.{flat_map-append}
@@ -17,15 +17,15 @@ use Rattle.http_desk.specs.declared.fault.FaultKind.{FaultKind}
 use Rattle.http_desk.specs.declared.fault.FaultKind.TheVariants.{Read, Write, Turns, Memory}
 use Rattle.http_desk.specs.declared.input.Input.{Input}
 use Rattle.http_desk.specs.BodyLength.{closes}
-use Rattle.http_desk.specs.Counted.{AppendsFront, TakesAtLeast, TakesAtMost, counted_on, ends_of, failures_of, inner_of, reads_of}
+use Rattle.http_desk.specs.Counted.{AppendsFront, Known, TakesAtLeast, TakesAtMost, counted_on, ends_of, failures_of, inner_of, reads_of}
 use Rattle.http_desk.specs.Input.{BeforeEach, IsPiece, all_of, unread, ReadsOn}
 use Rattle.http_desk.specs.Outbox.{Sends}
 use Rattle.http_desk.specs.Part.{Part, print_part, IsOpenPart, IsPart}
 use Rattle.http_desk.specs.Reads.{Awaits, Cuts, ReadsAsRequests}
-use Rattle.http_desk.specs.Serves.{AreAnswered, Breaks, CausedBy, IsAwaiting, IsGivenUp, KeepsTurns, NeedsMore, Serves, Steps, Stopped, Unwritten, Written}
+use Rattle.http_desk.specs.Serves.{AreAnswered, Breaks, CausedBy, IsAwaiting, IsGivenUp, IsServed, KeepsTurns, NeedsMore, Serves, Steps, Stopped, Unwritten, Written}
 use Rattle.http_desk.specs.Text.{reply_text, texts, ending}
 use Rattle.http_desk.specs.Upcoming.{EndsSo, StopsBy}
-use Rattle.http_desk.proofs.AnsweredLemmas.{none_answered, one_answered_on}
+use Rattle.http_desk.proofs.AnsweredLemmas.{answered_clean, none_answered, one_answered_on}
 use Rattle.http_desk.proofs.CuttingLemmas.{none_while_awaited}
 use Rattle.http_desk.proofs.HeadLemmas.{print_request-some}
 use Rattle.http_desk.proofs.UpcomingLemmas.{all_append, before_behind, before_join, pieces_append}
@@ -528,3 +528,15 @@ nothing_read state known desk holds = record {
   written = (unwrap_or known [], record { whole = refl; each = tt }, Appends-none holds);
   count = refl;
 }
+
+-- however a connection ended, its requests were answered in turn: the office stays, and a store that is clean was clean
+module _ {S R W : Type 0} (state : S → State) (remaining : Known R) (contents : Known W) (desk new_desk : S) (reader new_reader : Counted R) (writer new_writer : Counted W) (turns : ℕ) where
+  pub office_stays : (result : Result Served DeskFault) → IfOk result (IsServed state remaining contents desk new_desk reader writer new_writer)
+      → IfErr result (IsGivenUp state remaining contents desk new_desk reader new_reader writer new_writer turns) → (state new_desk).office ≡ (state desk).office
+  office_stays (Ok served) serves gives_up = serves.answers.office
+  office_stays (Err fault) serves gives_up = gives_up.breaks.answers.office
+
+  pub clean_falls : (result : Result Served DeskFault) → IfOk result (IsServed state remaining contents desk new_desk reader writer new_writer)
+      → IfErr result (IsGivenUp state remaining contents desk new_desk reader new_reader writer new_writer turns) → IsTrue (state new_desk).is_clean → IsTrue (state desk).is_clean
+  clean_falls (Ok served) serves gives_up = answered_clean state _ _ desk new_desk serves.answers.steps
+  clean_falls (Err fault) serves gives_up = answered_clean state _ _ desk new_desk gives_up.breaks.answers.steps

@@ -57,8 +57,8 @@ pub record IsLeft {S R W : Type 0} (state : S → State) (remaining : Known R) (
       (bytes_known contents writer) (bytes_known contents new_writer) waiting
 
 -- a request or the end came next
-abbrev pub Comes : {S R : Type 0} → (S → State) → Known R → S → S → Counted R → Counted R → Input → Input → Next → Type 0
-Comes state remaining desk new_desk reader new_reader input new_input next = ComesNext state remaining desk new_desk reader new_reader input new_input (Ok next)
+abbrev pub CameNext : {S R : Type 0} → (S → State) → Known R → S → S → Counted R → Counted R → Input → Input → Next → Type 0
+CameNext state remaining desk new_desk reader new_reader input new_input next = ComesNext state remaining desk new_desk reader new_reader input new_input (Ok next)
 
 -- why no request came, by what is in the room
 abbrev pub IsLeftIn : {S R W : Type 0} → (S → State) → Known R → Known W → S → S → Counted R → Counted R → Counted W → Counted W → Room → Room → FaultKind → Type 0

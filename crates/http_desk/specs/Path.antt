@@ -35,17 +35,25 @@ added (Err error) route rows = rows
 abbrev pub with_route : List ℕ → Route → RowsOf (RouteOf Route) → RowsOf (RouteOf Route)
 with_route text route rows = added (parse_route text) route rows
 
--- the routes of the office (profile)
-unfoldable pub office_routes : RowsOf (RouteOf Route)
-office_routes =
+-- the routes of what comes as a file, and of its acknowledgement (profile)
+unfoldable pub with_file_routes : RowsOf (RouteOf Route) → RowsOf (RouteOf Route)
+with_file_routes rows =
+    with_route (codes "/v1/returns/{reporter}/{n}") Return
+    (with_route (codes "/v1/senders/{sender}/acks/{n}") Acknowledgement
+    (with_route (codes "/v1/senders/{sender}/transmissions/{n}") Transmission rows))
+
+-- the routes of what the book shows of senders and accounts, and of pools (profile)
+unfoldable pub with_book_routes : RowsOf (RouteOf Route) → RowsOf (RouteOf Route)
+with_book_routes rows =
     with_route (codes "/v1/pools/{pool}") Pool
     (with_route (codes "/v1/accounts/{account}") Account
     (with_route (codes "/v1/senders/{sender}/works/{work}") Work
     (with_route (codes "/v1/senders/{sender}/verdicts/{n}") Verdicts
-    (with_route (codes "/v1/senders/{sender}") Sender
-    (with_route (codes "/v1/returns/{reporter}/{n}") Return
-    (with_route (codes "/v1/senders/{sender}/acks/{n}") Acknowledgement
-    (with_route (codes "/v1/senders/{sender}/transmissions/{n}") Transmission [])))))))
+    (with_route (codes "/v1/senders/{sender}") Sender rows))))
+
+-- the routes of the office (profile)
+unfoldable pub office_routes : RowsOf (RouteOf Route)
+office_routes = with_book_routes (with_file_routes [])
 
 -- the byte is ASCII, and begins neither a query nor a fragment
 abbrev pub is_path_byte : ℕ → Bool

@@ -1,7 +1,7 @@
 //! The next request of a connection is answered: a transmission's body is fed while it comes, any other is read first.
-ghost use Rattle.std.specs.Prelude.{◌≡◌, ◌+◌, drop, Ok, IfOk, IfErr, OnOk, OnErr, IsTrue};
+ghost use Rattle.std.specs.Prelude.{◌≡◌, ◌+◌, drop, Ok, IfOk, IfErr, OnOk, OnErr};
 ghost use Rattle.society_core.specs.Requests.{reply_of};
-ghost use Rattle.http_desk.specs.Answering.{Comes, ComesNext, IsLeftIn, IsReadyNext, is_end};
+ghost use Rattle.http_desk.specs.Answering.{CameNext, ComesNext, IsLeftIn, IsReadyNext, is_end};
 ghost use Rattle.http_desk.specs.Counted.{ends_of, failures_of, MeetsEnd};
 ghost use Rattle.http_desk.specs.Head.{HasHead};
 ghost use Rattle.http_desk.specs.Input.{unread, FailsBy};
@@ -56,9 +56,7 @@ fn answer_front<S: Store>(
 ) -> Answer
     requires part { HasPart bytes.now head.now }
     requires asks { PartAsks bytes.now head.now (Wanted.Whole wanted) }
-    ensures step { IsAnswered S.state desk.old desk.new bytes.now head.now (reply_of result) }
-    ensures office { (S.state desk.new).office ≡ (S.state desk.old).office }
-    ensures clean { IsTrue (S.state desk.new).is_clean → IsTrue (S.state desk.old).is_clean }
+    ensures { IsAnswered S.state desk.old desk.new bytes.now head.now (reply_of result) }
 {
     let body = &bytes[head.length..head.length + head.body as usize];
     let Ok(request) = request_with(alloc, wanted, body) else {
@@ -81,8 +79,6 @@ fn answer_next<S: Store>(
     ensures step { IsAnswered S.state desk.old desk.new (unread room.old.input) head.now
         (told_reply result) }
     ensures told { IsReadyToSend result }
-    ensures office { (S.state desk.new).office ≡ (S.state desk.old).office }
-    ensures clean { IsTrue (S.state desk.new).is_clean → IsTrue (S.state desk.old).is_clean }
     ensures taken { unread room.new.input
         ≡ drop (head.now.length + head.now.body) (unread room.old.input) }
     ensures turns { room.new.input.turns ≡ room.old.input.turns }
@@ -110,8 +106,6 @@ fn answer_whole<S: Store, R: Read>(
     ensures comes { ComesNext S.state R.remaining desk.old desk.new reader.old reader.new
         room.old.input room.new.input result }
     ensures told { IfOk result IsReadyNext }
-    ensures office { (S.state desk.new).office ≡ (S.state desk.old).office }
-    ensures clean { IsTrue (S.state desk.new).is_clean → IsTrue (S.state desk.old).is_clean }
     ensures met { IfOk result (λ next. MeetsEnd (is_end next) (ends_of reader.old) (ends_of reader.new)) }
     ensures unmet { OnErr result (ends_of reader.new ≡ ends_of reader.old) }
     ensures kept { OnOk result (failures_of reader.new ≡ failures_of reader.old) }
@@ -148,8 +142,6 @@ fn answer_fed<S: Store, R: Read>(
     ensures comes { ComesNext S.state R.remaining desk.old desk.new reader.old reader.new
         room.old.input room.new.input result }
     ensures told { IfOk result IsReadyNext }
-    ensures office { (S.state desk.new).office ≡ (S.state desk.old).office }
-    ensures clean { IsTrue (S.state desk.new).is_clean → IsTrue (S.state desk.old).is_clean }
     ensures met { IfOk result (λ next. MeetsEnd (is_end next) (ends_of reader.old) (ends_of reader.new)) }
     ensures unmet { OnErr result (ends_of reader.new ≡ ends_of reader.old) }
     ensures kept { OnOk result (failures_of reader.new ≡ failures_of reader.old) }
@@ -200,8 +192,6 @@ fn answer_head<S: Store, R: Read>(
     ensures comes { ComesNext S.state R.remaining desk.old desk.new reader.old reader.new
         room.old.input room.new.input result }
     ensures told { IfOk result IsReadyNext }
-    ensures office { (S.state desk.new).office ≡ (S.state desk.old).office }
-    ensures clean { IsTrue (S.state desk.new).is_clean → IsTrue (S.state desk.old).is_clean }
     ensures met { IfOk result (λ next. MeetsEnd (is_end next) (ends_of reader.old) (ends_of reader.new)) }
     ensures unmet { OnErr result (ends_of reader.new ≡ ends_of reader.old) }
     ensures kept { OnOk result (failures_of reader.new ≡ failures_of reader.old) }
@@ -226,14 +216,12 @@ pub(crate) fn answer_upcoming<S: Store, R: Read, W: Write>(
     room: &mut Room,
 ) -> Result<Next, FaultKind>
     requires ready { IsReady room.old }
-    ensures comes { IfOk result (Comes S.state R.remaining desk.old desk.new reader.old reader.new
+    ensures comes { IfOk result (CameNext S.state R.remaining desk.old desk.new reader.old reader.new
         room.old.input room.new.input) }
     ensures stops { IfErr result (IsLeftIn S.state R.remaining W.contents desk.old desk.new reader.old reader.new
         writer.old writer.new room.old room.new) }
     ensures sends { OnOk result (SendsTo W.contents writer.old writer.new room.old.outbox room.new.outbox) }
     ensures told { IfOk result IsReadyNext }
-    ensures office { (S.state desk.new).office ≡ (S.state desk.old).office }
-    ensures clean { IsTrue (S.state desk.new).is_clean → IsTrue (S.state desk.old).is_clean }
     ensures met { IfOk result (λ next. MeetsEnd (is_end next) (ends_of reader.old) (ends_of reader.new)) }
     ensures unmet { OnErr result (ends_of reader.new ≡ ends_of reader.old) }
     ensures kept { OnOk result (failures_of reader.new ≡ failures_of reader.old) }

@@ -126,8 +126,6 @@ fn serve_in<S: Store, R: Read, W: Write>(
         desk.old desk.new reader.old reader.new writer.old writer.new room.old.input.turns) }
     ensures memory { IfErr result (λ fault. fault.kind ≢ FaultKind.Memory) }
     ensures turns { KeepsTurns R.remaining reader.old reader.new room.old.input.turns }
-    ensures office { (S.state desk.new).office ≡ (S.state desk.old).office }
-    ensures clean { IsTrue (S.state desk.new).is_clean → IsTrue (S.state desk.old).is_clean }
 {
     let mut requests = 0u128;
     loop {

@@ -5,6 +5,7 @@ ghost use Rattle.serde_json.specs.View.{view};
 ghost use Rattle.serde_json.specs.Written.{compact_text, has_float};
 ghost use Rattle.society_core.specs.Requests.{shown_of};
 ghost use Rattle.work_ids.specs.Account.{account_text};
+ghost use Rattle.work_ids.specs.Blanks.{without_trailing_blanks};
 ghost use Rattle.http_desk.specs.Json as spec;
 
 use percent_encoding::{AsciiSet, CONTROLS, ascii_set, percent_encode};
@@ -12,7 +13,7 @@ use serde_json::{Value, json};
 use share_rules::Holder;
 use society_core::{SenderStatus, Work};
 use std::alloc::{AllocError, Global};
-use work_ids::{Account, Isrc, Iswc, TransmissionNumber};
+use work_ids::{Account, Isrc, Iswc, TransmissionNumber, WorkNumber};
 use works_core::Verdict;
 
 /// The bytes of a title that are escaped, beside those that are no ASCII.
@@ -184,24 +185,26 @@ fn title_text(alloc: Global, title: &[u8]) -> Result<String, AllocError>
     Ok(text)
 }
 
-// What is shown of a work, as a value.
+// The number of a work, as a value.
+fn number_value(alloc: Global, number: &WorkNumber) -> Result<Value, AllocError>
+    ensures { IfOk result (λ value. view value ≡ string (without_trailing_blanks number.now)) }
+{
+    string_value(Vec::from_slice(alloc, number.as_bytes())?)
+}
+
+// What is shown of a work, as a value. Each member is made where it is put, so that no other waits beside it.
 fn work_value(alloc: Global, work: &Work) -> Result<Value, AllocError>
     ensures { IfOk result (λ value. view value ≡ spec.work_json (shown_of work.now)) }
 {
-    let holders = holder_values(alloc, &work.holders)?;
-    let isrcs = isrc_values(alloc, &work.isrcs)?;
-    let iswc = iswc_value(alloc, work.iswc)?;
-    let number = string_value(Vec::from_slice(alloc, work.number.as_bytes())?)?;
-    let title = title_text(alloc, &work.title)?;
     let version = work.version;
     json!(in alloc; {
-        "holders": holders,
-        "isrcs": isrcs,
-        "iswc": iswc,
-        "number": number,
+        "holders": holder_values(alloc, &work.holders)?,
+        "isrcs": isrc_values(alloc, &work.isrcs)?,
+        "iswc": iswc_value(alloc, work.iswc)?,
+        "number": number_value(alloc, &work.number)?,
         "ordinal": version.ordinal,
         "revision": version.revision,
-        "title": title,
+        "title": title_text(alloc, &work.title)?,
         "transmission": version.transmission.value(),
     })
 }

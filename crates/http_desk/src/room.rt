@@ -29,11 +29,24 @@ pub(crate) fn make_room(alloc: Global, turns: u64) -> Result<Room, AllocError>
     ensures waiting { IfOk result (λ room. waiting room.outbox ≡ []) }
     ensures turns { IfOk result (λ room. room.input.turns ≡ turns) }
 {
+    let router = routes(alloc)?;
+    let input = Input::new(alloc, turns)?;
+    let (parameter, body, outbox) = make_texts(alloc)?;
     Ok(Room {
-        router: routes(alloc)?,
-        input: Input::new(alloc, turns)?,
-        parameter: Scratch::new(alloc)?,
-        body: ShortBody::new(alloc)?,
-        outbox: Outbox::new(alloc)?,
+        router,
+        input,
+        parameter,
+        body,
+        outbox,
     })
+}
+
+// The room for the texts of a connection: a parameter, a body, and the answers that wait.
+fn make_texts(alloc: Global) -> Result<(Scratch, ShortBody, Outbox), AllocError>
+    ensures { IfOk result (λ texts. waiting texts.2 ≡ []) }
+{
+    let parameter = Scratch::new(alloc)?;
+    let body = ShortBody::new(alloc)?;
+    let outbox = Outbox::new(alloc)?;
+    Ok((parameter, body, outbox))
 }

@@ -1,6 +1,6 @@
 //! The routes of the office.
 ghost use Rattle.std.specs.Prelude.{◌≡◌, IfOk, OnOk};
-ghost use Rattle.http_desk.specs.Path.{with_route, office_routes};
+ghost use Rattle.http_desk.specs.Path.{office_routes, with_book_routes, with_file_routes, with_route};
 
 use matchit::Router;
 use std::alloc::{AllocError, Global};
@@ -27,36 +27,37 @@ pub(crate) enum Route {
 }
 
 /// The routes of the office.
-#[tactic(auto, unfolding(crate::specs::Path::office_routes))]
 pub(crate) fn routes(alloc: Global) -> Result<Router<Route>, AllocError>
     ensures { IfOk result (λ router. router ≡ office_routes) }
 {
     let mut router = Router::new(alloc);
-    add(
-        &mut router,
-        "/v1/senders/{sender}/transmissions/{n}",
-        Route::Transmission,
-    )?;
-    add(
-        &mut router,
-        "/v1/senders/{sender}/acks/{n}",
-        Route::Acknowledgement,
-    )?;
-    add(&mut router, "/v1/returns/{reporter}/{n}", Route::Return)?;
-    add(&mut router, "/v1/senders/{sender}", Route::Sender)?;
-    add(
-        &mut router,
-        "/v1/senders/{sender}/verdicts/{n}",
-        Route::Verdicts,
-    )?;
-    add(
-        &mut router,
-        "/v1/senders/{sender}/works/{work}",
-        Route::Work,
-    )?;
-    add(&mut router, "/v1/accounts/{account}", Route::Account)?;
-    add(&mut router, "/v1/pools/{pool}", Route::Pool)?;
+    add_file_routes(&mut router)?;
+    add_book_routes(&mut router)?;
     Ok(router)
+}
+
+// Adds the routes of what comes as a file, and of its acknowledgement.
+fn add_file_routes(router: &mut Router<Route>) -> Result<(), AllocError>
+    ensures { OnOk result (router.new ≡ with_file_routes router.old) }
+{
+    let transmissions = "/v1/senders/{sender}/transmissions/{n}";
+    add(router, transmissions, Route::Transmission)?;
+    let acks = "/v1/senders/{sender}/acks/{n}";
+    add(router, acks, Route::Acknowledgement)?;
+    add(router, "/v1/returns/{reporter}/{n}", Route::Return)?;
+    Ok(())
+}
+
+// Adds the routes of what the book shows of senders and accounts, and of pools.
+fn add_book_routes(router: &mut Router<Route>) -> Result<(), AllocError>
+    ensures { OnOk result (router.new ≡ with_book_routes router.old) }
+{
+    add(router, "/v1/senders/{sender}", Route::Sender)?;
+    add(router, "/v1/senders/{sender}/verdicts/{n}", Route::Verdicts)?;
+    add(router, "/v1/senders/{sender}/works/{work}", Route::Work)?;
+    add(router, "/v1/accounts/{account}", Route::Account)?;
+    add(router, "/v1/pools/{pool}", Route::Pool)?;
+    Ok(())
 }
 
 // Adds a route, given by its text.

@@ -2,7 +2,7 @@
 ghost use Rattle.std.specs.Prelude.{◌+◌, ◌≡◌};
 ghost use Rattle.society_rows.specs.declared.fault.RowFault.TheVariants.{Memory};
 
-use crate::book::{SENDER, book, shown, write_book, write_fronts, write_works};
+use crate::book::{SENDER, book, shown, write_book, write_ends, write_fronts, write_works};
 use crate::checks::told;
 use society_rows::{Idle, Question, RowFault, RowFold, TableName, ask, fold_run, fold_table};
 use sqlite::{Alter, Connection, MemStore, Row};
@@ -47,6 +47,7 @@ fn commit_book<S: Alter>(conn: &mut Connection<S>) -> Result<(), RowFault> {
     write_book(&mut tx)?;
     write_works(&mut tx)?;
     write_fronts(&mut tx)?;
+    write_ends(&mut tx)?;
     tx.commit()?;
     Ok(())
 }
@@ -78,6 +79,8 @@ fn check_counts<S: Alter>(rt: &impl Abort, conn: &mut Idle<S>) -> Result<(), Fai
         ("transmissions", TableName::Transmissions, 2),
         ("fronts", TableName::Fronts, 2),
         ("credits", TableName::Credits, 0),
+        ("ends", TableName::SegmentEnds, 3),
+        ("mechanical pools", TableName::MechanicalPools, 0),
     ] {
         told(rt, row, count_of(conn, table)?, wanted);
     }
@@ -119,6 +122,17 @@ fn check_questions<S: Alter>(
             Question::NumbersAbove(SENDER, 1),
             "PB000000012|2|;",
         ),
+        (
+            "numbers between",
+            Question::NumbersBetween(SENDER, 0, 2),
+            "PB000000012|1|;",
+        ),
+        (
+            "ends",
+            Question::Ends(b"PB000000034"),
+            "PB000000034|26|0|27|;",
+        ),
+        ("no mechanical pool", Question::Mechanical(7), ""),
         ("return", Question::HasReturn(b"RADIO1", 3), "RADIO1|3|;"),
         ("no return", Question::HasReturn(b"RADIO1", 2), ""),
         (

@@ -1,14 +1,16 @@
 //! A new book of the example society, what is written into it, and its rows as text.
 
 use society_rows::{
-    BalanceRow, CreditRow, Found, FrontRow, Idle, OfficeRow, PoolCutRow, PoolReturnRow, PoolRow,
-    RecordingRow, ReturnRow, RowFault, TransmissionRow, VerdictRow, VersionRow, add_credits,
-    add_pool, add_pool_cuts, add_pool_returns, add_recordings, add_returns, add_transmissions,
+    BalanceRow, CreditRow, Found, FrontRow, Idle, MechanicalPoolRow, OfficeRow, PoolCutRow,
+    PoolReturnRow, PoolRow, RecordingRow, ReturnRow, RowFault, SegmentEndRow, TransmissionRow,
+    VerdictRow, VersionRow, add_credits, add_mechanical_pool, add_pool, add_pool_cuts,
+    add_pool_returns, add_recordings, add_returns, add_segment_end, add_transmissions,
     add_verdicts, add_versions, create, layout_found, put_balance, put_front,
 };
 use sqlite::{Alter, Connection, MemStore, Row, Transaction};
 use sqlite_value::value::ValueRef;
 use std::alloc::{AllocError, Global};
+use work_ids::Segment;
 
 pub const SENDER: &[u8] = b"PB000000012";
 
@@ -202,4 +204,34 @@ pub fn write_balances<S: Alter>(tx: &mut Transaction<'_, S>) -> Result<(), RowFa
     };
     put_balance(tx, &before)?;
     put_balance(tx, &after)
+}
+
+/// Two ends of one sender, the later segment first, and one of another.
+pub fn write_ends<S: Alter>(tx: &mut Transaction<'_, S>) -> Result<(), RowFault> {
+    let year = SegmentEndRow {
+        sender: SENDER,
+        segment: Segment::Year(0),
+        last: 9_999,
+        next: 99,
+    };
+    let plain = SegmentEndRow {
+        sender: SENDER,
+        segment: Segment::Plain,
+        last: 2,
+        next: 0,
+    };
+    let other = SegmentEndRow {
+        sender: b"PB000000034",
+        segment: Segment::Year(26),
+        last: 0,
+        next: 27,
+    };
+    add_segment_end(tx, &year)?;
+    add_segment_end(tx, &other)?;
+    add_segment_end(tx, &plain)
+}
+
+/// Marks the pool of the book.
+pub fn write_mechanical<S: Alter>(tx: &mut Transaction<'_, S>) -> Result<(), RowFault> {
+    add_mechanical_pool(tx, &MechanicalPoolRow { pool: 7 })
 }

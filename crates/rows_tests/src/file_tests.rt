@@ -3,10 +3,13 @@ ghost use Rattle.std.specs.Prelude.{IsTrue, IfOk};
 ghost use Rattle.sqlite_disk.specs.Memory.{memory_is_usable};
 
 use crate::book::{
-    begin, write_balances, write_book, write_fronts, write_pools, write_verdicts, write_works,
+    begin, write_balances, write_book, write_ends, write_fronts, write_mechanical, write_pools,
+    write_verdicts, write_works,
 };
 use crate::checks::told;
-use crate::reads::{read_book, read_fronts, read_office, read_pools, read_verdicts, read_works};
+use crate::reads::{
+    read_book, read_fronts, read_marks, read_office, read_pools, read_verdicts, read_works,
+};
 use society_rows::{Idle, RowFault};
 use sqlite::{Alter, Connection, FileStore, Files, Options, Transaction};
 use sqlite_disk::Memory;
@@ -41,7 +44,9 @@ fn close(conn: Filed) -> Result<Memory, RowFault>
 fn write_orders<S: Alter>(tx: &mut Transaction<'_, S>) -> Result<(), RowFault> {
     write_book(tx)?;
     write_pools(tx)?;
-    write_balances(tx)
+    write_balances(tx)?;
+    write_ends(tx)?;
+    write_mechanical(tx)
 }
 
 fn write_derived<S: Alter>(tx: &mut Transaction<'_, S>) -> Result<(), RowFault> {
@@ -72,6 +77,7 @@ fn read_derived<S: Alter>(tx: &mut Transaction<'_, S>, alloc: Global) -> Result<
     let mut text = read_works(tx, alloc)?;
     text.push_str(read_verdicts(tx, alloc)?.as_str())?;
     text.push_str(read_fronts(tx, alloc)?.as_str())?;
+    text.push_str(read_marks(tx, alloc)?.as_str())?;
     Ok(text)
 }
 
@@ -107,7 +113,7 @@ fn a_file_holds_what_was_committed(rt: HostRuntime) -> Result<(), Fail> {
         &rt,
         "all tables",
         seen.as_str(),
-        "1|2|900|40|EXAMPLE SOCIETY|;PB000000012|1||;PB000000012|2|second|;RADIO1|3|isrc,plays,seconds|;7|1000000000000|;7|PB000000012|2|;RADIO1|3|7|;PB000000012|W1|0|1|0|99999999999|;PB000000012|W1|1|2|4|99999999999|;PB000000012|W1|0|ATABC2600001|;PB000000012|1|0|21|0|0|;7|0|-|UNCLAIMED|5|;PB000000012|2|1|;PB000000034|1|0|;UNCLAIMED|999999999999999999|;",
+        "1|3|900|40|EXAMPLE SOCIETY|;PB000000012|1||;PB000000012|2|second|;RADIO1|3|isrc,plays,seconds|;7|1000000000000|;7|PB000000012|2|;RADIO1|3|7|;PB000000012|W1|0|1|0|99999999999|;PB000000012|W1|1|2|4|99999999999|;PB000000012|W1|0|ATABC2600001|;PB000000012|1|0|21|0|0|;7|0|-|UNCLAIMED|5|;PB000000012|2|1|;PB000000034|1|0|;UNCLAIMED|999999999999999999|;PB000000012|-1|2|0|;PB000000012|0|9999|99|;PB000000034|26|0|27|;7|;",
     );
     Ok(())
 }

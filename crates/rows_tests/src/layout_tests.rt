@@ -15,9 +15,17 @@ fn run_text<S: Alter>(conn: &mut Idle<S>, sql: &str) -> Result<(), RowFault> {
     Ok(())
 }
 
-fn with_balances<S: Alter>(conn: &mut Idle<S>, sql: &str) -> Result<Found, RowFault> {
-    run_text(conn, "DROP TABLE balances")?;
+// Puts another table in the place of the last one.
+fn with_last<S: Alter>(conn: &mut Idle<S>, sql: &str) -> Result<Found, RowFault> {
+    run_text(conn, "DROP TABLE mechanical_pools")?;
     run_text(conn, sql)?;
+    Ok(layout_found(conn))
+}
+
+// Leaves the tables of layout 2.
+fn with_fewer<S: Alter>(conn: &mut Idle<S>) -> Result<Found, RowFault> {
+    run_text(conn, "DROP TABLE mechanical_pools")?;
+    run_text(conn, "DROP TABLE segment_ends")?;
     Ok(layout_found(conn))
 }
 
@@ -31,18 +39,28 @@ fn check_layouts<S: Alter>(rt: &impl Abort, conn: &mut Idle<S>) -> Result<(), Fa
     for (row, sql, wanted) in [
         (
             "a column renamed",
-            "CREATE TABLE balances (account TEXT NOT NULL PRIMARY KEY, unit INTEGER NOT NULL) STRICT",
+            "CREATE TABLE mechanical_pools (number INTEGER NOT NULL PRIMARY KEY, FOREIGN KEY (number) REFERENCES pools (pool)) STRICT",
             Found::Other,
         ),
         (
-            "the same columns",
-            "CREATE TABLE balances (account TEXT NOT NULL PRIMARY KEY, units INTEGER NOT NULL) STRICT",
+            "no reference",
+            "CREATE TABLE mechanical_pools (pool INTEGER NOT NULL PRIMARY KEY) STRICT",
+            Found::Other,
+        ),
+        (
+            "the same table",
+            "CREATE TABLE mechanical_pools (pool INTEGER NOT NULL PRIMARY KEY, FOREIGN KEY (pool) REFERENCES pools (pool)) STRICT",
             Found::Layout,
         ),
     ] {
-        told(rt, row, with_balances(conn, sql)?, wanted);
+        told(rt, row, with_last(conn, sql)?, wanted);
     }
     told(rt, "one table more", with_more(conn)?, Found::Other);
+    Ok(())
+}
+
+fn check_older<S: Alter>(rt: &impl Abort, conn: &mut Idle<S>) -> Result<(), Fail> {
+    told(rt, "layout 2", with_fewer(conn)?, Found::Other);
     Ok(())
 }
 
@@ -51,5 +69,6 @@ fn only_the_layout_is_found(rt: HostRuntime) -> Result<(), Fail> {
     let connection = Connection::open_in_memory(rt.alloc())?;
     let empty = Idle { connection };
     told(&rt, "empty", layout_found(&empty), Found::Nothing);
-    check_layouts(&rt, &mut book(rt.alloc())?)
+    check_layouts(&rt, &mut book(rt.alloc())?)?;
+    check_older(&rt, &mut book(rt.alloc())?)
 }

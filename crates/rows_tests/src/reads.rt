@@ -1,9 +1,9 @@
 //! The rows of tables, as text.
 use crate::book::{SENDER, shown};
 use society_rows::{
-    RowFault, TableName, all_offices, all_rows, balance_at, credits_of, cuts_of, front_at,
-    numbers_above, pool_at, pool_return_at, return_at, returns_of_pool, transmission_at,
-    verdicts_of, versions_of,
+    RowFault, TableName, all_offices, all_rows, balance_at, credits_of, cuts_of, ends_of, front_at,
+    mechanical_at, numbers_above, numbers_between, pool_at, pool_return_at, return_at,
+    returns_of_pool, transmission_at, verdicts_of, versions_of,
 };
 use sqlite::{Alter, Transaction};
 use std::alloc::Global;
@@ -112,4 +112,25 @@ pub fn read_office<S: Alter>(
     alloc: Global,
 ) -> Result<String, RowFault> {
     Ok(shown(alloc, all_offices(tx)?)?)
+}
+
+pub fn read_marks<S: Alter>(
+    tx: &mut Transaction<'_, S>,
+    alloc: Global,
+) -> Result<String, RowFault> {
+    let mut text = shown(alloc, all_rows(tx, TableName::SegmentEnds)?)?;
+    text.push_str(shown(alloc, all_rows(tx, TableName::MechanicalPools)?)?.as_str())?;
+    Ok(text)
+}
+
+pub fn read_marks_by_key<S: Alter>(
+    tx: &mut Transaction<'_, S>,
+    alloc: Global,
+) -> Result<String, RowFault> {
+    let mut text = shown(alloc, ends_of(tx, SENDER)?)?;
+    text.push_str(shown(alloc, mechanical_at(tx, 7)?)?.as_str())?;
+    text.push_str(shown(alloc, mechanical_at(tx, 8)?)?.as_str())?;
+    text.push_str(shown(alloc, numbers_between(tx, SENDER, 0, 2)?)?.as_str())?;
+    text.push_str(shown(alloc, numbers_between(tx, SENDER, 1, 2)?)?.as_str())?;
+    Ok(text)
 }

@@ -1,7 +1,7 @@
 //! Rows are read back as they were written, in a transaction of a new book in memory.
 use crate::book::{
-    SENDER, book, write_balances, write_book, write_fronts, write_pools, write_verdicts,
-    write_works,
+    SENDER, book, write_balances, write_book, write_ends, write_fronts, write_mechanical,
+    write_pools, write_verdicts, write_works,
 };
 use crate::checks::told;
 use crate::lists::{
@@ -9,10 +9,14 @@ use crate::lists::{
     write_three_versions,
 };
 use crate::reads::{
-    read_balances, read_book, read_by_key, read_credits, read_fronts, read_money, read_pool,
-    read_pools, read_verdicts, read_verdicts_alone, read_work, read_works,
+    read_balances, read_book, read_by_key, read_credits, read_fronts, read_marks,
+    read_marks_by_key, read_money, read_pool, read_pools, read_verdicts, read_verdicts_alone,
+    read_work, read_works,
 };
-use crate::typed::{balance_is_there, front_is_there, office_is_there, second_is_there};
+use crate::typed::{
+    balance_is_there, ends_are_there, front_is_there, mechanical_is_there, misread_ends,
+    office_is_there, second_is_there,
+};
 use society_rows::{RowFault, TableName, add_units, are_numbered};
 use sqlite::{Alter, Transaction};
 use std::alloc::Global;
@@ -25,6 +29,8 @@ use std::test::Fail;
 #[derive(Clone, Copy)]
 enum Case {
     Book,
+    Marks,
+    Misread,
     Derived,
     GivingWay,
     Typed,
@@ -49,6 +55,8 @@ fn check_in<S: Alter>(
 ) -> Result<(), Fail> {
     match case {
         Case::Book => check_book(rt, alloc, tx),
+        Case::Marks => check_marks(rt, alloc, tx),
+        Case::Misread => check_misread(rt, tx),
         Case::Derived => check_derived(rt, alloc, tx),
         Case::GivingWay => check_giving_way(rt, alloc, tx),
         Case::Typed => check_typed(rt, tx),
@@ -100,6 +108,55 @@ fn check_book<S: Alter>(
 #[test]
 fn the_book_is_read_back(rt: HostRuntime) -> Result<(), Fail> {
     check(&rt, rt.alloc(), Case::Book)
+}
+
+fn check_marks<S: Alter>(
+    rt: &impl Abort,
+    alloc: Global,
+    tx: &mut Transaction<'_, S>,
+) -> Result<(), Fail> {
+    write_book(tx)?;
+    write_pools(tx)?;
+    write_ends(tx)?;
+    write_mechanical(tx)?;
+    let seen = read_marks(tx, alloc)?;
+    told(
+        rt,
+        "ends and pools",
+        seen.as_str(),
+        "PB000000012|-1|2|0|;PB000000012|0|9999|99|;PB000000034|26|0|27|;7|;",
+    );
+    let seen = read_marks_by_key(tx, alloc)?;
+    told(
+        rt,
+        "by key",
+        seen.as_str(),
+        "PB000000012|-1|2|0|;PB000000012|0|9999|99|;7|;PB000000012|1|;",
+    );
+    told(rt, "ends", ends_are_there(tx)?, true);
+    told(rt, "pool", mechanical_is_there(tx)?, true);
+    Ok(())
+}
+
+#[test]
+fn ends_and_mechanical_pools_are_read_back(rt: HostRuntime) -> Result<(), Fail> {
+    check(&rt, rt.alloc(), Case::Marks)
+}
+
+fn check_misread<S: Alter>(rt: &impl Abort, tx: &mut Transaction<'_, S>) -> Result<(), Fail> {
+    write_ends(tx)?;
+    for change in [
+        "UPDATE segment_ends SET segment = 100 WHERE segment = 26",
+        "UPDATE segment_ends SET segment = -2 WHERE segment = 100",
+    ] {
+        told(rt, change, misread_ends(tx, change)?, true);
+    }
+    Ok(())
+}
+
+#[test]
+fn a_column_of_no_segment_is_not_read(rt: HostRuntime) -> Result<(), Fail> {
+    check(&rt, rt.alloc(), Case::Misread)
 }
 
 fn check_derived<S: Alter>(
@@ -226,12 +283,16 @@ fn check_numbered<S: Alter>(rt: &impl Abort, tx: &mut Transaction<'_, S>) -> Res
     write_pools(tx)?;
     write_fronts(tx)?;
     write_balances(tx)?;
+    write_ends(tx)?;
+    write_mechanical(tx)?;
     for (row, table) in [
         ("office", TableName::Office),
         ("transmissions", TableName::Transmissions),
         ("pools", TableName::Pools),
         ("fronts", TableName::Fronts),
         ("balances", TableName::Balances),
+        ("ends", TableName::SegmentEnds),
+        ("mechanical pools", TableName::MechanicalPools),
     ] {
         told(rt, row, are_numbered(tx, table)?, true);
     }

@@ -1,5 +1,5 @@
 -- The rows of the book's own tables, and the book that such rows stand for.
-use Rattle.std.specs.Prelude.{ℕ, pos, Bool, List, [], ◌∷◌, ◌==◌, Option, Some, None, filter, map}
+use Rattle.std.specs.Prelude.{◌≡◌, ℕ, pos, Bool, List, [], ◌∷◌, ◌==◌, Option, Some, None, filter, map}
 use Rattle.std.specs.FinMap as finite
 use Rattle.sqlite_value.specs.declared.value.Value.TheVariants.{Int, Text, Blob}
 use Rattle.sqlite_value.specs.Order.{Row}
@@ -84,13 +84,15 @@ paid_row pool key = Text (without_trailing_blanks key.reporter) ∷ Int (pos key
 abbrev pub paid_rows : Book → ℕ → List Row
 paid_rows book pool = rows_of_order (paid_row pool) (λ order. order.returns) (order_at book pool)
 
--- the book's own tables have exactly the rows of a book
+-- the book's own tables have exactly the rows of a book; no book states where a segment ends yet, and none has a pool of mechanical rights
 pub record AreOfBook (book : Book) (db : Trees) : Type 0 where
   pub transmissions : HasRows is_transmission_row (transmission_rows book) (rows_in layout.transmissions db)
   pub returns : HasRows is_return_row (return_rows book) (rows_in layout.returns db)
   pub pools : HasRows (is_of_pool 0) (pool_rows book) (rows_in layout.pools db)
   pub cuts : HasRows (is_of_pool 0) (cut_rows book) (rows_in layout.pool_cuts db)
   pub paid : HasRows (is_of_pool 2) (paid_rows book) (rows_in layout.pool_returns db)
+  pub ends : rows_in layout.segment_ends db ≡ []
+  pub mechanical : rows_in layout.mechanical_pools db ≡ []
 
 -- a row of a transmission as an entry of the book
 abbrev pub transmission_entry : Row → TransmissionKey × List ℕ

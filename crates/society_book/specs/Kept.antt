@@ -14,9 +14,9 @@ use Rattle.society_rows.specs.Stored.{AreNumbered, HasLayout, rows_in}
 use Rattle.society_book.specs.BookRows.{AreOfBook, book_of}
 use Rattle.society_book.specs.DerivedRows.{AreDerived}
 
--- the row of an office: one, layout 2, society, territory, name (profile)
+-- the row of an office: one, layout 3, society, territory, name (profile)
 abbrev pub office_row : Office → Row
-office_row office = Int (pos 1) ∷ Int (pos 2) ∷ Int (pos office.society) ∷ Int (pos office.territory) ∷ Text (name_of office) ∷ []
+office_row office = Int (pos 1) ∷ Int (pos 3) ∷ Int (pos office.society) ∷ Int (pos office.territory) ∷ Text (name_of office) ∷ []
 
 -- the tables hold this sound book of the office, exactly what is derived from it, and whole numbers as the rowids of what is put over
 pub record HoldsBook (office : Office) (book : Book) (db : Trees) : Type 0 where
@@ -30,7 +30,7 @@ pub record HoldsBook (office : Office) (book : Book) (db : Trees) : Type 0 where
 abbrev pub HoldsOwnBook : Office → Trees → Type 0
 HoldsOwnBook office db = HoldsBook office (book_of db) db
 
--- the database has the tables of layout 2, and they hold a book of the office
+-- the database has the tables of layout 3, and they hold a book of the office
 pub record IsOfficeBook (office : Office) (db : Database) : Type 0 where
   pub layout : HasLayout db
   pub holds : HoldsOwnBook office db.trees

@@ -68,7 +68,7 @@ pub record Comes (table : Table) (more : List Row) (old new : Trees) : Type 0 wh
 abbrev pub ReturnComes : Row → Trees → Trees → Type 0
 ReturnComes row = Comes returns (row ∷ [])
 
--- over layout 2 an answer says that the tables changed so
+-- over layout 3 an answer says that the tables changed so
 abbrev pub Changes : {X : Type 0} → (Trees → Trees → Type 0) → Result X RowFault → State → State → Type 0
 Changes Change result old new = HasCleanDisk new → HasLayout old.now → OnOk result (Change old.now.trees new.now.trees × HasLayout new.now)
 

@@ -12,7 +12,7 @@ use Rattle.society_rows.specs.declared.fault.RowFault.{RowFault}
 use Rattle.society_book.specs.DerivedRows.{works_to}
 use Rattle.society_book.specs.Kept.{HoldsBook}
 
--- Statements in a transaction: over layout 2 an answer says this of the database before and after, nothing is committed, and a crash
+-- Statements in a transaction: over layout 3 an answer says this of the database before and after, nothing is committed, and a crash
 -- leaves what it left before.
 pub record Does {X : Type 0} (old new : State) (result : Result X RowFault) (Says : Database → Database → X → Type 0) : Type 0 where
   pub says : HasCleanDisk new → IsTrue old.in_transaction → HasLayout old.now → IfOk result (Says old.now new.now)

@@ -1,6 +1,6 @@
 //! The office's book over a connection to its tables: what they answer, and what an arrival, a return and a pool write in one transaction.
 //!
-//! Each call holds over the tables of layout 2 where the disk told the truth. Outside a transaction of the caller's, an error leaves the
+//! Each call holds over the tables of layout 3 where the disk told the truth. Outside a transaction of the caller's, an error leaves the
 //! tables as they were.
 #![tactic(auto)]
 

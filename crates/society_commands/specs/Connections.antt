@@ -1,5 +1,5 @@
 -- What connections come to that are served one after another, and the lines that are printed of them.
-use Rattle.std.specs.Prelude.{◌≡◌, ◌⊎◌, ℕ, ◌+◌, ◌<◌, Bool, true, false, IsTrue, List, [], ◌∷◌, ◌++◌, Option, Result, Ok, Err, codes, decimal, length}
+use Rattle.std.specs.Prelude.{◌≡◌, ◌⊎◌, ℕ, ◌+◌, ◌<◌, ◌≤◌, Bool, true, false, IsTrue, List, [], ◌∷◌, ◌++◌, Option, Result, Ok, Err, codes, decimal, length}
 use Rattle.std.specs.Io.KnownBytes.{Appends}
 use Rattle.std.specs.List.{flat_map, AllByRecursion}
 use Rattle.http_desk.specs.Counted.{failures_of, inner_of}
@@ -104,7 +104,7 @@ StopsServingStore state desk new_desk contents out new_out connections =
     ⊎ ((count : ℕ) × (count < connections) × ServesStore state desk new_desk contents out new_out count)
 
 -- What a store shows that is opened over what a connection was found with: it is the office's; where there was no table its book is
--- empty, and where there were those of layout 2 they held a sound book with what is derived from it, and that is its book. Where the
+-- empty, and where there were those of layout 3 they held a sound book with what is derived from it, and that is its book. Where the
 -- database had to be an office's already, there were. Over a connection that was found open it is clean, unless its disk failed or did
 -- not tell the truth.
 pub record IsOver (office : Office) (existing : Bool) (found : connection.State) (begun : State) : Type 0 where
@@ -128,7 +128,7 @@ LeavesOpening true office found left = connection.Survives found left (λ db. �
 LeavesOpening false office found left = SurvivesOpening office found left
 
 -- A database was not opened as the office's: this is why, its connection shows what was committed, and a crash leaves what it left
--- before or what opening may leave. Where it had to be an office's already and has no table, it is told as empty; over layout 2 a failure
+-- before or what opening may leave. Where it had to be an office's already and has no table, it is told as empty; over layout 3 a failure
 -- of the store is told only where there may have been one.
 pub record IsNotOpened (office : Office) (existing : Bool) (found left : connection.State) : Type 0 where
   pub fault : OpenFault

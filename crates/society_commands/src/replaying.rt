@@ -43,16 +43,12 @@ pub fn replay<R: Read, W: Write, E: Write>(
             kind: FaultKind::Memory,
             requests: 0,
         };
-        report(err, &fault);
-        return BROKEN_OFF;
+        return broken_off(err, &fault);
     };
     let mut desk = Desk::new(tables);
     match serve(alloc, &mut desk, reader, out, TURNS) {
         Ok(_) => SERVED,
-        Err(fault) => {
-            report(err, &fault);
-            BROKEN_OFF
-        }
+        Err(fault) => broken_off(err, &fault),
     }
 }
 
@@ -73,4 +69,12 @@ pub fn report<E: Write>(err: &mut E, fault: &DeskFault) {
     let kind = fault_name(fault.kind);
     let requests = fault.requests;
     let _ = writeln!(err, "society: {kind} fault after {requests} requests");
+}
+
+/// Writes why a stream broke off, as `report` does. Answers the status.
+pub(crate) fn broken_off<E: Write>(err: &mut E, fault: &DeskFault) -> u8
+    ensures { result ≡ 1 }
+{
+    report(err, fault);
+    BROKEN_OFF
 }

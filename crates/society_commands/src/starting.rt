@@ -12,7 +12,7 @@ use crate::auditing::audit_file;
 use crate::connections::print;
 use crate::host::OpenDatabase;
 use crate::opening::serve_file;
-use crate::replaying::{BROKEN_OFF, SERVED, replay, report};
+use crate::replaying::{SERVED, broken_off, replay};
 use clap::Error;
 use clap::error::ErrorKind as ClapKind;
 use http_desk::{Counted, DeskFault, FaultKind};
@@ -153,8 +153,7 @@ fn without_words<E: Write>(why: NoWords, err: &mut E) -> u8
                 kind: FaultKind::Memory,
                 requests: 0,
             };
-            report(err, &fault);
-            BROKEN_OFF
+            broken_off(err, &fault)
         }
     }
 }

@@ -10,7 +10,7 @@ use Rattle.society_rows.specs.declared.fault.RowFault.TheVariants.{Memory}
 use Rattle.society_rows.specs.Faults.{fault_of_error, IsFailure}
 use Rattle.society_rows.specs.Stored.{HasLayout}
 
--- over layout 2, and where the disk told the truth, the fault is such a failure
+-- over layout 3, and where the disk told the truth, the fault is such a failure
 abbrev pub IsFailureOf : State → State → RowFault → Type 0
 IsFailureOf old new fault = HasCleanDisk new → HasLayout old.now → IsFailure fault
 
@@ -18,7 +18,7 @@ IsFailureOf old new fault = HasCleanDisk new → HasLayout old.now → IsFailure
 abbrev pub OnlyFailsOver : {X : Type 0} → (Database → Type 0) → State → State → Result X RowFault → Type 0
 OnlyFailsOver Was old new result = HasCleanDisk new → Was old.now → IfErr result IsFailure
 
--- the same over layout 2
+-- the same over layout 3
 abbrev pub OnlyFails : {X : Type 0} → State → State → Result X RowFault → Type 0
 OnlyFails = OnlyFailsOver HasLayout
 
@@ -30,7 +30,7 @@ OnlyFailsInside Was old new result = IsTrue old.in_transaction → OnlyFailsOver
 abbrev pub MayFail : State → State → Type 0
 MayFail old new = MoreFaults old.faults new.faults ⊎ ((old.is_open ≡ false) ⊎ IsSome old.step_limit)
 
--- over layout 2, and where the disk told the truth, the reading errs by want of memory, or where it may fail
+-- over layout 3, and where the disk told the truth, the reading errs by want of memory, or where it may fail
 abbrev pub ErrsByMedium : {X : Type 0} → State → State → Result X RowFault → Type 0
 ErrsByMedium old new result = HasCleanDisk new → HasLayout old.now → IfErr result (λ fault. (fault ≡ Memory) ⊎ MayFail old new)
 
@@ -47,7 +47,7 @@ pub record WritesOver {X : Type 0} (Was : Database → Type 0) (old new : State)
   pub kept : HasCleanDisk new → IsTrue old.in_transaction → KeepsCommit old new
   pub survives : Survives old new (λ _. ⊥)
 
--- the same over layout 2
+-- the same over layout 3
 abbrev pub Writes : {X : Type 0} → State → State → Result X RowFault → (Database → Database → Type 0) → Type 0
 Writes = WritesOver HasLayout
 

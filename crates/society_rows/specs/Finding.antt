@@ -28,7 +28,7 @@ is_one = op2 is_same (col 1 0) (lit (Int (pos 1)))
 abbrev pub index_called : TableName → Index
 index_called name = let table = table_called name in automatic table 0 table.primary (table.tree + 1)
 
--- it holds no table, index or view, or layout 2 and nothing else, or neither
+-- it holds no table, index or view, or layout 3 and nothing else, or neither
 abbrev pub IsFound : Database → Found → Type 0
 IsFound db found.Nothing = IsBare db
 IsFound db found.Layout = HasLayout db

@@ -20,7 +20,7 @@ use Rattle.society_rows.specs.declared.tables.TableName.{TableName}
 abbrev pub OfOtherLayout : State → Trees → Type 0
 OfOtherLayout old db = ¬ HasLayout old.now
 
--- A reading on a connection: over layout 2 it finds this, it changes nothing unless a failure undoes a transaction, and a crash leaves
+-- A reading on a connection: over layout 3 it finds this, it changes nothing unless a failure undoes a transaction, and a crash leaves
 -- what it left before.
 pub record ReadsAlone {X : Type 0} (old new : State) (result : Result X RowFault) (Found : Trees → X → Type 0) : Type 0 where
   pub found : HasCleanDisk new → HasLayout old.now → IfOk result (Found old.now.trees)

@@ -1,17 +1,19 @@
 -- The forms of the rows that are read: what each column may hold.
-use Rattle.std.specs.Prelude.{◌≡◌, ◌<◌, ◌^◌, ℕ, suc, ℤ, pos, FitsSigned, List, [], ◌∷◌, length, Result, IsOk}
+use Rattle.std.specs.Prelude.{◌≡◌, ◌<◌, ◌≤◌, ◌^◌, ℕ, suc, ℤ, pos, FitsSigned, List, [], ◌∷◌, length, Result, IsOk}
 use Rattle.std.specs.Int.{w64}
 use Rattle.sqlite_value.specs.declared.value.Value.{Value}
 use Rattle.sqlite_value.specs.declared.value.Value.TheVariants.{Int, Text, Blob}
 use Rattle.sqlite_value.specs.Order.{Row, column}
 use Rattle.society_rows.specs.declared.fault.RowFault.{RowFault}
+use Rattle.society_rows.specs.SegmentColumns.{segment_column}
 
--- a text, bytes, a number from 0 that fits 32 bits, a whole number that fits 64 bits, or one number alone
+-- a text, bytes, a number from 0 that fits 32 bits, a whole number that fits 64 bits, a segment, or one number alone
 pub data Form : Type 0 where
   Words : Form
   Bytes : Form
   Count : Form
   Amount : Form
+  Segment : Form
   Only : ℕ → Form
 
 -- the value is of the form
@@ -20,6 +22,7 @@ HasForm Words v = (text : List ℕ) × (v ≡ Text text)
 HasForm Bytes v = (bytes : List ℕ) × (v ≡ Blob bytes)
 HasForm Count v = (n : ℕ) × (v ≡ Int (pos n)) × (n < 2 ^ 32)
 HasForm Amount v = (n : ℤ) × (v ≡ Int n) × FitsSigned w64 n
+HasForm Segment v = (place : ℕ) × (v ≡ Int (segment_column place)) × (place ≤ 100)
 HasForm (Only n) v = v ≡ Int (pos n)
 
 -- the columns from a place on are of these forms
@@ -37,7 +40,7 @@ IsRead forms row result = IsOfForms forms row → IsOk result
 
 -- one, layout, society, territory, name
 abbrev pub office_forms : List Form
-office_forms = Only 1 ∷ Only 2 ∷ Count ∷ Count ∷ Words ∷ []
+office_forms = Only 1 ∷ Only 3 ∷ Count ∷ Count ∷ Words ∷ []
 
 -- sender, number, body
 abbrev pub transmission_forms : List Form
@@ -86,3 +89,11 @@ credit_forms = Count ∷ Count ∷ Words ∷ Words ∷ Amount ∷ []
 -- account, units
 abbrev pub balance_forms : List Form
 balance_forms = Words ∷ Amount ∷ []
+
+-- sender, segment, last, next
+abbrev pub segment_end_forms : List Form
+segment_end_forms = Words ∷ Segment ∷ Count ∷ Count ∷ []
+
+-- pool
+abbrev pub mechanical_pool_forms : List Form
+mechanical_pool_forms = Count ∷ []

@@ -1,4 +1,4 @@
--- The twelve tables of layout 2: the book, and what is derived from it (profile).
+-- The fourteen tables of layout 3: the book, what is derived from it, where segments end, and pools of mechanical rights (profile).
 use Rattle.std.specs.Prelude.{ℕ, pos, true, false, List, [], ◌∷◌, fold, codes, Some, None}
 use Rattle.sqlite_value.specs.declared.value.Value.TheVariants.{Null, Int}
 use Rattle.sqlite_value.specs.declared.keys.Collation.TheVariants.{Binary}
@@ -51,8 +51,8 @@ keyed_table name tree columns key references = record {
 }
 
 -- a table whose first column is its rowid
-abbrev pub numbered_table : List ℕ → ℕ → List Column → List Term → Table
-numbered_table name tree columns checks = record {
+abbrev pub numbered_table : List ℕ → ℕ → List Column → List Term → List Reference → Table
+numbered_table name tree columns checks references = record {
   name = name;
   tree = tree;
   columns = columns;
@@ -61,7 +61,7 @@ numbered_table name tree columns checks = record {
   uniques = [];
   orders = [];
   checks = checks;
-  references = [];
+  references = references;
   computed = [];
   stamps = record { places = []; terms = []; formats = [] };
   is_counted = false;
@@ -71,7 +71,7 @@ numbered_table name tree columns checks = record {
 unfoldable pub office : Table
 office =
     numbered_table (codes "office") 0 (whole (codes "one") ∷ whole (codes "layout") ∷ whole (codes "society") ∷ whole (codes "territory") ∷ text (codes "name") ∷ [])
-    (op2 (Compare Eq Binary) (col 1 0) (lit (Int (pos 1))) ∷ [])
+    (op2 (Compare Eq Binary) (col 1 0) (lit (Int (pos 1))) ∷ []) []
 
 -- the book
 
@@ -82,7 +82,7 @@ unfoldable pub returns : Table
 returns = keyed_table (codes "returns") 3 (text (codes "reporter") ∷ whole (codes "number") ∷ bytes (codes "body") ∷ []) (1 ∷ 2 ∷ []) []
 
 unfoldable pub pools : Table
-pools = numbered_table (codes "pools") 5 (whole (codes "pool") ∷ whole (codes "amount") ∷ []) []
+pools = numbered_table (codes "pools") 5 (whole (codes "pool") ∷ whole (codes "amount") ∷ []) [] []
 
 unfoldable pub pool_cuts : Table
 pool_cuts =
@@ -120,19 +120,29 @@ credits_table =
 unfoldable pub balances : Table
 balances = keyed_table (codes "balances") 20 (text (codes "account") ∷ whole (codes "units") ∷ []) (1 ∷ []) []
 
+-- what senders and pools say beside the book
+
+unfoldable pub segment_ends : Table
+segment_ends =
+    keyed_table (codes "segment_ends") 22 (text (codes "sender") ∷ whole (codes "segment") ∷ whole (codes "last") ∷ whole (codes "next") ∷ []) (1 ∷ 2 ∷ []) []
+
+unfoldable pub mechanical_pools : Table
+mechanical_pools =
+    numbered_table (codes "mechanical_pools") 24 (whole (codes "pool") ∷ []) [] (refers (0 ∷ []) (codes "pools") (codes "pool" ∷ []) ∷ [])
+
 abbrev pub no_schema : Schema
 no_schema = record { tables = []; indexes = []; views = [] }
 
 -- in the order in which they are made
 unfoldable pub all_tables : List Table
 all_tables =
-    office ∷ transmissions ∷ returns ∷ pools ∷ pool_cuts ∷ pool_returns ∷ fronts ∷ verdicts ∷ versions ∷ recordings ∷ credits_table ∷ balances ∷ []
+    office ∷ transmissions ∷ returns ∷ pools ∷ pool_cuts ∷ pool_returns ∷ fronts ∷ verdicts ∷ versions ∷ recordings ∷ credits_table ∷ balances ∷ segment_ends ∷ mechanical_pools ∷ []
 
--- the schema of layout 2
+-- the schema of layout 3
 unfoldable pub layout : Schema
 layout = fold created no_schema all_tables
 
 -- opens the layout and each of its tables
 unfoldable pub written_out : Unit {0}
-unfolding layout all_tables office transmissions returns pools pool_cuts pool_returns fronts verdicts versions recordings credits_table balances
+unfolding layout all_tables office transmissions returns pools pool_cuts pool_returns fronts verdicts versions recordings credits_table balances segment_ends mechanical_pools
 written_out = tt

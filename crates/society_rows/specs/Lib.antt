@@ -12,6 +12,7 @@ pub mod NewBook
 pub mod Questions
 pub mod Reads
 pub mod Rows
+pub mod SegmentColumns
 pub mod Shapes
 pub mod Stored
 pub mod TableNames

@@ -7,8 +7,8 @@ use Rattle.sqlite.specs.State.{State, HasCleanDisk, Survives}
 use Rattle.society_rows.specs.declared.fault.RowFault.{RowFault}
 use Rattle.society_rows.specs.declared.questions.Question.{Question}
 use Rattle.society_rows.specs.declared.questions.Question.TheVariants as question
-use Rattle.society_rows.specs.Layout.{office, transmissions, returns, pools, pool_cuts, pool_returns, fronts, verdicts, versions, credits_table, balances}
-use Rattle.society_rows.specs.Reads.{Lists, ListsKeys, IsFirstOf, has_key, has_at, is_above}
+use Rattle.society_rows.specs.Layout.{office, transmissions, returns, pools, pool_cuts, pool_returns, fronts, verdicts, versions, credits_table, balances, segment_ends, mechanical_pools}
+use Rattle.society_rows.specs.Reads.{Lists, ListsKeys, IsFirstOf, has_key, has_at, is_above, is_above_and_below}
 use Rattle.society_rows.specs.Stored.{HasLayout}
 
 -- the rows that answer the question
@@ -17,9 +17,12 @@ RowsAnswer question.Office = Lists office (λ _. true) 1
 RowsAnswer (question.Front sender) = Lists fronts (has_key (Text sender.now ∷ [])) 1
 RowsAnswer (question.Transmission sender number) = Lists transmissions (has_key (Text sender.now ∷ Int (pos number) ∷ [])) 2
 RowsAnswer (question.NumbersAbove sender number) = ListsKeys transmissions (is_above (Text sender.now) (Int (pos number))) 2
+RowsAnswer (question.NumbersBetween sender above below) = ListsKeys transmissions (is_above_and_below (Text sender.now) (Int (pos above)) (Int (pos below))) 2
+RowsAnswer (question.Ends sender) = Lists segment_ends (has_key (Text sender.now ∷ [])) 2
 RowsAnswer (question.Return reporter number) = Lists returns (has_key (Text reporter.now ∷ Int (pos number) ∷ [])) 2
 RowsAnswer (question.HasReturn reporter number) = ListsKeys returns (has_key (Text reporter.now ∷ Int (pos number) ∷ [])) 2
 RowsAnswer (question.Pool pool) = Lists pools (has_key (Int (pos pool) ∷ [])) 1
+RowsAnswer (question.Mechanical pool) = Lists mechanical_pools (has_key (Int (pos pool) ∷ [])) 1
 RowsAnswer (question.Cuts pool) = Lists pool_cuts (has_key (Int (pos pool) ∷ [])) 2
 RowsAnswer (question.Payer reporter number) = Lists pool_returns (has_key (Text reporter.now ∷ Int (pos number) ∷ [])) 2
 RowsAnswer (question.PaidBy pool) = Lists pool_returns (has_at 2 (Int (pos pool))) 2
@@ -29,7 +32,7 @@ RowsAnswer (question.LastVersion sender work) = IsFirstOf versions (has_key (Tex
 RowsAnswer (question.Credits pool) = Lists credits_table (has_key (Int (pos pool) ∷ [])) 2
 RowsAnswer (question.Balance account) = Lists balances (has_key (Text account.now ∷ [])) 1
 
--- A question on a connection at rest, which shows its last commit where it is open: over layout 2 it finds this, an answer comes from an
+-- A question on a connection at rest, which shows its last commit where it is open: over layout 3 it finds this, an answer comes from an
 -- open connection alone, it leaves the last commit, and a crash leaves what it left before.
 pub record Asks {X : Type 0} (old new : State) (result : Result X RowFault) (Found : Trees → X → Type 0) : Type 0 where
   pub settled : IsTrue old.is_open → old.now ≡ old.committed

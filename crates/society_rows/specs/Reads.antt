@@ -11,7 +11,7 @@ use Rattle.sqlite.specs.declared.error.Error.{Error}
 use Rattle.sqlite_value.specs.declared.keys.Collation.TheVariants.{Binary}
 use Rattle.sqlite_value.specs.declared.value.Value.{Value}
 use Rattle.sqlite_sql.specs.declared.ops.BinaryOp.TheVariants.{Compare}
-use Rattle.sqlite_sql.specs.declared.ops.CompareOp.TheVariants.{Gt}
+use Rattle.sqlite_sql.specs.declared.ops.CompareOp.TheVariants.{Gt, Lt}
 use Rattle.sqlite_sql.specs.Ops.{is_true, binary}
 use Rattle.sqlite_schema.specs.Rules.{equal}
 use Rattle.sqlite.specs.State.{State, HasCleanDisk, IsUnchanged, IsRolledBack, KeepsCommit, Survives, Shown, FailsToQuery, IsTooLate}
@@ -38,6 +38,14 @@ exceeds v w = is_true (binary (Compare Gt Binary) v w)
 -- the first column is this value, and the second is above that one
 abbrev pub is_above : Value → Value → Row → Bool
 is_above key least row = equal Binary (column row 0) key && exceeds (column row 1) least
+
+-- SQL's <
+abbrev pub precedes : Value → Value → Bool
+precedes v w = is_true (binary (Compare Lt Binary) v w)
+
+-- the first column is this value, and the second is above that one and below another
+abbrev pub is_above_and_below : Value → Value → Value → Row → Bool
+is_above_and_below key least most row = equal Binary (column row 0) key && (exceeds (column row 1) least && precedes (column row 1) most)
 
 -- the rows of the table that pass, each once, ascending by so many of their first columns
 pub record Lists (table : Table) (passes : Row → Bool) (width : ℕ) (db : Trees) (found : List Row) : Type 0 where
@@ -68,7 +76,7 @@ Selected text params old new (Ok rows) = Shown text params old new rows.items
 Selected text params old new (Err fault) =
     (error : Error) × (fault ≡ fault_of_error error) × (FailsToQuery text params old new error ⊎ IsTooLate text params old new error)
 
--- A reading: over layout 2 it finds this, it changes nothing unless a failure undoes the whole transaction, and it commits nothing. An
+-- A reading: over layout 3 it finds this, it changes nothing unless a failure undoes the whole transaction, and it commits nothing. An
 -- answer comes from an open connection alone.
 pub record Reads {X : Type 0} (old new : State) (result : Result X RowFault) (Found : Trees → X → Type 0) : Type 0 where
   pub found : HasCleanDisk new → HasLayout old.now → IfOk result (Found old.now.trees)

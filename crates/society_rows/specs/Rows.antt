@@ -6,19 +6,23 @@ use Rattle.society_rows.specs.declared.office.OfficeRow.{OfficeRow}
 use Rattle.society_rows.specs.declared.balances.BalanceRow.{BalanceRow}
 use Rattle.society_rows.specs.declared.credits.CreditRow.{CreditRow}
 use Rattle.society_rows.specs.declared.fronts.FrontRow.{FrontRow}
+use Rattle.society_rows.specs.declared.mechanical_pools.MechanicalPoolRow.{MechanicalPoolRow}
 use Rattle.society_rows.specs.declared.pool_cuts.PoolCutRow.{PoolCutRow}
 use Rattle.society_rows.specs.declared.pool_returns.PoolReturnRow.{PoolReturnRow}
 use Rattle.society_rows.specs.declared.pools.PoolRow.{PoolRow}
 use Rattle.society_rows.specs.declared.recordings.RecordingRow.{RecordingRow}
 use Rattle.society_rows.specs.declared.returns.ReturnRow.{ReturnRow}
+use Rattle.society_rows.specs.declared.segment_ends.SegmentEndRow.{SegmentEndRow}
 use Rattle.society_rows.specs.declared.transmissions.TransmissionKeyRow.{TransmissionKeyRow}
 use Rattle.society_rows.specs.declared.transmissions.TransmissionRow.{TransmissionRow}
 use Rattle.society_rows.specs.declared.verdicts.VerdictRow.{VerdictRow}
 use Rattle.society_rows.specs.declared.versions.VersionRow.{VersionRow}
+use Rattle.society_rows.specs.SegmentColumns.{segment_column}
+use Rattle.work_ids.specs.Segments.{index_of}
 
 -- one, layout, society, territory, name
 abbrev pub office_values : OfficeRow → Row
-office_values r = Int (pos 1) ∷ Int (pos 2) ∷ Int (pos r.society) ∷ Int (pos r.territory) ∷ Text r.name.now ∷ []
+office_values r = Int (pos 1) ∷ Int (pos 3) ∷ Int (pos r.society) ∷ Int (pos r.territory) ∷ Text r.name.now ∷ []
 
 -- sender, number, body
 abbrev pub transmission_values : TransmissionRow → Row
@@ -67,3 +71,11 @@ credit_values r = Int (pos r.pool) ∷ Int (pos r.line) ∷ Text r.isrc.now ∷ 
 -- account, units
 abbrev pub balance_values : BalanceRow → Row
 balance_values r = Text r.account.now ∷ Int r.units ∷ []
+
+-- sender, segment, last, next
+abbrev pub segment_end_values : SegmentEndRow → Row
+segment_end_values r = Text r.sender.now ∷ Int (segment_column (index_of r.segment)) ∷ Int (pos r.last) ∷ Int (pos r.next) ∷ []
+
+-- pool
+abbrev pub mechanical_pool_values : MechanicalPoolRow → Row
+mechanical_pool_values r = Int (pos r.pool) ∷ []

@@ -20,7 +20,7 @@ values_of table row = map (λ at. column row (place_of table at)) (range_with_le
 abbrev pub rows_in : Table → Trees → List Row
 rows_in table db = map (values_of table) (db table.tree)
 
--- the schema of the database is that of layout 2
+-- the schema of the database is that of layout 3
 abbrev pub HasLayout : Database → Type 0
 HasLayout db = db.schema ≡ layout
 

@@ -3,7 +3,7 @@ use Rattle.std.specs.Prelude.{ℕ, List, codes}
 use Rattle.sqlite_schema.specs.declared.schema.Table.{Table}
 use Rattle.society_rows.specs.declared.tables.TableName.{TableName}
 use Rattle.society_rows.specs.declared.tables.TableName.TheVariants as name
-use Rattle.society_rows.specs.Layout.{office, transmissions, returns, pools, pool_cuts, pool_returns, fronts, verdicts, versions, recordings, credits_table, balances}
+use Rattle.society_rows.specs.Layout.{office, transmissions, returns, pools, pool_cuts, pool_returns, fronts, verdicts, versions, recordings, credits_table, balances, segment_ends, mechanical_pools}
 
 -- the table of that name
 abbrev pub table_called : TableName → Table
@@ -19,6 +19,8 @@ table_called name.Versions = versions
 table_called name.Recordings = recordings
 table_called name.Credits = credits_table
 table_called name.Balances = balances
+table_called name.SegmentEnds = segment_ends
+table_called name.MechanicalPools = mechanical_pools
 
 -- by how many of its first columns its rows are listed: those of its key, or all, so that rows which are listed alike are one
 abbrev pub listing_width : TableName → ℕ
@@ -34,6 +36,8 @@ listing_width name.Versions = 6
 listing_width name.Recordings = 4
 listing_width name.Credits = 5
 listing_width name.Balances = 1
+listing_width name.SegmentEnds = 4
+listing_width name.MechanicalPools = 1
 
 -- the query that shows every row, by those columns
 abbrev pub listing_text : TableName → List ℕ
@@ -49,6 +53,8 @@ listing_text name.Versions = codes "SELECT sender, work, revision, number, place
 listing_text name.Recordings = codes "SELECT sender, work, revision, isrc FROM recordings ORDER BY sender, work, revision, isrc"
 listing_text name.Credits = codes "SELECT pool, line, isrc, account, units FROM credits ORDER BY pool, line, isrc, account, units"
 listing_text name.Balances = codes "SELECT account, units FROM balances ORDER BY account"
+listing_text name.SegmentEnds = codes "SELECT sender, segment, last, next FROM segment_ends ORDER BY sender, segment, last, next"
+listing_text name.MechanicalPools = codes "SELECT pool FROM mechanical_pools ORDER BY pool"
 
 -- the query that shows the rowid of every row, in any order
 abbrev pub rowids_text : TableName → List ℕ
@@ -64,3 +70,5 @@ rowids_text name.Versions = codes "SELECT rowid FROM versions"
 rowids_text name.Recordings = codes "SELECT rowid FROM recordings"
 rowids_text name.Credits = codes "SELECT rowid FROM credits"
 rowids_text name.Balances = codes "SELECT rowid FROM balances"
+rowids_text name.SegmentEnds = codes "SELECT rowid FROM segment_ends"
+rowids_text name.MechanicalPools = codes "SELECT rowid FROM mechanical_pools"

@@ -37,5 +37,11 @@ credits_text = codes "CREATE TABLE credits (pool INTEGER NOT NULL, line INTEGER 
 abbrev pub balances_text : List ℕ
 balances_text = codes "CREATE TABLE balances (account TEXT NOT NULL PRIMARY KEY, units INTEGER NOT NULL) STRICT"
 
+abbrev pub segment_ends_text : List ℕ
+segment_ends_text = codes "CREATE TABLE segment_ends (sender TEXT NOT NULL, segment INTEGER NOT NULL, last INTEGER NOT NULL, next INTEGER NOT NULL, PRIMARY KEY (sender, segment)) STRICT"
+
+abbrev pub mechanical_pools_text : List ℕ
+mechanical_pools_text = codes "CREATE TABLE mechanical_pools (pool INTEGER NOT NULL PRIMARY KEY, FOREIGN KEY (pool) REFERENCES pools (pool)) STRICT"
+
 abbrev pub all_texts : List (List ℕ)
-all_texts = office_text ∷ transmissions_text ∷ returns_text ∷ pools_text ∷ pool_cuts_text ∷ pool_returns_text ∷ fronts_text ∷ verdicts_text ∷ versions_text ∷ recordings_text ∷ credits_text ∷ balances_text ∷ []
+all_texts = office_text ∷ transmissions_text ∷ returns_text ∷ pools_text ∷ pool_cuts_text ∷ pool_returns_text ∷ fronts_text ∷ verdicts_text ∷ versions_text ∷ recordings_text ∷ credits_text ∷ balances_text ∷ segment_ends_text ∷ mechanical_pools_text ∷ []

@@ -1,9 +1,8 @@
 //! The table of credits.
-ghost use Rattle.std.specs.Prelude.{◌≡◌, map, take, [], ◌∷◌, pos, IfOk, IfErr, length, ◌≤◌, ◌⊎◌, IsTrue, OnErr};
+ghost use Rattle.std.specs.Prelude.{◌≡◌, map, take, [], ◌∷◌, pos, IfOk, IfErr};
 ghost use Rattle.sqlite_value.specs.declared.value.Value.TheVariants.{Int};
-ghost use Rattle.sqlite.specs.State.{HasCleanDisk, IsUnchanged, IsRolledBack};
 ghost use Rattle.society_rows.specs.declared.fault.RowFault.TheVariants.{Unread};
-ghost use Rattle.society_rows.specs.Effects.{Writes, IsAllOrNothing, LeavesFirst, OnlyFails, OnlyFailsInside, FailsWhole};
+ghost use Rattle.society_rows.specs.Effects.{Writes, IsAllOrNothing, LeavesFirst, OnlyFails, OnlyFailsInside};
 ghost use Rattle.society_rows.specs.Forms.{IsRead, credit_forms};
 ghost use Rattle.society_rows.specs.Layout.{credits_table};
 ghost use Rattle.society_rows.specs.Reads.{Lists, Reads, has_key};
@@ -12,6 +11,7 @@ ghost use Rattle.society_rows.specs.Stored.{HasLayout, Adds};
 ghost use Rattle.society_rows.specs.Between.{within};
 
 use crate::RowFault;
+use crate::pairing::{PairedRow, add_all};
 use crate::reading::{integer, text, whole};
 use crate::statement::{run, select};
 use sqlite::types::ToSql;
@@ -102,19 +102,21 @@ fn add_pair<S: Alter>(
     )
 }
 
-// Adds up to two credits, all or none.
-fn add_part<S: Alter>(tx: &mut Transaction<'_, S>, part: &[CreditRow<'_>]) -> Result<(), RowFault>
-    requires { length part.now ≤ 2 }
-    ensures same_reference { tx.new.conn.ghost_name ≡ tx.old.conn.ghost_name }
-    ensures written { within S.Store tx.old tx.new Writes result
-        (Adds credits_table (map credit_values part.now)) }
-    ensures whole { within S.Store tx.old tx.new FailsWhole result }
-    ensures told { within S.Store tx.old tx.new OnlyFails result }
-{
-    match part {
-        [] => Ok(()),
-        [one] => add_credit(tx, one),
-        [one, two, ..] => add_pair(tx, one, two),
+impl<'a> PairedRow for CreditRow<'a> {
+    ghost table = { credits_table };
+
+    ghost values = { credit_values };
+
+    fn add_one<S: Alter>(tx: &mut Transaction<'_, S>, row: &Self) -> Result<(), RowFault> {
+        add_credit(tx, row)
+    }
+
+    fn add_two<S: Alter>(
+        tx: &mut Transaction<'_, S>,
+        one: &Self,
+        two: &Self,
+    ) -> Result<(), RowFault> {
+        add_pair(tx, one, two)
     }
 }
 
@@ -130,11 +132,7 @@ pub fn add_credits<S: Alter>(
         (λ count. Adds credits_table (map credit_values (take count rows.now))) }
     ensures told { within S.Store tx.old tx.new (OnlyFailsInside HasLayout) result }
 {
-    // Two rows a statement have nearly all that many would gain, for one more text that is kept compiled.
-    for part in rows.chunks(2) {
-        add_part(tx, part)?;
-    }
-    Ok(())
+    add_all(tx, rows)
 }
 
 /// The credits of a pool, by line.

@@ -1,4 +1,4 @@
-//! What a database holds: nothing, layout 2, or something else.
+//! What a database holds: nothing, layout 3, or something else.
 ghost use Rattle.std.specs.Prelude.{◌≡◌, ◌↔◌, [], map, IsTrue};
 ghost use Rattle.sqlite.specs.Held.{state};
 ghost use Rattle.society_rows.specs.Finding.{IsFound, index_called};
@@ -15,14 +15,14 @@ use sqlite_schema::schema::{Index, Kind, Schema, Table};
 pub enum Found {
     /// No table, index or view.
     Nothing,
-    /// The tables of layout 2, and nothing else.
+    /// The tables of layout 3, and nothing else.
     Layout,
     /// Anything else.
     Other,
 }
 
 /// The tables, in the order in which they are made.
-const ALL: [TableName; 12] = [
+const ALL: [TableName; 14] = [
     TableName::Office,
     TableName::Transmissions,
     TableName::Returns,
@@ -35,10 +35,12 @@ const ALL: [TableName; 12] = [
     TableName::Recordings,
     TableName::Credits,
     TableName::Balances,
+    TableName::SegmentEnds,
+    TableName::MechanicalPools,
 ];
 
 /// Those whose key is not the rowid.
-const KEYED: [TableName; 10] = [
+const KEYED: [TableName; 11] = [
     TableName::Transmissions,
     TableName::Returns,
     TableName::PoolCuts,
@@ -49,6 +51,7 @@ const KEYED: [TableName; 10] = [
     TableName::Recordings,
     TableName::Credits,
     TableName::Balances,
+    TableName::SegmentEnds,
 ];
 
 // The columns of each table.
@@ -128,6 +131,15 @@ const CREDITS: [(&str, Kind); 5] = [
 
 const BALANCES: [(&str, Kind); 2] = [("account", Kind::Text), ("units", Kind::Integer)];
 
+const SEGMENT_ENDS: [(&str, Kind); 4] = [
+    ("sender", Kind::Text),
+    ("segment", Kind::Integer),
+    ("last", Kind::Integer),
+    ("next", Kind::Integer),
+];
+
+const MECHANICAL_POOLS: [(&str, Kind); 1] = [("pool", Kind::Integer)];
+
 /// What a cut refers to: its pool, and its transmission.
 const CUT_PARENTS: [Parent<'static>; 2] = [
     Parent {
@@ -156,12 +168,19 @@ const PAYMENT_PARENTS: [Parent<'static>; 2] = [
     },
 ];
 
-// Whether a table is that of layout 2 under a name.
+/// What a pool of mechanical rights refers to: its pool, by its rowid.
+const MECHANICAL_PARENTS: [Parent<'static>; 1] = [Parent {
+    columns: &[0],
+    parent: "pools",
+    parent_columns: &["pool"],
+}];
+
+// Whether a table is that of layout 3 under a name.
 fn is_called(table: &Table, name: TableName) -> bool
     ensures { IsTrue result ↔ (table.now ≡ table_called name) }
 {
     match name {
-        TableName::Office => is_numbered(table, "office", 0, &OFFICE, true),
+        TableName::Office => is_numbered(table, "office", 0, &OFFICE, true, &[]),
         TableName::Transmissions => is_keyed(
             table,
             "transmissions",
@@ -171,7 +190,7 @@ fn is_called(table: &Table, name: TableName) -> bool
             &[],
         ),
         TableName::Returns => is_keyed(table, "returns", 3, &RETURNS, &[1, 2], &[]),
-        TableName::Pools => is_numbered(table, "pools", 5, &POOLS, false),
+        TableName::Pools => is_numbered(table, "pools", 5, &POOLS, false, &[]),
         TableName::PoolCuts => is_keyed(table, "pool_cuts", 6, &POOL_CUTS, &[1, 2], &CUT_PARENTS),
         TableName::PoolReturns => is_keyed(
             table,
@@ -187,6 +206,15 @@ fn is_called(table: &Table, name: TableName) -> bool
         TableName::Recordings => is_keyed(table, "recordings", 16, &RECORDINGS, &[1, 2, 3, 4], &[]),
         TableName::Credits => is_keyed(table, "credits", 18, &CREDITS, &[1, 2], &[]),
         TableName::Balances => is_keyed(table, "balances", 20, &BALANCES, &[1], &[]),
+        TableName::SegmentEnds => is_keyed(table, "segment_ends", 22, &SEGMENT_ENDS, &[1, 2], &[]),
+        TableName::MechanicalPools => is_numbered(
+            table,
+            "mechanical_pools",
+            24,
+            &MECHANICAL_POOLS,
+            false,
+            &MECHANICAL_PARENTS,
+        ),
     }
 }
 
@@ -234,6 +262,20 @@ fn guards(index: &Index, name: TableName) -> bool
         ),
         TableName::Credits => is_guard(index, "sqlite_autoindex_credits_1", 19, 18, &[1, 2]),
         TableName::Balances => is_guard(index, "sqlite_autoindex_balances_1", 21, 20, &[1]),
+        TableName::SegmentEnds => is_guard(
+            index,
+            "sqlite_autoindex_segment_ends_1",
+            23,
+            22,
+            &[1, 2],
+        ),
+        TableName::MechanicalPools => is_guard(
+            index,
+            "sqlite_autoindex_mechanical_pools_1",
+            25,
+            24,
+            &[0],
+        ),
     }
 }
 
@@ -261,7 +303,7 @@ fn is_made_of(schema: &Schema, names: &[TableName], keyed: &[TableName]) -> bool
         && schema.views.is_empty()
 }
 
-// Whether a schema is that of layout 2.
+// Whether a schema is that of layout 3.
 fn is_layout(schema: &Schema) -> bool
     ensures { IsTrue result ↔ (schema.now ≡ layout) }
 {

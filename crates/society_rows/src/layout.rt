@@ -15,8 +15,8 @@ use crate::statement::run;
 use crate::{Idle, OfficeRow, RowFault};
 use sqlite::{Alter, Transaction};
 
-/// The tables of layout 2, each after those that it refers to.
-const TABLES: [&str; 12] = [
+/// The tables of layout 3, each after those that it refers to.
+const TABLES: [&str; 14] = [
     "CREATE TABLE office (one INTEGER NOT NULL PRIMARY KEY CHECK (one = 1), layout INTEGER NOT NULL, society INTEGER NOT NULL, territory INTEGER NOT NULL, name TEXT NOT NULL) STRICT",
     "CREATE TABLE transmissions (sender TEXT NOT NULL, number INTEGER NOT NULL, body BLOB NOT NULL, PRIMARY KEY (sender, number)) STRICT",
     "CREATE TABLE returns (reporter TEXT NOT NULL, number INTEGER NOT NULL, body BLOB NOT NULL, PRIMARY KEY (reporter, number)) STRICT",
@@ -29,9 +29,11 @@ const TABLES: [&str; 12] = [
     "CREATE TABLE recordings (sender TEXT NOT NULL, work TEXT NOT NULL, revision INTEGER NOT NULL, isrc TEXT NOT NULL, PRIMARY KEY (sender, work, revision, isrc)) STRICT",
     "CREATE TABLE credits (pool INTEGER NOT NULL, line INTEGER NOT NULL, isrc TEXT NOT NULL, account TEXT NOT NULL, units INTEGER NOT NULL, PRIMARY KEY (pool, line)) STRICT",
     "CREATE TABLE balances (account TEXT NOT NULL PRIMARY KEY, units INTEGER NOT NULL) STRICT",
+    "CREATE TABLE segment_ends (sender TEXT NOT NULL, segment INTEGER NOT NULL, last INTEGER NOT NULL, next INTEGER NOT NULL, PRIMARY KEY (sender, segment)) STRICT",
+    "CREATE TABLE mechanical_pools (pool INTEGER NOT NULL PRIMARY KEY, FOREIGN KEY (pool) REFERENCES pools (pool)) STRICT",
 ];
 
-// Makes the tables of the texts, those of layout 2, in a database that has none.
+// Makes the tables of the texts, those of layout 3, in a database that has none.
 fn make_tables<S: Alter>(tx: &mut Transaction<'_, S>, texts: &[&str]) -> Result<(), RowFault>
     requires { map (λ (t : Bor (List ℕ)). t.now) texts.now ≡ all_texts }
     ensures same_reference { tx.new.conn.ghost_name ≡ tx.old.conn.ghost_name }
@@ -45,7 +47,7 @@ fn make_tables<S: Alter>(tx: &mut Transaction<'_, S>, texts: &[&str]) -> Result<
     Ok(())
 }
 
-/// Makes the tables of layout 2 in a database that has none.
+/// Makes the tables of layout 3 in a database that has none.
 pub(crate) fn lay_out<S: Alter>(tx: &mut Transaction<'_, S>) -> Result<(), RowFault>
     ensures same_reference { tx.new.conn.ghost_name ≡ tx.old.conn.ghost_name }
     ensures made { within S.Store tx.old tx.new (WritesOver IsBare) result
@@ -66,7 +68,7 @@ fn begin_book<S: Alter>(tx: &mut Transaction<'_, S>, office: &OfficeRow<'_>) -> 
     add_office(tx, office)
 }
 
-/// Makes the tables of layout 2 in a database that has none, and writes the row of the office, in one transaction;
+/// Makes the tables of layout 3 in a database that has none, and writes the row of the office, in one transaction;
 /// `layout_found` says whether it has any. After an error, and after a crash, the database is as it was or the whole new book.
 pub fn create<S: Alter>(conn: &mut Idle<S>, office: &OfficeRow<'_>) -> Result<(), RowFault>
     requires bare { IsBare (state S.Store conn.old).now }

@@ -1,7 +1,7 @@
 //! The tables of the office in SQLite: typed rows, and one call for each statement over them.
 //!
 //! The rows of a table stand for a set, seen as a list up to its order. But for `create`, each call runs within a
-//! transaction of the caller's and commits nothing. Over layout 2, and where the disk told the truth, a fault is want
+//! transaction of the caller's and commits nothing. Over layout 3, and where the disk told the truth, a fault is want
 //! of memory or a failure that SQLite told, but for `Unread` of a reader and of units that are not one row or none,
 //! `Overflow` of a sum, and what ends a fold.
 #![tactic(auto)]
@@ -15,8 +15,10 @@ mod fronts;
 mod idle;
 mod keys;
 mod layout;
+mod mechanical_pools;
 mod numbering;
 mod office;
+mod pairing;
 mod pool_cuts;
 mod pool_returns;
 mod pools;
@@ -24,6 +26,7 @@ mod questions;
 mod reading;
 mod recordings;
 mod returns;
+mod segment_ends;
 mod shapes;
 mod statement;
 mod tables;
@@ -40,6 +43,7 @@ pub use fronts::{FrontRow, front_at, put_front};
 pub use idle::Idle;
 pub use keys::keys_are_values;
 pub use layout::create;
+pub use mechanical_pools::{MechanicalPoolRow, add_mechanical_pool, mechanical_at};
 pub use numbering::are_numbered;
 pub use office::{LAYOUT, OfficeRow, all_offices};
 pub use pool_cuts::{PoolCutRow, add_pool_cut, add_pool_cuts, cuts_of};
@@ -50,10 +54,11 @@ pub use pools::{PoolRow, add_pool, pool_at};
 pub use questions::{Question, answer, ask};
 pub use recordings::{RecordingRow, add_recording, add_recordings};
 pub use returns::{ReturnRow, add_return, add_returns, return_at, return_known};
+pub use segment_ends::{SegmentEndRow, add_segment_end, ends_of};
 pub use tables::{TableName, all_rows};
 pub use transmissions::{
     TransmissionKeyRow, TransmissionRow, add_transmission, add_transmissions, numbers_above,
-    transmission_at,
+    numbers_between, transmission_at,
 };
 pub use verdicts::{VerdictRow, add_verdict, add_verdicts, verdicts_of};
 pub use versions::{VersionRow, add_version, add_versions, last_version_of, versions_of};

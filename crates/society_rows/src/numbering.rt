@@ -31,6 +31,8 @@ fn rowids(table: TableName) -> &'static str
         TableName::Recordings => "SELECT rowid FROM recordings",
         TableName::Credits => "SELECT rowid FROM credits",
         TableName::Balances => "SELECT rowid FROM balances",
+        TableName::SegmentEnds => "SELECT rowid FROM segment_ends",
+        TableName::MechanicalPools => "SELECT rowid FROM mechanical_pools",
     }
 }
 

@@ -16,8 +16,8 @@ use sqlite::types::ToSql;
 use sqlite::{Alter, Row, Transaction};
 use sqlite_value::value::ValueRef;
 
-/// The layout that is written: 2, the book and what is derived from it.
-pub const LAYOUT: u32 = 2;
+/// The layout that is written: 3, the book, what is derived from it, where segments end, and pools of mechanical rights.
+pub const LAYOUT: u32 = 3;
 
 /// The office whose tables these are: its society, its territory and its name.
 #[derive(Clone, Copy, Debug)]
@@ -28,7 +28,7 @@ pub struct OfficeRow<'a> {
 }
 
 impl<'a> OfficeRow<'a> {
-    /// The row that these values are, in the order of the columns; else `Unread`, also where the layout is not 2.
+    /// The row that these values are, in the order of the columns; else `Unread`, also where the layout is not 3.
     pub fn from_row(row: &'a Row) -> Result<OfficeRow<'a>, RowFault>
         ensures value { IfOk result (λ x. office_values x ≡ row.now) }
         ensures read { IsRead office_forms row.now result }
@@ -62,7 +62,7 @@ pub(crate) fn add_office<S: Alter>(
 {
     run(
         tx,
-        "INSERT INTO office (one, layout, society, territory, name) VALUES (1, 2, ?1, ?2, ?3)",
+        "INSERT INTO office (one, layout, society, territory, name) VALUES (1, 3, ?1, ?2, ?3)",
         &[
             row.society.to_sql(),
             row.territory.to_sql(),

@@ -6,9 +6,9 @@ ghost use Rattle.society_rows.specs.Reads.{Reads};
 ghost use Rattle.society_rows.specs.Between.{between, within};
 
 use crate::{
-    Idle, RowFault, all_offices, balance_at, credits_of, cuts_of, front_at, last_version_of,
-    numbers_above, pool_at, pool_return_at, return_at, return_known, returns_of_pool,
-    transmission_at, verdicts_of, versions_of,
+    Idle, RowFault, all_offices, balance_at, credits_of, cuts_of, ends_of, front_at,
+    last_version_of, mechanical_at, numbers_above, numbers_between, pool_at, pool_return_at,
+    return_at, return_known, returns_of_pool, transmission_at, verdicts_of, versions_of,
 };
 use sqlite::{Alter, Row, Transaction};
 
@@ -23,12 +23,18 @@ pub enum Question<'a> {
     Transmission(&'a [u8], u32),
     /// The keys of the transmissions of a sender above a number.
     NumbersAbove(&'a [u8], u32),
+    /// The keys of the transmissions of a sender above one number and below another.
+    NumbersBetween(&'a [u8], u32, u32),
+    /// The ends of the segments of a sender.
+    Ends(&'a [u8]),
     /// The return of a reporter under a number.
     Return(&'a [u8], u32),
     /// The key of the return of a reporter under a number.
     HasReturn(&'a [u8], u32),
     /// The pool of a number.
     Pool(u32),
+    /// The row of a pool that is of mechanical rights.
+    Mechanical(u32),
     /// The cuts of a pool.
     Cuts(u32),
     /// The pool that pays the return of a reporter under a number.
@@ -62,9 +68,12 @@ pub fn answer<S: Alter>(
         Question::Front(sender) => front_at(tx, sender),
         Question::Transmission(sender, number) => transmission_at(tx, sender, number),
         Question::NumbersAbove(sender, number) => numbers_above(tx, sender, number),
+        Question::NumbersBetween(sender, above, below) => numbers_between(tx, sender, above, below),
+        Question::Ends(sender) => ends_of(tx, sender),
         Question::Return(reporter, number) => return_at(tx, reporter, number),
         Question::HasReturn(reporter, number) => return_known(tx, reporter, number),
         Question::Pool(pool) => pool_at(tx, pool),
+        Question::Mechanical(pool) => mechanical_at(tx, pool),
         Question::Cuts(pool) => cuts_of(tx, pool),
         Question::Payer(reporter, number) => pool_return_at(tx, reporter, number),
         Question::PaidBy(pool) => returns_of_pool(tx, pool),

@@ -1,14 +1,17 @@
 //! The values of a row, as their columns have them.
-ghost use Rattle.std.specs.Prelude.{◌≡◌, pos, IfOk, IfErr, IsOk, FitsSigned};
+ghost use Rattle.std.specs.Prelude.{◌≡◌, ◌≤◌, pos, IfOk, IfErr, IsOk, FitsSigned};
 ghost use Rattle.std.specs.Int.{w64};
 ghost use Rattle.sqlite_value.specs.Order.{column};
 ghost use Rattle.sqlite_value.specs.declared.value.Value.TheVariants.{Int, Text, Blob};
 ghost use Rattle.society_rows.specs.declared.fault.RowFault.TheVariants.{Unread};
-ghost use Rattle.society_rows.specs.Forms.{HasForm, Words, Bytes, Count, Amount};
+ghost use Rattle.society_rows.specs.Forms.{HasForm, Words, Bytes, Count, Amount, Segment as SegmentForm};
+ghost use Rattle.society_rows.specs.SegmentColumns.{segment_column};
+ghost use Rattle.work_ids.specs.Segments.{index_of};
 
 use crate::RowFault;
 use sqlite::Row;
 use sqlite_value::value::ValueRef;
+use work_ids::Segment;
 
 /// The text in a column, as bytes; else `Unread`.
 pub(crate) fn text(row: &Row, at: usize) -> Result<&[u8], RowFault>
@@ -55,6 +58,23 @@ pub(crate) fn integer(row: &Row, at: usize) -> Result<i64, RowFault>
 {
     match row.get_ref(at) {
         Ok(ValueRef::Int(n)) => Ok(n),
+        _ => Err(RowFault::Unread),
+    }
+}
+
+/// The segment in a column: -1 is the plain one, 0 to 99 is a year; else `Unread`.
+pub(crate) fn segment(row: &Row, at: usize) -> Result<Segment, RowFault>
+    ensures value { IfOk result (λ s. column row.now at ≡ Int (segment_column (index_of s))) }
+    ensures read { HasForm SegmentForm (column row.now at) → IsOk result }
+    ensures range { IfOk result (λ s. index_of s ≤ 100) }
+    ensures fault { IfErr result (λ e. e ≡ Unread) }
+{
+    let number = integer(row, at)?;
+    if number == -1 {
+        return Ok(Segment::Plain);
+    }
+    match u8::try_from(number) {
+        Ok(year) if year < 100 => Ok(Segment::Year(year)),
         _ => Err(RowFault::Unread),
     }
 }

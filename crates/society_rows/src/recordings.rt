@@ -1,9 +1,8 @@
 //! The table of recordings of versions.
-ghost use Rattle.std.specs.Prelude.{◌≡◌, map, take, [], ◌∷◌, IfOk, IfErr, length, ◌≤◌, ◌⊎◌, IsTrue, OnErr};
+ghost use Rattle.std.specs.Prelude.{◌≡◌, map, take, [], ◌∷◌, IfOk, IfErr};
 ghost use Rattle.sqlite_value.specs.declared.value.Value.TheVariants.{Text};
-ghost use Rattle.sqlite.specs.State.{HasCleanDisk, IsUnchanged, IsRolledBack};
 ghost use Rattle.society_rows.specs.declared.fault.RowFault.TheVariants.{Unread};
-ghost use Rattle.society_rows.specs.Effects.{Writes, IsAllOrNothing, LeavesFirst, OnlyFails, OnlyFailsInside, FailsWhole};
+ghost use Rattle.society_rows.specs.Effects.{Writes, IsAllOrNothing, LeavesFirst, OnlyFails, OnlyFailsInside};
 ghost use Rattle.society_rows.specs.Forms.{IsRead, recording_forms};
 ghost use Rattle.society_rows.specs.Layout.{recordings};
 ghost use Rattle.society_rows.specs.Rows.{recording_values};
@@ -11,6 +10,7 @@ ghost use Rattle.society_rows.specs.Stored.{HasLayout, Adds};
 ghost use Rattle.society_rows.specs.Between.{within};
 
 use crate::RowFault;
+use crate::pairing::{PairedRow, add_all};
 use crate::reading::{integer, text};
 use crate::statement::run;
 use sqlite::types::ToSql;
@@ -96,22 +96,21 @@ fn add_pair<S: Alter>(
     )
 }
 
-// Adds up to two recordings of versions, all or none.
-fn add_part<S: Alter>(
-    tx: &mut Transaction<'_, S>,
-    part: &[RecordingRow<'_>],
-) -> Result<(), RowFault>
-    requires { length part.now ≤ 2 }
-    ensures same_reference { tx.new.conn.ghost_name ≡ tx.old.conn.ghost_name }
-    ensures written { within S.Store tx.old tx.new Writes result
-        (Adds recordings (map recording_values part.now)) }
-    ensures whole { within S.Store tx.old tx.new FailsWhole result }
-    ensures told { within S.Store tx.old tx.new OnlyFails result }
-{
-    match part {
-        [] => Ok(()),
-        [one] => add_recording(tx, one),
-        [one, two, ..] => add_pair(tx, one, two),
+impl<'a> PairedRow for RecordingRow<'a> {
+    ghost table = { recordings };
+
+    ghost values = { recording_values };
+
+    fn add_one<S: Alter>(tx: &mut Transaction<'_, S>, row: &Self) -> Result<(), RowFault> {
+        add_recording(tx, row)
+    }
+
+    fn add_two<S: Alter>(
+        tx: &mut Transaction<'_, S>,
+        one: &Self,
+        two: &Self,
+    ) -> Result<(), RowFault> {
+        add_pair(tx, one, two)
     }
 }
 
@@ -127,9 +126,5 @@ pub fn add_recordings<S: Alter>(
         (λ count. Adds recordings (map recording_values (take count rows.now))) }
     ensures told { within S.Store tx.old tx.new (OnlyFailsInside HasLayout) result }
 {
-    // Two rows a statement have nearly all that many would gain, for one more text that is kept compiled.
-    for part in rows.chunks(2) {
-        add_part(tx, part)?;
-    }
-    Ok(())
+    add_all(tx, rows)
 }

@@ -1,4 +1,4 @@
-//! Whether what a schema has is what layout 2 has.
+//! Whether what a schema has is what layout 3 has.
 ghost use Rattle.std.specs.Prelude.{◌≡◌, ◌≢◌, ◌↔◌, ℕ, List, [], ◌∷◌, map, pos, if◌then◌else◌, slice_index_or, true, IsTrue, MatchOption};
 ghost use Rattle.std.specs.Borrow.{Bor};
 ghost use Rattle.sqlite_value.specs.Keys.{plain};
@@ -227,15 +227,17 @@ pub(crate) fn is_keyed(
         && !table.is_counted
 }
 
-/// Whether a table's first column is its rowid, and it has these columns and this many checks, which say that the first is 1.
+/// Whether a table's first column is its rowid, and it has these columns and references, and, where it is for one row, the check that the
+/// first is 1.
 pub(crate) fn is_numbered(
     table: &Table,
     name: &str,
     tree: u32,
     columns: &[(&str, Kind)],
     one: bool,
+    parents: &[Parent<'_>],
 ) -> bool
-    ensures { IsTrue result ↔ (table.now ≡ numbered_table name.now tree (columns_named columns.now) (if one then is_one ∷ [] else [])) }
+    ensures { IsTrue result ↔ (table.now ≡ numbered_table name.now tree (columns_named columns.now) (if one then is_one ∷ [] else []) (map refers_to parents.now)) }
 {
     let checked = if one {
         is_only_one(&table.checks)
@@ -250,7 +252,7 @@ pub(crate) fn is_numbered(
         && table.primary.as_slice() == [0].as_slice()
         && table.uniques.is_empty()
         && table.orders.is_empty()
-        && table.references.is_empty()
+        && are_references(table.references.as_slice(), parents)
         && table.computed.is_empty()
         && is_unstamped(&table.stamps)
         && !table.is_counted

@@ -10,7 +10,7 @@ use crate::RowFault;
 use crate::statement::select;
 use sqlite::{Alter, Row, Transaction};
 
-/// The tables of layout 2.
+/// The tables of layout 3.
 #[derive(Clone, Copy, Debug, PartialEq, Eq)]
 pub enum TableName {
     Office,
@@ -25,6 +25,8 @@ pub enum TableName {
     Recordings,
     Credits,
     Balances,
+    SegmentEnds,
+    MechanicalPools,
 }
 
 /// The query that shows all rows of a table, by its key; by all its columns where two rows of one key could not be told apart else.
@@ -62,6 +64,10 @@ pub(crate) fn listing(table: TableName) -> &'static str
             "SELECT pool, line, isrc, account, units FROM credits ORDER BY pool, line, isrc, account, units"
         }
         TableName::Balances => { "SELECT account, units FROM balances ORDER BY account" }
+        TableName::SegmentEnds => {
+            "SELECT sender, segment, last, next FROM segment_ends ORDER BY sender, segment, last, next"
+        }
+        TableName::MechanicalPools => { "SELECT pool FROM mechanical_pools ORDER BY pool" }
     }
 }
 

@@ -5,7 +5,7 @@ ghost use Rattle.society_rows.specs.declared.fault.RowFault.TheVariants.{Unread}
 ghost use Rattle.society_rows.specs.Effects.{Writes, IsAllOrNothing, LeavesFirst, OnlyFails, OnlyFailsInside};
 ghost use Rattle.society_rows.specs.Forms.{IsRead, transmission_forms, transmission_key_forms};
 ghost use Rattle.society_rows.specs.Layout.{transmissions};
-ghost use Rattle.society_rows.specs.Reads.{Lists, ListsKeys, Reads, has_key, is_above};
+ghost use Rattle.society_rows.specs.Reads.{Lists, ListsKeys, Reads, has_key, is_above, is_above_and_below};
 ghost use Rattle.society_rows.specs.Rows.{transmission_values, transmission_key_values};
 ghost use Rattle.society_rows.specs.Stored.{HasLayout, Adds};
 ghost use Rattle.society_rows.specs.Between.{within};
@@ -140,5 +140,24 @@ pub fn numbers_above<S: Alter>(
         tx,
         "SELECT sender, number FROM transmissions WHERE sender = ?1 AND number > ?2 ORDER BY sender, number",
         &[ValueRef::Text(sender), number.to_sql()],
+    )
+}
+
+/// The keys of the transmissions of a sender above one number and below another, by number; their bodies are not read.
+pub fn numbers_between<S: Alter>(
+    tx: &mut Transaction<'_, S>,
+    sender: &[u8],
+    above: u32,
+    below: u32,
+) -> Result<Vec<Row>, RowFault>
+    ensures same_reference { tx.new.conn.ghost_name ≡ tx.old.conn.ghost_name }
+    ensures read { within S.Store tx.old tx.new Reads result
+        (λ db rows. ListsKeys transmissions (is_above_and_below (Text sender.now) (Int (pos above)) (Int (pos below))) 2 db rows.items) }
+    ensures told { within S.Store tx.old tx.new OnlyFails result }
+{
+    select(
+        tx,
+        "SELECT sender, number FROM transmissions WHERE sender = ?1 AND number > ?2 AND number < ?3 ORDER BY sender, number",
+        &[ValueRef::Text(sender), above.to_sql(), below.to_sql()],
     )
 }

@@ -1,9 +1,8 @@
 //! The table of verdicts.
-ghost use Rattle.std.specs.Prelude.{◌≡◌, map, take, [], ◌∷◌, pos, IfOk, IfErr, length, ◌≤◌, ◌⊎◌, IsTrue, OnErr};
+ghost use Rattle.std.specs.Prelude.{◌≡◌, map, take, [], ◌∷◌, pos, IfOk, IfErr};
 ghost use Rattle.sqlite_value.specs.declared.value.Value.TheVariants.{Int, Text};
-ghost use Rattle.sqlite.specs.State.{HasCleanDisk, IsUnchanged, IsRolledBack};
 ghost use Rattle.society_rows.specs.declared.fault.RowFault.TheVariants.{Unread};
-ghost use Rattle.society_rows.specs.Effects.{Writes, IsAllOrNothing, LeavesFirst, OnlyFails, OnlyFailsInside, FailsWhole};
+ghost use Rattle.society_rows.specs.Effects.{Writes, IsAllOrNothing, LeavesFirst, OnlyFails, OnlyFailsInside};
 ghost use Rattle.society_rows.specs.Forms.{IsRead, verdict_forms};
 ghost use Rattle.society_rows.specs.Layout.{verdicts};
 ghost use Rattle.society_rows.specs.Reads.{Lists, Reads, has_key};
@@ -12,6 +11,7 @@ ghost use Rattle.society_rows.specs.Stored.{HasLayout, Adds};
 ghost use Rattle.society_rows.specs.Between.{within};
 
 use crate::RowFault;
+use crate::pairing::{PairedRow, add_all};
 use crate::reading::{integer, text, whole};
 use crate::statement::{run, select};
 use sqlite::types::ToSql;
@@ -107,19 +107,21 @@ fn add_pair<S: Alter>(
     )
 }
 
-// Adds up to two verdicts, all or none.
-fn add_part<S: Alter>(tx: &mut Transaction<'_, S>, part: &[VerdictRow<'_>]) -> Result<(), RowFault>
-    requires { length part.now ≤ 2 }
-    ensures same_reference { tx.new.conn.ghost_name ≡ tx.old.conn.ghost_name }
-    ensures written { within S.Store tx.old tx.new Writes result
-        (Adds verdicts (map verdict_values part.now)) }
-    ensures whole { within S.Store tx.old tx.new FailsWhole result }
-    ensures told { within S.Store tx.old tx.new OnlyFails result }
-{
-    match part {
-        [] => Ok(()),
-        [one] => add_verdict(tx, one),
-        [one, two, ..] => add_pair(tx, one, two),
+impl<'a> PairedRow for VerdictRow<'a> {
+    ghost table = { verdicts };
+
+    ghost values = { verdict_values };
+
+    fn add_one<S: Alter>(tx: &mut Transaction<'_, S>, row: &Self) -> Result<(), RowFault> {
+        add_verdict(tx, row)
+    }
+
+    fn add_two<S: Alter>(
+        tx: &mut Transaction<'_, S>,
+        one: &Self,
+        two: &Self,
+    ) -> Result<(), RowFault> {
+        add_pair(tx, one, two)
     }
 }
 
@@ -135,11 +137,7 @@ pub fn add_verdicts<S: Alter>(
         (λ count. Adds verdicts (map verdict_values (take count rows.now))) }
     ensures told { within S.Store tx.old tx.new (OnlyFailsInside HasLayout) result }
 {
-    // Two rows a statement have nearly all that many would gain, for one more text that is kept compiled.
-    for part in rows.chunks(2) {
-        add_part(tx, part)?;
-    }
-    Ok(())
+    add_all(tx, rows)
 }
 
 /// The verdicts of a transmission, by place.

@@ -1,9 +1,8 @@
 //! The table of versions of works.
-ghost use Rattle.std.specs.Prelude.{◌≡◌, map, take, [], ◌∷◌, IfOk, IfErr, length, ◌≤◌, ◌⊎◌, IsTrue, OnErr};
+ghost use Rattle.std.specs.Prelude.{◌≡◌, map, take, [], ◌∷◌, IfOk, IfErr};
 ghost use Rattle.sqlite_value.specs.declared.value.Value.TheVariants.{Text};
-ghost use Rattle.sqlite.specs.State.{HasCleanDisk, IsUnchanged, IsRolledBack};
 ghost use Rattle.society_rows.specs.declared.fault.RowFault.TheVariants.{Unread};
-ghost use Rattle.society_rows.specs.Effects.{Writes, IsAllOrNothing, LeavesFirst, OnlyFails, OnlyFailsInside, FailsWhole};
+ghost use Rattle.society_rows.specs.Effects.{Writes, IsAllOrNothing, LeavesFirst, OnlyFails, OnlyFailsInside};
 ghost use Rattle.society_rows.specs.Forms.{IsRead, version_forms};
 ghost use Rattle.society_rows.specs.Layout.{versions};
 ghost use Rattle.society_rows.specs.Reads.{Lists, Reads, IsFirstOf, has_key};
@@ -12,6 +11,7 @@ ghost use Rattle.society_rows.specs.Stored.{HasLayout, Adds};
 ghost use Rattle.society_rows.specs.Between.{within};
 
 use crate::RowFault;
+use crate::pairing::{PairedRow, add_all};
 use crate::reading::{integer, text, whole};
 use crate::statement::{run, select};
 use sqlite::types::ToSql;
@@ -107,19 +107,21 @@ fn add_pair<S: Alter>(
     )
 }
 
-// Adds up to two versions of works, all or none.
-fn add_part<S: Alter>(tx: &mut Transaction<'_, S>, part: &[VersionRow<'_>]) -> Result<(), RowFault>
-    requires { length part.now ≤ 2 }
-    ensures same_reference { tx.new.conn.ghost_name ≡ tx.old.conn.ghost_name }
-    ensures written { within S.Store tx.old tx.new Writes result
-        (Adds versions (map version_values part.now)) }
-    ensures whole { within S.Store tx.old tx.new FailsWhole result }
-    ensures told { within S.Store tx.old tx.new OnlyFails result }
-{
-    match part {
-        [] => Ok(()),
-        [one] => add_version(tx, one),
-        [one, two, ..] => add_pair(tx, one, two),
+impl<'a> PairedRow for VersionRow<'a> {
+    ghost table = { versions };
+
+    ghost values = { version_values };
+
+    fn add_one<S: Alter>(tx: &mut Transaction<'_, S>, row: &Self) -> Result<(), RowFault> {
+        add_version(tx, row)
+    }
+
+    fn add_two<S: Alter>(
+        tx: &mut Transaction<'_, S>,
+        one: &Self,
+        two: &Self,
+    ) -> Result<(), RowFault> {
+        add_pair(tx, one, two)
     }
 }
 
@@ -135,11 +137,7 @@ pub fn add_versions<S: Alter>(
         (λ count. Adds versions (map version_values (take count rows.now))) }
     ensures told { within S.Store tx.old tx.new (OnlyFailsInside HasLayout) result }
 {
-    // Two rows a statement have nearly all that many would gain, for one more text that is kept compiled.
-    for part in rows.chunks(2) {
-        add_part(tx, part)?;
-    }
-    Ok(())
+    add_all(tx, rows)
 }
 
 /// The versions of a work, by revision.

@@ -1,12 +1,15 @@
 -- What passes when the requests of a book come again to a desk, by the part of the book that it has before and after (representation).
 use Rattle.std.specs.Prelude.{ℕ, ◌≡◌, List, Some, Result}
 use Rattle.std.specs.List.{AllByRecursion}
+use Rattle.sqlite.specs.Held.{Held}
 use Rattle.sqlite.specs.State.{HasCleanDisk, State}
+use Rattle.sqlite_trees.specs.declared.memory.MemStore.{MemStore}
 use Rattle.sqlite_value.specs.Order.{Row}
 use Rattle.society_core.specs.Book.{Book, IsSound, order_at}
 use Rattle.society_core.specs.Orders.{Order}
 use Rattle.society_book.specs.BookRows.{cut_rows, is_of_pool, paid_rows, pool_rows}
 use Rattle.society_book.specs.Columns.{HasRows, whole_number_at}
+use Rattle.society_tables.specs.InMemory.{memory_book}
 use Rattle.society_tables.specs.Rebuilding.{AllReported, AllSent, ClosedOn, ComesFrom, IsClosed, IsReported, IsSent, IsUpToPools, IsWithin, Passes, ReportedOn, SentOn, without_pools}
 use Rattle.society_tables.specs.declared.audit_fault.AuditFault.{AuditFault}
 
@@ -63,24 +66,24 @@ PassesPools rows cuts paid old new result =
     → old ≡ without_pools b
     → Passes result (λ _. new ≡ b)
 
--- what a database has of a book passes: a desk that had one part of it has another then
-abbrev pub PassesFrom : (Book → Book) → (Book → Book) → Book → Book → Result (Unit {0}) AuditFault → State → State → Type 0
+-- what a database has of a book passes: tables in memory that had one part of it have another then
+abbrev pub PassesFrom : (Book → Book) → (Book → Book) → Held MemStore → Held MemStore → Result (Unit {0}) AuditFault → State → State → Type 0
 PassesFrom part more first last result old new =
-    (b : Book) → HasCleanDisk new → ComesFrom b old → first ≡ part b
-    → Passes result (λ _. last ≡ more b)
+    (b : Book) → HasCleanDisk new → ComesFrom b old → memory_book first ≡ part b
+    → Passes result (λ _. memory_book last ≡ more b)
 
 -- all of a book
 abbrev pub whole_book : Book → Book
 whole_book b = b
 
 -- the rows of pools pass that a database has of a book
-abbrev pub PassesRowsOfPools : List Row → Book → Book → Result (Unit {0}) AuditFault → State → State → Type 0
+abbrev pub PassesRowsOfPools : List Row → Held MemStore → Held MemStore → Result (Unit {0}) AuditFault → State → State → Type 0
 PassesRowsOfPools rows first last result old new =
-    (b : Book) → HasCleanDisk new → ComesFrom b old → HasRows (is_of_pool 0) (pool_rows b) rows → first ≡ without_pools b
-    → Passes result (λ _. last ≡ b)
+    (b : Book) → HasCleanDisk new → ComesFrom b old → HasRows (is_of_pool 0) (pool_rows b) rows → memory_book first ≡ without_pools b
+    → Passes result (λ _. memory_book last ≡ b)
 
 -- the rows of pools and of cuts pass that a database has of a book
-abbrev pub PassesRowsOfCuts : List Row → List Row → Book → Book → Result (Unit {0}) AuditFault → State → State → Type 0
+abbrev pub PassesRowsOfCuts : List Row → List Row → Held MemStore → Held MemStore → Result (Unit {0}) AuditFault → State → State → Type 0
 PassesRowsOfCuts rows cuts first last result old new =
-    (b : Book) → HasCleanDisk new → ComesFrom b old → HasRows (is_of_pool 0) (pool_rows b) rows → HasRows (is_of_pool 0) (cut_rows b) cuts → first ≡ without_pools b
-    → Passes result (λ _. last ≡ b)
+    (b : Book) → HasCleanDisk new → ComesFrom b old → HasRows (is_of_pool 0) (pool_rows b) rows → HasRows (is_of_pool 0) (cut_rows b) cuts → memory_book first ≡ without_pools b
+    → Passes result (λ _. memory_book last ≡ b)

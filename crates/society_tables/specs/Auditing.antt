@@ -133,7 +133,7 @@ works_names = name.Versions ∷ name.Recordings ∷ []
 
 -- every table but those of the office, of transmissions and of returns
 abbrev pub money_names : List TableName
-money_names = name.Pools ∷ name.PoolCuts ∷ name.PoolReturns ∷ name.Fronts ∷ name.Verdicts ∷ name.Versions ∷ name.Recordings ∷ name.Credits ∷ name.Balances ∷ []
+money_names = name.Pools ∷ name.PoolCuts ∷ name.PoolReturns ∷ name.Fronts ∷ name.Verdicts ∷ name.Versions ∷ name.Recordings ∷ name.Credits ∷ name.Balances ∷ name.SegmentEnds ∷ name.MechanicalPools ∷ []
 
 -- what an order names is open: the book has the return, and no pool pays it
 abbrev pub IsOpenReturn : Book → ReturnKey → Type 0
@@ -154,6 +154,10 @@ pub record HoldsAside (office : Office) (bodies : Trees) (memory : Database) : T
 -- tables in memory that did so do so still
 abbrev pub ClosesAside : Office → Trees → Database → Database → Type 0
 ClosesAside office bodies old new = HoldsAside office bodies old → HoldsAside office bodies new
+
+-- so it is beside the database that an answer was read from
+abbrev pub StaysAside : Office → Database → Database → Trees → Unit {0} → Type 0
+StaysAside office old new db done = ClosesAside office db old new
 
 -- these are the senders of a book's transmissions, each once
 pub record AreSenders (book : Book) (senders : List (List ℕ)) : Type 0 where

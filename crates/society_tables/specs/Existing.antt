@@ -4,26 +4,36 @@ use Rattle.share_rules.specs.declared.office.Office.{Office}
 use Rattle.sqlite.specs.Effect.{Database}
 use Rattle.sqlite.specs.State as connection
 use Rattle.society_core.specs.State as store
+use Rattle.society_rows.specs.Effects.{MayFail}
 use Rattle.society_rows.specs.Stored.{HasLayout}
 use Rattle.society_tables.specs.Laws.{IsLeftBy}
 use Rattle.society_tables.specs.Opening.{HoldsOne, IsOutside, ShowsAs}
 use Rattle.society_tables.specs.declared.open_fault.OpenFault.{OpenFault}
+use Rattle.society_tables.specs.declared.open_fault.OpenFault.TheVariants as open_fault
 
 -- said where the disk told the truth and the connection was open when it was handed in
 abbrev pub WhenOpen : connection.State → connection.State → Type 0 → Type 0
 WhenOpen old new P = connection.HasCleanDisk new → IsTrue old.is_open → P
 
--- the database has layout 2, and holds a sound book of the office with exactly what is derived from it
+-- the database has layout 3, and holds a sound book of the office with exactly what is derived from it
 abbrev pub HoldsOffice : Office → Database → Type 0
 HoldsOffice office db = HasLayout db × HoldsOne office db.trees
 
--- what was committed has layout 2 and holds a sound book of the office, and is shown as it was
+-- what was committed has layout 3 and holds a sound book of the office, and is shown as it was
 abbrev pub FindsOffice : Office → connection.State → connection.State → Type 0
 FindsOffice office old new = WhenOpen old new (HasLayout old.committed × HoldsOne office old.committed.trees × ShowsAs old.committed new)
 
 -- of tables that hold a sound book of the office, this fault says only that memory was refused or the database failed
 abbrev pub SparesOffice : Office → Database → OpenFault → Type 0
 SparesOffice office db fault = HasLayout db → HoldsOne office db.trees → IsOutside fault
+
+-- so it says of what was committed, where the connection was open
+abbrev pub SparesCommitted : Office → connection.State → connection.State → OpenFault → Type 0
+SparesCommitted office old new fault = WhenOpen old new (SparesOffice office old.committed fault)
+
+-- over layout 3 the store's fault comes only where the disk may fail
+abbrev pub FailsByStore : OpenFault → connection.State → connection.State → Type 0
+FailsByStore fault old new = WhenOpen old new (HasLayout old.committed → fault ≡ open_fault.Store → MayFail old new)
 
 -- said of what a crash may leave of a clean store over this connection
 abbrev pub AfterCrash : connection.State → connection.State → Type 0 → Type 0
@@ -37,6 +47,6 @@ FindsBook old new = IsTrue new.is_clean → new.book ≡ old.book
 abbrev pub FindsLeft : store.State → store.State → Type 0
 FindsLeft old new = IsTrue new.is_clean → old.left new.book
 
--- said of what any crash leaves of a store over this connection, where that has layout 2
+-- said of what any crash leaves of a store over this connection, where that has layout 3
 abbrev pub AfterAnyCrash : connection.State → connection.State → Type 0 → Type 0
 AfterAnyCrash s found P = IsLeftBy s found → HasLayout found.committed → P

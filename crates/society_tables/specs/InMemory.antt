@@ -24,11 +24,15 @@ in_memory held = (state over_memory held).now
 abbrev pub memory_book : Held MemStore → Book
 memory_book held = book_of (in_memory held).trees
 
+-- said of tables in memory of layout 3 and of those of the database that an answer was read from
+abbrev pub FromMemory : (Trees → Trees → Type 0) → Database → Trees → Unit {0} → Type 0
+FromMemory Says memory db done = HasLayout memory → Says memory.trees db
+
 -- said of every book that the tables in memory hold with the bodies of some database
 abbrev pub OfMixed : Database → (Book → Type 0) → Type 0
 OfMixed memory Says = (office : Office) (book : Book) (db : Trees) → HoldsBook office book (mixed db memory.trees) → Says book
 
--- over layout 2 an answer of yes says this of every such book
+-- over layout 3 an answer of yes says this of every such book
 abbrev pub TellsMixed : Database → Result Bool RowFault → (Book → Type 0) → Type 0
 TellsMixed memory result Says = HasLayout memory → IfOk result (λ told. IsTrue told → OfMixed memory Says)
 

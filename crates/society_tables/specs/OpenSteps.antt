@@ -11,7 +11,7 @@ use Rattle.society_tables.specs.Rebuilding.{Passes, ShowsBook}
 use Rattle.society_tables.specs.declared.audit_fault.AuditFault.{AuditFault}
 use Rattle.society_tables.specs.declared.open_fault.OpenFault.{OpenFault}
 
--- over layout 2 a fault says this of the rows of the office
+-- over layout 3 a fault says this of the rows of the office
 abbrev pub TellsOfOffice : {X : Type 0} → Office → Result X OpenFault → State → State → Type 0
 TellsOfOffice office result old new = HasCleanDisk new → HasLayout old.now → IfErr result (TellsOffice office (rows_in layout.office old.now.trees))
 
@@ -28,11 +28,11 @@ PassesBook office book result old new = HasCleanDisk new → ShowsBook office bo
 abbrev pub PassesOffice : {X : Type 0} → Office → Result X AuditFault → State → State → Type 0
 PassesOffice office result old new = (b : Book) → HasCleanDisk new → IsSound b → ShowsBook office b old → Passes result (λ _. ⊤)
 
--- of layout 2, what was committed holds a sound book of the office, and is shown as it was
+-- of layout 3, what was committed holds a sound book of the office, and is shown as it was
 abbrev pub AuditsOffice : Office → State → State → Type 0
 AuditsOffice office old new = HasCleanDisk new → IsTrue old.is_open → HasLayout old.committed → HoldsOne office old.committed.trees × ShowsAs old.committed new
 
--- what was committed had no table, or those of layout 2
+-- what was committed had no table, or those of layout 3
 abbrev pub WasOpenable : State → State → Type 0
 WasOpenable old new = HasCleanDisk new → IsTrue old.is_open → IsOpenable old.committed
 

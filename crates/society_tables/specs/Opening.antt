@@ -38,7 +38,7 @@ open_fault_by audit.Memory = fault.Memory
 open_fault_by audit.Store = fault.Store
 open_fault_by audit.Damaged = fault.Damaged
 
--- one office is told of, by a row that can be read: one, layout 2, society, territory, name
+-- one office is told of, by a row that can be read: one, layout 3, society, territory, name
 abbrev pub IsOneOffice : List Row → Type 0
 IsOneOffice [] = ⊥
 IsOneOffice (row ∷ []) = IsOfForms office_forms row
@@ -53,7 +53,7 @@ TellsOffice office rows fault.Schema = ¬ IsOneOffice rows
 TellsOffice office rows fault.OtherOffice = IsOneOffice rows × (rows ≢ office_row office ∷ [])
 TellsOffice office rows fault.Damaged = rows ≡ office_row office ∷ []
 
--- What a fault says of a database: `Empty` that it has no table; `Schema` that it has tables, and not those of layout 2 with an
+-- What a fault says of a database: `Empty` that it has no table; `Schema` that it has tables, and not those of layout 3 with an
 -- office that can be read; `OtherOffice` that it has those of another office; `Damaged` that it has those of this office, and they
 -- hold no sound book with exactly what is derived from it.
 abbrev pub TellsDatabase : Office → Database → OpenFault → Type 0
@@ -73,7 +73,7 @@ IsOutside _ = ⊥
 -- the tables after the first, that of the office
 abbrev pub other_names : List TableName
 other_names =
-    name.Transmissions ∷ name.Returns ∷ name.Pools ∷ name.PoolCuts ∷ name.PoolReturns ∷ name.Fronts ∷ name.Verdicts ∷ name.Versions ∷ name.Recordings ∷ name.Credits ∷ name.Balances ∷ []
+    name.Transmissions ∷ name.Returns ∷ name.Pools ∷ name.PoolCuts ∷ name.PoolReturns ∷ name.Fronts ∷ name.Verdicts ∷ name.Versions ∷ name.Recordings ∷ name.Credits ∷ name.Balances ∷ name.SegmentEnds ∷ name.MechanicalPools ∷ []
 
 -- every table
 abbrev pub every_name : List TableName
@@ -91,7 +91,7 @@ Agree names one two = AllByRecursion (λ name. AgreesAt name one two) names
 abbrev pub ShowsAs : Database → connection.State → Type 0
 ShowsAs db s = IsTrue s.is_open → (s.now ≡ db) × (s.committed ≡ db)
 
--- Questions on a connection at rest, which shows its last commit where it is open: over layout 2 they find this, an answer comes from an
+-- Questions on a connection at rest, which shows its last commit where it is open: over layout 3 they find this, an answer comes from an
 -- open connection alone, they leave the last commit, and a crash leaves what it left before.
 pub record Inspects {X E : Type 0} (old new : connection.State) (result : Result X E) (Found : Trees → X → Type 0) : Type 0 where
   pub settled : IsTrue old.is_open → old.now ≡ old.committed
@@ -101,7 +101,7 @@ pub record Inspects {X E : Type 0} (old new : connection.State) (result : Result
   pub undone : connection.HasCleanDisk new → IsTrue new.is_open → (new.now ≡ old.committed) × (new.committed ≡ old.committed)
   pub survives : connection.Survives old new (λ _. ⊥)
 
--- Over layout 2, and where the disk told the truth, this fault is told only where the medium failed meanwhile, or the connection was
+-- Over layout 3, and where the disk told the truth, this fault is told only where the medium failed meanwhile, or the connection was
 -- shut or has a limit of steps.
 abbrev pub TellsFailure : {X E : Type 0} → E → connection.State → connection.State → Result X E → Type 0
 TellsFailure told old new result = connection.HasCleanDisk new → HasLayout old.now → IfErr result (λ e. e ≡ told → MayFail old new)
@@ -118,7 +118,7 @@ IsNumbered db = AreNumbered layout.fronts db × AreNumbered layout.balances db
 abbrev pub HoldsNumbered : Office → Trees → Type 0
 HoldsNumbered office db = IsNumbered db → HoldsOne office db
 
--- the database has no table, or those of layout 2
+-- the database has no table, or those of layout 3
 abbrev pub IsOpenable : Database → Type 0
 IsOpenable db = IsBare db ⊎ HasLayout db
 
@@ -126,8 +126,8 @@ IsOpenable db = IsBare db ⊎ HasLayout db
 abbrev pub SurvivesOpening : Office → connection.State → connection.State → Type 0
 SurvivesOpening office old new = connection.Survives old new (λ db. IsBare old.now × IsNewBook (office_row office) db)
 
--- A database becomes an office's tables or is left as it is: one that had no table begins an empty book, one of layout 2 held a sound
--- book with what is derived from it and is shown as it was, a fault says what the database has, layout 2 is told as a failure of the store
+-- A database becomes an office's tables or is left as it is: one that had no table begins an empty book, one of layout 3 held a sound
+-- book with what is derived from it and is shown as it was, a fault says what the database has, layout 3 is told as a failure of the store
 -- only where it failed, and a crash leaves what it left before or the new book.
 pub record Opens (office : Office) (old new : connection.State) (result : Result (Unit {0}) OpenFault) : Type 0 where
   pub rests : OnOk result ∥ Rests office new ∥₁

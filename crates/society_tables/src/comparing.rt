@@ -8,7 +8,7 @@ ghost use Rattle.society_tables.specs.Opening.{Agree, Inspects, TellsFailure, ev
 ghost use Rattle.society_tables.specs.declared.audit_fault.AuditFault.TheVariants.{Memory, Store};
 ghost use Rattle.society_tables.specs.Rebuilding.{IsAside};
 ghost use Rattle.society_rows.specs.Between.{between};
-ghost use Rattle.society_tables.specs.InMemory.{in_memory, PassesBeside};
+ghost use Rattle.society_tables.specs.InMemory.{FromMemory, in_memory, PassesBeside};
 ghost use Rattle.society_rows.specs.Listings.{ListsAll};
 
 use crate::audit_fault::AuditFault;
@@ -17,7 +17,7 @@ use sqlite::{Alter, MemStore, Row};
 use sqlite_value::order::is_same;
 
 /// The tables after the first.
-const OTHER_TABLES: [TableName; 11] = [
+const OTHER_TABLES: [TableName; 13] = [
     TableName::Transmissions,
     TableName::Returns,
     TableName::Pools,
@@ -29,6 +29,8 @@ const OTHER_TABLES: [TableName; 11] = [
     TableName::Recordings,
     TableName::Credits,
     TableName::Balances,
+    TableName::SegmentEnds,
+    TableName::MechanicalPools,
 ];
 
 /// All rows of a table, by its key, read in a transaction that is rolled back.
@@ -109,7 +111,7 @@ pub(crate) fn table_agrees<S: Alter>(
     memory: &mut Idle<MemStore>,
     table: TableName,
 ) -> Result<(), AuditFault>
-    ensures agree { between S.Store conn.old conn.new Inspects result (λ db _. HasLayout (in_memory memory.old) → AgreesAt table (in_memory memory.old).trees db) }
+    ensures agree { between S.Store conn.old conn.new Inspects result (FromMemory (AgreesAt table) (in_memory memory.old)) }
     ensures same { in_memory memory.new ≡ in_memory memory.old }
     ensures passes { between S.Store conn.old conn.new (PassesBeside (in_memory memory.old)) result }
     ensures failed { between S.Store conn.old conn.new (TellsFailure Store) result }
@@ -129,7 +131,7 @@ pub(crate) fn named_agree<S: Alter>(
     memory: &mut Idle<MemStore>,
     tables: &[TableName],
 ) -> Result<(), AuditFault>
-    ensures agree { between S.Store conn.old conn.new Inspects result (λ db _. HasLayout (in_memory memory.old) → Agree (name.Office ∷ tables.now) (in_memory memory.old).trees db) }
+    ensures agree { between S.Store conn.old conn.new Inspects result (FromMemory (Agree (name.Office ∷ tables.now)) (in_memory memory.old)) }
     ensures same { in_memory memory.new ≡ in_memory memory.old }
     ensures passes { between S.Store conn.old conn.new (PassesBeside (in_memory memory.old)) result }
     ensures failed { between S.Store conn.old conn.new (TellsFailure Store) result }
@@ -146,7 +148,7 @@ pub(crate) fn tables_agree<S: Alter>(
     conn: &mut Idle<S>,
     memory: &mut Idle<MemStore>,
 ) -> Result<(), AuditFault>
-    ensures agree { between S.Store conn.old conn.new Inspects result (λ db _. HasLayout (in_memory memory.old) → Agree every_name (in_memory memory.old).trees db) }
+    ensures agree { between S.Store conn.old conn.new Inspects result (FromMemory (Agree every_name) (in_memory memory.old)) }
     ensures passes { between S.Store conn.old conn.new (PassesBeside (in_memory memory.old)) result }
     ensures failed { between S.Store conn.old conn.new (TellsFailure Store) result }
 {

@@ -21,7 +21,7 @@ use work_ids::SenderKey;
 const WORKS_TABLES: [TableName; 2] = [TableName::Versions, TableName::Recordings];
 
 /// Every table but those of the office, of transmissions and of returns.
-const MONEY_TABLES: [TableName; 9] = [
+const MONEY_TABLES: [TableName; 11] = [
     TableName::Pools,
     TableName::PoolCuts,
     TableName::PoolReturns,
@@ -31,6 +31,8 @@ const MONEY_TABLES: [TableName; 9] = [
     TableName::Recordings,
     TableName::Credits,
     TableName::Balances,
+    TableName::SegmentEnds,
+    TableName::MechanicalPools,
 ];
 
 // That a database whose transmissions and returns may stand in a book has what its book gives, worked out in the tables of a new book in memory.

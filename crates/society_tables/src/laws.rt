@@ -24,9 +24,9 @@ pub fn reopen<S: Alter>(
     Tables::open(alloc, tables.into_connection(), &office)
 }
 
-/// Opens the database that a crash leaves of a store, in a connection of its own. Of a clean store that database has layout 2 and
+/// Opens the database that a crash leaves of a store, in a connection of its own. Of a clean store that database has layout 3 and
 /// holds a book of the office (`taken`), and the opening finds the store's book, so all that was answered as accepted (`kept`); a
-/// fault is `Memory` or `Store` then (`told`). Of any store, where what is left has layout 2, the opening finds a book that a
+/// fault is `Memory` or `Store` then (`told`). Of any store, where what is left has layout 3, the opening finds a book that a
 /// crash may leave (`left`).
 pub fn open_after_crash<S: Alter, T: Alter>(
     alloc: Global,

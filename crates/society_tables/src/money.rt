@@ -6,7 +6,7 @@ ghost use Rattle.society_core.specs.Book.{is_applied, order_at};
 ghost use Rattle.society_core.specs.Orders.{IsOrder};
 ghost use Rattle.society_rows.specs.Questions.{RowsAnswer, Asks};
 ghost use Rattle.society_rows.specs.Stored.{HasLayout};
-ghost use Rattle.society_tables.specs.Auditing.{ClosesAside, IsClosable, IsOpenReturn, WritesAlone};
+ghost use Rattle.society_tables.specs.Auditing.{IsClosable, IsOpenReturn, StaysAside, WritesAlone};
 ghost use Rattle.society_book.specs.Closings.{ClosesWith, PaysBy};
 ghost use Rattle.society_tables.specs.Opening.{Inspects};
 ghost use Rattle.society_book.specs.Steps.{LooksOpen};
@@ -198,7 +198,7 @@ fn close_aside<S: Alter>(
     pool: PoolNumber,
     order: &PoolOrder,
 ) -> Result<(), AuditFault>
-    ensures closed { between S.Store conn.old conn.new Inspects result (λ db _. ClosesAside office.now db (in_memory memory.old) (in_memory memory.new)) }
+    ensures closed { between S.Store conn.old conn.new Inspects result (StaysAside office.now (in_memory memory.old) (in_memory memory.new)) }
 {
     if !is_closable(conn, memory, pool, order)? {
         return Err(AuditFault::Damaged);
@@ -217,7 +217,7 @@ fn close_row<S: Alter>(
     row: &Row,
     orders: &PaidRows<'_>,
 ) -> Result<(), AuditFault>
-    ensures closed { between S.Store conn.old conn.new Inspects result (λ db _. ClosesAside office.now db (in_memory memory.old) (in_memory memory.new)) }
+    ensures closed { between S.Store conn.old conn.new Inspects result (StaysAside office.now (in_memory memory.old) (in_memory memory.new)) }
 {
     conn.see_last_commit();
     let (pool, order) = pool_of_row(alloc, row, orders.cuts, orders.paid)?;
@@ -233,7 +233,7 @@ fn close_rows<S: Alter>(
     rows: &[Row],
     orders: &PaidRows<'_>,
 ) -> Result<(), AuditFault>
-    ensures closed { between S.Store conn.old conn.new Inspects result (λ db _. ClosesAside office.now db (in_memory memory.old) (in_memory memory.new)) }
+    ensures closed { between S.Store conn.old conn.new Inspects result (StaysAside office.now (in_memory memory.old) (in_memory memory.new)) }
 {
     // An answer comes from an open connection alone.
     ask(conn, Question::Office)?;
@@ -250,7 +250,7 @@ pub(crate) fn close_all<S: Alter>(
     memory: &mut Idle<MemStore>,
     office: &Office,
 ) -> Result<(), AuditFault>
-    ensures closed { between S.Store conn.old conn.new Inspects result (λ db _. ClosesAside office.now db (in_memory memory.old) (in_memory memory.new)) }
+    ensures closed { between S.Store conn.old conn.new Inspects result (StaysAside office.now (in_memory memory.old) (in_memory memory.new)) }
 {
     let pools = rows_of_table(conn, TableName::Pools)?;
     let cuts = rows_of_table(conn, TableName::PoolCuts)?;

@@ -17,7 +17,7 @@ pub enum OpenFault {
     /// The database has no table, and was to be an office's.
     #[error("empty")]
     Empty,
-    /// The database has tables, and they are not those of layout 2, or its office cannot be read.
+    /// The database has tables, and they are not those of layout 3, or its office cannot be read.
     #[error("schema")]
     Schema,
     /// The tables are those of another office.

@@ -12,7 +12,7 @@ ghost use Rattle.society_rows.specs.Questions.{Asks};
 ghost use Rattle.society_rows.specs.Stored.{AreNumbered, HasLayout, rows_in};
 ghost use Rattle.society_rows.specs.TableNames.{table_called};
 ghost use Rattle.society_book.specs.Kept.{HoldsOwnBook, office_row};
-ghost use Rattle.society_tables.specs.Existing.{FindsOffice, SparesOffice, WhenOpen};
+ghost use Rattle.society_tables.specs.Existing.{FailsByStore, FindsOffice, SparesCommitted, WhenOpen};
 ghost use Rattle.society_tables.specs.Opening.{HoldsOne, Inspects, IsOutside, Opens, ShowsAs, SurvivesOpening, TellsFailure, TellsOffice, IsNumbered, HoldsNumbered};
 ghost use Rattle.society_tables.specs.declared.audit_fault.AuditFault.TheVariants as audit;
 ghost use Rattle.society_tables.specs.declared.open_fault.OpenFault.TheVariants as fault;
@@ -211,11 +211,11 @@ fn is_bare<S: Alter>(conn: &Idle<S>) -> bool
 impl<S: Alter> Tables<S> {
     /// The tables of an office in a database, which gets them where it has no table, index or view.
     ///
-    /// Where it has those of layout 2 they are audited: they have to be this office's, and exactly what the requests that
+    /// Where it has those of layout 3 they are audited: they have to be this office's, and exactly what the requests that
     /// they keep make of an empty book. The audit changes no row. `Schema` where there is something else, or no office that can
     /// be read; `OtherOffice` where the tables are another office's; `Damaged` where they are not what they should be; `Memory`
     /// and `Store` where memory or the database failed, so tables that hold a sound book of the office are opened else. Of tables
-    /// of layout 2 `Store` says that the medium failed in this opening, or the connection was shut or has a limit of steps. After a
+    /// of layout 3 `Store` says that the medium failed in this opening, or the connection was shut or has a limit of steps. After a
     /// fault the connection comes back, in no transaction, and the database is as it was committed.
     pub fn open(
         alloc: Global,
@@ -231,8 +231,8 @@ impl<S: Alter> Tables<S> {
         ensures known { IfOk result (λ t. between S.Store connection t.conn WasOpenable) }
         ensures told { IfErr result (λ e. between S.Store connection e.1 (TellsCommitted office.now e.0)) }
         ensures begins { IfErr result (λ e. e.0 ≢ Empty) }
-        ensures opens { IfErr result (λ e. WhenOpen (state S.Store connection) (state S.Store e.1) (SparesOffice office.now (state S.Store connection).committed e.0)) }
-        ensures failed { IfErr result (λ e. between S.Store connection e.1 (λ old new. WhenOpen old new (HasLayout old.committed → e.0 ≡ fault.Store → MayFail old new))) }
+        ensures opens { IfErr result (λ e. SparesCommitted office.now (state S.Store connection) (state S.Store e.1) e.0) }
+        ensures failed { IfErr result (λ e. between S.Store connection e.1 (FailsByStore e.0)) }
         ensures unchanged { IfErr result (λ e. between S.Store connection e.1 ShowsCommitted) }
         ensures idle { IfErr result (λ e. e.1.in_transaction ≡ false) }
         ensures crash { MatchResult result (λ t. between S.Store connection t.conn (SurvivesOpening office.now)) (λ e. between S.Store connection e.1 (SurvivesOpening office.now)) }
@@ -261,9 +261,9 @@ impl<S: Alter> Tables<S> {
         ensures empty { IsTrue (state S.Store connection).is_open → IsBare (state S.Store connection).committed → IsErrAnd result (λ e. (e.0 ≡ Empty) × (e.1 ≡ connection)) }
         ensures audited { IfOk result (λ t. FindsOffice office.now (state S.Store connection) (state S.Store t.conn)) }
         ensures told { IfErr result (λ e. between S.Store connection e.1 (TellsCommitted office.now e.0)) }
-        ensures opens { IfErr result (λ e. WhenOpen (state S.Store connection) (state S.Store e.1) (SparesOffice office.now (state S.Store connection).committed e.0)) }
+        ensures opens { IfErr result (λ e. SparesCommitted office.now (state S.Store connection) (state S.Store e.1) e.0) }
         ensures untouched { IfErr result (λ e. e.0 ≡ Empty → e.1 ≡ connection) }
-        ensures failed { IfErr result (λ e. between S.Store connection e.1 (λ old new. WhenOpen old new (HasLayout old.committed → e.0 ≡ fault.Store → MayFail old new))) }
+        ensures failed { IfErr result (λ e. between S.Store connection e.1 (FailsByStore e.0)) }
         ensures unchanged { IfErr result (λ e. between S.Store connection e.1 ShowsCommitted) }
         ensures idle { IfErr result (λ e. e.1.in_transaction ≡ false) }
         // A crash leaves what it left before.

@@ -248,7 +248,7 @@ fn transmissions_from<S: Alter>(
     ensures asked { between S.Store conn.old conn.new Inspects result (λ _ _. ⊤) }
     ensures failed { between S.Store conn.old conn.new (TellsFailure Store) result }
     ensures office { desk.new.office ≡ desk.old.office }
-    ensures passes { between S.Store conn.old conn.new (PassesFrom (λ _. empty_book) sent_alone (memory_book desk.old.conn) (memory_book desk.new.conn) result) }
+    ensures passes { between S.Store conn.old conn.new (PassesFrom (λ _. empty_book) sent_alone desk.old.conn desk.new.conn result) }
 {
     let rows = rows_of_table(conn, TableName::Transmissions)?;
     put_transmissions(alloc, desk, rows.as_slice())
@@ -263,7 +263,7 @@ fn returns_from<S: Alter>(
     ensures asked { between S.Store conn.old conn.new Inspects result (λ _ _. ⊤) }
     ensures failed { between S.Store conn.old conn.new (TellsFailure Store) result }
     ensures office { desk.new.office ≡ desk.old.office }
-    ensures passes { between S.Store conn.old conn.new (PassesFrom sent_alone without_pools (memory_book desk.old.conn) (memory_book desk.new.conn) result) }
+    ensures passes { between S.Store conn.old conn.new (PassesFrom sent_alone without_pools desk.old.conn desk.new.conn result) }
 {
     let rows = rows_of_table(conn, TableName::Returns)?;
     put_returns(alloc, desk, rows.as_slice())
@@ -280,7 +280,7 @@ fn pools_with_cuts<S: Alter>(
     ensures asked { between S.Store conn.old conn.new Inspects result (λ _ _. ⊤) }
     ensures failed { between S.Store conn.old conn.new (TellsFailure Store) result }
     ensures office { desk.new.office ≡ desk.old.office }
-    ensures passes { between S.Store conn.old conn.new (PassesRowsOfCuts rows.now cuts.now (memory_book desk.old.conn) (memory_book desk.new.conn) result) }
+    ensures passes { between S.Store conn.old conn.new (PassesRowsOfCuts rows.now cuts.now desk.old.conn desk.new.conn result) }
 {
     let paid = rows_of_table(conn, TableName::PoolReturns)?;
     close_pools(alloc, desk, rows, cuts, paid.as_slice())
@@ -296,7 +296,7 @@ fn pools_of_rows<S: Alter>(
     ensures asked { between S.Store conn.old conn.new Inspects result (λ _ _. ⊤) }
     ensures failed { between S.Store conn.old conn.new (TellsFailure Store) result }
     ensures office { desk.new.office ≡ desk.old.office }
-    ensures passes { between S.Store conn.old conn.new (PassesRowsOfPools rows.now (memory_book desk.old.conn) (memory_book desk.new.conn) result) }
+    ensures passes { between S.Store conn.old conn.new (PassesRowsOfPools rows.now desk.old.conn desk.new.conn result) }
 {
     let cuts = rows_of_table(conn, TableName::PoolCuts)?;
     pools_with_cuts(alloc, conn, desk, rows, cuts.as_slice())
@@ -311,7 +311,7 @@ fn pools_from<S: Alter>(
     ensures asked { between S.Store conn.old conn.new Inspects result (λ _ _. ⊤) }
     ensures failed { between S.Store conn.old conn.new (TellsFailure Store) result }
     ensures office { desk.new.office ≡ desk.old.office }
-    ensures passes { between S.Store conn.old conn.new (PassesFrom without_pools whole_book (memory_book desk.old.conn) (memory_book desk.new.conn) result) }
+    ensures passes { between S.Store conn.old conn.new (PassesFrom without_pools whole_book desk.old.conn desk.new.conn result) }
 {
     let rows = rows_of_table(conn, TableName::Pools)?;
     pools_of_rows(alloc, conn, desk, rows.as_slice())
@@ -326,7 +326,7 @@ fn money_from<S: Alter>(
     ensures asked { between S.Store conn.old conn.new Inspects result (λ _ _. ⊤) }
     ensures failed { between S.Store conn.old conn.new (TellsFailure Store) result }
     ensures office { desk.new.office ≡ desk.old.office }
-    ensures passes { between S.Store conn.old conn.new (PassesFrom sent_alone whole_book (memory_book desk.old.conn) (memory_book desk.new.conn) result) }
+    ensures passes { between S.Store conn.old conn.new (PassesFrom sent_alone whole_book desk.old.conn desk.new.conn result) }
 {
     returns_from(alloc, conn, desk)?;
     pools_from(alloc, conn, desk)
@@ -341,7 +341,7 @@ fn requests_from<S: Alter>(
     ensures asked { between S.Store conn.old conn.new Inspects result (λ _ _. ⊤) }
     ensures failed { between S.Store conn.old conn.new (TellsFailure Store) result }
     ensures office { desk.new.office ≡ desk.old.office }
-    ensures passes { between S.Store conn.old conn.new (PassesFrom (λ _. empty_book) whole_book (memory_book desk.old.conn) (memory_book desk.new.conn) result) }
+    ensures passes { between S.Store conn.old conn.new (PassesFrom (λ _. empty_book) whole_book desk.old.conn desk.new.conn result) }
 {
     transmissions_from(alloc, conn, desk)?;
     money_from(alloc, conn, desk)

@@ -217,7 +217,7 @@ impl<S: Alter> Store for Tables<S> {
 
 impl<S: Alter> Tables<S> {
     /// The connection that the tables lie behind; it is in no transaction. That of a clean store is open, shows what the last
-    /// commit left, and has layout 2 with the store's book and what is derived from it.
+    /// commit left, and has layout 3 with the store's book and what is derived from it.
     pub fn into_connection(self) -> Connection<S>
         ensures same { result ≡ self.conn }
         ensures idle { result.in_transaction ≡ false }

@@ -6,10 +6,10 @@ use crate::day_tests::{ANSWERS, DAY};
 use http_desk::{Counted, serve};
 use share_rules::Office;
 use society_commands::{Host, OpenDatabase, TURNS, audit_file, serve_file};
-use society_words::{Database, Place};
-use society_core::Desk;
+use society_core::{Desk, Store};
 use society_tables::{OpenFault, Tables};
-use sqlite::{Connection, FileFrom, FileStore, Wary};
+use society_words::{Database, Place};
+use sqlite::{Alter, Connection, FileFrom, FileStore, Wary};
 use std::alloc::Global;
 use std::net::{Net, SocketAddr, TcpListener, TcpStream};
 use std::process::Abort;
@@ -17,22 +17,29 @@ use std::test::Fail;
 use std::{fs, io};
 use test_bodies::office;
 
-/// A desk over the database at a path, opened as the office's.
-fn opened(rt: &HostRuntime, path: &str) -> Result<Desk<Tables<FileStore<FileFrom<Wary>>>>, Fail> {
-    let database = Database {
-        path,
-        existing: false,
-    };
-    let Ok(connection) = Host::<Wary>::new(rt).open_database(database) else {
-        return Err(Fail::new("a file"));
-    };
+// What is done over a store is done over any: over this one by its name each call takes a minute to prove.
+
+/// A desk over a database, opened as the office's.
+fn desk_over<M: Alter + Drop>(
+    alloc: Global,
+    connection: Connection<M>,
+) -> Result<Desk<Tables<M>>, Fail> {
     if !connection.is_autocommit() {
         return Err(Fail::new("no transaction"));
     }
-    match Tables::open(rt.alloc(), connection, &office()?) {
+    match Tables::open(alloc, connection, &office()?) {
         Ok(tables) => Ok(Desk::new(tables)),
         Err((fault, _)) => Err(Fail::from(fault)),
     }
+}
+
+/// What is answered to requests at a desk.
+fn answers<S: Store + Drop>(alloc: Global, desk: Desk<S>, input: &[u8]) -> Result<Vec<u8>, Fail> {
+    let mut desk = desk;
+    let mut reader = Counted::new(input);
+    let mut out = Counted::new(Vec::<u8>::new(alloc));
+    serve(alloc, &mut desk, &mut reader, &mut out, TURNS).map_err(|_| "a stream")?;
+    Ok(out.into_inner())
 }
 
 /// Empties a database's file and its log: an earlier run may have left both.
@@ -42,14 +49,36 @@ fn empty(rt: &HostRuntime, path: &str, log: &str) -> Result<(), Fail> {
     Ok(())
 }
 
+/// What is answered to requests over a database that is opened as the office's.
+fn answers_over<M: Alter + Drop>(
+    alloc: Global,
+    connection: Connection<M>,
+    input: &[u8],
+) -> Result<Vec<u8>, Fail> {
+    let desk = desk_over(alloc, connection)?;
+    answers(alloc, desk, input)
+}
+
+/// Opens the database at a path on a host as the office's and answers requests over it.
+fn answered_on<H: OpenDatabase>(
+    host: &H,
+    alloc: Global,
+    path: &str,
+    input: &[u8],
+) -> Result<Vec<u8>, Fail> {
+    let database = Database {
+        path,
+        existing: false,
+    };
+    let Ok(connection) = host.open_database(database) else {
+        return Err(Fail::new("a file"));
+    };
+    answers_over(alloc, connection, input)
+}
+
 /// Opens the database at a path as the office's and answers requests over it.
 fn answered(rt: &HostRuntime, path: &str, input: &[u8]) -> Result<Vec<u8>, Fail> {
-    let alloc = rt.alloc();
-    let mut desk = opened(rt, path)?;
-    let mut reader = Counted::new(input);
-    let mut out = Counted::new(Vec::<u8>::new(alloc));
-    serve(alloc, &mut desk, &mut reader, &mut out, TURNS).map_err(|_| "a stream")?;
-    Ok(out.into_inner())
+    answered_on(&Host::<Wary>::new(rt), rt.alloc(), path, input)
 }
 
 /// The day's requests up to its returns, and those behind them from the opened file: all answers are those of one run in memory.
@@ -199,6 +228,21 @@ const AUDITED: [(u16, u8, &str, &str); 2] = [
     (901, 1, "", "society: database of another office\n"),
 ];
 
+/// Checks what is printed where the day's file is audited.
+fn check_printed(rt: &impl Abort, seen: Printed, row: (u16, u8, &str, &str)) {
+    let (out, err, ended) = seen;
+    let (_, status, printed, told) = row;
+    is_status(rt, printed, ended, status);
+    is_text(rt, printed, &out, printed.as_bytes());
+    is_text(rt, printed, &err, told.as_bytes());
+}
+
+/// Whether a file holds these bytes still.
+fn is_kept(rt: &HostRuntime, path: &str, bytes: &[u8]) -> Result<bool, Fail> {
+    let now = fs::read(rt, path)?;
+    Ok(now.as_slice() == bytes)
+}
+
 /// A file that is audited keeps its bytes, and its log too.
 #[test]
 fn a_file_that_is_audited(rt: HostRuntime) -> Result<(), Fail> {
@@ -206,13 +250,10 @@ fn a_file_that_is_audited(rt: HostRuntime) -> Result<(), Fail> {
     answered(&rt, "audited.db", DAY)?;
     let file = fs::read(&rt, "audited.db")?;
     let log = fs::read(&rt, "audited.db-wal")?;
-    for (society, status, printed, told) in AUDITED {
-        let (out, err, ended) = audited(&rt, "audited.db", society)?;
-        is_status(&rt, printed, ended, status);
-        is_text(&rt, printed, &out, printed.as_bytes());
-        is_text(&rt, printed, &err, told.as_bytes());
-        holds(&rt, "its file", fs::read(&rt, "audited.db")? == file);
-        holds(&rt, "its log", fs::read(&rt, "audited.db-wal")? == log);
+    for row in AUDITED {
+        check_printed(&rt, audited(&rt, "audited.db", row.0)?, row);
+        holds(&rt, "its file", is_kept(&rt, "audited.db", &file)?);
+        holds(&rt, "its log", is_kept(&rt, "audited.db-wal", &log)?);
     }
     Ok(())
 }

@@ -205,11 +205,14 @@ fn a_database_with_the_rows_of_a_store_is_that_store(rt: HostRuntime) -> Result<
 fn what_is_not_the_offices_is_refused(rt: HostRuntime) -> Result<(), Fail> {
     let stray = "CREATE TABLE stray (one INTEGER) STRICT";
     let nobody = "DELETE FROM office";
+    let older =
+        "DROP TABLE mechanical_pools; DROP TABLE segment_ends; UPDATE office SET layout = 2";
     let rows = [
         ("", 900, None),
         ("", 901, Some(OpenFault::OtherOffice)),
         (stray, 900, Some(OpenFault::Schema)),
         (nobody, 900, Some(OpenFault::Schema)),
+        (older, 900, Some(OpenFault::Schema)),
     ];
     for (change, society, fault) in rows {
         told(
@@ -232,6 +235,8 @@ fn what_was_changed_is_damage(rt: HostRuntime) -> Result<(), Fail> {
         "UPDATE transmissions SET body = x'00' WHERE number = 3",
         "DELETE FROM credits WHERE line = 0",
         "INSERT INTO recordings (sender, work, revision, isrc) VALUES ('PB000000012', 'W9', 0, 'ATABC2600009')",
+        "INSERT INTO segment_ends (sender, segment, last, next) VALUES ('PB000000012', -1, 3, 26)",
+        "INSERT INTO mechanical_pools (pool) VALUES (7)",
     ];
     for change in changes {
         let fault = fault_after(rt.alloc(), change, 900)?;

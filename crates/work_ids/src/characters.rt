@@ -1,5 +1,5 @@
 //! The characters of identifiers.
-ghost use Rattle.std.specs.Prelude.{◌≡◌, map};
+ghost use Rattle.std.specs.Prelude.{◌≡◌, ◌==◌, map};
 ghost use Rattle.std.specs.List.{list_all};
 ghost use Rattle.work_ids.specs.Characters.{capital, is_capital, is_digit, is_capital_or_digit, is_printable};
 
@@ -63,6 +63,13 @@ pub fn are_capitals_or_digits(bytes: &[u8]) -> bool
     ensures { result ≡ list_all is_capital_or_digit bytes.now }
 {
     bytes.iter().all(|byte| is_capital_or_digit(*byte))
+}
+
+/// Whether the byte is a hyphen.
+pub(crate) fn is_hyphen(byte: u8) -> bool
+    ensures { result ≡ (byte == 45) }
+{
+    byte == b'-'
 }
 
 // Whether the byte is printable ASCII.

@@ -1,5 +1,7 @@
 //! Names of files, in which a number of a year stands.
 ghost use Rattle.std.specs.Prelude.{◌≡◌, ◌↔◌, ℕ, Some, length};
+ghost use Rattle.std.specs.Str.{bytes_eq};
+ghost use Rattle.work_ids.specs.Digits.{last_digits};
 ghost use Rattle.work_ids.specs.FileNames.{IsNameOf, is_file_name, is_name_end, number_in_capitals, number_in_name};
 
 use crate::characters::{are_capitals_or_digits, are_digits, make_capitals};
@@ -21,6 +23,13 @@ const LONG_NAME: usize = 19;
 /// Characters of a name behind the sender's code.
 const NAME_END: usize = 8;
 
+// Whether bytes are the three digits of a society.
+fn are_digits_of(bytes: &[u8], society: u16) -> bool
+    ensures { result ≡ bytes_eq bytes.now (last_digits 3 society) }
+{
+    bytes == last_digits::<3>(u64::from(society)).as_slice()
+}
+
 // Whether eight bytes end a name that is sent to a society.
 #[tactic(auto, unfolding(crate::specs::FileNames::is_name_end))]
 fn is_name_end(bytes: &[u8], society: u16) -> bool
@@ -28,7 +37,7 @@ fn is_name_end(bytes: &[u8], society: u16) -> bool
     ensures { result ≡ is_name_end society bytes.now }
 {
     bytes[0] == b'_'
-        && &bytes[1..4] == last_digits::<3>(u64::from(society)).as_slice()
+        && are_digits_of(&bytes[1..4], society)
         && &bytes[4..7] == VERSION
         && (bytes[7] == b'1' || bytes[7] == b'2')
 }

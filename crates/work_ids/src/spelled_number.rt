@@ -3,7 +3,7 @@ ghost use Rattle.std.specs.Prelude.{◌≡◌, ◌≤◌, Some};
 ghost use Rattle.work_ids.specs.SpelledNumber.{dated_in_text, dated_text, transmission_number_spelled, is_dated_text};
 ghost use Rattle.work_ids.specs.declared.spelled_number.SpelledNumber.TheVariants.{Dated};
 
-use crate::characters::are_digits;
+use crate::characters::{are_digits, is_hyphen};
 use crate::digits::{last_digits, short_number};
 use crate::{Segment, TransmissionNumber};
 
@@ -27,7 +27,7 @@ fn is_dated_text(text: &[u8]) -> bool
 {
     text.len() == DATED_LENGTH
         && are_digits(&text[..2])
-        && text[2] == b'-'
+        && is_hyphen(text[2])
         && are_digits(&text[3..7])
 }
 

@@ -1,16 +1,18 @@
 -- What is known at the end of a sender's line.
-use Rattle.std.specs.Prelude.{ℕ, ◌+◌, ◌≡◌, Bool, IsTrue, List, Option, Some, None, ⊤, if◌then◌else◌}
+use Rattle.std.specs.Prelude.{ℕ, ◌+◌, ◌≡◌, ◌∷◌, ◌||◌, Bool, IsTrue, List, Option, Some, None, ⊤, if◌then◌else◌}
 use Rattle.std.specs.List.{AllByRecursion}
 use Rattle.std.specs.HashMap.{get}
 use Rattle.std.specs.Str.{bytes_eq}
 use Rattle.cwr_records.specs.declared.work.TransactionKind.TheVariants.{Nwr, Rev}
-use Rattle.works_core.specs.Tracks.{work_key_of, same_key}
-use Rattle.works_core.specs.Verdicts.{works_in}
-use Rattle.works_core.specs.Versions.{Placed, judged_of, last_version}
+use Rattle.works_core.specs.Tracks.{placed_in, work_key_of, same_key}
+use Rattle.works_core.specs.Verdicts.{verdict_of, verdicts_from, works_in}
+use Rattle.works_core.specs.Versions.{Placed, judged_of, last_version, placed_behind}
 use Rattle.works_core.specs.declared.judged.Judged.{Judged}
 use Rattle.works_core.specs.declared.judged.Judged.TheVariants.{Clean, Faulty}
 use Rattle.works_core.specs.declared.line_end.LineEnd.{LineEnd}
+use Rattle.works_core.specs.declared.verdict.Verdict.{Verdict}
 use Rattle.works_core.specs.declared.version.WorkVersion.{WorkVersion}
+use Rattle.works_core.specs.declared.works.Place.{Place}
 
 -- the last version that is kept of a work
 abbrev pub last_in : LineEnd → List ℕ → Option WorkVersion
@@ -46,3 +48,28 @@ last_after (Faulty fault) version last work = last work
 abbrev pub known_version : LineEnd → Judged → Option WorkVersion
 known_version end (Clean kind number) = last_in end number
 known_version end (Faulty fault) = None
+
+-- the last version of a work is learned at an end: the work is then known too, and the end is the same
+abbrev pub Learns : LineEnd → List ℕ → Option WorkVersion → LineEnd → Type 0
+Learns end work last new = (known : List ℕ → Bool) (past : List Placed) → EndsAt known past end → last ≡ last_version work past
+    → EndsAt (λ other. known other || bytes_eq work other) past new
+
+-- a verdict is that of the next transaction at an end, where its work is known there
+abbrev pub TellsNext : LineEnd → Judged → Verdict → Type 0
+TellsNext end judged verdict = (known : List ℕ → Bool) (past : List Placed) → EndsAt known past end → KnowsWork known judged
+    → verdict ≡ verdict_of (judged_of past) judged
+
+-- an end goes on by one transaction, which stands at a place: where its work is known there, the new end is the one behind it
+abbrev pub EndsBehindOne : LineEnd → Place → Judged → LineEnd → Type 0
+EndsBehindOne end place judged new = (known : List ℕ → Bool) (past : List Placed) → EndsAt known past end → KnowsWork known judged
+    → EndsAt known (placed_in place judged ∷ past) new
+
+-- verdicts are those of the next transactions at an end, where their works are known there
+abbrev pub TellsAll : LineEnd → List Judged → List Verdict → Type 0
+TellsAll end transactions verdicts = (known : List ℕ → Bool) (past : List Placed) → EndsAt known past end → KnowsWorks known transactions
+    → verdicts ≡ verdicts_from (judged_of past) transactions
+
+-- an end goes on by the transactions of a transmission: where their works are known there, the new end is the one behind them
+abbrev pub EndsBehind : LineEnd → ℕ → List Judged → LineEnd → Type 0
+EndsBehind end transmission transactions new = (known : List ℕ → Bool) (past : List Placed) → EndsAt known past end → KnowsWorks known transactions
+    → EndsAt known (placed_behind past transmission 0 transactions) new

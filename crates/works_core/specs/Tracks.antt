@@ -4,11 +4,12 @@ use Rattle.std.specs.HashMap.{get, hash_map_len, spare}
 use Rattle.std.specs.Str.{bytes_eq}
 use Rattle.std.specs.Vec.{vec_capacity}
 use Rattle.works_core.specs.Verdicts.{is_accepted, works_in}
-use Rattle.works_core.specs.Versions.{Placed, judged_of, is_version, version_of}
+use Rattle.works_core.specs.Versions.{Placed, judged_of, is_version, placed_at, version_of}
 use Rattle.works_core.specs.declared.judged.Judged.{Judged}
 use Rattle.works_core.specs.declared.judged.Judged.TheVariants.{Clean, Faulty}
 use Rattle.works_core.specs.declared.key.WorkKey.{WorkKey}
 use Rattle.works_core.specs.declared.version.LinkedVersion.{LinkedVersion}
+use Rattle.works_core.specs.declared.works.Place.{Place}
 use Rattle.works_core.specs.declared.works.Works.{Works}
 
 -- a work number as a key
@@ -18,6 +19,14 @@ work_key_of work = record { number = work }
 -- whether two keys are one
 abbrev pub same_key : WorkKey → WorkKey → Bool
 same_key x y = bytes_eq x.number y.number
+
+-- the place of the last version that is kept of a work
+abbrev pub kept_index : Works → List ℕ → Option ℕ
+kept_index works work = get same_key works.last (work_key_of work)
+
+-- a transaction that stands at a place
+abbrev pub placed_in : Place → Judged → Placed
+placed_in place judged = placed_at place.transmission place.place judged
 
 -- the work number of a clean transaction
 abbrev pub number_in : Judged → List ℕ
@@ -46,7 +55,7 @@ linked_versions (t ∷ past) =
 
 -- the works that are kept are those of the transactions so far
 pub record Tracks (works : Works) (past : List Placed) : Type 0 where
-  pub last : (work : List ℕ) → get same_key works.last (work_key_of work) ≡ last_index work past
+  pub last : (work : List ℕ) → kept_index works work ≡ last_index work past
   pub versions : works.versions.items ≡ linked_versions past
   pub count : hash_map_len works.last ≡ works_in (judged_of past)
 

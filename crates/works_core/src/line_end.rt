@@ -1,9 +1,9 @@
 //! The end of a sender's line, as far as it is known.
-ghost use Rattle.std.specs.Prelude.{◌≡◌, ◌<◌, ◌^◌, ◌∷◌, ◌||◌, Bool, false, ℕ, List, Some, IfOk, OnOk, if◌then◌else◌};
+ghost use Rattle.std.specs.Prelude.{◌≡◌, ◌<◌, ◌^◌, Bool, false, ℕ, List, Some, IfOk, OnOk, if◌then◌else◌};
 ghost use Rattle.std.specs.Str.{bytes_eq};
-ghost use Rattle.works_core.specs.Ends.{EndsAt, KnowsWork, KnowsWorks, known_version, last_after, last_in, works_after};
-ghost use Rattle.works_core.specs.Verdicts.{verdict_of, verdicts_from, works_in};
-ghost use Rattle.works_core.specs.Versions.{Placed, judged_of, last_version, next_verdict, placed_at, placed_behind};
+ghost use Rattle.works_core.specs.Ends.{EndsAt, EndsBehind, EndsBehindOne, Learns, TellsAll, TellsNext, known_version, last_after, last_in, works_after};
+ghost use Rattle.works_core.specs.Verdicts.{works_in};
+ghost use Rattle.works_core.specs.Versions.{Placed, judged_of, next_verdict};
 
 use crate::judged::Judged;
 use crate::key::WorkKey;
@@ -95,8 +95,7 @@ impl LineEnd {
 
     /// Learns the last version of a work at this end, none where it has none.
     pub fn learn(&mut self, work: WorkNumber, last: Option<WorkVersion>) -> Result<(), AllocError>
-        ensures { (known : List ℕ → Bool) (past : List Placed) → EndsAt known past self.old → last ≡ last_version work past
-            → OnOk result (EndsAt (λ other. known other || bytes_eq work other) past self.new) }
+        ensures { OnOk result (Learns self.old work last self.new) }
     {
         if let Some(version) = last {
             self.keep(work, version)?;
@@ -141,10 +140,8 @@ impl LineEnd {
 
     // The verdict of the next transaction, behind which the line then ends.
     fn settle(&mut self, place: Place, judged: &Judged) -> Result<Verdict, LineFault>
-        ensures verdict { (known : List ℕ → Bool) (past : List Placed) → EndsAt known past self.old → KnowsWork known judged.now
-            → IfOk result (λ verdict. verdict ≡ verdict_of (judged_of past) judged.now) }
-        ensures ends { (known : List ℕ → Bool) (past : List Placed) → EndsAt known past self.old → KnowsWork known judged.now
-            → OnOk result (EndsAt known (placed_at place.transmission place.place judged.now ∷ past) self.new) }
+        ensures verdict { IfOk result (TellsNext self.old judged.now) }
+        ensures ends { OnOk result (EndsBehindOne self.old place judged.now self.new) }
     {
         let verdict = verdict_within(judged, self.known(judged), self.works)?;
         match verdict {
@@ -165,10 +162,8 @@ impl LineEnd {
         number: TransmissionNumber,
         transactions: &[Judged],
     ) -> Result<Vec<Verdict>, LineFault>
-        ensures verdicts { (known : List ℕ → Bool) (past : List Placed) → EndsAt known past self.old → KnowsWorks known transactions.now
-            → IfOk result (λ verdicts. verdicts.items ≡ verdicts_from (judged_of past) transactions.now) }
-        ensures ends { (known : List ℕ → Bool) (past : List Placed) → EndsAt known past self.old → KnowsWorks known transactions.now
-            → OnOk result (EndsAt known (placed_behind past number 0 transactions.now) self.new) }
+        ensures verdicts { IfOk result (λ verdicts. TellsAll self.old transactions.now verdicts.items) }
+        ensures ends { OnOk result (EndsBehind self.old number transactions.now self.new) }
     {
         let mut verdicts = Vec::with_capacity(alloc, transactions.len())?;
         for (place, judged) in transactions.iter().enumerate() {

@@ -1,10 +1,10 @@
 //! The works of a line: their versions, and the last one of each.
 ghost use Rattle.std.specs.Prelude.{◌≡◌, ◌+◌, ◌<◌, ◌∷◌, ◌++◌, [], ℕ, length, List, IfSome, OnOk, Some, is_some, if◌then◌else◌};
-ghost use Rattle.std.specs.HashMap.{get, hash_map_len};
+ghost use Rattle.std.specs.HashMap.{hash_map_len};
 ghost use Rattle.std.specs.Str.{bytes_eq};
-ghost use Rattle.works_core.specs.Tracks.{HasRoomFor, IsTracked, work_key_of, last_index, same_key, Tracks};
+ghost use Rattle.works_core.specs.Tracks.{HasRoomFor, IsTracked, Tracks, kept_index, last_index, placed_in};
 ghost use Rattle.works_core.specs.Verdicts.{verdict_of};
-ghost use Rattle.works_core.specs.Versions.{judged_of, last_version, placed_at, Placed};
+ghost use Rattle.works_core.specs.Versions.{judged_of, last_version, Placed};
 ghost use Rattle.works_core.specs.declared.judged.Judged.TheVariants.{Clean};
 
 use crate::judged::Judged;
@@ -69,7 +69,7 @@ impl Works {
         requires tracked { IsTracked self.old }
         requires room { HasRoomFor 1 self.old }
         ensures verdict { (past : List Placed) → Tracks self.old past → result ≡ verdict_of (judged_of past) judged.now }
-        ensures tracks { (past : List Placed) → Tracks self.old past → Tracks self.new (placed_at place.transmission place.place judged.now ∷ past) }
+        ensures tracks { (past : List Placed) → Tracks self.old past → Tracks self.new (placed_in place judged.now ∷ past) }
         ensures room { (count : ℕ) → HasRoomFor (count + 1) self.old → HasRoomFor count self.new }
     {
         match *judged {
@@ -83,7 +83,7 @@ impl Works {
         requires tracked { IsTracked self.old }
         requires room { HasRoomFor 1 self.old }
         ensures verdict { (past : List Placed) → Tracks self.old past → result ≡ verdict_of (judged_of past) (Clean kind work) }
-        ensures tracks { (past : List Placed) → Tracks self.old past → Tracks self.new (placed_at place.transmission place.place (Clean kind work) ∷ past) }
+        ensures tracks { (past : List Placed) → Tracks self.old past → Tracks self.new (placed_in place (Clean kind work) ∷ past) }
         ensures room { (count : ℕ) → HasRoomFor (count + 1) self.old → HasRoomFor count self.new }
     {
         let before = self.last.get(&WorkKey { number: work }).copied();
@@ -115,8 +115,8 @@ impl Works {
     fn append(&mut self, work: WorkNumber, linked: LinkedVersion)
         requires room { HasRoomFor 1 self.old }
         ensures versions { self.new.versions.items ≡ self.old.versions.items ++ linked ∷ [] }
-        ensures last { (other : List ℕ) → get same_key self.new.last (work_key_of other) ≡ (if bytes_eq work other then Some (length self.old.versions.items) else get same_key self.old.last (work_key_of other)) }
-        ensures count { hash_map_len self.new.last ≡ hash_map_len self.old.last + (if is_some (get same_key self.old.last (work_key_of work)) then 0 else 1) }
+        ensures last { (other : List ℕ) → kept_index self.new other ≡ (if bytes_eq work other then Some (length self.old.versions.items) else kept_index self.old other) }
+        ensures count { hash_map_len self.new.last ≡ hash_map_len self.old.last + (if is_some (kept_index self.old work) then 0 else 1) }
         ensures room { (count : ℕ) → HasRoomFor (count + 1) self.old → HasRoomFor count self.new }
     {
         let key = WorkKey { number: work };

@@ -51,6 +51,8 @@ pub record KeepRest (old new : Trees) : Type 0 where
   pub pool_returns : new layout.pool_returns.tree ≡ old layout.pool_returns.tree
   pub credits : new layout.credits_table.tree ≡ old layout.credits_table.tree
   pub balances : new layout.balances.tree ≡ old layout.balances.tree
+  pub ends : new layout.segment_ends.tree ≡ old layout.segment_ends.tree
+  pub mechanical : new layout.mechanical_pools.tree ≡ old layout.mechanical_pools.tree
 
 kept_rest : (old new : Trees) → KeepsRest old new → KeepRest old new
 unfolding all_tables written_out
@@ -62,6 +64,8 @@ kept_rest old new keeps = record {
   pool_returns = keeps.1.1.1.1.1.0 (λ e. omega (arith, e)) (λ e. omega (arith, e)) (λ e. omega (arith, e)) (λ e. omega (arith, e)) (λ e. omega (arith, e));
   credits = keeps.1.1.1.1.1.1.1.1.1.1.0 (λ e. omega (arith, e)) (λ e. omega (arith, e)) (λ e. omega (arith, e)) (λ e. omega (arith, e)) (λ e. omega (arith, e));
   balances = keeps.1.1.1.1.1.1.1.1.1.1.1.0 (λ e. omega (arith, e)) (λ e. omega (arith, e)) (λ e. omega (arith, e)) (λ e. omega (arith, e)) (λ e. omega (arith, e));
+  ends = keeps.1.1.1.1.1.1.1.1.1.1.1.1.0 (λ e. omega (arith, e)) (λ e. omega (arith, e)) (λ e. omega (arith, e)) (λ e. omega (arith, e)) (λ e. omega (arith, e));
+  mechanical = keeps.1.1.1.1.1.1.1.1.1.1.1.1.1.0 (λ e. omega (arith, e)) (λ e. omega (arith, e)) (λ e. omega (arith, e)) (λ e. omega (arith, e)) (λ e. omega (arith, e));
 }
 
 pub rows_kept : (t : Table) (old new : Trees) → new t.tree ≡ old t.tree → rows_in t new ≡ rows_in t old
@@ -216,6 +220,8 @@ module _ (o : Office) (b : Book) (s : List ℕ) (n : ℕ) (body : List ℕ) (fre
             pools = subst (HasRows _ _) (sym (rows_kept layout.pools old new keeps.pools)) holds.kept.pools;
             cuts = subst (HasRows _ _) (sym (rows_kept layout.pool_cuts old new keeps.pool_cuts)) holds.kept.cuts;
             paid = subst (HasRows _ _) (sym (rows_kept layout.pool_returns old new keeps.pool_returns)) holds.kept.paid;
+            ends = rows_kept layout.segment_ends old new keeps.ends ∙ holds.kept.ends;
+            mechanical = rows_kept layout.mechanical_pools old new keeps.mechanical ∙ holds.kept.mechanical;
           };
           derived = record {
             fronts = fronts_hold o b next s more goes (sent_after b s n body free) (rows_in layout.fronts old) (rows_in layout.fronts new) holds.derived.fronts (runs.put holds.numbered.0);

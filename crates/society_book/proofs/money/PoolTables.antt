@@ -44,6 +44,8 @@ pub record KeepLines (old new : Trees) : Type 0 where
   pub verdicts : new layout.verdicts.tree ≡ old layout.verdicts.tree
   pub versions : new layout.versions.tree ≡ old layout.versions.tree
   pub recordings : new layout.recordings.tree ≡ old layout.recordings.tree
+  pub ends : new layout.segment_ends.tree ≡ old layout.segment_ends.tree
+  pub mechanical : new layout.mechanical_pools.tree ≡ old layout.mechanical_pools.tree
 
 kept_lines : (old new : Trees) → KeepsLines old new → KeepLines old new
 unfolding all_tables written_out
@@ -55,6 +57,8 @@ kept_lines old new keeps = record {
   verdicts = keeps.1.1.1.1.1.1.1.0 (λ e. omega (arith, e)) (λ e. omega (arith, e)) (λ e. omega (arith, e)) (λ e. omega (arith, e)) (λ e. omega (arith, e));
   versions = keeps.1.1.1.1.1.1.1.1.0 (λ e. omega (arith, e)) (λ e. omega (arith, e)) (λ e. omega (arith, e)) (λ e. omega (arith, e)) (λ e. omega (arith, e));
   recordings = keeps.1.1.1.1.1.1.1.1.1.0 (λ e. omega (arith, e)) (λ e. omega (arith, e)) (λ e. omega (arith, e)) (λ e. omega (arith, e)) (λ e. omega (arith, e));
+  ends = keeps.1.1.1.1.1.1.1.1.1.1.1.1.0 (λ e. omega (arith, e)) (λ e. omega (arith, e)) (λ e. omega (arith, e)) (λ e. omega (arith, e)) (λ e. omega (arith, e));
+  mechanical = keeps.1.1.1.1.1.1.1.1.1.1.1.1.1.0 (λ e. omega (arith, e)) (λ e. omega (arith, e)) (λ e. omega (arith, e)) (λ e. omega (arith, e)) (λ e. omega (arith, e));
 }
 
 tie : (n m : ℕ) → eq_by_cmp nat_cmp n m ≡ (n == m)
@@ -165,6 +169,8 @@ module _ (o : Office) (b : Book) (pool : ℕ) (order : Order) (free : order_at b
             pools = more_rows (is_of_pool 0) (λ q. row_of_some (pool_row q) (order_at b q)) (λ q. row_of_some (pool_row q) (order_at closed q)) (pool_row pool order ∷ []) (rows_in layout.pools old) (rows_in layout.pools new) holds.kept.pools (grown 0 (λ q. row_of_some (pool_row q)) (pool_row pool order ∷ []) (refl, tt) refl refl) closes.pools;
             cuts = more_rows (is_of_pool 0) (λ q. rows_of_order (cut_row q) (λ r. r.cut) (order_at b q)) (λ q. rows_of_order (cut_row q) (λ r. r.cut) (order_at closed q)) (map (cut_row pool) order.cut) (rows_in layout.pool_cuts old) (rows_in layout.pool_cuts new) holds.kept.cuts (grown 0 (λ q. rows_of_order (cut_row q) (λ r. r.cut)) (map (cut_row pool) order.cut) (cuts_at pool order.cut) refl refl) closes.cuts;
             paid = more_rows (is_of_pool 2) (λ q. rows_of_order (paid_row q) (λ r. r.returns) (order_at b q)) (λ q. rows_of_order (paid_row q) (λ r. r.returns) (order_at closed q)) (map (paid_row pool) order.returns) (rows_in layout.pool_returns old) (rows_in layout.pool_returns new) holds.kept.paid (grown 2 (λ q. rows_of_order (paid_row q) (λ r. r.returns)) (map (paid_row pool) order.returns) (paid_at pool order.returns) refl refl) closes.paid;
+            ends = rows_kept layout.segment_ends old new keeps.ends ∙ holds.kept.ends;
+            mechanical = rows_kept layout.mechanical_pools old new keeps.mechanical ∙ holds.kept.mechanical;
           };
           derived = record {
             fronts = subst (HasRows _ _) (sym (rows_kept layout.fronts old new keeps.fronts)) holds.derived.fronts;

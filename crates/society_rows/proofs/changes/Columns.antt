@@ -2,6 +2,11 @@
 use Rattle.std.proofs.Common.{◌≡◌, [], ◌∷◌, length, refl, arith}
 use Rattle.sqlite_value.specs.Order.{Row, column}
 
+pub columns_1 : (r : Row) → length r ≡ 1 → r ≡ column r 0 ∷ []
+columns_1 [] h = absurd (omega arith)
+columns_1 (a ∷ []) h = refl
+columns_1 (a ∷ z ∷ more) h = absurd (omega arith)
+
 pub columns_2 : (r : Row) → length r ≡ 2 → r ≡ column r 0 ∷ column r 1 ∷ []
 columns_2 [] h = absurd (omega arith)
 columns_2 (a ∷ []) h = absurd (omega arith)

@@ -45,8 +45,8 @@ one_more i table old new has more made =
       ]));
     }
 
-twelve : length all_texts ≡ length all_tables
-twelve = as_long no_schema all_texts all_tables all_are
+as_many : length all_texts ≡ length all_tables
+as_many = as_long no_schema all_texts all_tables all_are
 
 -- the next text makes the next table
 pub next_table : (i : ℕ) → i < length all_texts → (text : List ℕ) → text ≡ get_or all_texts i [] → (old new : State) (count : ℕ) → HasTables i old.now → ExecutesInside 0 text [] old new (Ok count) → HasTables (i + 1) new.now
@@ -54,7 +54,7 @@ next_table i within text is old new count has h =
     let d : Table = office in
     let definition = defined_at no_schema all_texts all_tables d all_are i within in
     let ran = subst (λ t. ExecutesInside 0 t [] old new (Ok count)) is h in
-    one_more i (get_or all_tables i d) old.now new.now has (take_more all_tables i d (omega (arith, twelve))) (creates _ _ _ definition old new count has.schema ran.0)
+    one_more i (get_or all_tables i d) old.now new.now has (take_more all_tables i d (omega (arith, as_many))) (creates _ _ _ definition old new count has.schema ran.0)
 
 -- what the next text tells of an error
 pub next_tells : (i : ℕ) → i < length all_texts → (text : List ℕ) → text ≡ get_or all_texts i [] → (old new : State) (result : Result (Unit {0}) RowFault) → (old.in_transaction ≡ false → IfErr result IsFailure)
@@ -69,5 +69,5 @@ first_tables d bare = record { schema = bare; empty = subst (λ (s : Schema). Al
 pub last_tables : (i : ℕ) → length all_texts ≤ i → (d : Database) → HasTables i d → IsEmptyBook d
 unfolding layout
 last_tables i past d has =
-    let is : d.schema ≡ layout = has.schema ∙ ap (fold created no_schema) (take_all i all_tables (omega (arith, twelve))) in
+    let is : d.schema ≡ layout = has.schema ∙ ap (fold created no_schema) (take_all i all_tables (omega (arith, as_many))) in
     record { layout = is; empty = subst (AllByRecursion (λ t. d.trees t.tree ≡ [])) layout_is (subst (λ (s : Schema). AllByRecursion (λ t. d.trees t.tree ≡ []) s.tables) is has.empty) }

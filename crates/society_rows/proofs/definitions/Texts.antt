@@ -6,8 +6,8 @@ use Rattle.sqlite_schema.specs.declared.schema.Schema.{Schema}
 use Rattle.sqlite_catalog.specs.Change.{created}
 use Rattle.sqlite_tied.specs.Compute.{everything}
 use Rattle.sqlite.specs.Listing.{understood}
-use Rattle.society_rows.specs.Layout.{written_out, layout, all_tables, no_schema, office, transmissions, returns, pools, pool_cuts, pool_returns, fronts, verdicts, versions, recordings, credits_table, balances}
-use Rattle.society_rows.specs.Texts.{all_texts, office_text, transmissions_text, returns_text, pools_text, pool_cuts_text, pool_returns_text, fronts_text, verdicts_text, versions_text, recordings_text, credits_text, balances_text}
+use Rattle.society_rows.specs.Layout.{written_out, layout, all_tables, no_schema, office, transmissions, returns, pools, pool_cuts, pool_returns, fronts, verdicts, versions, recordings, credits_table, balances, segment_ends, mechanical_pools}
+use Rattle.society_rows.specs.Texts.{all_texts, office_text, transmissions_text, returns_text, pools_text, pool_cuts_text, pool_returns_text, fronts_text, verdicts_text, versions_text, recordings_text, credits_text, balances_text, segment_ends_text, mechanical_pools_text}
 use Rattle.society_rows.proofs.definitions.Creates.{IsDefinition}
 
 pub layout_is : layout.tables ≡ all_tables
@@ -62,6 +62,14 @@ balances_is : IsDefinition (fold created no_schema (take 11 all_tables)) balance
 unfolding understood everything written_out
 balances_is = record { command = refl; whole = refl; plain = (refl, refl); single = (refl, refl); defines = refl; uncounted = refl }
 
+segment_ends_is : IsDefinition (fold created no_schema (take 12 all_tables)) segment_ends_text segment_ends
+unfolding understood everything written_out
+segment_ends_is = record { command = refl; whole = refl; plain = (refl, refl); single = (refl, refl); defines = refl; uncounted = refl }
+
+mechanical_pools_is : IsDefinition (fold created no_schema (take 13 all_tables)) mechanical_pools_text mechanical_pools
+unfolding understood everything written_out
+mechanical_pools_is = record { command = refl; whole = refl; plain = (refl, refl); single = (refl, refl); defines = refl; uncounted = refl }
+
 -- each text makes its table under the schema of those before it
 abbrev pub AreDefinitions : Schema → List (List ℕ) → List Table → Type 0
 AreDefinitions before [] [] = Unit {0}
@@ -71,4 +79,4 @@ AreDefinitions before (text ∷ texts) (table ∷ tables) = IsDefinition before 
 
 pub all_are : AreDefinitions no_schema all_texts all_tables
 unfolding all_tables
-all_are = (office_is, (transmissions_is, (returns_is, (pools_is, (pool_cuts_is, (pool_returns_is, (fronts_is, (verdicts_is, (versions_is, (recordings_is, (credits_is, (balances_is, tt))))))))))))
+all_are = (office_is, (transmissions_is, (returns_is, (pools_is, (pool_cuts_is, (pool_returns_is, (fronts_is, (verdicts_is, (versions_is, (recordings_is, (credits_is, (balances_is, (segment_ends_is, (mechanical_pools_is, tt))))))))))))))

@@ -27,10 +27,10 @@ use Rattle.society_rows.proofs.errors.Failures.{IsSingle}
 use Rattle.society_rows.proofs.changes.Inserts.{IsSettled, Stores, inserts}
 
 abbrev pub insert_text : List ℕ
-insert_text = codes "INSERT INTO office (one, layout, society, territory, name) VALUES (1, 2, ?1, ?2, ?3)"
+insert_text = codes "INSERT INTO office (one, layout, society, territory, name) VALUES (1, 3, ?1, ?2, ?3)"
 
 abbrev terms : List Term
-terms = lit (Int (pos 1)) ∷ lit Null ∷ lit (Int (pos 2)) ∷ col 0 0 ∷ col 0 1 ∷ col 0 2 ∷ []
+terms = lit (Int (pos 1)) ∷ lit Null ∷ lit (Int (pos 3)) ∷ col 0 0 ∷ col 0 1 ∷ col 0 2 ∷ []
 
 pub insert_is : (command_of (understood layout insert_text) ≡ Insert 0 (Values terms 6)) × IsPlain (understood layout insert_text) × IsSingle insert_text 3 (understood layout insert_text)
 unfolding understood everything written_out
@@ -41,16 +41,16 @@ unfolding understood everything written_out
 settled = record { listed = refl; uncounted = refl; unstamped = refl }
 
 abbrev row_of : ℤ → ℤ → List ℕ → Row
-row_of society territory name = Int (pos 1) ∷ Int (pos 2) ∷ Int society ∷ Int territory ∷ Text name ∷ []
+row_of society territory name = Int (pos 1) ∷ Int (pos 3) ∷ Int society ∷ Int territory ∷ Text name ∷ []
 
-stores : (society territory : ℤ) (name : List ℕ) → Stores office (Int (pos 1) ∷ Null ∷ Int (pos 2) ∷ Int society ∷ Int territory ∷ Text name ∷ []) (row_of society territory name)
+stores : (society territory : ℤ) (name : List ℕ) → Stores office (Int (pos 1) ∷ Null ∷ Int (pos 3) ∷ Int society ∷ Int territory ∷ Text name ∷ []) (row_of society territory name)
 unfolding written_out
-stores society territory name rows = rw (cast_int (pos 1), cast_int (pos 2), cast_int society, cast_int territory)
+stores society territory name rows = rw (cast_int (pos 1), cast_int (pos 3), cast_int society, cast_int territory)
 
 pub adds_office : (society territory : ℤ) (name : List ℕ) (old new : State) (count : ℕ) → HasLayout old.now
     → ExecutesInside 0 insert_text (Int society ∷ Int territory ∷ Text name ∷ []) old new (Ok count) → Adds office (row_of society territory name ∷ []) old.now new.now
 adds_office society territory name old new count has h =
-    inserts office 0 settled old new insert_text (Int society ∷ Int territory ∷ Text name ∷ []) terms 6 ((Int (pos 1) ∷ Null ∷ Int (pos 2) ∷ Int society ∷ Int territory ∷ Text name ∷ []) ∷ [])
+    inserts office 0 settled old new insert_text (Int society ∷ Int territory ∷ Text name ∷ []) terms 6 ((Int (pos 1) ∷ Null ∷ Int (pos 3) ∷ Int society ∷ Int territory ∷ Text name ∷ []) ∷ [])
     (row_of society territory name ∷ []) (Ok count) insert_is.0 insert_is.1 refl (stores society territory name, tt) has h
 
 office_listed : Has all_tables office

@@ -6,7 +6,7 @@ use Rattle.sqlite_value.specs.declared.keys.Key.{Key}
 use Rattle.sqlite_value.specs.Keys.{ascending}
 use Rattle.sqlite_value.specs.Order.{Row, column}
 use Rattle.sqlite_sql.specs.declared.ops.BinaryOp.TheVariants.{Compare}
-use Rattle.sqlite_sql.specs.declared.ops.CompareOp.TheVariants.{Eq, Gt}
+use Rattle.sqlite_sql.specs.declared.ops.CompareOp.TheVariants.{Eq, Gt, Lt}
 use Rattle.sqlite_sql.specs.Term.{Term, lit, col, op2}
 use Rattle.sqlite_schema.specs.declared.command.Command.TheVariants.{Insert}
 use Rattle.sqlite_schema.specs.declared.command.Source.TheVariants.{Values}
@@ -16,7 +16,7 @@ use Rattle.sqlite.specs.Listing.{understood}
 use Rattle.sqlite.specs.State.{State, ExecutesInside, Shown}
 use Rattle.sqlite.proofs.Callers.{IsPlain, command_of}
 use Rattle.society_rows.specs.Layout.{written_out, layout, transmissions}
-use Rattle.society_rows.specs.Reads.{Lists, has_key, is_above, exceeds}
+use Rattle.society_rows.specs.Reads.{Lists, has_key, is_above, is_above_and_below, exceeds, precedes}
 use Rattle.society_rows.specs.Stored.{HasLayout, Adds}
 use Rattle.society_rows.proofs.readings.Answers.{picked}
 use Rattle.society_rows.proofs.definitions.Booleans.{and_true}
@@ -92,3 +92,7 @@ transmission_at_lists sender number = lists_by transmissions transmission_at_tex
 pub transmissions_above_listing : (sender : List ℕ) (number : ℤ) → IsListing transmissions (op2 (Compare Eq Binary) (col 1 1) (col 0 0) ∷ op2 (Compare Gt Binary) (col 1 2) (col 0 1) ∷ []) project order (Text sender ∷ Int number ∷ []) (is_above (Text sender) (Int number)) 2
 unfolding written_out
 transmissions_above_listing sender number = record { shows = λ r. refl; tests = λ r. ap (λ b. equal Binary (column r 1) (Text sender) && b) (sym (and_true (exceeds (column r 2) (Int number)))); orders = λ a b. refl }
+
+pub transmissions_between_listing : (sender : List ℕ) (above below : ℤ) → IsListing transmissions (op2 (Compare Eq Binary) (col 1 1) (col 0 0) ∷ op2 (Compare Gt Binary) (col 1 2) (col 0 1) ∷ op2 (Compare Lt Binary) (col 1 2) (col 0 2) ∷ []) project order (Text sender ∷ Int above ∷ Int below ∷ []) (is_above_and_below (Text sender) (Int above) (Int below)) 2
+unfolding written_out
+transmissions_between_listing sender above below = record { shows = λ r. refl; tests = λ r. ap (λ b. equal Binary (column r 1) (Text sender) && (exceeds (column r 2) (Int above) && b)) (sym (and_true (precedes (column r 2) (Int below)))); orders = λ a b. refl }

@@ -1,9 +1,10 @@
 -- SQL's = and > on the columns of a key, where the rows hold what was written.
-use Rattle.std.proofs.Common.{◌≡◌, ℕ, ℤ, pos, Bool, true, ◌&&◌, List, [], ◌∷◌, Equal, sym, ap, ap₂, ◌∙◌, int_cmp}
+use Rattle.std.proofs.Common.{◌≡◌, ℕ, zero, suc, ℤ, pos, Bool, true, ◌&&◌, List, [], ◌∷◌, Equal, refl, sym, ap, ap₂, ◌∙◌, int_cmp, nat_cmp, arith}
 use Rattle.std.specs.Bool.{Decides}
 use Rattle.std.specs.Ordering.{is_eq}
 use Rattle.std.specs.Str.{bytes_eq}
 use Rattle.std.proofs.lemmas.Bool.{and_parts}
+use Rattle.std.proofs.lemmas.Bool.Decides.{nat_tests}
 use Rattle.std.proofs.lemmas.Cmp.{int_ranked, tied_itself}
 use Rattle.std.proofs.lemmas.Map.Text.{is_eq-slice_cmp}
 use Rattle.std.proofs.lemmas.Slice.Eq.{bytes_eq-Decides}
@@ -14,6 +15,7 @@ use Rattle.sqlite_value.proofs.OrderLemmas.{value_cmp-Int, value_cmp-Text, value
 use Rattle.sqlite_sql.specs.Ops.{binary}
 use Rattle.sqlite_schema.specs.Rules.{equal}
 use Rattle.society_rows.specs.Reads.{has_key}
+use Rattle.society_rows.specs.SegmentColumns.{segment_column}
 use Rattle.society_rows.proofs.changes.Rowids.{truth_of, eq_only}
 
 -- texts are equal where their bytes are
@@ -63,3 +65,30 @@ text_number_key s t m n rest = both_decide _ _ _ _ (text_decides s t) (number_de
 -- two texts, as of a version or a recording
 pub text_text_key : (s t a b : List ℕ) (rest : Row) → Decides (has_key (Text t ∷ Text b ∷ []) (Text s ∷ Text a ∷ rest)) ((s ≡ t) × (a ≡ b))
 text_text_key s t a b rest = both_decide _ _ _ _ (text_decides s t) (text_decides a b)
+
+-- a column is that of one segment
+one_place : (m n : ℕ) → segment_column m ≡ segment_column n → m ≡ n
+one_place zero zero same = refl
+one_place zero (suc n) same = absurd cc
+one_place (suc m) zero same = absurd cc
+one_place (suc m) (suc n) same = let e : m ≡ n = cc in ap suc e
+
+segment_decides : (m n : ℕ) → Decides (equal Binary (Int (segment_column m)) (Int (segment_column n))) (m ≡ n)
+segment_decides m n = (λ h. one_place m n ((int_decides (segment_column m) (segment_column n)).0 h), λ e. (int_decides (segment_column m) (segment_column n)).1 (ap segment_column e))
+
+-- a text and a segment, as of the end of a segment
+pub text_segment_key : (s t : List ℕ) (m n : ℕ) (rest : Row) → Decides (has_key (Text t ∷ Int (segment_column n) ∷ []) (Text s ∷ Int (segment_column m) ∷ rest)) ((s ≡ t) × (m ≡ n))
+text_segment_key s t m n rest = both_decide _ _ _ _ (text_decides s t) (segment_decides m n)
+
+years_ordered : (m n : ℕ) → int_cmp (pos m) (pos n) ≡ nat_cmp (suc m) (suc n)
+years_ordered m n = grind (arith, nat_tests)
+
+columns_ordered : (m n : ℕ) → int_cmp (segment_column m) (segment_column n) ≡ nat_cmp m n
+columns_ordered zero zero = refl
+columns_ordered zero (suc n) = grind (arith, nat_tests)
+columns_ordered (suc m) zero = grind (arith, nat_tests)
+columns_ordered (suc m) (suc n) = years_ordered m n
+
+-- SQL orders segments by their places
+pub segments_ordered : (m n : ℕ) → value_cmp (Int (segment_column m)) (Int (segment_column n)) ≡ nat_cmp m n
+segments_ordered m n = value_cmp-Int (segment_column m) (segment_column n) ∙ columns_ordered m n

@@ -6,7 +6,7 @@ use Rattle.sqlite_value.specs.declared.keys.Key.{Key}
 use Rattle.sqlite_value.specs.Keys.{ascending, rising}
 use Rattle.sqlite_value.specs.Order.{Row}
 use Rattle.sqlite_sql.specs.declared.ops.BinaryOp.TheVariants.{Compare}
-use Rattle.sqlite_sql.specs.declared.ops.CompareOp.TheVariants.{Eq, Gt}
+use Rattle.sqlite_sql.specs.declared.ops.CompareOp.TheVariants.{Eq, Gt, Lt}
 use Rattle.sqlite_sql.specs.Program.{overlay}
 use Rattle.sqlite_sql.specs.Term.{Term, Env, eval_all, col, op2}
 use Rattle.sqlite_schema.specs.declared.schema.Table.{Table}
@@ -14,13 +14,13 @@ use Rattle.sqlite_tied.specs.Compute.{everything}
 use Rattle.sqlite.specs.Listing.{understood}
 use Rattle.sqlite.specs.State.{State, Shown}
 use Rattle.society_rows.specs.Layout.{written_out, transmissions, returns}
-use Rattle.society_rows.specs.Reads.{ListsKeys, has_key, is_above}
+use Rattle.society_rows.specs.Reads.{ListsKeys, has_key, is_above, is_above_and_below}
 use Rattle.society_rows.specs.Stored.{HasLayout}
 use Rattle.society_rows.proofs.readings.Answers.{picked}
 use Rattle.society_rows.proofs.readings.CutRows.{whole_answer}
 use Rattle.society_rows.proofs.readings.Queries.{IsQuery, IsListing, answer_of, listed}
 use Rattle.society_rows.proofs.each_table.ReturnTable.{return_at_listing}
-use Rattle.society_rows.proofs.each_table.TransmissionTable.{transmissions_above_listing}
+use Rattle.society_rows.proofs.each_table.TransmissionTable.{transmissions_above_listing, transmissions_between_listing}
 
 -- what is shown of a row's columns is its first ones
 keys_by : (table : Table) (text : List ℕ) {count : ℕ} (filters project cut : List Term) (order : List (Term × Key)) (names : List (List ℕ)) → IsQuery text count (picked table.tree filters cut order) names
@@ -57,6 +57,21 @@ pub numbers_above_lists : (sender : List ℕ) (number : ℤ) (old new : State) (
 unfolding written_out
 numbers_above_lists sender number =
     keys_by transmissions numbers_above_text above project cut order (codes "sender" ∷ codes "number" ∷ []) numbers_above_is (Text sender ∷ Int number ∷ []) (is_above (Text sender) (Int number)) 2 (transmissions_above_listing sender number) (λ env. refl)
+
+abbrev between : List Term
+between = op2 (Compare Eq Binary) (col 1 1) (col 0 0) ∷ op2 (Compare Gt Binary) (col 1 2) (col 0 1) ∷ op2 (Compare Lt Binary) (col 1 2) (col 0 2) ∷ []
+
+abbrev pub numbers_between_text : List ℕ
+numbers_between_text = codes "SELECT sender, number FROM transmissions WHERE sender = ?1 AND number > ?2 AND number < ?3 ORDER BY sender, number"
+
+pub numbers_between_is : IsQuery numbers_between_text 3 (picked 1 between cut order) (codes "sender" ∷ codes "number" ∷ [])
+unfolding understood everything written_out
+numbers_between_is = record { command = refl; plain = (refl, refl); unlisted = refl; single = (refl, refl) }
+
+pub numbers_between_lists : (sender : List ℕ) (low high : ℤ) (old new : State) (rows : List Row) → HasLayout old.now → Shown numbers_between_text (Text sender ∷ Int low ∷ Int high ∷ []) old new rows → ListsKeys transmissions (is_above_and_below (Text sender) (Int low) (Int high)) 2 old.now.trees rows
+unfolding written_out
+numbers_between_lists sender low high =
+    keys_by transmissions numbers_between_text between project cut order (codes "sender" ∷ codes "number" ∷ []) numbers_between_is (Text sender ∷ Int low ∷ Int high ∷ []) (is_above_and_below (Text sender) (Int low) (Int high)) 2 (transmissions_between_listing sender low high) (λ env. refl)
 
 abbrev pub return_known_text : List ℕ
 return_known_text = codes "SELECT reporter, number FROM returns WHERE reporter = ?1 AND number = ?2 ORDER BY reporter, number"

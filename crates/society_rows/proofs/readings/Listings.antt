@@ -29,6 +29,8 @@ use Rattle.society_rows.proofs.each_table.VersionTable.{all_versions_is, all_ver
 use Rattle.society_rows.proofs.each_table.RecordingTable.{all_recordings_is, all_recordings_lists}
 use Rattle.society_rows.proofs.each_table.CreditTable.{all_credits_is, all_credits_lists}
 use Rattle.society_rows.proofs.each_table.BalanceTable.{all_balances_is, all_balances_lists}
+use Rattle.society_rows.proofs.each_table.SegmentEndTable.{all_segment_ends_is, all_segment_ends_lists}
+use Rattle.society_rows.proofs.each_table.MechanicalPoolTable.{all_mechanical_pools_is, all_mechanical_pools_lists}
 
 pub is_plain : (table : TableName) → IsPlain (understood layout (listing_text table))
 is_plain name.Office = all_offices_is.plain
@@ -43,6 +45,8 @@ is_plain name.Versions = all_versions_is.plain
 is_plain name.Recordings = all_recordings_is.plain
 is_plain name.Credits = all_credits_is.plain
 is_plain name.Balances = all_balances_is.plain
+is_plain name.SegmentEnds = all_segment_ends_is.plain
+is_plain name.MechanicalPools = all_mechanical_pools_is.plain
 
 pub lists_called : (table : TableName) (old new : State) (rows : List Row) → HasLayout old.now → Shown (listing_text table) [] old new rows → Lists (table_called table) (λ _. true) (listing_width table) old.now.trees rows
 lists_called name.Office = all_offices_lists
@@ -57,6 +61,8 @@ lists_called name.Versions = all_versions_lists
 lists_called name.Recordings = all_recordings_lists
 lists_called name.Credits = all_credits_lists
 lists_called name.Balances = all_balances_lists
+lists_called name.SegmentEnds = all_segment_ends_lists
+lists_called name.MechanicalPools = all_mechanical_pools_lists
 
 pub is_asked : (table : TableName) → IsAsked (listing_text table) 0 (understood layout (listing_text table))
 is_asked name.Office = query_asked _ all_offices_is
@@ -71,6 +77,8 @@ is_asked name.Versions = query_asked _ all_versions_is
 is_asked name.Recordings = query_asked _ all_recordings_is
 is_asked name.Credits = query_asked _ all_credits_is
 is_asked name.Balances = query_asked _ all_balances_is
+is_asked name.SegmentEnds = query_asked _ all_segment_ends_is
+is_asked name.MechanicalPools = query_asked _ all_mechanical_pools_is
 
 -- what it tells of an error
 pub listing_tells : (table : TableName) (old new : State) (result : Result (Vec Row Global) RowFault) → (HasCleanDisk new → Selected (listing_text table) [] old new result) → OnlyFails old new result
@@ -86,6 +94,8 @@ listing_tells name.Versions = query_tells all_versions_is [] refl
 listing_tells name.Recordings = query_tells all_recordings_is [] refl
 listing_tells name.Credits = query_tells all_credits_is [] refl
 listing_tells name.Balances = query_tells all_balances_is [] refl
+listing_tells name.SegmentEnds = query_tells all_segment_ends_is [] refl
+listing_tells name.MechanicalPools = query_tells all_mechanical_pools_is [] refl
 
 -- it errs by want of memory, or where it may fail
 pub listing_reads : (table : TableName) (old new : State) (result : Result (Vec Row Global) RowFault) → (HasCleanDisk new → Selected (listing_text table) [] old new result) → ErrsByMedium old new result
@@ -102,6 +112,8 @@ listing_reads name.Versions = query_reads all_versions_is refl
 listing_reads name.Recordings = query_reads all_recordings_is refl
 listing_reads name.Credits = query_reads all_credits_is refl
 listing_reads name.Balances = query_reads all_balances_is refl
+listing_reads name.SegmentEnds = query_reads all_segment_ends_is refl
+listing_reads name.MechanicalPools = query_reads all_mechanical_pools_is refl
 
 -- what such a query shows first is the first of the table's rows
 pub first_called : (table : TableName) (old new : State) (rows : List Row) → HasLayout old.now → Begins (listing_text table) [] old rows × IsUnchanged old new
@@ -118,3 +130,5 @@ first_called name.Versions old new = whole_listed _ _ _ all_versions_is [] old n
 first_called name.Recordings old new = whole_listed _ _ _ all_recordings_is [] old new (Lists (table_called name.Recordings) (λ _. true) (listing_width name.Recordings)) (all_recordings_lists old new)
 first_called name.Credits old new = whole_listed _ _ _ all_credits_is [] old new (Lists (table_called name.Credits) (λ _. true) (listing_width name.Credits)) (all_credits_lists old new)
 first_called name.Balances old new = whole_listed _ _ _ all_balances_is [] old new (Lists (table_called name.Balances) (λ _. true) (listing_width name.Balances)) (all_balances_lists old new)
+first_called name.SegmentEnds old new = whole_listed _ _ _ all_segment_ends_is [] old new (Lists (table_called name.SegmentEnds) (λ _. true) (listing_width name.SegmentEnds)) (all_segment_ends_lists old new)
+first_called name.MechanicalPools old new = whole_listed _ _ _ all_mechanical_pools_is [] old new (Lists (table_called name.MechanicalPools) (λ _. true) (listing_width name.MechanicalPools)) (all_mechanical_pools_lists old new)

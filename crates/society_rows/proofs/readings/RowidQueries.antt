@@ -44,6 +44,8 @@ name_shown name.Versions = codes "rowid"
 name_shown name.Recordings = codes "rowid"
 name_shown name.Credits = codes "rowid"
 name_shown name.Balances = codes "rowid"
+name_shown name.SegmentEnds = codes "rowid"
+name_shown name.MechanicalPools = codes "pool"
 
 abbrev pub rowids_of : Table → Query
 rowids_of table = picked table.tree [] rowid_only []
@@ -96,6 +98,14 @@ pub balances_is : IsQuery (rowids_text name.Balances) 0 (rowids_of (table_called
 unfolding understood everything written_out
 balances_is = record { command = refl; plain = (refl, refl); unlisted = refl; single = (refl, refl) }
 
+pub segment_ends_is : IsQuery (rowids_text name.SegmentEnds) 0 (rowids_of (table_called name.SegmentEnds)) (name_shown name.SegmentEnds ∷ [])
+unfolding understood everything written_out
+segment_ends_is = record { command = refl; plain = (refl, refl); unlisted = refl; single = (refl, refl) }
+
+pub mechanical_pools_is : IsQuery (rowids_text name.MechanicalPools) 0 (rowids_of (table_called name.MechanicalPools)) (name_shown name.MechanicalPools ∷ [])
+unfolding understood everything written_out
+mechanical_pools_is = record { command = refl; plain = (refl, refl); unlisted = refl; single = (refl, refl) }
+
 pub rowids_are : (table : TableName) → IsQuery (rowids_text table) 0 (rowids_of (table_called table)) (name_shown table ∷ [])
 rowids_are name.Office = office_is
 rowids_are name.Transmissions = transmissions_is
@@ -109,6 +119,8 @@ rowids_are name.Versions = versions_is
 rowids_are name.Recordings = recordings_is
 rowids_are name.Credits = credits_is
 rowids_are name.Balances = balances_is
+rowids_are name.SegmentEnds = segment_ends_is
+rowids_are name.MechanicalPools = mechanical_pools_is
 
 -- it errs by want of memory, or where it may fail
 pub rowids_read : (table : TableName) (old new : State) (result : Result (Vec Row Global) RowFault) → (HasCleanDisk new → Selected (rowids_text table) [] old new result) → ErrsByMedium old new result
@@ -125,6 +137,8 @@ rowids_read name.Versions = query_reads versions_is refl
 rowids_read name.Recordings = query_reads recordings_is refl
 rowids_read name.Credits = query_reads credits_is refl
 rowids_read name.Balances = query_reads balances_is refl
+rowids_read name.SegmentEnds = query_reads segment_ends_is refl
+rowids_read name.MechanicalPools = query_reads mechanical_pools_is refl
 
 -- the first value is a whole number
 abbrev IsWhole : Row → Type 0

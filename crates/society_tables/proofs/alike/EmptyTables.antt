@@ -61,6 +61,8 @@ record AreBare (db : Trees) : Type 0 where
   recordings : db layout.recordings.tree ≡ []
   credits : db layout.credits_table.tree ≡ []
   balances : db layout.balances.tree ≡ []
+  ends : db layout.segment_ends.tree ≡ []
+  mechanical : db layout.mechanical_pools.tree ≡ []
 
 are_bare : (db : Trees) → AllByRecursion (λ t. t.tree ≢ layout.office.tree → db t.tree ≡ []) all_tables → AreBare db
 unfolding all_tables written_out
@@ -76,6 +78,8 @@ are_bare db bare = record {
   recordings = bare.1.1.1.1.1.1.1.1.1.0 (λ e. omega (arith, e));
   credits = bare.1.1.1.1.1.1.1.1.1.1.0 (λ e. omega (arith, e));
   balances = bare.1.1.1.1.1.1.1.1.1.1.1.0 (λ e. omega (arith, e));
+  ends = bare.1.1.1.1.1.1.1.1.1.1.1.1.0 (λ e. omega (arith, e));
+  mechanical = bare.1.1.1.1.1.1.1.1.1.1.1.1.1.0 (λ e. omega (arith, e));
 }
 
 bare_rows : (t : Table) (db : Trees) → db t.tree ≡ [] → rows_in t db ≡ []
@@ -94,6 +98,8 @@ begins_empty o row db is new =
         pools = no_rows _ _ _ (bare_rows layout.pools db bare.pools) (λ q. ap (row_of_some (pool_row q)) (finite.get-empty nat_cmp q));
         cuts = no_rows _ _ _ (bare_rows layout.pool_cuts db bare.pool_cuts) (λ q. ap (rows_of_order (cut_row q) (λ order. order.cut)) (finite.get-empty nat_cmp q));
         paid = no_rows _ _ _ (bare_rows layout.pool_returns db bare.pool_returns) (λ q. ap (rows_of_order (paid_row q) (λ order. order.returns)) (finite.get-empty nat_cmp q));
+        ends = bare_rows layout.segment_ends db bare.ends;
+        mechanical = bare_rows layout.mechanical_pools db bare.mechanical;
       };
       derived = record {
         fronts = no_rows _ (front_rows o empty_book) _ (bare_rows layout.fronts db bare.fronts) (λ q. ap (λ b. cond b ((Text q ∷ Int (pos (front empty_book q)) ∷ Int (pos (works_to o empty_book q)) ∷ []) ∷ []) []) (nothing_sent q));

@@ -33,7 +33,7 @@ use Rattle.society_book.specs.DerivedRows.{Telling, balance_rows, balance_rows_b
 use Rattle.society_book.specs.Kept.{HoldsBook, office_row}
 use Rattle.society_book.proofs.rows_alike.BookLemmas.{IsRefilled, refilled}
 use Rattle.society_book.proofs.rows_alike.KeyRows.{both_same}
-use Rattle.society_book.proofs.rows_alike.RowLemmas.{all_rows, one_else}
+use Rattle.society_book.proofs.rows_alike.RowLemmas.{all_rows, none_else, one_else}
 use Rattle.society_tables.proofs.alike.RowTies.{IsTold, Kind, Number, Words, one_row}
 use Rattle.society_tables.proofs.alike.SameTables.{all_pass}
 use Rattle.society_tables.proofs.alike.SortedOnce.{as_many, sorted_once}
@@ -44,6 +44,10 @@ use Rattle.works_core.specs.Recordings.{isrcs_of}
 -- what a table lists, in any order
 all_listed : (table : Table) (width : ℕ) (db : Trees) (xs : List Row) → Lists table (λ _. true) width db xs → IsPermutation (rows_in table db) xs
 all_listed table width db xs lists = subst (λ rows. IsPermutation rows xs) (all_pass (rows_in table db)) lists.rows
+
+-- a table without rows lists none
+none_listed : (table : Table) (width : ℕ) (db : Trees) (xs : List Row) → rows_in table db ≡ [] → Lists table (λ _. true) width db xs → xs ≡ []
+none_listed table width db xs none lists = none_else xs (subst (λ rows. IsPermutation rows xs) none (all_listed table width db xs lists))
 
 module _ {K : Type 0} (is_of : K → Row → Bool) (key_of : Row → K) (own : (r : Row) → is_of (key_of r) r ≡ true) (expected : K → List Row) (kinds : List Kind) (found : Row → List Row) (told : (q : K) → AllByRecursion (IsTold kinds found) (expected q)) where
   listed_has : (table : Table) (db : Trees) (xs : List Row) → HasRows is_of expected (rows_in table db) → Lists table (λ _. true) (length kinds) db xs → HasRows is_of expected xs
@@ -208,3 +212,5 @@ listed_alike o b one two holds also name.Credits xs ys lists others =
 listed_alike o b one two holds also name.Balances xs ys lists others =
     listed_once is_named (text_at 0) (λ r. same_name (text_at 0 r)) (balance_rows o b) (Words ∷ []) (owed o b) (λ q. owed_told o b q (credits_to o b q) refl)
     layout.balances one two xs ys holds.derived.balances also.derived.balances lists others
+listed_alike o b one two holds also name.SegmentEnds xs ys lists others = none_listed layout.segment_ends 4 one xs holds.kept.ends lists ∙ sym (none_listed layout.segment_ends 4 two ys also.kept.ends others)
+listed_alike o b one two holds also name.MechanicalPools xs ys lists others = none_listed layout.mechanical_pools 1 one xs holds.kept.mechanical lists ∙ sym (none_listed layout.mechanical_pools 1 two ys also.kept.mechanical others)

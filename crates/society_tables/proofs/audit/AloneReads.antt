@@ -91,7 +91,7 @@ reads_then old mid new x r A B C first second follows = record {
     has_mid : HasCleanDisk new → HasLayout old.now → HasLayout mid.now
     has_mid clean has = subst HasLayout (sym (unchanged clean has).0.now_is) has
 
--- over layout 2 a reading on a connection in no transaction is an inspection
+-- over layout 3 a reading on a connection in no transaction is an inspection
 pub inspects_reads : {X E : Type 0} (old new : State) (x : X) (A : Trees → X → Type 0) → HasLayout old.now → (IsTrue old.is_open → old.now ≡ old.committed) → ReadsAlone old new (Ok x) A → Inspects {E = E} old new (Ok x) A
 inspects_reads old new x A has settled first = record {
   settled = settled;

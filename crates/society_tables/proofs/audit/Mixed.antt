@@ -118,6 +118,8 @@ record KeepUnlined (old new : Trees) : Type 0 where
   pool_returns : new layout.pool_returns.tree ≡ old layout.pool_returns.tree
   credits : new layout.credits_table.tree ≡ old layout.credits_table.tree
   balances : new layout.balances.tree ≡ old layout.balances.tree
+  ends : new layout.segment_ends.tree ≡ old layout.segment_ends.tree
+  mechanical : new layout.mechanical_pools.tree ≡ old layout.mechanical_pools.tree
 
 kept_unlined : (old new : Trees) → KeepsUnlined old new → KeepUnlined old new
 unfolding all_tables written_out
@@ -128,6 +130,8 @@ kept_unlined old new keeps = record {
   pool_returns = keeps.1.1.1.1.1.0 (λ e. omega (arith, e)) (λ e. omega (arith, e)) (λ e. omega (arith, e)) (λ e. omega (arith, e));
   credits = keeps.1.1.1.1.1.1.1.1.1.1.0 (λ e. omega (arith, e)) (λ e. omega (arith, e)) (λ e. omega (arith, e)) (λ e. omega (arith, e));
   balances = keeps.1.1.1.1.1.1.1.1.1.1.1.0 (λ e. omega (arith, e)) (λ e. omega (arith, e)) (λ e. omega (arith, e)) (λ e. omega (arith, e));
+  ends = keeps.1.1.1.1.1.1.1.1.1.1.1.1.0 (λ e. omega (arith, e)) (λ e. omega (arith, e)) (λ e. omega (arith, e)) (λ e. omega (arith, e));
+  mechanical = keeps.1.1.1.1.1.1.1.1.1.1.1.1.1.0 (λ e. omega (arith, e)) (λ e. omega (arith, e)) (λ e. omega (arith, e)) (λ e. omega (arith, e));
 }
 
 -- a book without pools pays nobody
@@ -164,6 +168,8 @@ begun_mixed o b bodies first then sound kept empty keeps fronts verdicts version
         pools = subst (HasRows _ _) (sym (rows_kept layout.pools first then same.pools)) empty.kept.pools;
         cuts = subst (HasRows _ _) (sym (rows_kept layout.pool_cuts first then same.pool_cuts)) empty.kept.cuts;
         paid = subst (HasRows _ _) (sym (rows_kept layout.pool_returns first then same.pool_returns)) empty.kept.paid;
+        ends = rows_kept layout.segment_ends first then same.ends ∙ empty.kept.ends;
+        mechanical = rows_kept layout.mechanical_pools first then same.mechanical ∙ empty.kept.mechanical;
       };
       derived = record {
         fronts = fronts;
@@ -326,6 +332,8 @@ record KeepUnreferred (old new : Trees) : Type 0 where
   recordings : new layout.recordings.tree ≡ old layout.recordings.tree
   credits : new layout.credits_table.tree ≡ old layout.credits_table.tree
   balances : new layout.balances.tree ≡ old layout.balances.tree
+  ends : new layout.segment_ends.tree ≡ old layout.segment_ends.tree
+  mechanical : new layout.mechanical_pools.tree ≡ old layout.mechanical_pools.tree
 
 kept_unreferred : (old new : Trees) → KeepsUnreferred old new → KeepUnreferred old new
 unfolding all_tables written_out
@@ -340,6 +348,8 @@ kept_unreferred old new keeps = record {
   recordings = keeps.1.1.1.1.1.1.1.1.1.0 (λ e. omega (arith, e)) (λ e. omega (arith, e));
   credits = keeps.1.1.1.1.1.1.1.1.1.1.0 (λ e. omega (arith, e)) (λ e. omega (arith, e));
   balances = keeps.1.1.1.1.1.1.1.1.1.1.1.0 (λ e. omega (arith, e)) (λ e. omega (arith, e));
+  ends = keeps.1.1.1.1.1.1.1.1.1.1.1.1.0 (λ e. omega (arith, e)) (λ e. omega (arith, e));
+  mechanical = keeps.1.1.1.1.1.1.1.1.1.1.1.1.1.0 (λ e. omega (arith, e)) (λ e. omega (arith, e));
 }
 
 alike : (t : Table) (old new : Trees) → new t.tree ≡ old t.tree → IsPermutation (rows_in t old) (rows_in t new)
@@ -370,7 +380,7 @@ same_mixed bodies old new same = (
                     alike layout.recordings old new same.recordings,
                     (
                       alike layout.credits_table old new same.credits,
-                      (alike layout.balances old new same.balances, tt),
+                      (alike layout.balances old new same.balances, (alike layout.segment_ends old new same.ends, (alike layout.mechanical_pools old new same.mechanical, tt))),
                     ),
                   ),
                 ),

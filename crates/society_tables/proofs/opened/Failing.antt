@@ -1,4 +1,4 @@
--- Why an audit of layout 2 is told as a failure of the store.
+-- Why an audit of layout 3 is told as a failure of the store.
 use Rattle.std.proofs.Common.{◌≡◌, ◌≢◌, ◌⊎◌, ◌∙◌, ◌≤◌, ℕ, Option, ⊎_elim, inl, inr, true, false, true≢false, Result, Ok, Err, IfErr, IsSome, IsTrue, ap, arith, refl, subst, sym}
 use Rattle.std.proofs.lemmas.Bool.{cases_Bool}
 use Rattle.std.specs.Result.{IsErrAnd}

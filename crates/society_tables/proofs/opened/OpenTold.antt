@@ -94,7 +94,7 @@ told_likewise o one two fault.OtherOffice same told =
     (one_likewise two one (IsPermutation-sym one two same) told.0, λ is. told.1 (one_else (office_row o) two (subst (λ rows. IsPermutation rows two) is same)))
 told_likewise o one two fault.Damaged same told = one_else (office_row o) one (subst (λ rows. IsPermutation rows one) told (IsPermutation-sym one two same))
 
--- what is said of the office is said of a database of layout 2
+-- what is said of the office is said of a database of layout 3
 pub told_of_layout : (o : Office) (db : Database) (e : OpenFault) → HasLayout db → (IsBare db → ⊥) → TellsOffice o (rows_in layout.office db.trees) e → (e ≡ fault.Damaged → ¬ HoldsOwnBook o db.trees) → TellsDatabase o db e
 told_of_layout o db fault.Memory has bare told damaged = tt
 told_of_layout o db fault.Store has bare told damaged = tt
@@ -107,7 +107,7 @@ told_of_layout o db fault.Damaged has bare told damaged = (has, told, damaged re
 pub not_both : (s : Schema) → s ≡ no_schema → s ≡ layout.layout → ⊥
 unfolding layout.layout layout.written_out
 not_both s bare has =
-    let e : 0 ≡ 12 = ap (λ (z : Schema). length z.tables) (sym bare ∙ has) in
+    let e : 0 ≡ 14 = ap (λ (z : Schema). length z.tables) (sym bare ∙ has) in
     omega (e, arith)
 
 nothing_alone : (x y : ⊥) → x ≡ y

@@ -68,7 +68,7 @@ module _ (o : Office) (old new : State) (r : Result (Unit {0}) OpenFault) (settl
       book_by (Ok x) made = begun_book o (office_row o) new.now refl made.0
       book_by (Err e) made = tt
 
-  -- one of layout 2 that was audited
+  -- one of layout 3 that was audited
   pub opens_audited : HasLayout old.now → Inspects old new r (λ db _. HoldsOne o db) → (HasCleanDisk new → HasLayout old.now → IfErr r (TellsOffice o (rows_in layout_office old.now.trees))) → (HasCleanDisk new → HasLayout old.now → IfErr r (λ e. e ≡ Damaged → ¬ HoldsOwnBook o old.now.trees)) → TellsFailure Store old new r → Opens o old new r
   opens_audited has inspected told damaged failed = record {
     rests = rests_by r (λ clean. inspected.found clean has);
@@ -152,7 +152,7 @@ found_there db kind.Nothing is other bare = other refl
 found_there db kind.Layout is other bare = not_both db.schema bare is
 found_there db kind.Other is other bare = is.0 bare
 
--- Where tables are there, what is opened was of layout 2.
+-- Where tables are there, what is opened was of layout 3.
 pub audited_there : {X E : Type 0} (o : Office) (old : State) (r : Result X E) (new : X → State) → (IsBare old.now → ⊥) → (IsTrue old.is_open → old.now ≡ old.committed)
     → IfOk r (λ t. HasCleanDisk (new t) → IsTrue old.is_open → IsOpenable old.committed)
     → IfOk r (λ t. HasCleanDisk (new t) → IsTrue old.is_open → HasLayout old.committed → HoldsOne o old.committed.trees × ShowsAs old.committed (new t))

@@ -50,7 +50,7 @@ module _ (o : Office) (s found : State) (rests : ∥ Rests o s ∥₁) (live : I
   same_trees : Rests o s → found.committed.trees ≡ s.now.trees
   same_trees r = settled found.committed.trees (second_true s.is_clean s.is_open live) left.left ∙ sym (ap (λ (db : Database). db.trees) (r live).same)
 
-  -- what a crash leaves of a store at rest lists the tables of layout 2
+  -- what a crash leaves of a store at rest lists the tables of layout 3
   laid : Rests o s → HasLayout found.committed
   laid r =
       let sound_now : IsSound s.now.schema s.now.trees = (sound (second_true s.is_clean s.is_open live)).0 in

@@ -44,6 +44,8 @@ pub record KeepAll (old new : Trees) : Type 0 where
   pub recordings : new layout.recordings.tree ≡ old layout.recordings.tree
   pub credits : new layout.credits_table.tree ≡ old layout.credits_table.tree
   pub balances : new layout.balances.tree ≡ old layout.balances.tree
+  pub ends : new layout.segment_ends.tree ≡ old layout.segment_ends.tree
+  pub mechanical : new layout.mechanical_pools.tree ≡ old layout.mechanical_pools.tree
 
 kept_all : (old new : Trees) → KeepsOthers layout.returns old new → KeepAll old new
 unfolding all_tables written_out
@@ -59,6 +61,8 @@ kept_all old new keeps = record {
   recordings = keeps.1.1.1.1.1.1.1.1.1.0 (λ e. omega (arith, e));
   credits = keeps.1.1.1.1.1.1.1.1.1.1.0 (λ e. omega (arith, e));
   balances = keeps.1.1.1.1.1.1.1.1.1.1.1.0 (λ e. omega (arith, e));
+  ends = keeps.1.1.1.1.1.1.1.1.1.1.1.1.0 (λ e. omega (arith, e));
+  mechanical = keeps.1.1.1.1.1.1.1.1.1.1.1.1.1.0 (λ e. omega (arith, e));
 }
 
 rows_kept : (t : Table) (old new : Trees) → new t.tree ≡ old t.tree → rows_in t new ≡ rows_in t old
@@ -112,6 +116,8 @@ return_added o b key body old new holds free entry whole came others =
         pools = subst (HasRows _ _) (sym (rows_kept layout.pools old new keeps.pools)) holds.kept.pools;
         cuts = subst (HasRows _ _) (sym (rows_kept layout.pool_cuts old new keeps.pool_cuts)) holds.kept.cuts;
         paid = subst (HasRows _ _) (sym (rows_kept layout.pool_returns old new keeps.pool_returns)) holds.kept.paid;
+        ends = rows_kept layout.segment_ends old new keeps.ends ∙ holds.kept.ends;
+        mechanical = rows_kept layout.mechanical_pools old new keeps.mechanical ∙ holds.kept.mechanical;
       };
       derived = record {
         fronts = subst (HasRows _ _) (sym (rows_kept layout.fronts old new keeps.fronts)) holds.derived.fronts;

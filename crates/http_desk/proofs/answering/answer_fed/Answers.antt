@@ -17,14 +17,6 @@ returns-in-Ok-Whole-clause-comes g c =
           f.so_far c.requires.head f.ends c.requires.asks c.tell.ensures.tells (λ bytes was. c.ask-answer.ensures (Puts c.args.key.sender c.args.key.number bytes) (bytes, was, refl));
     }
 
-pub returns-in-Ok-Whole-clause-office : goal.returns-in-Ok-Whole-clause-office
-returns-in-Ok-Whole-clause-office g c =
-    let f = c.feed_request.ensures.feeds.so_far in (c.ask-answer.ensures (Puts c.args.key.sender c.args.key.number f.fed) (f.fed, f.was_fed, refl)).proceeds.goes.office
-
-pub returns-in-Ok-Whole-clause-clean : goal.returns-in-Ok-Whole-clause-clean
-returns-in-Ok-Whole-clause-clean g c =
-    let f = c.feed_request.ensures.feeds.so_far in (c.ask-answer.ensures (Puts c.args.key.sender c.args.key.number f.fed) (f.fed, f.was_fed, refl)).proceeds.goes.clean
-
 pub returns-in-Ok-Refused-clause-comes : goal.returns-in-Ok-Refused-clause-comes
 returns-in-Ok-Refused-clause-comes g c =
     let f = rw c.in-Ok-Refused.field-0-is at c.in-Ok-Refused.ensures.feeds in

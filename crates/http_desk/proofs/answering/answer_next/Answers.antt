@@ -8,7 +8,7 @@ use Rattle.http_desk.proofs.answering.answer_next.Goals as goal
 
 pub returns-clause-step : goal.returns-clause-step
 returns-clause-step g c =
-    let step = rw c.unread-bytes.ensures at c.answer_front-answer.ensures.step in
+    let step = rw c.unread-bytes.ensures at c.answer_front-answer.ensures in
     λ has. tells_call g.S.Store.state c.args.desk.now c.answer_front-answer.new.desk _ (reply_of c.answer_front-answer.result) (told_reply c.tell.result) c.tell.ensures.tells (step has)
 
 pub answer_front-answer-requires-clause-asks : goal.answer_front-answer-requires-clause-asks

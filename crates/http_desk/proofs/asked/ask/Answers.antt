@@ -1,3 +1,4 @@
+use Rattle.std.proofs.Common.{rules}
 use Rattle.http_desk.proofs.StepLemmas.{fed_call}
 use Rattle.http_desk.proofs.asked.ask.Goals as goal
 
@@ -6,3 +7,6 @@ returns-in-Ok g c = fed_call g.S.Store.state c.args.desk.now c.put_fed.new.self 
 
 pub returns-in-Err : goal.returns-in-Err
 returns-in-Err g c = fed_call g.S.Store.state c.args.desk.now c.put_fed.new.self c.args.asked c.in-Fed.field-0 _ c.in-Fed.is c.in-Err.ensures
+
+pub returns-in-Whole : goal.returns-in-Whole
+returns-in-Whole g c = search rules

@@ -9,7 +9,7 @@ use Rattle.http_desk.proofs.connection.serve_in.Goals as goal
 
 pub loop-answered-init : goal.loop-answered-init
 loop-answered-init g c =
-    (SoFar-start g.S.Store.state _ (unread c.args.room.now.input) _ _ _ _ _ _ c.requires.unread refl c.requires.waiting c.args.reader.now.reads_fit, c.requires.ready, refl, refl, λ clean. clean, refl)
+    (SoFar-start g.S.Store.state _ (unread c.args.room.now.input) _ _ _ _ _ _ c.requires.unread refl c.requires.waiting c.args.reader.now.reads_fit, c.requires.ready, refl, refl, refl)
 
 -- ---- the end
 
@@ -35,7 +35,7 @@ pub returns-in-Ok-Ended-clause-turns : goal.returns-in-Ok-Ended-clause-turns
 returns-in-Ok-Ended-clause-turns g c =
     let n = rw c.in-Ok-Ended.field-0-is at c.in-Ok-Ended.ensures.comes in
     let so = SoFar-reads g.S.Store.state _ _ _ _ n.bytes _ _ _ _ _ _ _ _ _ _ _ _ c.loop-answered.invariant.0 n.reads in
-    keeps_turns g.S.Store.state g.R.Read.remaining c.args.reader.now c.answer_upcoming.new.reader n.bytes _ _ _ _ _ _ _ _ (let met = rw c.in-Ok-Ended.field-0-is at c.in-Ok-Ended.ensures.met in omega (arith, met, c.loop-answered.invariant.5)) so
+    keeps_turns g.S.Store.state g.R.Read.remaining c.args.reader.now c.answer_upcoming.new.reader n.bytes _ _ _ _ _ _ _ _ (let met = rw c.in-Ok-Ended.field-0-is at c.in-Ok-Ended.ensures.met in omega (arith, met, c.loop-answered.invariant.4)) so
 
 -- ---- no request came
 
@@ -51,7 +51,7 @@ pub returns-in-Err-clause-turns : goal.returns-in-Err-clause-turns
 returns-in-Err-clause-turns g c =
     let n = c.in-Err.ensures.stops in
     let so = SoFar-reads g.S.Store.state _ _ _ _ n.bytes _ _ _ _ _ _ _ _ _ _ _ _ c.loop-answered.invariant.0 n.reads in
-    keeps_turns g.S.Store.state g.R.Read.remaining c.args.reader.now c.answer_upcoming.new.reader n.bytes _ _ _ _ _ _ _ _ (omega (arith, c.in-Err.ensures.unmet, c.loop-answered.invariant.5)) so
+    keeps_turns g.S.Store.state g.R.Read.remaining c.args.reader.now c.answer_upcoming.new.reader n.bytes _ _ _ _ _ _ _ _ (omega (arith, c.in-Err.ensures.unmet, c.loop-answered.invariant.4)) so
 
 -- ---- one more request
 
@@ -77,7 +77,7 @@ pub returns-in_default-clause-turns : goal.returns-in_default-clause-turns
 returns-in_default-clause-turns g c =
     let n = rw c.in-Ok-Request.field-0-is at c.in-Ok-Request.ensures.comes in
     let so = SoFar-reads g.S.Store.state _ _ _ _ n.bytes _ _ _ _ _ _ _ _ _ _ _ _ c.loop-answered.invariant.0 n.reads in
-    keeps_turns g.S.Store.state g.R.Read.remaining c.args.reader.now c.answer_upcoming.new.reader n.bytes _ _ _ _ _ _ _ _ (let met = rw c.in-Ok-Request.field-0-is at c.in-Ok-Request.ensures.met in omega (arith, met, c.loop-answered.invariant.5)) so
+    keeps_turns g.S.Store.state g.R.Read.remaining c.args.reader.now c.answer_upcoming.new.reader n.bytes _ _ _ _ _ _ _ _ (let met = rw c.in-Ok-Request.field-0-is at c.in-Ok-Request.ensures.met in omega (arith, met, c.loop-answered.invariant.4)) so
 
 pub returns-then-answered-clause-served : goal.returns-then-answered-clause-served
 returns-then-answered-clause-served g c =
@@ -103,7 +103,7 @@ pub returns-then-answered-clause-turns : goal.returns-then-answered-clause-turns
 returns-then-answered-clause-turns g c =
     let n = rw c.in-Ok-Request.field-0-is at c.in-Ok-Request.ensures.comes in
     let so = SoFar-reads g.S.Store.state _ _ _ _ n.bytes _ _ _ _ _ _ _ _ _ _ _ _ c.loop-answered.invariant.0 n.reads in
-    keeps_turns g.S.Store.state g.R.Read.remaining c.args.reader.now c.answer_upcoming.new.reader n.bytes _ _ _ _ _ _ _ _ (let met = rw c.in-Ok-Request.field-0-is at c.in-Ok-Request.ensures.met in omega (arith, met, c.loop-answered.invariant.5)) so
+    keeps_turns g.S.Store.state g.R.Read.remaining c.args.reader.now c.answer_upcoming.new.reader n.bytes _ _ _ _ _ _ _ _ (let met = rw c.in-Ok-Request.field-0-is at c.in-Ok-Request.ensures.met in omega (arith, met, c.loop-answered.invariant.4)) so
 
 pub loop-answered-smaller : goal.loop-answered-smaller
 loop-answered-smaller g c =
@@ -124,6 +124,5 @@ loop-answered-preserved g c =
       c.send.ensures.ready,
       c.in-Ok-Request.ensures.kept ∙ c.loop-answered.invariant.2,
       c.in-Ok.ensures.kept ∙ c.in-Ok-Request.ensures.kept_writer ∙ c.loop-answered.invariant.3,
-      λ clean. c.loop-answered.invariant.4 (c.answer_upcoming.ensures.clean clean),
-      (let met = rw c.in-Ok-Request.field-0-is at c.in-Ok-Request.ensures.met in met ∙ c.loop-answered.invariant.5),
+      (let met = rw c.in-Ok-Request.field-0-is at c.in-Ok-Request.ensures.met in met ∙ c.loop-answered.invariant.4),
     )

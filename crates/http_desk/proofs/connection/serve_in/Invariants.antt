@@ -1,5 +1,4 @@
 use Rattle.std.proofs.Common.{◌≡◌, ◌+◌, ◌*◌, length}
-use Rattle.std.specs.Prelude.{IsTrue}
 use Rattle.http_desk.specs.Input.{unread}
 use Rattle.http_desk.specs.Outbox.{waiting}
 use Rattle.http_desk.specs.Room.{IsReady}
@@ -13,7 +12,6 @@ invariant-loop-answered g l =
     × IsReady l.room
     × (l.reader.failures ≡ l.fn.reader.failures)
     × (l.writer.failures ≡ l.fn.writer.failures)
-    × (IsTrue (g.S.Store.state l.desk).is_clean → IsTrue (g.S.Store.state l.fn.desk).is_clean)
     × (l.reader.ends ≡ l.fn.reader.ends)
 
 abbrev pub decreases-loop-answered : goal.decreases-loop-answered

@@ -1,4 +1,4 @@
-use Rattle.std.proofs.Common.{refl, arith, ◌∙◌}
+use Rattle.std.proofs.Common.{refl, arith, rules, ◌∙◌}
 use Rattle.http_desk.specs.Input.{unread}
 use Rattle.http_desk.proofs.FeedingLemmas.{fed_awaits, fed_cut, fed_kept, fed_none, fed_on, fed_read}
 use Rattle.http_desk.proofs.feeding.feed_request.Goals as goal
@@ -25,6 +25,9 @@ returns-in-Ok-false-clause-feeds g c =
       so_far = so;
       ends = fed_cut (unread c.args.input.now) _ _ _ c.args.head.now _ _ _ _ c.loop-left.sink c.loop-left.left so c.requires.head (omega (arith, c.loop-left-test.true)) e.0 e.1;
     }
+
+pub returns-in-Ok-false-clause-met : goal.returns-in-Ok-false-clause-met
+returns-in-Ok-false-clause-met g c = search rules
 
 pub returns-in-Err-clause-feeds : goal.returns-in-Err-clause-feeds
 returns-in-Err-clause-feeds g c =

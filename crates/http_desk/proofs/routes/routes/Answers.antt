@@ -1,18 +1,7 @@
-use Rattle.std.proofs.Common.{refl}
-use Rattle.http_desk.specs.Path.{office_routes}
+use Rattle.std.proofs.Common.{ap, ◌∙◌}
+use Rattle.http_desk.specs.Path.{office_routes, with_book_routes, with_file_routes}
 use Rattle.http_desk.proofs.routes.routes.Goals as goal
 
 pub returns : goal.returns
 unfolding office_routes
-returns c = rw (
-  c.in_ok-add-8.ensures,
-  c.in_ok-add-7.ensures,
-  c.in_ok-add-6.ensures,
-  c.in_ok-add-5.ensures,
-  c.in_ok-add-4.ensures,
-  c.in_ok-add-3.ensures,
-  c.in_ok-add-2.ensures,
-  c.in_ok-add.ensures,
-  c.new-router.ensures,
-)
-    refl
+returns c = c.in_ok-add_book_routes.ensures ∙ ap with_book_routes (c.in_ok-add_file_routes.ensures ∙ ap with_file_routes c.new-router.ensures)

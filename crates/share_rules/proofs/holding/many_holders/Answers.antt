@@ -12,3 +12,6 @@ returns c =
     ∙ ap reverse c.loop-end.invariant.held
     ∙ reverse-reverse (from c.loop-end.end)
     ∙ ap from start
+
+pub loop-end-preserved : goal.loop-end-preserved
+loop-end-preserved c = record { within = omega arith; held = c.in_ok-push_block.ensures }

@@ -1,4 +1,5 @@
 use Rattle.std.proofs.Common.{◌≤◌, length, drop, arith}
+use Rattle.std.proofs.lemmas.Grind.{common_steps}
 use Rattle.std.proofs.lemmas.List.{length-drop}
 use Rattle.share_rules.proofs.Blocks.{all_bytes, drop_bytes, key_small}
 use Rattle.share_rules.proofs.party_keys.key_of.Goals as goal
@@ -21,3 +22,6 @@ overflow_add-key-in-loop-index c =
 
 pub returns-clause-bytes : goal.returns-clause-bytes
 returns-clause-bytes c = all_bytes c.args.bytes.now c.type_inv.bytes
+
+pub loop-index-init : goal.loop-index-init
+loop-index-init c = grind (arith, common_steps)

@@ -1,4 +1,4 @@
-use Rattle.std.proofs.Common.{refl}
+use Rattle.std.proofs.Common.{arith, refl}
 use Rattle.society_commands.proofs.auditing.audit_database.Goals as goal
 
 pub returns-in-Ok-clause-sound : goal.returns-in-Ok-clause-sound
@@ -17,3 +17,6 @@ returns-in-Err-clause-fault g c = λ one. (
   },
   refl,
 )
+
+pub returns-in-Err-clause-sound : goal.returns-in-Err-clause-sound
+returns-in-Err-clause-sound g c = λ zero. absurd (omega (arith, zero, c.open_fault.ensures))

@@ -1,4 +1,4 @@
-use Rattle.std.proofs.Common.{inr}
+use Rattle.std.proofs.Common.{inl, inr, refl}
 use Rattle.society_commands.proofs.ConnectionLemmas.{serves_store}
 use Rattle.society_commands.proofs.serving.serve_store.Goals as goal
 
@@ -10,3 +10,6 @@ pub returns-clause-broken_off : goal.returns-clause-broken_off
 returns-clause-broken_off g c = λ one.
     let came = c.in-Err.ensures.fault in
     inr (came.0, came.1, serves_store g.S.Store.state c.args.desk.now c.serve_connections.new.desk g.W.Write.contents c.args.out.now c.print.new.out c.serve_connections.new.out came.0 c.print.ensures came.2)
+
+pub returns-in_default-clause-broken_off : goal.returns-in_default-clause-broken_off
+returns-in_default-clause-broken_off g c = λ one. inl (refl, refl)

@@ -51,3 +51,11 @@ returns-in-Credits c = guards_as c.args.index.now c.args.name name.Credits _ c.i
 pub returns-in-Balances : goal.returns-in-Balances
 unfolding everything written_out
 returns-in-Balances c = guards_as c.args.index.now c.args.name name.Balances _ c.in-Balances.is c.is_guard-in-Balances.ensures
+
+pub returns-in-SegmentEnds : goal.returns-in-SegmentEnds
+unfolding everything written_out
+returns-in-SegmentEnds c = guards_as c.args.index.now c.args.name name.SegmentEnds _ c.in-SegmentEnds.is c.is_guard-in-SegmentEnds.ensures
+
+pub returns-in-MechanicalPools : goal.returns-in-MechanicalPools
+unfolding everything written_out
+returns-in-MechanicalPools c = guards_as c.args.index.now c.args.name name.MechanicalPools _ c.in-MechanicalPools.is c.is_guard-in-MechanicalPools.ensures

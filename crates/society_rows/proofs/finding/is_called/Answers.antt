@@ -50,3 +50,11 @@ returns-in-Credits c = called_as c.args.table.now c.args.name name.Credits _ c.i
 pub returns-in-Balances : goal.returns-in-Balances
 unfolding written_out
 returns-in-Balances c = called_as c.args.table.now c.args.name name.Balances _ c.in-Balances.is c.is_keyed-in-Balances.ensures
+
+pub returns-in-SegmentEnds : goal.returns-in-SegmentEnds
+unfolding written_out
+returns-in-SegmentEnds c = called_as c.args.table.now c.args.name name.SegmentEnds _ c.in-SegmentEnds.is c.is_keyed-in-SegmentEnds.ensures
+
+pub returns-in-MechanicalPools : goal.returns-in-MechanicalPools
+unfolding written_out
+returns-in-MechanicalPools c = called_as c.args.table.now c.args.name name.MechanicalPools _ c.in-MechanicalPools.is c.is_numbered-in-MechanicalPools.ensures

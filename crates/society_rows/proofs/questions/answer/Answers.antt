@@ -45,3 +45,12 @@ returns-in-Credits-clause-read g c = answers_as _ _ c.credits_of.result c.args.q
 
 pub returns-in-Balance-clause-read : goal.returns-in-Balance-clause-read
 returns-in-Balance-clause-read g c = answers_as _ _ c.balance_at.result c.args.question _ c.in-Balance.is c.balance_at.ensures.read
+
+pub returns-in-NumbersBetween-clause-read : goal.returns-in-NumbersBetween-clause-read
+returns-in-NumbersBetween-clause-read g c = answers_as _ _ c.numbers_between.result c.args.question _ c.in-NumbersBetween.is c.numbers_between.ensures.read
+
+pub returns-in-Ends-clause-read : goal.returns-in-Ends-clause-read
+returns-in-Ends-clause-read g c = answers_as _ _ c.ends_of.result c.args.question _ c.in-Ends.is c.ends_of.ensures.read
+
+pub returns-in-Mechanical-clause-read : goal.returns-in-Mechanical-clause-read
+returns-in-Mechanical-clause-read g c = answers_as _ _ c.mechanical_at.result c.args.question _ c.in-Mechanical.is c.mechanical_at.ensures.read

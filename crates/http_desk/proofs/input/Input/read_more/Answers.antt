@@ -13,3 +13,18 @@ returns-in-Ok-clause-reads g c =
 pub returns-in-Err-clause-reads : goal.returns-in-Err-clause-reads
 returns-in-Err-clause-reads g c =
     ReadsOn-failed _ _ _ _ _ _ _ _ _ c.make_room.ensures.bytes c.make_room.ensures.turns c.in-Err.ensures.bytes c.in-Err.ensures.uncounted c.args.reader.now.reads_fit
+
+pub returns-in-Err-clause-fault : goal.returns-in-Err-clause-fault
+returns-in-Err-clause-fault g c = search rules
+
+pub returns-in-Ok-eq0-clause-reads : goal.returns-in-Ok-eq0-clause-reads
+returns-in-Ok-eq0-clause-reads g c = search rules
+
+pub returns-in-Ok-eq0-clause-end : goal.returns-in-Ok-eq0-clause-end
+returns-in-Ok-eq0-clause-end g c = search rules
+
+pub returns-in-Ok-eq0-clause-met : goal.returns-in-Ok-eq0-clause-met
+returns-in-Ok-eq0-clause-met g c = search rules
+
+pub returns-in-Ok-eq0-clause-kept : goal.returns-in-Ok-eq0-clause-kept
+returns-in-Ok-eq0-clause-kept g c = search rules
