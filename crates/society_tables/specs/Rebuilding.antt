@@ -12,7 +12,7 @@ use Rattle.work_ids.specs.Blanks.{fill}
 use Rattle.work_ids.specs.Reporter.{reporter_of}
 use Rattle.work_ids.specs.SenderKey.{is_sender_key}
 use Rattle.society_rows.specs.Forms.{IsOfForms, pool_cut_forms, pool_return_forms}
-use Rattle.society_book.specs.BookRows.{AreOfBook, end_key_of, end_of, end_row, pool_row, return_key_of, return_row, transmission_key_of, transmission_row}
+use Rattle.society_book.specs.BookRows.{AreOfBook, segment_key_of, end_of, end_row, pool_row, return_key_of, return_row, transmission_key_of, transmission_row}
 use Rattle.share_rules.specs.declared.office.Office.{Office}
 use Rattle.society_book.specs.Kept.{HoldsBook}
 use Rattle.society_book.specs.Columns.{blob_at, whole_number_at, text_at}
@@ -51,12 +51,12 @@ HasSent book row = finite.get book.transmissions (transmission_key_of row) ≡ S
 
 -- the row is that of an end that the book has
 pub record IsStated (book : Book) (row : Row) : Type 0 where
-  pub form : row ≡ end_row (end_key_of row) (end_of row)
-  pub there : finite.get book.ends (end_key_of row) ≡ Some (end_of row)
+  pub form : row ≡ end_row (segment_key_of row) (end_of row)
+  pub there : finite.get book.ends (segment_key_of row) ≡ Some (end_of row)
 
 -- a book has the end of a row
 abbrev pub HasStated : Book → Row → Type 0
-HasStated book row = finite.get book.ends (end_key_of row) ≡ Some (end_of row)
+HasStated book row = finite.get book.ends (segment_key_of row) ≡ Some (end_of row)
 
 -- the row is that of a return of the book
 pub record IsReported (book : Book) (row : Row) : Type 0 where
@@ -76,7 +76,7 @@ SentOn b old row new =
 -- what the end of a row brings to it
 abbrev pub StatedOn : Book → Book → Row → Book → Type 0
 StatedOn b old row new =
-    Brings b.ends old.ends new.ends (end_key_of row) (end_of row) × (new.transmissions ≡ old.transmissions) × (new.returns ≡ old.returns) × (new.pools ≡ old.pools)
+    Brings b.ends old.ends new.ends (segment_key_of row) (end_of row) × (new.transmissions ≡ old.transmissions) × (new.returns ≡ old.returns) × (new.pools ≡ old.pools)
 
 -- what the return of a row brings to it
 abbrev pub ReportedOn : Book → Book → Row → Book → Type 0

@@ -23,8 +23,8 @@ use Rattle.society_core.specs.declared.store.Known.{Known}
 use Rattle.society_core.specs.declared.store.Known.TheVariants.{Same, Other}
 use Rattle.society_core.proofs.HeadlineLemmas.{none_past}
 use Rattle.society_core.proofs.KeyOrders.{exact_segments, segments_total}
-use Rattle.society_book.specs.BookRows.{end_key_of, end_of, end_row, end_rows, is_end_row, row_of_some}
-use Rattle.society_book.specs.Columns.{HasRows, place_at, text_at, whole_number_at}
+use Rattle.society_book.specs.BookRows.{segment_key_of, end_of, end_row, end_rows, is_end_row, row_of_some}
+use Rattle.society_book.specs.Columns.{HasRows, segment_at, text_at, whole_number_at}
 use Rattle.society_book.proofs.rows_alike.KeyRows.{both_same}
 use Rattle.society_book.proofs.rows_alike.RowLemmas.{all_rows, one_else}
 use Rattle.society_rows.specs.Forms.{IsOfForms, segment_end_forms}
@@ -44,18 +44,18 @@ pub stated_more : (b first old new : Book) (rows : List Row) (i : ℕ) (d : Row)
 stated_more b first old new rows i d within before on = record {
   within = on.0.within;
   here = subst (AllByRecursion (HasStated new)) (sym (take_more rows i d within))
-      (all-append (HasStated new) (take i rows) (get_or rows i d ∷ []) (all_weaker (HasStated old) (HasStated new) (λ r h. on.0.kept (end_key_of r) (end_of r) h) (take i rows) before.here) (on.0.here, tt));
+      (all-append (HasStated new) (take i rows) (get_or rows i d ∷ []) (all_weaker (HasStated old) (HasStated new) (λ r h. on.0.kept (segment_key_of r) (end_of r) h) (take i rows) before.here) (on.0.here, tt));
   transmissions = on.1 ∙ before.transmissions;
   returns = on.2 ∙ before.returns;
   pools = on.3 ∙ before.pools;
 }
 
 -- the column of a segment says its place
-place_back : (place : ℕ) → place_at 0 (Int (segment_column place) ∷ []) ≡ place
+place_back : (place : ℕ) → segment_at 0 (Int (segment_column place) ∷ []) ≡ place
 place_back zero = refl
 place_back (suc year) = refl
 
-key_back : (key : SegmentKey) (end : End) → end_key_of (end_row key end) ≡ key
+key_back : (key : SegmentKey) (end : End) → segment_key_of (end_row key end) ≡ key
 key_back key end = ap (segment_key key.sender) (place_back key.segment)
 
 end_back : (key : SegmentKey) (end : End) → end_of (end_row key end) ≡ end
@@ -63,7 +63,7 @@ end_back key end = ap (λ (next : ℕ). let e : End = record { last = end.last; 
 
 -- each row of the table of ends is that of an end of the book
 pub all_stated : (b : Book) (rows : List Row) → HasRows is_end_row (end_rows b) rows → AllByRecursion (IsStated b) rows
-all_stated b rows has = all_rows is_end_row end_key_of (λ r. both_same (text_at 0 r) (place_at 1 r)) (IsStated b) (end_rows b) rows has (λ q. told q (end_at b q.sender q.segment) refl)
+all_stated b rows has = all_rows is_end_row segment_key_of (λ r. both_same (text_at 0 r) (segment_at 1 r)) (IsStated b) (end_rows b) rows has (λ q. told q (end_at b q.sender q.segment) refl)
   where
     told : (q : SegmentKey) (o : Option End) → end_at b q.sender q.segment ≡ o → AllByRecursion (IsStated b) (row_of_some (end_row q) o)
     told q None is = tt
@@ -103,7 +103,7 @@ same_end_itself e = ap₂ (λ x y. x && y) (same_number e.last) (same_number e.n
 known_end : (end kept : End) → kept ≡ end → end_known_by end (Some kept) ≡ Same
 known_end end kept same = ap (λ (k : End). if same_end k end then Same else Other) same ∙ ap (λ (t : Bool). if t then Same else Other) (same_end_itself end)
 
-module _ (o : Office) (b old : Book) (row : Row) (sound : IsSound b) (stated : StatedEnd) (at_place : place_stated stated ≡ place_at 1 row) (at_end : end_stated stated ≡ end_of row) (right : fault_stated stated ≡ None) where
+module _ (o : Office) (b old : Book) (row : Row) (sound : IsSound b) (stated : StatedEnd) (at_place : place_stated stated ≡ segment_at 1 row) (at_end : end_stated stated ≡ end_of row) (right : fault_stated stated ≡ None) where
   sender : List ℕ
   sender = text_at 0 row
 
@@ -138,9 +138,9 @@ module _ (o : Office) (b old : Book) (row : Row) (sound : IsSound b) (stated : S
           ∙ ap (λ (k : Known). is_refused (end_answer old sender place end k)) (known_end end kept (same_kept kept has))
 
       -- the key and the end are those that the row has
-      by_row : (ends : Ends) → Brings b.ends old.ends ends (segment_key sender place) end → Brings b.ends old.ends ends (end_key_of row) (end_of row)
+      by_row : (ends : Ends) → Brings b.ends old.ends ends (segment_key sender place) end → Brings b.ends old.ends ends (segment_key_of row) (end_of row)
       by_row ends brings =
-          subst (λ (e : End). Brings b.ends old.ends ends (end_key_of row) e) at_end
+          subst (λ (e : End). Brings b.ends old.ends ends (segment_key_of row) e) at_end
           (subst (λ (k : SegmentKey). Brings b.ends old.ends ends k end) (ap (segment_key sender) at_place) brings)
 
       found : (k : Option End) → end_at old sender place ≡ k → StatedOn b old row (stating_book old sender stated (fault_stated stated))
@@ -165,16 +165,16 @@ five false b c d e h = absurd (false≢true h)
 -- what an end of a sound book says of its numbers
 record IsRightEnd (row : Row) : Type 0 where
   sender : is_sender_key (text_at 0 row) ≡ true
-  place : place_at 1 row ≤ 100
-  last : whole_number_at 2 row ≤ most_in (place_at 1 row)
-  later : place_at 1 row < place_at 3 row
-  next : place_at 3 row ≤ 100
+  place : segment_at 1 row ≤ 100
+  last : whole_number_at 2 row ≤ most_in (segment_at 1 row)
+  later : segment_at 1 row < segment_at 3 row
+  next : segment_at 3 row ≤ 100
 
 right_end : (b : Book) (row : Row) → IsSound b → IsStated b row → IsRightEnd row
 right_end b row sound is =
-    let parts = five (is_sender_key (text_at 0 row)) (nat_le (place_at 1 row) 100) (nat_le (whole_number_at 2 row) (most_in (place_at 1 row))) (nat_lt (place_at 1 row) (place_at 3 row)) (nat_le (place_at 3 row) 100)
-        (sound.ends (text_at 0 row) (place_at 1 row) (end_of row) is.there) in
-    record { sender = parts.0; place = leb-true _ _ parts.1; last = leb-true _ _ parts.2; later = below (place_at 1 row) (place_at 3 row) parts.3; next = leb-true _ _ parts.4 }
+    let parts = five (is_sender_key (text_at 0 row)) (nat_le (segment_at 1 row) 100) (nat_le (whole_number_at 2 row) (most_in (segment_at 1 row))) (nat_lt (segment_at 1 row) (segment_at 3 row)) (nat_le (segment_at 3 row) 100)
+        (sound.ends (text_at 0 row) (segment_at 1 row) (end_of row) is.there) in
+    record { sender = parts.0; place = leb-true _ _ parts.1; last = leb-true _ _ parts.2; later = below (segment_at 1 row) (segment_at 3 row) parts.3; next = leb-true _ _ parts.4 }
   where
     below : (a c : ℕ) → nat_lt a c ≡ true → a < c
     below a c h = grind (arith, nat_tests)
@@ -192,15 +192,15 @@ year_at (suc year) some within = (year, refl, omega (within, arith))
 pub stated_forms : (b : Book) (row : Row) → IsSound b → IsStated b row → IsOfForms segment_end_forms row
 stated_forms b row sound is =
     let parts = right_end b row sound is in
-    let low = most (place_at 1 row) in
+    let low = most (segment_at 1 row) in
     let last = parts.last in
     let later = parts.later in
-    let year = year_at (place_at 3 row) (omega (later, arith)) parts.next in
+    let year = year_at (segment_at 3 row) (omega (later, arith)) parts.next in
     subst (IsOfForms segment_end_forms) (sym is.form)
-    (refl, (text_at 0 row, refl), (place_at 1 row, refl, parts.place), (whole_number_at 2 row, refl, omega (last, low, arith)), (year.0, ap (λ v. Int v) year.1, year.2), tt)
+    (refl, (text_at 0 row, refl), (segment_at 1 row, refl, parts.place), (whole_number_at 2 row, refl, omega (last, low, arith)), (year.0, ap (λ v. Int v) year.1, year.2), tt)
 
 -- and what is read of it has no fault
-pub stated_right : (b : Book) (row : Row) (segment : Segment) (last next : ℕ) → IsSound b → IsStated b row → index_of segment ≡ place_at 1 row → last ≡ whole_number_at 2 row → next + 1 ≡ place_at 3 row → segment_fault segment last next ≡ None
+pub stated_right : (b : Book) (row : Row) (segment : Segment) (last next : ℕ) → IsSound b → IsStated b row → index_of segment ≡ segment_at 1 row → last ≡ whole_number_at 2 row → next + 1 ≡ segment_at 3 row → segment_fault segment last next ≡ None
 stated_right b row segment last next sound is place count year =
     let parts = right_end b row sound is in
     ap (λ (t : Bool). if t then Some OutOfRange else (if is_next_not_later segment next then Some NotLater else None)) (within parts)
@@ -229,11 +229,11 @@ module _ (sender : List ℕ) (place last year : ℕ) (row : Row) (values : (Text
   pub sender_read : sender ≡ text_at 0 row
   sender_read = ap (text_at 0) values
 
-  pub place_read : place ≡ place_at 1 row
-  place_read = sym (place_back place) ∙ ap (place_at 1) values
+  pub place_read : place ≡ segment_at 1 row
+  place_read = sym (place_back place) ∙ ap (segment_at 1) values
 
   pub last_read : last ≡ whole_number_at 2 row
   last_read = ap (whole_number_at 2) values
 
-  pub year_read : year + 1 ≡ place_at 3 row
-  year_read = let e : year + 1 ≡ suc year = omega arith in e ∙ ap (place_at 3) values
+  pub year_read : year + 1 ≡ segment_at 3 row
+  year_read = let e : year + 1 ≡ suc year = omega arith in e ∙ ap (segment_at 3) values
