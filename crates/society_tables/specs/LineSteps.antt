@@ -26,9 +26,9 @@ use Rattle.society_tables.specs.Rebuilding.{without_pools}
 abbrev pub OfRows : (Trees → Trees → Type 0) → Database → Database → Type 0
 OfRows Change before after = Change before.trees after.trees
 
--- these are all of the sender's transmissions up to its front, as the office notes them, in every book with those of the database
-abbrev pub AreWholeIn : Office → List ℕ → Trees → List Notes → Type 0
-AreWholeIn office sender db notes = (book : Book) → HasTransmissions book db → AreWhole office book sender notes
+-- this is the run of the sender's whole line, as the office notes it, in every book with what the database has of its senders
+abbrev pub IsWholeIn : Office → List ℕ → Trees → RunValue → Type 0
+IsWholeIn office sender db run = (book : Book) → KeepsSent book db → AreOrderly book.transmissions book.ends sender → IsWhole office book sender run
 
 -- the tables have the row of a front in place of its sender's, and what the outcomes tell of this sender
 abbrev pub PutsOutcomes : Row → List ℕ → List Outcome → Trees → Trees → Type 0
@@ -39,7 +39,7 @@ PutsOutcomes front sender outcomes =
 -- tables that had the lines of some senders and not of this one have its line too; what no line tells is as it was
 abbrev pub PutsSender : Office → List ℕ → Database → Database → Trees → Type 0
 PutsSender office sender old new db =
-    (book : Book) → HasTransmissions book db → has_sent book sender ≡ true → HasLayout old → HasLayout new
+    (book : Book) → KeepsSent book db → AreOrderly book.transmissions book.ends sender → knows_sender book sender ≡ true → HasLayout old → HasLayout new
     × KeepsUnlined old.trees new.trees
     × ((of_these : List ℕ → Bool) → of_these sender ≡ false → HasLines office book of_these old.trees
     → HasLines office book (λ other. of_these other || bytes_eq sender other) new.trees)
@@ -47,7 +47,7 @@ PutsSender office sender old new db =
 -- tables that had no lines have those of these senders; what no line tells is as it was
 abbrev pub PutsSenders : Office → List (List ℕ) → Database → Database → Trees → Type 0
 PutsSenders office senders old new db =
-    (book : Book) → HasTransmissions book db → AllByRecursion (λ sender. has_sent book sender ≡ true) senders → HasLayout old
+    (book : Book) → KeepsSent book db → ((sender : List ℕ) → AreOrderly book.transmissions book.ends sender) → AllByRecursion (λ sender. knows_sender book sender ≡ true) senders → HasLayout old
     → length (ascending bytes_cmp senders) ≡ length senders
     → HasLines office book (λ _. false) old.trees
     → HasLayout new × KeepsUnlined old.trees new.trees
@@ -56,12 +56,19 @@ PutsSenders office senders old new db =
 -- where the tables in memory hold an empty book, the database holds the book that its transmissions and returns stand for
 abbrev pub Confirms : Office → List (List ℕ) → Database → Trees → Type 0
 Confirms office senders memory db =
-    IsSound (without_pools (book_of db)) → KeepsBodies (book_of db) db → AreSenders (book_of db) senders → HasLayout memory
+    IsSound (without_pools (book_of db)) → KeepsBodies (book_of db) db → HasEnds (book_of db) db → AreSenders (book_of db) senders → HasLayout memory
     → HoldsBook office empty_book memory.trees
     → IsNumbered db → HoldsOwnBook office db
 
--- where senders are found, each transmission may stand in a book, and they are its senders, ascending, each once
-abbrev pub FindsSenders : Trees → Option (Vec (List ℕ) Global) → Type 0
-FindsSenders db found =
+-- where senders are found, each transmission may stand in a book, and they are those of its rows
+abbrev pub FindsSent : Trees → Option (Vec (List ℕ) Global) → Type 0
+FindsSent db found =
     (senders : Vec (List ℕ) Global) → found ≡ Some senders → AreEntries is_right_sent is_transmission_row (rows_in transmissions db)
-    × (senders.items ≡ ascending bytes_cmp (map (text_at 0) (rows_in transmissions db)))
+    × IsPermutation senders.items (map (text_at 0) (rows_in transmissions db))
+
+-- where senders are found, each end may stand in a book, above all transmissions of its segment, and they are those of its rows
+abbrev pub FindsStated : Trees → Option (Vec (List ℕ) Global) → Type 0
+FindsStated db found =
+    (senders : Vec (List ℕ) Global) → found ≡ Some senders → AreEntries is_right_stated is_end_row (rows_in segment_ends db)
+    × ((book : Book) → HasTransmissions book db → AllByRecursion (IsAbove book) (rows_in segment_ends db))
+    × IsPermutation senders.items (map (text_at 0) (rows_in segment_ends db))

@@ -20,8 +20,8 @@ use work_ids::SenderKey;
 /// The tables whose rows a pool is paid by, but for the bodies.
 const WORKS_TABLES: [TableName; 2] = [TableName::Versions, TableName::Recordings];
 
-/// Every table but those of the office, of transmissions and of returns.
-const MONEY_TABLES: [TableName; 11] = [
+/// Every table but those of the office, of transmissions, of ends and of returns.
+const MONEY_TABLES: [TableName; 10] = [
     TableName::Pools,
     TableName::PoolCuts,
     TableName::PoolReturns,
@@ -31,7 +31,6 @@ const MONEY_TABLES: [TableName; 11] = [
     TableName::Recordings,
     TableName::Credits,
     TableName::Balances,
-    TableName::SegmentEnds,
     TableName::MechanicalPools,
 ];
 
