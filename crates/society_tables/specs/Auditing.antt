@@ -93,15 +93,18 @@ pub record AreEntries {K : Type 0} (is_right : Row → Bool) (is_of : K → Row 
   pub right : AllByRecursion (λ row. is_right row ≡ true) rows
   pub once : (key : K) → length (filter (is_of key) rows) ≤ 1
 
+-- each end of a database is above all transmissions of its segment
+abbrev pub AreEndsAbove : Trees → Type 0
+AreEndsAbove db = (book : Book) → HasTransmissions book db → AllByRecursion (IsAbove book) (rows_in layout.segment_ends db)
+
 -- the senders of the transmissions and of the ends of a database
 abbrev pub senders_in : Trees → List (List ℕ)
 senders_in db = map (text_at 0) (rows_in layout.transmissions db) ++ map (text_at 0) (rows_in layout.segment_ends db)
 
--- the transmissions, the ends and the returns of a database may stand in a book, each end above all transmissions of its segment, and these are the senders, ascending, each once
+-- the transmissions, the ends and the returns of a database may stand in a book, and these are the senders, ascending, each once
 pub record HoldsEntries (these : List (List ℕ)) (db : Trees) : Type 0 where
   pub transmissions : AreEntries is_right_sent is_transmission_row (rows_in layout.transmissions db)
   pub ends : AreEntries is_right_stated is_end_row (rows_in layout.segment_ends db)
-  pub within : (book : Book) → HasTransmissions book db → AllByRecursion (IsAbove book) (rows_in layout.segment_ends db)
   pub returns : AreEntries is_right_return is_return_row (rows_in layout.returns db)
   pub senders : these ≡ ascending bytes_cmp (senders_in db)
 

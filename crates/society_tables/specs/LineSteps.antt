@@ -1,24 +1,25 @@
 -- What the steps of an audit put of senders' lines into tables in memory, and what it confirms by them (representation).
-use Rattle.std.specs.Prelude.{ℕ, ◌≡◌, ◌||◌, Bool, List, Option, Some, Vec, bytes_eq, false, flat_map, length, map, true}
+use Rattle.std.specs.Prelude.{ℕ, ◌≡◌, ◌||◌, Bool, IsPermutation, List, Option, Some, Vec, bytes_eq, false, flat_map, length, map, true}
 use Rattle.std.specs.List.{AllByRecursion}
 use Rattle.std.specs.declared.alloc.Global.{Global}
 use Rattle.share_rules.specs.declared.office.Office.{Office}
 use Rattle.sqlite.specs.Effect.{Database}
 use Rattle.sqlite_trees.specs.Tree.{Trees}
 use Rattle.sqlite_value.specs.Order.{Row}
-use Rattle.society_core.specs.Book.{Book, IsSound, empty_book}
+use Rattle.society_core.specs.Book.{AreOrderly, Book, IsSound, empty_book}
 use Rattle.society_core.specs.Keys.{ascending, bytes_cmp}
-use Rattle.society_rows.specs.Layout.{transmissions}
+use Rattle.society_rows.specs.Layout.{segment_ends, transmissions}
 use Rattle.society_rows.specs.Stored.{HasLayout, rows_in}
-use Rattle.society_book.specs.BookRows.{book_of, is_transmission_row}
+use Rattle.society_book.specs.BookRows.{book_of, is_end_row, is_transmission_row}
 use Rattle.society_book.specs.Columns.{text_at}
-use Rattle.society_book.specs.DerivedRows.{has_sent}
+use Rattle.society_book.specs.DerivedRows.{knows_sender}
 use Rattle.society_book.specs.Kept.{HoldsBook, HoldsOwnBook}
 use Rattle.society_book.specs.Outcomes.{settled}
-use Rattle.society_book.specs.Runs.{Notes, is_among, settled_recordings, settled_verdict, settled_version}
-use Rattle.society_book.specs.Sources.{HasTransmissions, KeepsBodies}
+use Rattle.society_book.specs.Runs.{IsWhole, RunValue, is_among, settled_recordings, settled_verdict, settled_version}
+use Rattle.society_book.specs.Shown.{KeepsUnlined, PutsLine}
+use Rattle.society_book.specs.Sources.{HasEnds, KeepsBodies, KeepsSent}
 use Rattle.society_book.specs.declared.outcomes.Outcome.{Outcome}
-use Rattle.society_tables.specs.Auditing.{AreEntries, AreSenders, AreWhole, HasLines, KeepsUnlined, PutsLine, is_right_sent}
+use Rattle.society_tables.specs.Auditing.{AreEntries, AreSenders, HasLines, is_right_sent, is_right_stated, senders_in}
 use Rattle.society_tables.specs.Opening.{IsNumbered}
 use Rattle.society_tables.specs.Rebuilding.{without_pools}
 
@@ -66,9 +67,15 @@ FindsSent db found =
     (senders : Vec (List ℕ) Global) → found ≡ Some senders → AreEntries is_right_sent is_transmission_row (rows_in transmissions db)
     × IsPermutation senders.items (map (text_at 0) (rows_in transmissions db))
 
--- where senders are found, each end may stand in a book, above all transmissions of its segment, and they are those of its rows
+-- where senders are found, each end may stand in a book, and they are those of its rows
 abbrev pub FindsStated : Trees → Option (Vec (List ℕ) Global) → Type 0
 FindsStated db found =
     (senders : Vec (List ℕ) Global) → found ≡ Some senders → AreEntries is_right_stated is_end_row (rows_in segment_ends db)
-    × ((book : Book) → HasTransmissions book db → AllByRecursion (IsAbove book) (rows_in segment_ends db))
     × IsPermutation senders.items (map (text_at 0) (rows_in segment_ends db))
+
+-- where senders are found, each transmission and each end may stand in a book, and they are their senders, ascending, each once
+abbrev pub FindsSenders : Trees → Option (Vec (List ℕ) Global) → Type 0
+FindsSenders db found =
+    (senders : Vec (List ℕ) Global) → found ≡ Some senders → AreEntries is_right_sent is_transmission_row (rows_in transmissions db)
+    × AreEntries is_right_stated is_end_row (rows_in segment_ends db)
+    × (senders.items ≡ ascending bytes_cmp (senders_in db))

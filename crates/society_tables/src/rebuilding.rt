@@ -288,11 +288,7 @@ fn transmissions_from<S: Alter>(
 }
 
 // States the ends of a database.
-fn ends_from<S: Alter>(
-    alloc: Global,
-    conn: &mut Idle<S>,
-    desk: &mut Anew,
-) -> Result<(), AuditFault>
+fn ends_from<S: Alter>(alloc: Global, conn: &mut Idle<S>, desk: &mut Anew) -> Result<(), AuditFault>
     ensures asked { between S.Store conn.old conn.new Inspects result (λ _ _. ⊤) }
     ensures failed { between S.Store conn.old conn.new (TellsFailure Store) result }
     ensures office { desk.new.office ≡ desk.old.office }

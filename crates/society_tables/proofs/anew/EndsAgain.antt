@@ -173,7 +173,7 @@ record IsRightEnd (row : Row) : Type 0 where
 right_end : (b : Book) (row : Row) → IsSound b → IsStated b row → IsRightEnd row
 right_end b row sound is =
     let parts = five (is_sender_key (text_at 0 row)) (nat_le (segment_at 1 row) 100) (nat_le (whole_number_at 2 row) (most_in (segment_at 1 row))) (nat_lt (segment_at 1 row) (segment_at 3 row)) (nat_le (segment_at 3 row) 100)
-        (sound.ends (text_at 0 row) (segment_at 1 row) (end_of row) is.there) in
+    (sound.ends (text_at 0 row) (segment_at 1 row) (end_of row) is.there) in
     record { sender = parts.0; place = leb-true _ _ parts.1; last = leb-true _ _ parts.2; later = below (segment_at 1 row) (segment_at 3 row) parts.3; next = leb-true _ _ parts.4 }
   where
     below : (a c : ℕ) → nat_lt a c ≡ true → a < c
