@@ -8,4 +8,4 @@ mod front;
 mod leads;
 
 pub use front::{Numbers, first_rank, front_from, sequence};
-pub use leads::is_up_to;
+pub use leads::{is_up_to, is_up_to_end, leads};
