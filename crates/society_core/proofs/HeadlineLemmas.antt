@@ -126,7 +126,7 @@ run_came o b [] (r ∷ rs) c run e there = absurd run
 run_came o b (q ∷ qs) [] c run e there = absurd run
 
 -- a book has no end before a number, nor a number above an end
-abbrev Fits : Book → Entry → Type 0
+abbrev pub Fits : Book → Entry → Type 0
 Fits b (Transmission s n x) = (e : ways.End) → end_at b s (segment_of n) ≡ Some e → sequence_of n ≤ e.last
 Fits b (End s g e) = (n : ℕ) (x : List ℕ) → body_at b s n ≡ Some x → segment_of n ≡ g → sequence_of n ≤ e.last
 Fits b (Return key x) = ⊤
@@ -187,7 +187,7 @@ none_last passes (n ∷ ns) none =
     ∙ none_last passes ns (λ k one. none k (is_later n k ns one))
 
 -- an end that fits is above all numbers of its segment
-none_past : (b : Book) (s : List ℕ) (g : ℕ) (e : ways.End) → Fits b (End s g e) → number_past b s g e.last ≡ None
+pub none_past : (b : Book) (s : List ℕ) (g : ℕ) (e : ways.End) → Fits b (End s g e) → number_past b s g e.last ≡ None
 none_past b s g e fits = none_last (is_past g e.last) (numbers_of b s) (λ n one. by_found n (body_at b s n) refl (sym (there_of_numbers b s n) ∙ one))
   where
     not_past : (n : ℕ) → (segment_of n ≡ g → sequence_of n ≤ e.last) → is_past g e.last n ≡ false

@@ -63,6 +63,10 @@ past_by_keys b s g last keys are =
     (chosen_twice s (is_past g last) keys
     ∙ ap (λ (ks : List TransmissionKey). filter (is_past g last) (map (λ k. k.number) (filter (is_of s) ks))) (sym are))
 
+-- whether a key is of a sender and of a number above the last of a segment
+abbrev pub is_key_past : List ℕ → ℕ → ℕ → TransmissionKey → Bool
+is_key_past s g last k = bytes_eq k.sender s && is_past g last k.number
+
 -- the numbers of keys that pass
 abbrev pub passing : (TransmissionKey → Bool) → List TransmissionKey → List ℕ
 passing passes keys = map (λ k. k.number) (filter passes keys)
