@@ -22,6 +22,10 @@ pub record KeepsSent (book : Book) (db : Trees) : Type 0 where
   pub transmissions : HasTransmissions book db
   pub ends : HasEnds book db
 
+-- an answer is that of every book whose transmissions a database has
+abbrev pub BySent : {T : Type 0} → (Book → T → Type 0) → Trees → T → Type 0
+BySent IsAnswer db x = (book : Book) → HasTransmissions book db → IsAnswer book x
+
 -- the tables of transmissions and of returns have exactly the rows of a book
 pub record KeepsBodies (book : Book) (db : Trees) : Type 0 where
   pub transmissions : HasTransmissions book db

@@ -8,6 +8,7 @@ ghost use Rattle.society_core.specs.declared.store.KnownEnd.TheVariants as ends;
 ghost use Rattle.society_rows.specs.Between.{between};
 ghost use Rattle.society_rows.specs.Questions.{Asks};
 ghost use Rattle.society_book.specs.Shown.{ByBook};
+ghost use Rattle.society_book.specs.Sources.{BySent};
 ghost use Rattle.work_ids.specs.Segments.{base_of, index_of};
 
 use crate::ends_read::ends_of;
@@ -29,13 +30,13 @@ fn rank_before(segment: Segment) -> u32
     }
 }
 
-// The greatest number of a sender's transmissions in the segment of an end that is above the end.
-fn last_past<S: Alter>(
+/// The greatest number of a sender's transmissions in the segment of an end that is above the end, none where there is none.
+pub fn number_past_of<S: Alter>(
     conn: &mut Idle<S>,
     sender: &[u8],
     end: &SegmentEnd,
 ) -> Result<Option<TransmissionNumber>, RowFault>
-    ensures asked { between S.Store conn.old conn.new Asks result (ByBook (λ _ book number. number ≡ number_past book sender.now (place_stated end.now) end.now.last)) }
+    ensures asked { between S.Store conn.old conn.new Asks result (BySent (λ book number. number ≡ number_past book sender.now (place_stated end.now) end.now.last)) }
 {
     let before = rank_before(end.segment());
     let behind = before + end.segment().greatest() + 1;
@@ -50,7 +51,7 @@ fn free_segment<S: Alter>(
 ) -> Result<KnownEnd, RowFault>
     ensures asked { between S.Store conn.old conn.new Asks result (ByBook (λ _ book found. found ≡ unstated_under (number_past book sender.now (place_stated end.now) end.now.last))) }
 {
-    Ok(match last_past(conn, sender, end)? {
+    Ok(match number_past_of(conn, sender, end)? {
         Some(number) => KnownEnd::Passed(number),
         None => KnownEnd::Absent,
     })

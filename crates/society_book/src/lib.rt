@@ -33,7 +33,7 @@ pub use acknowledgements::ack_of;
 pub use arrivals::arrive;
 pub use closings::write_pool;
 pub use cut_works::candidates_in;
-pub use ends_known::known_end_of;
+pub use ends_known::{known_end_of, number_past_of};
 pub use ends_read::{ends_in, ends_of};
 pub use going::whole_run;
 pub use orders::known_pool_of;

@@ -4,7 +4,7 @@ ghost use Rattle.society_core.specs.Ends.{last_number_of};
 ghost use Rattle.society_rows.specs.Between.{between};
 ghost use Rattle.society_rows.specs.Questions.{Asks};
 ghost use Rattle.society_book.specs.Columns.{whole_number_at};
-ghost use Rattle.society_book.specs.Shown.{ByBook};
+ghost use Rattle.society_book.specs.Sources.{BySent};
 ghost use Rattle.society_book.specs.Standing.{numbers_above, numbers_within};
 
 use society_rows::{Idle, Question, RowFault, TransmissionKeyRow, ask};
@@ -38,7 +38,7 @@ pub(crate) fn append_above<S: Alter>(
     above: u32,
     list: &mut Vec<TransmissionNumber>,
 ) -> Result<(), RowFault>
-    ensures asked { between S.Store conn.old conn.new Asks result (ByBook (λ _ book _. list.new.items ≡ list.old.items ++ numbers_above book sender.now above)) }
+    ensures asked { between S.Store conn.old conn.new Asks result (BySent (λ book _. list.new.items ≡ list.old.items ++ numbers_above book sender.now above)) }
 {
     let rows = ask(conn, Question::NumbersAbove(sender, above))?;
     append_numbers(rows.as_slice(), list)
@@ -52,7 +52,7 @@ pub(crate) fn append_within<S: Alter>(
     below: u32,
     list: &mut Vec<TransmissionNumber>,
 ) -> Result<(), RowFault>
-    ensures asked { between S.Store conn.old conn.new Asks result (ByBook (λ _ book _. list.new.items ≡ list.old.items ++ numbers_within book sender.now above below)) }
+    ensures asked { between S.Store conn.old conn.new Asks result (BySent (λ book _. list.new.items ≡ list.old.items ++ numbers_within book sender.now above below)) }
 {
     let rows = ask(conn, Question::NumbersBetween(sender, above, below))?;
     append_numbers(rows.as_slice(), list)
@@ -75,7 +75,7 @@ pub(crate) fn last_within<S: Alter>(
     above: u32,
     below: u32,
 ) -> Result<Option<TransmissionNumber>, RowFault>
-    ensures asked { between S.Store conn.old conn.new Asks result (ByBook (λ _ book number. number ≡ last_number_of (numbers_within book sender.now above below))) }
+    ensures asked { between S.Store conn.old conn.new Asks result (BySent (λ book number. number ≡ last_number_of (numbers_within book sender.now above below))) }
 {
     let rows = ask(conn, Question::NumbersBetween(sender, above, below))?;
     last_number(rows.as_slice())

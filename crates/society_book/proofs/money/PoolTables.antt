@@ -169,7 +169,7 @@ module _ (o : Office) (b : Book) (pool : ℕ) (order : Order) (free : order_at b
             pools = more_rows (is_of_pool 0) (λ q. row_of_some (pool_row q) (order_at b q)) (λ q. row_of_some (pool_row q) (order_at closed q)) (pool_row pool order ∷ []) (rows_in layout.pools old) (rows_in layout.pools new) holds.kept.pools (grown 0 (λ q. row_of_some (pool_row q)) (pool_row pool order ∷ []) (refl, tt) refl refl) closes.pools;
             cuts = more_rows (is_of_pool 0) (λ q. rows_of_order (cut_row q) (λ r. r.cut) (order_at b q)) (λ q. rows_of_order (cut_row q) (λ r. r.cut) (order_at closed q)) (map (cut_row pool) order.cut) (rows_in layout.pool_cuts old) (rows_in layout.pool_cuts new) holds.kept.cuts (grown 0 (λ q. rows_of_order (cut_row q) (λ r. r.cut)) (map (cut_row pool) order.cut) (cuts_at pool order.cut) refl refl) closes.cuts;
             paid = more_rows (is_of_pool 2) (λ q. rows_of_order (paid_row q) (λ r. r.returns) (order_at b q)) (λ q. rows_of_order (paid_row q) (λ r. r.returns) (order_at closed q)) (map (paid_row pool) order.returns) (rows_in layout.pool_returns old) (rows_in layout.pool_returns new) holds.kept.paid (grown 2 (λ q. rows_of_order (paid_row q) (λ r. r.returns)) (map (paid_row pool) order.returns) (paid_at pool order.returns) refl refl) closes.paid;
-            ends = rows_kept layout.segment_ends old new keeps.ends ∙ holds.kept.ends;
+            ends = subst (HasRows _ _) (sym (rows_kept layout.segment_ends old new keeps.ends)) holds.kept.ends;
             mechanical = rows_kept layout.mechanical_pools old new keeps.mechanical ∙ holds.kept.mechanical;
           };
           derived = record {
