@@ -15,3 +15,5 @@ mod peer_tests;
 mod request_tests;
 #[cfg(test)]
 mod streams;
+#[cfg(test)]
+mod year_tests;

@@ -1,6 +1,6 @@
 use Rattle.std.proofs.Common.{sym, true≢false}
-use Rattle.http_desk.proofs.OrderLemmas.{value_missing, value_read}
-use Rattle.http_desk.proofs.order_text.value_of.Goals as goal
+use Rattle.http_desk.proofs.JsonBodyLemmas.{value_missing, value_read}
+use Rattle.http_desk.proofs.json_body.value_of.Goals as goal
 
 pub returns-in-Ok : goal.returns-in-Ok
 returns-in-Ok c = value_read c.args.body.now _ c.in-Ok.ensures.ok.0 c.in-Ok.ensures.ok.1
