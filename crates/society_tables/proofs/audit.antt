@@ -8,3 +8,4 @@ pub mod LineAudits
 pub mod SenderLists
 pub mod LineWrites
 pub mod Mixed
+pub mod NobodyLines

@@ -15,7 +15,7 @@ use Rattle.society_book.specs.Columns.{text_at}
 use Rattle.society_book.specs.DerivedRows.{knows_sender}
 use Rattle.society_book.specs.Kept.{HoldsBook, HoldsOwnBook}
 use Rattle.society_book.specs.Outcomes.{settled}
-use Rattle.society_book.specs.Runs.{IsWhole, RunValue, is_among, settled_recordings, settled_verdict, settled_version}
+use Rattle.society_book.specs.Runs.{is_among, settled_recordings, settled_verdict, settled_version}
 use Rattle.society_book.specs.Shown.{KeepsUnlined, PutsLine}
 use Rattle.society_book.specs.Sources.{HasEnds, KeepsBodies, KeepsSent}
 use Rattle.society_book.specs.declared.outcomes.Outcome.{Outcome}
@@ -26,10 +26,6 @@ use Rattle.society_tables.specs.Rebuilding.{without_pools}
 -- what is made of the rows alone
 abbrev pub OfRows : (Trees → Trees → Type 0) → Database → Database → Type 0
 OfRows Change before after = Change before.trees after.trees
-
--- this is the run of the sender's whole line, as the office notes it, in every book with what the database has of its senders
-abbrev pub IsWholeIn : Office → List ℕ → Trees → RunValue → Type 0
-IsWholeIn office sender db run = (book : Book) → KeepsSent book db → AreOrderly book.transmissions book.ends sender → IsWhole office book sender run
 
 -- the tables have the row of a front in place of its sender's, and what the outcomes tell of this sender
 abbrev pub PutsOutcomes : Row → List ℕ → List Outcome → Trees → Trees → Type 0

@@ -97,6 +97,13 @@ module _ (b : Book) where
       let back : return_key_of (return_row q body) ≡ q = λ i. record { reporter = whole refl i; number = q.number } in
       (((refl, (refl, tt)), ap (return_rows b) back ∙ ap (row_of_some (return_row q)) is), tt)
 
+  abbrev ended : Row → List Row
+  ended row = end_rows b (segment_key_of row)
+
+  ended_told : (q : SegmentKey) (x : Option End) → end_at b q.sender q.segment ≡ x → AllByRecursion (IsTold (Words ∷ Number ∷ []) ended) (row_of_some (end_row q) x)
+  ended_told q None is = tt
+  ended_told q (Some end) is = (((refl, (number_column q.segment, tt)), ap (end_rows b) (end_key_back q end) ∙ ap (row_of_some (end_row q)) is), tt)
+
   abbrev closed : Row → List Row
   closed row = pool_rows b (whole_number_at 0 row)
 
@@ -122,8 +129,8 @@ module _ (kinds : List Kind) (tells : Telling) (each : (sender : List ℕ) (numb
 
   line_told : (o : Office) (b : Book) (sender : List ℕ) → AllByRecursion (IsTold kinds alone) (told_to_front tells o b sender)
   line_told o b sender =
-      all-flat_map (IsTold kinds alone) (told_by tells o b sender) (range_with_len 1 (front b sender))
-      (all_of (λ number. AllByRecursion (IsTold kinds alone) (told_by tells o b sender number)) (λ number. from_place sender number 0 _ _) (range_with_len 1 (front b sender)))
+      all-flat_map (IsTold kinds alone) (told_by tells o b sender) (line b sender)
+      (all_of (λ number. AllByRecursion (IsTold kinds alone) (told_by tells o b sender number)) (λ number. from_place sender number 0 _ _) (line b sender))
 
 abbrev verdict_kinds : List Kind
 verdict_kinds = Words ∷ Number ∷ Number ∷ Number ∷ Number ∷ Number ∷ []
@@ -159,9 +166,9 @@ module _ (o : Office) (b : Book) where
   reached row = front_rows o b (text_at 0 row)
 
   reached_told : (q : List ℕ) → AllByRecursion (IsTold (Words ∷ []) reached) (front_rows o b q)
-  reached_told q = by_case (has_sent b q) refl
+  reached_told q = by_case (knows_sender b q) refl
     where
-      by_case : (x : Bool) → has_sent b q ≡ x → AllByRecursion (IsTold (Words ∷ []) reached) (cond x ((Text q ∷ Int (pos (front b q)) ∷ Int (pos (works_to o b q)) ∷ []) ∷ []) [])
+      by_case : (x : Bool) → knows_sender b q ≡ x → AllByRecursion (IsTold (Words ∷ []) reached) (cond x ((Text q ∷ Int (pos (front b q)) ∷ Int (pos (works_to o b q)) ∷ []) ∷ []) [])
       by_case true is = (((refl, tt), ap (λ x. cond x ((Text q ∷ Int (pos (front b q)) ∷ Int (pos (works_to o b q)) ∷ []) ∷ []) []) is), tt)
       by_case false is = tt
 
@@ -212,5 +219,7 @@ listed_alike o b one two holds also name.Credits xs ys lists others =
 listed_alike o b one two holds also name.Balances xs ys lists others =
     listed_once is_named (text_at 0) (λ r. same_name (text_at 0 r)) (balance_rows o b) (Words ∷ []) (owed o b) (λ q. owed_told o b q (credits_to o b q) refl)
     layout.balances one two xs ys holds.derived.balances also.derived.balances lists others
-listed_alike o b one two holds also name.SegmentEnds xs ys lists others = none_listed layout.segment_ends 4 one xs holds.kept.ends lists ∙ sym (none_listed layout.segment_ends 4 two ys also.kept.ends others)
+listed_alike o b one two holds also name.SegmentEnds xs ys lists others =
+    listed_once is_end_row segment_key_of (λ r. both_same (text_at 0 r) (segment_at 1 r)) (end_rows b) (Words ∷ Number ∷ []) (ended b) (λ q. ended_told b q (end_at b q.sender q.segment) refl)
+    layout.segment_ends one two xs ys holds.kept.ends also.kept.ends lists others
 listed_alike o b one two holds also name.MechanicalPools xs ys lists others = none_listed layout.mechanical_pools 1 one xs holds.kept.mechanical lists ∙ sym (none_listed layout.mechanical_pools 1 two ys also.kept.mechanical others)

@@ -116,7 +116,7 @@ return_added o b key body old new holds free entry whole came others =
         pools = subst (HasRows _ _) (sym (rows_kept layout.pools old new keeps.pools)) holds.kept.pools;
         cuts = subst (HasRows _ _) (sym (rows_kept layout.pool_cuts old new keeps.pool_cuts)) holds.kept.cuts;
         paid = subst (HasRows _ _) (sym (rows_kept layout.pool_returns old new keeps.pool_returns)) holds.kept.paid;
-        ends = rows_kept layout.segment_ends old new keeps.ends ∙ holds.kept.ends;
+        ends = subst (HasRows _ _) (sym (rows_kept layout.segment_ends old new keeps.ends)) holds.kept.ends;
         mechanical = rows_kept layout.mechanical_pools old new keeps.mechanical ∙ holds.kept.mechanical;
       };
       derived = record {
