@@ -27,12 +27,6 @@ use Rattle.society_tables.specs.Rebuilding.{without_pools}
 abbrev pub OfRows : (Trees → Trees → Type 0) → Database → Database → Type 0
 OfRows Change before after = Change before.trees after.trees
 
--- the tables have the row of a front in place of its sender's, and what the outcomes tell of this sender
-abbrev pub PutsOutcomes : Row → List ℕ → List Outcome → Trees → Trees → Type 0
-PutsOutcomes front sender outcomes =
-    PutsLine front (map (λ x. settled_verdict sender (settled x)) outcomes) (flat_map (λ x. settled_version sender (settled x)) outcomes)
-    (flat_map (λ x. settled_recordings sender (settled x)) outcomes)
-
 -- tables that had the lines of some senders and not of this one have its line too; what no line tells is as it was
 abbrev pub PutsSender : Office → List ℕ → Database → Database → Trees → Type 0
 PutsSender office sender old new db =

@@ -5,12 +5,13 @@ ghost use Rattle.society_rows.specs.Questions.{Asks};
 ghost use Rattle.society_rows.specs.Rows.{front_values};
 ghost use Rattle.society_tables.specs.Auditing.{SettlesLine, WritesAlone};
 ghost use Rattle.society_tables.specs.Opening.{Inspects};
+ghost use Rattle.society_book.specs.Arriving.{PutsOutcomes};
 ghost use Rattle.society_book.specs.Going.{IsWholeIn};
 ghost use Rattle.society_book.specs.Runs.{is_among};
 ghost use Rattle.works_core.specs.Ends.{EndsAt};
 ghost use Rattle.society_rows.specs.Between.{between};
 ghost use Rattle.society_tables.specs.InMemory.{in_memory};
-ghost use Rattle.society_tables.specs.LineSteps.{OfRows, PutsOutcomes, PutsSender, PutsSenders};
+ghost use Rattle.society_tables.specs.LineSteps.{OfRows, PutsSender, PutsSenders};
 
 use crate::audit_fault::AuditFault;
 use crate::comparing::table_agrees;
