@@ -1,6 +1,6 @@
 -- Tables that hold one book are listed alike.
-use Rattle.std.proofs.Common.{◌≡◌, ◌∙◌, ◌==◌, ◌+◌, ℕ, pos, Bool, true, false, cond, List, [], ◌∷◌, Option, Some, None, is_some, filter, length, refl, sym, ap, subst, arith, bytes_eq, IsPermutation}
-use Rattle.std.specs.List.{AllByRecursion, enumerate_from, range_with_len}
+use Rattle.std.proofs.Common.{◌≡◌, ◌∙◌, ◌==◌, ◌+◌, ℕ, zero, suc, pos, Bool, true, false, cond, List, [], ◌∷◌, Option, Some, None, is_some, filter, length, refl, sym, ap, subst, arith, bytes_eq, IsPermutation}
+use Rattle.std.specs.List.{AllByRecursion, enumerate_from}
 use Rattle.std.proofs.lemmas.Bool.Decides.{nat_tests}
 use Rattle.std.proofs.lemmas.List.Sorted.{IsPermutation-trans}
 use Rattle.std.proofs.lemmas.Slice.Eq.{bytes_eq-Decides}
@@ -15,26 +15,29 @@ use Rattle.sqlite_trees.specs.Tree.{Trees}
 use Rattle.sqlite_value.specs.Keys.{rising}
 use Rattle.sqlite_value.specs.Order.{Row}
 use Rattle.sqlite_value.specs.declared.value.Value.TheVariants.{Int, Text}
-use Rattle.society_core.specs.Book.{Book, body_at, front, order_at, return_at}
+use Rattle.sender_segments.specs.Ways.{End}
+use Rattle.society_core.specs.Book.{Book, body_at, end_at, front, line, order_at, return_at}
 use Rattle.society_core.specs.Keys.{ascending, bytes_cmp}
 use Rattle.society_core.specs.Orders.{Order}
 use Rattle.society_core.specs.Pools.{credits_of}
 use Rattle.society_core.specs.declared.return_key.ReturnKey.{ReturnKey}
+use Rattle.society_core.specs.declared.segment_key.SegmentKey.{SegmentKey}
 use Rattle.society_core.specs.declared.transmission_key.TransmissionKey.{TransmissionKey}
 use Rattle.society_rows.specs.Layout as layout
 use Rattle.society_rows.specs.Reads.{Lists}
+use Rattle.society_rows.specs.SegmentColumns.{segment_column}
 use Rattle.society_rows.specs.Stored.{rows_in}
 use Rattle.society_rows.specs.TableNames.{listing_width, table_called}
 use Rattle.society_rows.specs.declared.tables.TableName.{TableName}
 use Rattle.society_rows.specs.declared.tables.TableName.TheVariants as name
-use Rattle.society_book.specs.BookRows.{cut_row, cut_rows, is_of_pool, is_return_row, is_transmission_row, paid_row, paid_rows, pool_row, pool_rows, return_key_of, return_row, return_rows, row_of_some, rows_of_order, transmission_key_of, transmission_row, transmission_rows}
-use Rattle.society_book.specs.Columns.{HasRows, whole_number_at, text_at}
-use Rattle.society_book.specs.DerivedRows.{Telling, balance_rows, balance_rows_by, credit_row, credit_rows, credit_rows_by, credits_to, front_rows, has_sent, is_named, tells_recordings, tells_verdict, tells_version, told_by, told_from, told_to_front, work_text, works_to}
+use Rattle.society_book.specs.BookRows.{cut_row, cut_rows, end_row, end_rows, is_end_row, is_of_pool, is_return_row, is_transmission_row, paid_row, paid_rows, pool_row, pool_rows, return_key_of, return_row, return_rows, row_of_some, rows_of_order, segment_key_of, transmission_key_of, transmission_row, transmission_rows}
+use Rattle.society_book.specs.Columns.{HasRows, segment_at, segment_of_value, text_at, whole_number_at}
+use Rattle.society_book.specs.DerivedRows.{Telling, balance_rows, balance_rows_by, credit_row, credit_rows, credit_rows_by, credits_to, front_rows, is_named, knows_sender, tells_recordings, tells_verdict, tells_version, told_by, told_from, told_to_front, work_text, works_to}
 use Rattle.society_book.specs.Kept.{HoldsBook, office_row}
-use Rattle.society_book.proofs.rows_alike.BookLemmas.{IsRefilled, refilled}
+use Rattle.society_book.proofs.rows_alike.BookLemmas.{IsRefilled, end_key_back, refilled}
 use Rattle.society_book.proofs.rows_alike.KeyRows.{both_same}
 use Rattle.society_book.proofs.rows_alike.RowLemmas.{all_rows, none_else, one_else}
-use Rattle.society_tables.proofs.alike.RowTies.{IsTold, Kind, Number, Words, one_row}
+use Rattle.society_tables.proofs.alike.RowTies.{IsTold, Kind, Number, Segment, Words, one_row}
 use Rattle.society_tables.proofs.alike.SameTables.{all_pass}
 use Rattle.society_tables.proofs.alike.SortedOnce.{as_many, sorted_once}
 use Rattle.works_core.specs.declared.verdict.Verdict.{Verdict}
@@ -80,6 +83,14 @@ same_name name = (bytes_eq-Decides name name).1 refl
 abbrev key_kinds : List Kind
 key_kinds = Words ∷ Number ∷ []
 
+abbrev end_kinds : List Kind
+end_kinds = Words ∷ Segment ∷ []
+
+-- the column of a segment is of its kind
+segment_is : (place : ℕ) → Int (segment_column place) ≡ Int (segment_column (segment_of_value (Int (segment_column place))))
+segment_is zero = refl
+segment_is (suc year) = refl
+
 module _ (b : Book) where
   abbrev sent : Row → List Row
   sent row = transmission_rows b (transmission_key_of row)
@@ -100,9 +111,9 @@ module _ (b : Book) where
   abbrev ended : Row → List Row
   ended row = end_rows b (segment_key_of row)
 
-  ended_told : (q : SegmentKey) (x : Option End) → end_at b q.sender q.segment ≡ x → AllByRecursion (IsTold (Words ∷ Number ∷ []) ended) (row_of_some (end_row q) x)
+  ended_told : (q : SegmentKey) (x : Option End) → end_at b q.sender q.segment ≡ x → AllByRecursion (IsTold end_kinds ended) (row_of_some (end_row q) x)
   ended_told q None is = tt
-  ended_told q (Some end) is = (((refl, (number_column q.segment, tt)), ap (end_rows b) (end_key_back q end) ∙ ap (row_of_some (end_row q)) is), tt)
+  ended_told q (Some end) is = (((refl, (segment_is q.segment, tt)), ap (end_rows b) (end_key_back q end) ∙ ap (row_of_some (end_row q)) is), tt)
 
   abbrev closed : Row → List Row
   closed row = pool_rows b (whole_number_at 0 row)
@@ -220,6 +231,6 @@ listed_alike o b one two holds also name.Balances xs ys lists others =
     listed_once is_named (text_at 0) (λ r. same_name (text_at 0 r)) (balance_rows o b) (Words ∷ []) (owed o b) (λ q. owed_told o b q (credits_to o b q) refl)
     layout.balances one two xs ys holds.derived.balances also.derived.balances lists others
 listed_alike o b one two holds also name.SegmentEnds xs ys lists others =
-    listed_once is_end_row segment_key_of (λ r. both_same (text_at 0 r) (segment_at 1 r)) (end_rows b) (Words ∷ Number ∷ []) (ended b) (λ q. ended_told b q (end_at b q.sender q.segment) refl)
+    listed_once is_end_row segment_key_of (λ r. both_same (text_at 0 r) (segment_at 1 r)) (end_rows b) end_kinds (ended b) (λ q. ended_told b q (end_at b q.sender q.segment) refl)
     layout.segment_ends one two xs ys holds.kept.ends also.kept.ends lists others
 listed_alike o b one two holds also name.MechanicalPools xs ys lists others = none_listed layout.mechanical_pools 1 one xs holds.kept.mechanical lists ∙ sym (none_listed layout.mechanical_pools 1 two ys also.kept.mechanical others)

@@ -25,18 +25,21 @@ use Rattle.society_core.proofs.HeadlineLemmas.{none_past}
 use Rattle.society_core.proofs.KeyOrders.{exact_segments, segments_total}
 use Rattle.society_book.specs.BookRows.{segment_key_of, end_of, end_row, end_rows, is_end_row, row_of_some}
 use Rattle.society_book.specs.Columns.{HasRows, segment_at, text_at, whole_number_at}
+use Rattle.society_book.proofs.rows_alike.BookLemmas.{end_back, end_key_back}
 use Rattle.society_book.proofs.rows_alike.KeyRows.{both_same}
 use Rattle.society_book.proofs.rows_alike.RowLemmas.{all_rows, one_else}
 use Rattle.society_rows.specs.Forms.{IsOfForms, segment_end_forms}
 use Rattle.society_rows.specs.SegmentColumns.{segment_column}
 use Rattle.society_tables.specs.Rebuilding.{AllStated, Brings, HasStated, IsStated, IsWithin, StatedOn, lines_alone, sent_alone}
 use Rattle.society_tables.proofs.anew.MapsWithin.{brings_again, brings_new, within_both}
-use Rattle.society_tables.proofs.anew.PutAgain.{IsTaken, is_refused, taken, the_some}
-use Rattle.work_ids.specs.SegmentEnds.{StatedEnd, is_end_out_of_range, is_next_not_later, segment_fault}
+use Rattle.society_tables.proofs.anew.PutAgain.{IsTaken, is_refused, key_reads, no_err, taken, the_ok, the_some}
+use Rattle.work_ids.specs.SegmentEnds.{StatedEnd, is_end_out_of_range, is_next_not_later, segment_fault, stated_end}
 use Rattle.work_ids.specs.Segments.{index_of, most_in}
-use Rattle.work_ids.specs.SenderKey.{is_sender_key}
+use Rattle.work_ids.specs.SenderKey.{is_sender_key, sender_key_of}
+use Rattle.work_ids.specs.declared.fault.IdFault.{IdFault}
 use Rattle.work_ids.specs.declared.segment.Segment.{Segment}
 use Rattle.work_ids.specs.declared.segment.Segment.TheVariants.{Year}
+use Rattle.work_ids.specs.declared.segment_end.SegmentFault.{SegmentFault}
 use Rattle.work_ids.specs.declared.segment_end.SegmentFault.TheVariants.{NotLater, OutOfRange}
 
 -- one row more has come
@@ -55,12 +58,6 @@ place_back : (place : ℕ) → segment_at 0 (Int (segment_column place) ∷ []) 
 place_back zero = refl
 place_back (suc year) = refl
 
-key_back : (key : SegmentKey) (end : End) → segment_key_of (end_row key end) ≡ key
-key_back key end = ap (segment_key key.sender) (place_back key.segment)
-
-end_back : (key : SegmentKey) (end : End) → end_of (end_row key end) ≡ end
-end_back key end = ap (λ (next : ℕ). let e : End = record { last = end.last; next = next } in e) (place_back end.next)
-
 -- each row of the table of ends is that of an end of the book
 pub all_stated : (b : Book) (rows : List Row) → HasRows is_end_row (end_rows b) rows → AllByRecursion (IsStated b) rows
 all_stated b rows has = all_rows is_end_row segment_key_of (λ r. both_same (text_at 0 r) (segment_at 1 r)) (IsStated b) (end_rows b) rows has (λ q. told q (end_at b q.sender q.segment) refl)
@@ -69,8 +66,8 @@ all_stated b rows has = all_rows is_end_row segment_key_of (λ r. both_same (tex
     told q None is = tt
     told q (Some end) is = (
       record {
-        form = ap₂ end_row (sym (key_back q end)) (sym (end_back q end));
-        there = subst (λ (k : SegmentKey). finite.get b.ends k ≡ Some (end_of (end_row q end))) (sym (key_back q end)) (is ∙ ap (λ (e : End). Some e) (sym (end_back q end)));
+        form = ap₂ end_row (sym (end_key_back q end)) (sym (end_back q end));
+        there = subst (λ (k : SegmentKey). finite.get b.ends k ≡ Some (end_of (end_row q end))) (sym (end_key_back q end)) (is ∙ ap (λ (e : End). Some e) (sym (end_back q end)));
       },
       tt,
     )
@@ -83,7 +80,7 @@ stated_whole b new rows has here within = within_both segments_total exact_segme
     back q end is =
         let one : filter (is_end_row q) rows ≡ end_row q end ∷ [] = one_else (end_row q end) (filter (is_end_row q) rows) (subst (λ o. IsPermutation (row_of_some (end_row q) o) (filter (is_end_row q) rows)) is (has q)) in
         let there = (subst (AllByRecursion (HasStated new)) one (all-filter (HasStated new) (is_end_row q) rows here)).0 in
-        subst (λ (k : SegmentKey). finite.get new.ends k ≡ Some end) (key_back q end) (there ∙ ap (λ (e : End). Some e) (end_back q end))
+        subst (λ (k : SegmentKey). finite.get new.ends k ≡ Some end) (end_key_back q end) (there ∙ ap (λ (e : End). Some e) (end_back q end))
 
 pub all_stated_alone : (b old new : Book) (rows : List Row) → HasRows is_end_row (end_rows b) rows → AllStated b old rows new → old ≡ sent_alone b → new ≡ lines_alone b
 all_stated_alone b old new rows has all is = λ i. record {
@@ -237,3 +234,42 @@ module _ (sender : List ℕ) (place last year : ℕ) (row : Row) (values : (Text
 
   pub year_read : year + 1 ≡ segment_at 3 row
   year_read = let e : year + 1 ≡ suc year = omega arith in e ∙ ap (segment_at 3) values
+
+-- the end of a row, by the values that were read of it
+module _ (b : Book) (row : Row) (sound : IsSound b) (is : IsStated b row) (segment : Segment) (sender : List ℕ) (last year : ℕ) (values : (Text sender ∷ Int (segment_column (index_of segment)) ∷ Int (pos last) ∷ Int (pos year) ∷ []) ≡ row) where
+  abbrev read : StatedEnd
+  read = record { segment = segment; last = last; next = year }
+
+  faultless : segment_fault segment last year ≡ None
+  faultless =
+      stated_right b row segment last year sound is (place_read sender (index_of segment) last year row values) (last_read sender (index_of segment) last year row values)
+      (year_read sender (index_of segment) last year row values)
+
+  made : (r : Result StatedEnd SegmentFault) → r ≡ stated_end segment last year (segment_fault segment last year) → r ≡ Ok read
+  made r by = by ∙ ap (stated_end segment last year) faultless
+
+  pub end_is : (r : Result StatedEnd SegmentFault) (end : StatedEnd) → r ≡ stated_end segment last year (segment_fault segment last year) → r ≡ Ok end → end ≡ read
+  end_is r end by is_ok = the_ok r read end (made r by) is_ok
+
+  pub end_reads : (r : Result StatedEnd SegmentFault) (fault : SegmentFault) → r ≡ stated_end segment last year (segment_fault segment last year) → r ≡ Err fault → ⊥
+  end_reads r fault by is_err = no_err r read fault (made r by) is_err
+
+  its_key : sender_key_of sender ≡ Ok (text_at 0 row)
+  its_key = ap sender_key_of (sender_read sender (index_of segment) last year row values) ∙ key_reads (text_at 0 row) (right_end b row sound is).sender
+
+  pub stated_sender_is : (r : Result (List ℕ) IdFault) (key : List ℕ) → r ≡ sender_key_of sender → r ≡ Ok key → key ≡ text_at 0 row
+  stated_sender_is r key by is_ok = the_ok r (text_at 0 row) key (by ∙ its_key) is_ok
+
+  pub stated_sender_reads : (r : Result (List ℕ) IdFault) (fault : IdFault) → r ≡ sender_key_of sender → r ≡ Err fault → ⊥
+  stated_sender_reads r fault by is_err = no_err r (text_at 0 row) fault (by ∙ its_key) is_err
+
+  -- the end of the row has come again
+  pub stated_row : (o : Office) (old new : Book) (key : List ℕ) (end : StatedEnd) (r : Result (Receipt × ℕ) Refusal) → IsWithin old.transmissions b.transmissions → IsWithin old.ends b.ends → key ≡ text_at 0 row → end ≡ read
+      → Step o old (States key end) (told (λ kept. Ended kept.0 kept.1) r) new → IsTaken r (StatedOn b old row new)
+  stated_row o old new key end r sent within its is_read step =
+      let last_is = last_read sender (index_of segment) last year row values in
+      let next_is : suc year ≡ segment_at 3 row = let e : suc year ≡ year + 1 = omega arith in e ∙ year_read sender (index_of segment) last year row values in
+      stated_again o b old row sound end (ap place_stated is_read ∙ place_read sender (index_of segment) last year row values)
+      (ap end_stated is_read ∙ ap₂ (λ (l n : ℕ). let e : End = record { last = l; next = n } in e) last_is next_is)
+      (ap fault_stated is_read ∙ faultless) new r is sent within
+      (subst (λ (k : List ℕ). Step o old (States k end) (told (λ kept. Ended kept.0 kept.1) r) new) its step)

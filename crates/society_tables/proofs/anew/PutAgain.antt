@@ -178,16 +178,20 @@ sent_parts b row sound sent = three (is_sender_key (text_at 0 row)) (is_transmis
 pub sent_forms : (b : Book) (row : Row) → IsSound b → IsSent b row → IsOfForms transmission_forms row
 sent_forms b row sound sent = subst (IsOfForms transmission_forms) (sym sent.form) (refl, ((text_at 0 row, refl), ((whole_number_at 1 row, refl, small_rank (whole_number_at 1 row) (sent_parts b row sound sent).1), ((blob_at 2 row, refl), tt))))
 
--- and so can its sender and its number
-pub sent_sender : (b : Book) (row : Row) → IsSound b → IsSent b row → sender_key_of (text_at 0 row) ≡ Ok (text_at 0 row)
-sent_sender b row sound sent =
-    let parts = two (length (text_at 0 row) == 11) (list_all is_capital_or_digit (text_at 0 row)) (sent_parts b row sound sent).0 in
-    ap (λ (x : Bool). if x then (if list_all is_capital_or_digit (text_at 0 row) then Ok (text_at 0 row) else Err Character) else Err Length) parts.0 ∙ ap (λ (x : Bool). if x then Ok (text_at 0 row) else Err Character) parts.1
+-- a sender's key is read as itself
+pub key_reads : (key : List ℕ) → is_sender_key key ≡ true → sender_key_of key ≡ Ok key
+key_reads key is =
+    let parts = two (length key == 11) (list_all is_capital_or_digit key) is in
+    ap (λ (x : Bool). if x then (if list_all is_capital_or_digit key then Ok key else Err Character) else Err Length) parts.0 ∙ ap (λ (x : Bool). if x then Ok key else Err Character) parts.1
   where
     two : (a b : Bool) → (a && b) ≡ true → (a ≡ true) × (b ≡ true)
     two true true h = (refl, refl)
     two true false h = absurd (false≢true h)
     two false c h = absurd (false≢true h)
+
+-- and so can its sender and its number
+pub sent_sender : (b : Book) (row : Row) → IsSound b → IsSent b row → sender_key_of (text_at 0 row) ≡ Ok (text_at 0 row)
+sent_sender b row sound sent = key_reads (text_at 0 row) (sent_parts b row sound sent).0
 
 pub sent_number : (b : Book) (row : Row) → IsSound b → IsSent b row → number_where is_transmission_number (whole_number_at 1 row) ≡ Some (whole_number_at 1 row)
 sent_number b row sound sent = ap (λ (x : Bool). if x then Some (whole_number_at 1 row) else None) (sent_parts b row sound sent).1
@@ -206,10 +210,10 @@ pub reported_number : (b : Book) (row : Row) → IsSound b → IsReported b row 
 reported_number b row sound reported = ap (λ (x : Bool). if x then Some (whole_number_at 1 row) else None) (reported_parts b row sound reported)
 
 -- what a reader that takes it reads is that, and it does not fail
-the_ok : {X E : Type 0} (r : Result X E) (x y : X) → r ≡ Ok x → r ≡ Ok y → y ≡ x
+pub the_ok : {X E : Type 0} (r : Result X E) (x y : X) → r ≡ Ok x → r ≡ Ok y → y ≡ x
 the_ok r x y one two = ap (λ (z : Result _ _). elim z [ Ok v ↦ v | Err e ↦ x ]) (sym two ∙ one)
 
-no_err : {X E : Type 0} (r : Result X E) (x : X) (e : E) → r ≡ Ok x → r ≡ Err e → ⊥
+pub no_err : {X E : Type 0} (r : Result X E) (x : X) (e : E) → r ≡ Ok x → r ≡ Err e → ⊥
 no_err r x e one two = absurd (false≢true (ap (λ (z : Result _ _). elim z [ Ok v ↦ false | Err f ↦ true ]) (sym one ∙ two)))
 
 the_one : {X : Type 0} (o : Option X) (x y : X) → o ≡ Some x → o ≡ Some y → y ≡ x
