@@ -1,7 +1,7 @@
 //! Databases in which one value was changed, opened as the tables of an office.
 use crate::checks::{holds, told};
 use crate::listing::{TABLES, rows_by};
-use crate::row_tests::left_by_pool;
+use crate::row_tests::{left_by_pool, left_by_year};
 use share_rules::Office;
 use society_tables::{OpenFault, Tables};
 use sqlite::{Connection, MemStore, params};
@@ -30,6 +30,20 @@ const DAMAGES: [&str; 14] = [
     "UPDATE credits SET line = 9 WHERE line = 0; UPDATE credits SET line = 0 WHERE line = 1; UPDATE credits SET line = 1 WHERE line = 9",
     "INSERT INTO segment_ends (sender, segment, last, next) VALUES ('PB000000012', -1, 3, 26)",
     "INSERT INTO mechanical_pools (pool) VALUES (7)",
+];
+
+/// Changes of the rows of a year begun that no requests leave so.
+const YEAR_DAMAGES: [&str; 8] = [
+    "DELETE FROM segment_ends",
+    // The end is below a number that is there.
+    "UPDATE segment_ends SET last = 0",
+    // The ends lead past the number that is there.
+    "UPDATE segment_ends SET last = 2",
+    "UPDATE segment_ends SET next = 27",
+    "UPDATE segment_ends SET segment = 25",
+    "UPDATE segment_ends SET sender = 'PB000000034'",
+    "UPDATE segment_ends SET next = 100",
+    "UPDATE fronts SET front = 1",
 ];
 
 /// Makes changes.
@@ -103,6 +117,28 @@ fn a_changed_row_is_damage(rt: HostRuntime) -> Result<(), Fail> {
     for changes in DAMAGES {
         check_changed(&rt, rt.alloc(), changes, OpenFault::Damaged)?;
     }
+    Ok(())
+}
+
+#[test]
+fn a_changed_end_is_damage(rt: HostRuntime) -> Result<(), Fail> {
+    let alloc = rt.alloc();
+    for changes in YEAR_DAMAGES {
+        let mut conn = left_by_year(alloc)?;
+        change(&mut conn, changes)?;
+        check_refused(&rt, alloc, conn, &TABLES, OpenFault::Damaged)?;
+    }
+    Ok(())
+}
+
+#[test]
+fn a_year_begun_is_opened(rt: HostRuntime) -> Result<(), Fail> {
+    let conn = left_by_year(rt.alloc())?;
+    if !conn.is_autocommit() {
+        return Err(Fail::new("no transaction"));
+    }
+    let opened = Tables::open(rt.alloc(), conn, &office()?);
+    holds(&rt, "it is opened", opened.is_ok());
     Ok(())
 }
 

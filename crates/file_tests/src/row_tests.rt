@@ -3,6 +3,7 @@ use crate::checks::told;
 use crate::listing::{TABLES, lines, rows_by};
 use crate::steps::{
     BEFORE_RETURN, Step, closed_at_a_cut, gap_filled, order_at_a_cut, reverse_arrival, send_all,
+    year_begun,
 };
 use society_core::Desk;
 use society_tables::Tables;
@@ -25,6 +26,21 @@ const THREE_FILES: [&str; 11] = [
     "versions|PB000000012|W1|1|2|0|1",
     "recordings|PB000000012|W1|0|ATABC2600001",
     "recordings|PB000000012|W1|1|ATABC2600001",
+];
+
+/// What a registration, its revision under the first number of 2026 and the end of the plain numbers leave.
+const YEAR_BEGUN: [&str; 11] = [
+    "office|1|3|900|40|EXAMPLE SOCIETY",
+    "transmissions|PB000000012|1",
+    "transmissions|PB000000012|1260001",
+    "fronts|PB000000012|1260001|1",
+    "verdicts|PB000000012|1|0|0|1|0",
+    "verdicts|PB000000012|1260001|0|0|1|1",
+    "versions|PB000000012|W1|0|1|0|1",
+    "versions|PB000000012|W1|1|1260001|0|1",
+    "recordings|PB000000012|W1|0|ATABC2600001",
+    "recordings|PB000000012|W1|1|ATABC2600001",
+    "segment_ends|PB000000012|-1|1|26",
 ];
 
 /// What a registration, two files with no group, a return and a pool over it leave.
@@ -97,7 +113,18 @@ fn rows_of_a_reverse_arrival(rt: HostRuntime) -> Result<(), Fail> {
 }
 
 #[test]
+fn rows_of_a_year_begun(rt: HostRuntime) -> Result<(), Fail> {
+    let mut conn = left_by(rt.alloc(), &year_begun())?;
+    check_rows(&rt, rt.alloc(), &mut conn, &YEAR_BEGUN)
+}
+
+#[test]
 fn rows_of_a_pool_closed_at_a_cut(rt: HostRuntime) -> Result<(), Fail> {
     let mut conn = left_by_pool(rt.alloc())?;
     check_rows(&rt, rt.alloc(), &mut conn, &CLOSED_POOL)
+}
+
+/// The database that a year begun leaves.
+pub fn left_by_year(alloc: Global) -> Result<Connection<MemStore>, Fail> {
+    left_by(alloc, &year_begun())
 }

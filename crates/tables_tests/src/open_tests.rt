@@ -68,6 +68,13 @@ fn filled(alloc: Global) -> Result<Connection<MemStore>, Fail>
     Ok(desk.into_store().into_connection())
 }
 
+/// The sender's front.
+fn front(tables: &mut Tables<MemStore>) -> Result<u32, Fail> {
+    let first = TransmissionNumber::from_u32(1).ok_or("a number")?;
+    let place = tables.place(&sender()?, first).ok().ok_or("a place")?;
+    Ok(place.front)
+}
+
 /// A statement that changes a database, and the fault with which it is opened then.
 fn fault_after(alloc: Global, change: &str, society: u16) -> Result<Option<OpenFault>, Fail> {
     let mut conn = filled(alloc)?;
@@ -95,7 +102,7 @@ fn a_database_opens_as_it_was_left(rt: HostRuntime) -> Result<(), Fail> {
     let Ok(mut tables) = Tables::open(rt.alloc(), filled(rt.alloc())?, &office(900)?) else {
         return Err(Fail::new("an opening"));
     };
-    told(&rt, "the front", &tables.front(&sender()?), &Ok(1));
+    told(&rt, "the front", &front(&mut tables)?, &1);
     let status = tables
         .standing(rt.alloc(), &sender()?)
         .ok()
@@ -137,7 +144,7 @@ fn an_empty_database_becomes_a_new_book(rt: HostRuntime) -> Result<(), Fail> {
     let Ok(mut tables) = Tables::open(rt.alloc(), conn, &office(900)?) else {
         return Err(Fail::new("an opening"));
     };
-    told(&rt, "the front", &tables.front(&sender()?), &Ok(0));
+    told(&rt, "the front", &front(&mut tables)?, &0);
     Ok(())
 }
 
@@ -162,7 +169,7 @@ fn tables_that_are_there_are_opened(rt: HostRuntime) -> Result<(), Fail> {
     let Ok(mut tables) = opened else {
         return Err(Fail::new("an opening"));
     };
-    told(&rt, "the front", &tables.front(&sender()?), &Ok(1));
+    told(&rt, "the front", &front(&mut tables)?, &1);
     Ok(())
 }
 

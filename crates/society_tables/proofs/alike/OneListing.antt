@@ -34,7 +34,7 @@ use Rattle.society_book.specs.BookRows.{cut_row, cut_rows, end_row, end_rows, is
 use Rattle.society_book.specs.Columns.{HasRows, segment_at, segment_of_value, text_at, whole_number_at}
 use Rattle.society_book.specs.DerivedRows.{Telling, balance_rows, balance_rows_by, credit_row, credit_rows, credit_rows_by, credits_to, front_rows, is_named, knows_sender, tells_recordings, tells_verdict, tells_version, told_by, told_from, told_to_front, work_text, works_to}
 use Rattle.society_book.specs.Kept.{HoldsBook, office_row}
-use Rattle.society_book.proofs.rows_alike.BookLemmas.{IsRefilled, end_key_back, refilled}
+use Rattle.society_book.proofs.rows_alike.BookLemmas.{IsRefilled, refilled}
 use Rattle.society_book.proofs.rows_alike.KeyRows.{both_same}
 use Rattle.society_book.proofs.rows_alike.RowLemmas.{all_rows, none_else, one_else}
 use Rattle.society_tables.proofs.alike.RowTies.{IsTold, Kind, Number, Segment, Words, one_row}
@@ -84,7 +84,7 @@ abbrev key_kinds : List Kind
 key_kinds = Words ∷ Number ∷ []
 
 abbrev end_kinds : List Kind
-end_kinds = Words ∷ Segment ∷ []
+end_kinds = Words ∷ Segment ∷ Number ∷ Segment ∷ []
 
 -- the column of a segment is of its kind
 segment_is : (place : ℕ) → Int (segment_column place) ≡ Int (segment_column (segment_of_value (Int (segment_column place))))
@@ -108,12 +108,9 @@ module _ (b : Book) where
       let back : return_key_of (return_row q body) ≡ q = λ i. record { reporter = whole refl i; number = q.number } in
       (((refl, (refl, tt)), ap (return_rows b) back ∙ ap (row_of_some (return_row q)) is), tt)
 
-  abbrev ended : Row → List Row
-  ended row = end_rows b (segment_key_of row)
-
-  ended_told : (q : SegmentKey) (x : Option End) → end_at b q.sender q.segment ≡ x → AllByRecursion (IsTold end_kinds ended) (row_of_some (end_row q) x)
-  ended_told q None is = tt
-  ended_told q (Some end) is = (((refl, (segment_is q.segment, tt)), ap (end_rows b) (end_key_back q end) ∙ ap (row_of_some (end_row q)) is), tt)
+  ended_told : (q : SegmentKey) (x : Option End) → AllByRecursion (IsTold end_kinds alone) (row_of_some (end_row q) x)
+  ended_told q None = tt
+  ended_told q (Some end) = (((refl, (segment_is q.segment, (refl, (segment_is end.next, tt)))), refl), tt)
 
   abbrev closed : Row → List Row
   closed row = pool_rows b (whole_number_at 0 row)
@@ -231,6 +228,6 @@ listed_alike o b one two holds also name.Balances xs ys lists others =
     listed_once is_named (text_at 0) (λ r. same_name (text_at 0 r)) (balance_rows o b) (Words ∷ []) (owed o b) (λ q. owed_told o b q (credits_to o b q) refl)
     layout.balances one two xs ys holds.derived.balances also.derived.balances lists others
 listed_alike o b one two holds also name.SegmentEnds xs ys lists others =
-    listed_once is_end_row segment_key_of (λ r. both_same (text_at 0 r) (segment_at 1 r)) (end_rows b) end_kinds (ended b) (λ q. ended_told b q (end_at b q.sender q.segment) refl)
+    listed_once is_end_row segment_key_of (λ r. both_same (text_at 0 r) (segment_at 1 r)) (end_rows b) end_kinds alone (λ q. ended_told b q (end_at b q.sender q.segment))
     layout.segment_ends one two xs ys holds.kept.ends also.kept.ends lists others
 listed_alike o b one two holds also name.MechanicalPools xs ys lists others = none_listed layout.mechanical_pools 1 one xs holds.kept.mechanical lists ∙ sym (none_listed layout.mechanical_pools 1 two ys also.kept.mechanical others)
