@@ -1,8 +1,5 @@
--- What the rows of a sender's transmissions above its front show.
+-- What the rows of a sender's transmissions show whose numbers stand above one, or above one and below another.
 use Rattle.std.proofs.Common.{◌≡◌, ◌∙◌, ◌<◌, ◌≤◌, ◌&&◌, ◌||◌, ◌==◌, ℕ, pos, suc, Bool, true, false, cond, List, [], ◌∷◌, Option, Some, None, is_some, length, refl, ap, ap₂, sym, subst, arith, map, filter, take, nat_lt, bytes_eq, IsPermutation, IsSorted, Less, Equal, Greater, Ordering, int_cmp, is_gt, is_lt, add-one, eqb-true, ⊎_elim}
-use Rattle.std.proofs.Common.{IfOk, Ok, Err, Result}
-use Rattle.society_core.specs.declared.answers.SenderStatus.{SenderStatus}
-use Rattle.society_rows.specs.declared.fault.RowFault.{RowFault}
 use Rattle.std.specs.List.{AllByRecursion, list_any}
 use Rattle.std.specs.List.Sorted.{IsStrictlySortedBy}
 use Rattle.std.specs.Ordering.{eq_by_cmp, nat_cmp, ordering_then}
@@ -11,7 +8,6 @@ use Rattle.std.proofs.lemmas.Bool.Decides.{nat_tests}
 use Rattle.std.proofs.lemmas.Cmp.{nat_cmp_total}
 use Rattle.std.proofs.lemmas.List.Sorted.{length_permutation, list_any-IsPermutation}
 use Rattle.std.proofs.lemmas.Slice.Eq.{bytes_eq-Decides}
-use Rattle.share_rules.specs.declared.office.Office.{Office}
 use Rattle.sqlite_keyed.proofs.ListLemmas.{IsPermutation-filter}
 use Rattle.sqlite_schema.specs.Rules.{equal}
 use Rattle.sqlite_sql.specs.Ops.{binary}
@@ -24,17 +20,20 @@ use Rattle.sqlite_value.specs.Order.{Row, column, value_cmp}
 use Rattle.sqlite_value.specs.declared.keys.Collation.TheVariants.{Binary}
 use Rattle.sqlite_value.specs.declared.value.Value.TheVariants.{Int, Text}
 use Rattle.society_core.proofs.Ascending.{ascending_in_order, same_ascending}
-use Rattle.society_core.proofs.HeldLemmas.{held_ascend, held_past}
+use Rattle.std.proofs.lemmas.List.Kept.{IsStrictlySortedBy-filter}
+use Rattle.society_core.proofs.LineNumbers.{one_that_passes}
+use Rattle.society_core.proofs.NumbersThere.{numbers_ascend, there_of_numbers}
 use Rattle.society_core.proofs.KeyOrders.{exact_numbers}
-use Rattle.society_core.specs.Book.{Book, body_at, front, held, is_there}
+use Rattle.society_core.specs.Book.{Book, body_at, is_there, numbers_of}
 use Rattle.society_core.specs.Keys.{transmission_key}
 use Rattle.society_core.specs.declared.transmission_key.TransmissionKey.{TransmissionKey}
 use Rattle.society_rows.specs.Layout as layout
-use Rattle.society_rows.specs.Reads.{Lists, ListsKeys, exceeds, is_above}
+use Rattle.society_rows.specs.Reads.{Lists, ListsKeys, exceeds, is_above, is_above_and_below, precedes}
 use Rattle.society_rows.specs.Stored.{rows_in}
 use Rattle.society_book.specs.BookRows.{is_transmission_row, row_of_some, transmission_key_of, transmission_row, transmission_rows}
 use Rattle.society_book.specs.Columns.{whole_number_at, text_at}
-use Rattle.society_book.specs.Kept.{HoldsBook}
+use Rattle.society_book.specs.Sources.{HasTransmissions}
+use Rattle.society_book.specs.Standing.{is_within, numbers_above, numbers_within}
 use Rattle.society_book.proofs.rows_alike.Equals.{texts_equal, truth_of}
 use Rattle.society_book.proofs.rows_alike.KeyRows.{HasKeyForm, both_same, either_way, transmissions_formed}
 use Rattle.society_book.proofs.rows_alike.RowLemmas.{all_rows, only}
@@ -53,6 +52,20 @@ above_so s f row form =
     ap₂ (λ x y. x && y)
     (ap (λ v. equal Binary v (Text s)) form.0 ∙ texts_equal (text_at 0 row) s ∙ either_way (text_at 0 row) s)
     (ap (λ v. exceeds v (Int (pos f))) form.1 ∙ above_test (whole_number_at 1 row) f)
+
+below_test : (m n : ℕ) → precedes (Int (pos m)) (Int (pos n)) ≡ nat_lt m n
+unfolding binary
+below_test m n = truth_of (is_lt (value_cmp (Int (pos m)) (Int (pos n)))) ∙ ap is_lt (value_cmp-Int (pos m) (pos n)) ∙ ints_below m n
+  where
+    ints_below : (a b : ℕ) → is_lt (int_cmp (pos a) (pos b)) ≡ nat_lt a b
+    ints_below a b = grind (arith, nat_tests)
+
+-- one above a number and below another
+within_so : (s : List ℕ) (f t : ℕ) (row : Row) → HasKeyForm row → is_above_and_below (Text s) (Int (pos f)) (Int (pos t)) row ≡ (bytes_eq s (text_at 0 row) && is_within f t (whole_number_at 1 row))
+within_so s f t row form =
+    ap₂ (λ x y. x && y)
+    (ap (λ v. equal Binary v (Text s)) form.0 ∙ texts_equal (text_at 0 row) s ∙ either_way (text_at 0 row) s)
+    (ap (λ v. exceeds v (Int (pos f)) && precedes v (Int (pos t))) form.1 ∙ ap₂ (λ x y. x && y) (above_test (whole_number_at 1 row) f) (below_test (whole_number_at 1 row) t))
 
 -- a test of what passes another
 any_filter : (p q : Row → Bool) (rows : List Row) → list_any p (filter q rows) ≡ list_any (λ row. q row && p row) rows
@@ -200,21 +213,21 @@ none_either true false false = refl
 none_either false y true = refl
 none_either false y false = refl
 
-module _ (o : Office) (b : Book) (db : Trees) (holds : HoldsBook o b db) (s : List ℕ) where
-  -- a row of the sender above its front
+module _ (b : Book) (db : Trees) (has : HasTransmissions b db) (s : List ℕ) (passes : ℕ → Bool) where
+  -- a row of the sender whose number passes
   abbrev is_mine : Row → Bool
-  is_mine row = bytes_eq s (text_at 0 row) && nat_lt (front b s) (whole_number_at 1 row)
+  is_mine row = bytes_eq s (text_at 0 row) && passes (whole_number_at 1 row)
 
   formed : AllByRecursion HasKeyForm (rows_in layout.transmissions db)
-  formed = all_rows is_transmission_row transmission_key_of (λ r. both_same (text_at 0 r) (whole_number_at 1 r)) HasKeyForm (transmission_rows b) (rows_in layout.transmissions db) holds.kept.transmissions (λ q. transmissions_formed q (body_at b q.sender q.number))
+  formed = all_rows is_transmission_row transmission_key_of (λ r. both_same (text_at 0 r) (whole_number_at 1 r)) HasKeyForm (transmission_rows b) (rows_in layout.transmissions db) has (λ q. transmissions_formed q (body_at b q.sender q.number))
 
-  all_above : (rows : List Row) → AllByRecursion HasKeyForm rows → AllByRecursion (λ row. is_above (Text s) (Int (pos (front b s))) row ≡ is_mine row) rows
-  all_above [] all = tt
-  all_above (row ∷ rows) all = (above_so s (front b s) row all.0, all_above rows all.1)
+  all_mine : (test : Row → Bool) → ((row : Row) → HasKeyForm row → test row ≡ is_mine row) → (rows : List Row) → AllByRecursion HasKeyForm rows → AllByRecursion (λ row. test row ≡ is_mine row) rows
+  all_mine test means [] all = tt
+  all_mine test means (row ∷ rows) all = (means row all.0, all_mine test means rows all.1)
 
   of_sender : (rows : List Row) → AllByRecursion HasKeyForm rows → AllByRecursion (IsOf s) (filter is_mine rows)
   of_sender [] all = tt
-  of_sender (row ∷ rows) all = by_case (bytes_eq s (text_at 0 row)) refl (nat_lt (front b s) (whole_number_at 1 row)) (of_sender rows all.1)
+  of_sender (row ∷ rows) all = by_case (bytes_eq s (text_at 0 row)) refl (passes (whole_number_at 1 row)) (of_sender rows all.1)
     where
       by_case : (x : Bool) → bytes_eq s (text_at 0 row) ≡ x → (y : Bool) → AllByRecursion (IsOf s) (filter is_mine rows) → AllByRecursion (IsOf s) (cond (x && y) (row ∷ filter is_mine rows) (filter is_mine rows))
       by_case true e true more = ((all.0.0 ∙ ap Text (sym ((bytes_eq-Decides s (text_at 0 row)).0 e)), all.0.1), more)
@@ -222,10 +235,10 @@ module _ (o : Office) (b : Book) (db : Trees) (holds : HoldsBook o b db) (s : Li
       by_case false e y more = more
 
   under_key : (n : ℕ) → filter (is_transmission_row (transmission_key s n)) (rows_in layout.transmissions db) ≡ row_of_some (transmission_row (transmission_key s n)) (body_at b s n)
-  under_key n = only (transmission_row (transmission_key s n)) (body_at b s n) (filter (is_transmission_row (transmission_key s n)) (rows_in layout.transmissions db)) (holds.kept.transmissions (transmission_key s n))
+  under_key n = only (transmission_row (transmission_key s n)) (body_at b s n) (filter (is_transmission_row (transmission_key s n)) (rows_in layout.transmissions db)) (has (transmission_key s n))
 
   named_too : (n : ℕ) (row : Row) → (is_mine row && is_numbered n row) ≡ true → is_transmission_row (transmission_key s n) row ≡ true
-  named_too n row = by_case (bytes_eq s (text_at 0 row)) (nat_lt (front b s) (whole_number_at 1 row)) (n == whole_number_at 1 row)
+  named_too n row = by_case (bytes_eq s (text_at 0 row)) (passes (whole_number_at 1 row)) (n == whole_number_at 1 row)
     where
       by_case : (x y z : Bool) → ((x && y) && z) ≡ true → (x && z) ≡ true
       by_case true true z h = h
@@ -251,46 +264,46 @@ module _ (o : Office) (b : Book) (db : Trees) (holds : HoldsBook o b db) (s : Li
       sym (any_kept (is_transmission_row (transmission_key s n)) (rows_in layout.transmissions db))
       ∙ ap (list_any (is_transmission_row (transmission_key s n))) (under_key n) ∙ any_here (transmission_key s n) (body_at b s n)
 
-  mine_or_other : (q : ℕ) (row : Row) → (is_mine row && is_numbered q row) ≡ (nat_lt (front b s) q && is_transmission_row (transmission_key s q) row)
+  mine_or_other : (q : ℕ) (row : Row) → (is_mine row && is_numbered q row) ≡ (passes q && is_transmission_row (transmission_key s q) row)
   mine_or_other q row = by_case (q == whole_number_at 1 row) refl
     where
-      by_case : (t : Bool) → (q == whole_number_at 1 row) ≡ t → ((bytes_eq s (text_at 0 row) && nat_lt (front b s) (whole_number_at 1 row)) && q == whole_number_at 1 row) ≡ (nat_lt (front b s) q && (bytes_eq s (text_at 0 row) && q == whole_number_at 1 row))
+      by_case : (t : Bool) → (q == whole_number_at 1 row) ≡ t → ((bytes_eq s (text_at 0 row) && passes (whole_number_at 1 row)) && q == whole_number_at 1 row) ≡ (passes q && (bytes_eq s (text_at 0 row) && q == whole_number_at 1 row))
       by_case true e =
-          ap (λ t. (bytes_eq s (text_at 0 row) && nat_lt (front b s) (whole_number_at 1 row)) && t) e
-          ∙ turned (bytes_eq s (text_at 0 row)) (nat_lt (front b s) (whole_number_at 1 row))
-          ∙ ap (λ n. nat_lt (front b s) n && (bytes_eq s (text_at 0 row) && true)) (sym (eqb-true q (whole_number_at 1 row) e))
-          ∙ ap (λ t. nat_lt (front b s) q && (bytes_eq s (text_at 0 row) && t)) (sym e)
+          ap (λ t. (bytes_eq s (text_at 0 row) && passes (whole_number_at 1 row)) && t) e
+          ∙ turned (bytes_eq s (text_at 0 row)) (passes (whole_number_at 1 row))
+          ∙ ap (λ n. passes n && (bytes_eq s (text_at 0 row) && true)) (sym (eqb-true q (whole_number_at 1 row) e))
+          ∙ ap (λ t. passes q && (bytes_eq s (text_at 0 row) && t)) (sym e)
       by_case false e =
-          ap (λ t. (bytes_eq s (text_at 0 row) && nat_lt (front b s) (whole_number_at 1 row)) && t) e
-          ∙ none_either (bytes_eq s (text_at 0 row)) (nat_lt (front b s) (whole_number_at 1 row)) (nat_lt (front b s) q)
-          ∙ ap (λ t. nat_lt (front b s) q && (bytes_eq s (text_at 0 row) && t)) (sym e)
+          ap (λ t. (bytes_eq s (text_at 0 row) && passes (whole_number_at 1 row)) && t) e
+          ∙ none_either (bytes_eq s (text_at 0 row)) (passes (whole_number_at 1 row)) (passes q)
+          ∙ ap (λ t. passes q && (bytes_eq s (text_at 0 row) && t)) (sym e)
 
-  all_either : (q : ℕ) (rows : List Row) → AllByRecursion (λ row. (is_mine row && is_numbered q row) ≡ (nat_lt (front b s) q && is_transmission_row (transmission_key s q) row)) rows
+  all_either : (q : ℕ) (rows : List Row) → AllByRecursion (λ row. (is_mine row && is_numbered q row) ≡ (passes q && is_transmission_row (transmission_key s q) row)) rows
   all_either q [] = tt
   all_either q (row ∷ rows) = (mine_or_other q row, all_either q rows)
 
-  members : (found : List Row) → IsPermutation (filter is_mine (rows_in layout.transmissions db)) found → (q : ℕ) → list_any (eq_by_cmp nat_cmp q) (map (whole_number_at 1) found) ≡ list_any (eq_by_cmp nat_cmp q) (held b s)
+  members : (found : List Row) → IsPermutation (filter is_mine (rows_in layout.transmissions db)) found → (q : ℕ) → list_any (eq_by_cmp nat_cmp q) (map (whole_number_at 1) found) ≡ list_any (eq_by_cmp nat_cmp q) (filter passes (numbers_of b s))
   members found these q =
       let rows = rows_in layout.transmissions db in
       any_number q found
       ∙ sym (list_any-IsPermutation (is_numbered q) (filter is_mine rows) found these)
       ∙ any_filter (is_numbered q) is_mine rows
-      ∙ any_same (λ row. is_mine row && is_numbered q row) (λ row. nat_lt (front b s) q && is_transmission_row (transmission_key s q) row) rows (all_either q rows)
-      ∙ any_and (nat_lt (front b s) q) (is_transmission_row (transmission_key s q)) rows
-      ∙ ap (λ t. nat_lt (front b s) q && t) (there_is q)
-      ∙ sym (held_past b holds.sound s q)
-      ∙ sym (any_equal q (held b s))
+      ∙ any_same (λ row. is_mine row && is_numbered q row) (λ row. passes q && is_transmission_row (transmission_key s q) row) rows (all_either q rows)
+      ∙ any_and (passes q) (is_transmission_row (transmission_key s q)) rows
+      ∙ ap (λ t. passes q && t) (there_is q ∙ sym (there_of_numbers b s q))
+      ∙ sym (one_that_passes passes q (numbers_of b s))
+      ∙ sym (any_equal q (filter passes (numbers_of b s)))
 
-  -- what is found above the front has the numbers that are held
-  pub held_found : (found : List Row) → Lists layout.transmissions (is_above (Text s) (Int (pos (front b s)))) 2 db found → map (whole_number_at 1) found ≡ held b s
-  held_found found lists =
+  -- what is found has the numbers that pass
+  numbers_found : (test : Row → Bool) → ((row : Row) → HasKeyForm row → test row ≡ is_mine row) → (found : List Row) → Lists layout.transmissions test 2 db found → map (whole_number_at 1) found ≡ filter passes (numbers_of b s)
+  numbers_found test means found lists =
       let rows = rows_in layout.transmissions db in
-      let same = filter_same (is_above (Text s) (Int (pos (front b s)))) is_mine rows (all_above rows formed) in
+      let same = filter_same test is_mine rows (all_mine test means rows formed) in
       let these : IsPermutation (filter is_mine rows) found = subst (λ l. IsPermutation l found) same lists.rows in
       let rises = numbers_rise s found (all-permutation (IsOf s) (filter is_mine rows) found these (of_sender rows formed)) lists.sorted (none_twice found these) in
       sym (ascending_in_order nat_cmp_total exact_numbers (map (whole_number_at 1) found) rises)
-      ∙ same_ascending nat_cmp_total exact_numbers (map (whole_number_at 1) found) (held b s) (members found these)
-      ∙ ascending_in_order nat_cmp_total exact_numbers (held b s) (held_ascend b s)
+      ∙ same_ascending nat_cmp_total exact_numbers (map (whole_number_at 1) found) (filter passes (numbers_of b s)) (members found these)
+      ∙ ascending_in_order nat_cmp_total exact_numbers (filter passes (numbers_of b s)) (IsStrictlySortedBy-filter nat_cmp passes (numbers_of b s) (numbers_ascend b s))
 
 -- the second of a row's first two columns is its second
 second_kept : (row : Row) → whole_number_at 1 (take 2 row) ≡ whole_number_at 1 row
@@ -302,8 +315,14 @@ numbers_kept : (rows : List Row) → map (whole_number_at 1) (map (take 2) rows)
 numbers_kept [] = refl
 numbers_kept (row ∷ rows) = ap₂ (λ n ns. n ∷ ns) (second_kept row) (numbers_kept rows)
 
--- so they show how the sender stands
-pub status_found : (o : Office) (b : Book) (db : Trees) → HoldsBook o b db → (s : List ℕ) (reached : ℕ) (found : List Row) (r : Result SenderStatus RowFault) → ListsKeys layout.transmissions (is_above (Text s) (Int (pos reached))) 2 db found → IfOk r (λ status. (status.front ≡ reached) × (status.held.items ≡ map (whole_number_at 1) found)) → IfOk r (λ status. reached ≡ front b s → (status.front ≡ front b s) × (status.held.items ≡ held b s))
-status_found o b db holds s reached found (Err fault) keys h = tt
-status_found o b db holds s reached found (Ok status) keys h =
-    λ at. (h.0 ∙ at, h.1 ∙ ap (map (whole_number_at 1)) keys.cut ∙ numbers_kept keys.whole ∙ held_found o b db holds s keys.whole (subst (λ (n : ℕ). Lists layout.transmissions (is_above (Text s) (Int (pos n))) 2 db keys.whole) at keys.listed))
+-- what is found of the keys above a number are these numbers
+pub above_found : (b : Book) (db : Trees) → HasTransmissions b db → (s : List ℕ) (above : ℕ) (found : List Row) → ListsKeys layout.transmissions (is_above (Text s) (Int (pos above))) 2 db found → map (whole_number_at 1) found ≡ numbers_above b s above
+above_found b db has s above found keys =
+    ap (map (whole_number_at 1)) keys.cut ∙ numbers_kept keys.whole
+    ∙ numbers_found b db has s (nat_lt above) (is_above (Text s) (Int (pos above))) (above_so s above) keys.whole keys.listed
+
+-- and of those above one and below another
+pub within_found : (b : Book) (db : Trees) → HasTransmissions b db → (s : List ℕ) (above below : ℕ) (found : List Row) → ListsKeys layout.transmissions (is_above_and_below (Text s) (Int (pos above)) (Int (pos below))) 2 db found → map (whole_number_at 1) found ≡ numbers_within b s above below
+within_found b db has s above below found keys =
+    ap (map (whole_number_at 1)) keys.cut ∙ numbers_kept keys.whole
+    ∙ numbers_found b db has s (is_within above below) (is_above_and_below (Text s) (Int (pos above)) (Int (pos below))) (within_so s above below) keys.whole keys.listed

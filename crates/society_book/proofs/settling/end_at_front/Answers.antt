@@ -3,7 +3,7 @@ use Rattle.sqlite.specs.Held.{state}
 use Rattle.society_book.specs.Runs.{KnowsRun, is_among, line_at_front}
 use Rattle.society_book.proofs.lines.RunLines.{knows_each}
 use Rattle.society_book.proofs.together.StepLemmas.{looks_as}
-use Rattle.society_book.proofs.arrivals.end_at_front.Goals as goal
+use Rattle.society_book.proofs.settling.end_at_front.Goals as goal
 
 pub returns-clause-looks : goal.returns-clause-looks
 returns-clause-looks g c =

@@ -6,7 +6,7 @@ use Rattle.society_book.specs.Steps.{HasReached, ShowReached}
 use Rattle.society_book.proofs.shown.FrontRows.{reached_found}
 use Rattle.society_book.proofs.shown.QuestionLemmas.{by_book}
 use Rattle.society_book.proofs.together.StepLemmas.{looks_as, looks_of, on_ok}
-use Rattle.society_book.proofs.arrivals.reached_in.Goals as goal
+use Rattle.society_book.proofs.settling.reached_in.Goals as goal
 
 pub returns-clause-looks : goal.returns-clause-looks
 returns-clause-looks g c =

@@ -5,7 +5,7 @@ use Rattle.society_book.specs.Runs.{line_at_front}
 use Rattle.society_book.specs.Shown.{ShowVersion}
 use Rattle.society_book.proofs.lines.LineRows.{back_by, front_version, version_shows}
 use Rattle.society_book.proofs.together.StepLemmas.{looks_as, looks_of}
-use Rattle.society_book.proofs.arrivals.learn_work.Goals as goal
+use Rattle.society_book.proofs.settling.learn_work.Goals as goal
 
 pub returns-clause-looks : goal.returns-clause-looks
 returns-clause-looks g c =

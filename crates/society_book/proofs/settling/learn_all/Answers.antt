@@ -4,7 +4,7 @@ use Rattle.sqlite.specs.Held.{state}
 use Rattle.society_book.specs.Runs.{is_among}
 use Rattle.society_book.proofs.lines.RunLines.{ends_less}
 use Rattle.society_book.proofs.together.StepLemmas.{looks_then}
-use Rattle.society_book.proofs.arrivals.learn_all.Goals as goal
+use Rattle.society_book.proofs.settling.learn_all.Goals as goal
 
 pub loop-work-preserved : goal.loop-work-preserved
 loop-work-preserved g c =

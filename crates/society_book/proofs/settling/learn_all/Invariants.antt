@@ -5,7 +5,7 @@ use Rattle.society_core.specs.Book.{Book}
 use Rattle.society_book.specs.Kept.{HoldsBook}
 use Rattle.society_book.specs.Runs.{is_among, line_at_front}
 use Rattle.society_book.specs.Steps.{Looks}
-use Rattle.society_book.proofs.arrivals.learn_all.Given as goal
+use Rattle.society_book.proofs.settling.learn_all.Given as goal
 use Rattle.works_core.specs.Ends.{EndsAt}
 
 abbrev pub invariant-loop-work : goal.invariant-loop-work
