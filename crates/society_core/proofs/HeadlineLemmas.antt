@@ -170,9 +170,11 @@ is_not_ended sequence (Some x) none e is =
     by_case false is h = within x.last sequence is
 
 put_there : (b : Book) (s : List ℕ) (n : ℕ) (y : List ℕ) (o : Option (List ℕ)) → body_at b s n ≡ o → file_fault s y ≡ None → Fits b (Transmission s n y) → (z : List ℕ) × IsIn (put_book b s n y (known_by y o)) (Transmission s n z)
-put_there b s n y None free right fits =
-    (y, subst (λ (f : Option FileFault). IsIn (added_book b s n y f) (Transmission s n y)) (sym right)
-    (subst (λ (m : Option ℕ). IsIn (taken_book b s n y m) (Transmission s n y)) (sym (not_ended (sequence_of n) (end_at b s (segment_of n)) fits)) (entry_there b (Transmission s n y))))
+put_there b s n y None free right fits = (
+  y,
+  subst (λ (f : Option FileFault). IsIn (added_book b s n y f) (Transmission s n y)) (sym right)
+      (subst (λ (m : Option ℕ). IsIn (taken_book b s n y m) (Transmission s n y)) (sym (not_ended (sequence_of n) (end_at b s (segment_of n)) fits)) (entry_there b (Transmission s n y))),
+)
 put_there b s n y (Some kept) there right fits = (kept, stays (bytes_eq kept y))
   where
     stays : (t : Bool) → IsIn (put_book b s n y (cond t Same Other)) (Transmission s n kept)

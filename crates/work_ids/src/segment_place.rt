@@ -2,8 +2,8 @@
 ghost use Rattle.std.specs.Prelude.{◌≡◌, ◌≤◌};
 ghost use Rattle.work_ids.specs.Segments.{index_of, segment_of};
 
-use crate::{Segment, SegmentEnd};
 use crate::transmission_number::{FIRST_YEAR, GREATEST_YEAR, YEAR};
+use crate::{Segment, SegmentEnd};
 use std::cmp::Ordering;
 use std::marker::Model;
 
