@@ -37,7 +37,7 @@ neither_second true b h = absurd (false≢true (sym h))
 
 module _ {K V : Type 0} {R : K → K → Ordering} (total : IsTotalOrder R) (exact : IsAntisymmetric R) (sender_of : K → List ℕ) where
   -- whether some keys have one of a sender
-  abbrev has_of : List K → List ℕ → Bool
+  abbrev pub has_of : List K → List ℕ → Bool
   has_of keys t = list_any (λ key. bytes_eq (sender_of key) t) keys
 
   -- a key of a sender
@@ -70,11 +70,11 @@ module _ {K V : Type 0} {R : K → K → Ordering} (total : IsTotalOrder R) (exa
 
   module _ (m : FinMap R V) where
     -- a sender that has something in a map has it under a key
-    key_there : (t : List ℕ) → has_of (finite.keys m) t ≡ true → (key : K) × (sender_of key ≡ t) × (is_some (finite.get m key) ≡ true)
+    pub key_there : (t : List ℕ) → has_of (finite.keys m) t ≡ true → (key : K) × (sender_of key ≡ t) × (is_some (finite.get m key) ≡ true)
     key_there t h = let found = one_of_them t (finite.keys m) h in (found.key, found.its, finite.contains_key-keys m found.key ∙ found.there)
 
     -- and the other way round
-    has_there : (key : K) → is_some (finite.get m key) ≡ true → has_of (finite.keys m) (sender_of key) ≡ true
+    pub has_there : (key : K) → is_some (finite.get m key) ≡ true → has_of (finite.keys m) (sender_of key) ≡ true
     has_there key h = of_them key (finite.keys m) (sym (finite.contains_key-keys m key) ∙ h)
 
     module _ (key : K) (v : V) where
