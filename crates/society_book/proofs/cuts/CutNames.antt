@@ -114,7 +114,7 @@ module _ (o : Office) (w : List ℕ) (v : WorkVersion) where
       })
 
   module _ (b : Book) (s : List ℕ) (right : AreRight (ends_of b s)) where
-    Told : Type 0
+    abbrev Told : Type 0
     Told = IsTold (transactions_sent b s v.transmission) (verdicts_in o b s v.transmission) v.place
 
     -- the last version of a line up to a transmission is an accepted transaction where it stands

@@ -7,7 +7,7 @@ use Rattle.std.specs.declared.cmp.Ordering.TheVariants.{Less}
 use Rattle.std.proofs.lemmas.Bool.{cases_lt, false≢true}
 use Rattle.std.proofs.lemmas.Bool.Decides.{nat_tests}
 use Rattle.std.proofs.lemmas.List.Kept.{IsStrictlySortedBy-filter}
-use Rattle.sqlite_keyed.proofs.ListLemmas.{all-append, all_both, all_weaker}
+use Rattle.sqlite_keyed.proofs.ListLemmas.{all-append, all_weaker}
 use Rattle.sender_segments.specs.Ways.{End, IsWithinEnd, is_up_to_end, leads_to, numbers_up_to}
 use Rattle.sender_segments.proofs.LedTo.{up_to_front}
 use Rattle.society_core.specs.Book.{AreOrderly, Book, IsSound, ends_of, front, held, is_in_line, is_one_of, is_there, numbers_of}
@@ -57,7 +57,11 @@ sorted_join mid (x ∷ xs) ys one other low high =
       sorted_join mid xs ys one.1 other low.1 high,
     )
 
--- the last of two tests that hold
+none_sorted : IsStrictlySortedBy nat_cmp []
+unfolding IsStrictlySortedBy
+none_sorted = tt
+
+-- the first of two tests that hold
 of_both : (x y : Bool) → (x && y) ≡ true → x ≡ true
 of_both true y h = refl
 of_both false y h = absurd (false≢true h)
@@ -68,7 +72,7 @@ record IsBetween (low high n : ℕ) : Type 0 where
   up_to : n ≤ high
 
 module _ (b : Book) (s : List ℕ) where
-  skipped : List Skip → List ℕ
+  abbrev skipped : List Skip → List ℕ
   skipped skips = flat_map (λ skip. numbers_within b s skip.above skip.below) skips
 
   all_within : (above below : ℕ) → AllByRecursion (λ n. is_within above below n ≡ true) (numbers_within b s above below)
@@ -98,11 +102,7 @@ module _ (b : Book) (s : List ℕ) where
       rise_to low high (skip ∷ skips) rise = let a = rise.0 in let b = rise.1 in let rest = rise_to skip.below high skips rise.2 in omega (arith, a, b, rest)
 
   skips_sorted : (low high : ℕ) (skips : List Skip) → SkipsRise low skips high → IsStrictlySortedBy nat_cmp (skipped skips)
-  skips_sorted low high [] rise = nothing
-    where
-      nothing : IsStrictlySortedBy nat_cmp []
-      unfolding IsStrictlySortedBy
-      nothing = tt
+  skips_sorted low high [] rise = none_sorted
   skips_sorted low high (skip ∷ skips) rise =
       sorted_join skip.below (numbers_within b s skip.above skip.below) (skipped skips)
       (IsStrictlySortedBy-filter nat_cmp (is_within skip.above skip.below) (numbers_of b s) (numbers_ascend b s))
@@ -126,7 +126,7 @@ module _ (b : Book) (s : List ℕ) where
       spread false y t = refl
 
   module _ (sound : IsSound b) (skips : List Skip) (are : AreSkipped (ends_of b s) (front b s) skips) where
-    f : ℕ
+    abbrev f : ℕ
     f = front b s
 
     order : AreOrderly b.transmissions b.ends s

@@ -108,7 +108,7 @@ module _ (ends : StatedEnds) (right : AreRight ends) (front : ℕ) where
   none_yet = record { led = refl; begins = refl; within = omega arith; rise = omega arith; skipped = λ n some before. absurd (omega (arith, before)) }
 
   module _ (first : ℕ) (list : List Skip) (so_far : AreSkippedTo first list) where
-    g : ℕ
+    abbrev g : ℕ
     g = segment_of first
 
     -- numbers of a segment are behind its first rank

@@ -1,4 +1,4 @@
-use Rattle.std.proofs.Common.{◌≡◌, ◌∙◌, ◌+◌, ◌×◌, Ok, ap, arith, nat_lt, subst, sym}
+use Rattle.std.proofs.Common.{◌≡◌, ◌∙◌, ◌+◌, Ok, ap, arith, nat_lt, subst, sym}
 use Rattle.sqlite.specs.Held.{state}
 use Rattle.society_core.specs.Book.{front, is_in_line, with_transmission}
 use Rattle.society_book.specs.Arriving.{GoesOnTo}
