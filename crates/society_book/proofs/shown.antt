@@ -8,7 +8,9 @@ pub mod PaidRows
 pub mod VerdictRows
 pub mod AckRows
 pub mod WorkRows
-pub mod HeldRows
+pub mod NumberRows
+pub mod Skips
+pub mod HeldNumbers
 pub mod CreditParts
 pub mod CreditRows
 pub mod OrderRows

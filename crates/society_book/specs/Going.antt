@@ -54,6 +54,13 @@ RunsOver sender ends begun old new db =
     (office : Office) (book : Book) (from : ℕ) → HasAbove book sender old.reached db → AreOrderly book.transmissions book.ends sender → end_listed ends ≡ ends_of book sender
     → segment_of old.reached ≡ segment_of begun → ComesToGap office book sender from old → ComesToEnd office book sender from new
 
+-- a run has gone on over the ends that it reaches to a gap in the segment of a rank, not before its own number
+abbrev pub RunsPast : List ℕ → List StatedEnd → ℕ → RunValue → ℕ → RunValue → Trees → Type 0
+RunsPast sender ends begun old rank new db =
+    (office : Office) (book : Book) (from : ℕ) → HasAbove book sender old.reached db → AreOrderly book.transmissions book.ends sender → end_listed ends ≡ ends_of book sender
+    → segment_of old.reached ≡ segment_of begun → ComesToGap office book sender from old
+    → ComesToGap office book sender from new × (old.reached ≤ new.reached) × (segment_of new.reached ≡ segment_of rank)
+
 -- a run is the whole line of a sender, in every book with what its senders sent
 abbrev pub IsWholeIn : Office → List ℕ → Trees → RunValue → Type 0
 IsWholeIn office sender db run = (book : Book) → KeepsSent book db → AreOrderly book.transmissions book.ends sender → IsWhole office book sender run

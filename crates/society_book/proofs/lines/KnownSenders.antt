@@ -78,7 +78,7 @@ module _ {K V : Type 0} {R : K → K → Ordering} (total : IsTotalOrder R) (exa
     has_there key h = of_them key (finite.keys m) (sym (finite.contains_key-keys m key) ∙ h)
 
     module _ (key : K) (v : V) where
-      after : FinMap R V
+      abbrev after : FinMap R V
       after = finite.insert m key v
 
       got : (q : K) → finite.get after q ≡ cond (eq_by_cmp R q key) (Some v) (finite.get m q)

@@ -1,5 +1,5 @@
 -- The rows of a run that are written in one transaction, table after table.
-use Rattle.std.proofs.Common.{◌≡◌, ◌≢◌, ◌∙◌, ◌++◌, [], ◌∷◌, List, true, sym, subst, arith, IsPermutation}
+use Rattle.std.proofs.Common.{◌≡◌, ◌≢◌, ◌∙◌, ◌++◌, ℕ, ℤ, pos, [], ◌∷◌, List, true, ap, ap₂, flat_map, map, sym, subst, arith, IsPermutation}
 use Rattle.std.specs.List.{AllByRecursion}
 use Rattle.std.proofs.lemmas.List.Sorted.{IsPermutation-trans}
 use Rattle.sqlite.specs.Effect.{Database}
@@ -10,7 +10,15 @@ use Rattle.sqlite_value.specs.Order.{Row}
 use Rattle.society_rows.specs.Layout as layout
 use Rattle.society_rows.specs.Layout.{all_tables, written_out}
 use Rattle.society_rows.specs.Stored.{Adds, Puts, put_over, rows_in}
+use Rattle.sqlite_keyed.proofs.ListLemmas.{flat_map-map, map-map}
+use Rattle.sqlite_value.specs.declared.value.Value.TheVariants.{Int, Text}
+use Rattle.society_book.specs.Arriving.{SettlesRun}
+use Rattle.society_book.specs.Outcomes.{settled}
+use Rattle.society_book.specs.Runs.{RunValue, behind_run, settled_recordings, settled_run, settled_verdict, settled_version}
 use Rattle.society_book.specs.Shown.{AddsTold, PutsLine}
+use Rattle.society_book.specs.declared.outcomes.Outcome.{Outcome}
+use Rattle.works_core.specs.Verdicts.{works_in}
+use Rattle.works_core.specs.Versions.{Placed, judged_of}
 use Rattle.society_book.proofs.lines.RunTables.{rows_kept, same_permutation}
 
 -- that a table is as it was where it is none of these
@@ -99,3 +107,15 @@ puts_as front front_too a d b e c f old new x y z w puts =
     (subst (λ (l : List Row). PutsLine front_too d l c old new) z
     (subst (λ (l : List Row). PutsLine front_too l b c old new) y
     (subst (λ (r : Row). PutsLine r a b c old new) x puts)))
+
+-- the same with the rows of outcomes, where these settle a run behind a line
+pub settles_by : (s q : List ℕ) (past : List Placed) (run : RunValue) (outcomes : List Outcome) (then works : ℕ) (z : ℤ) → q ≡ s → then ≡ run.reached → z ≡ pos works → works ≡ works_in (judged_of (behind_run past run.notes)) → map settled outcomes ≡ settled_run past run.notes
+    → (old new : Trees) → PutsLine (Text q ∷ Int (pos then) ∷ Int z ∷ []) (map (λ x. settled_verdict q (settled x)) outcomes) (flat_map (λ x. settled_version q (settled x)) outcomes) (flat_map (λ x. settled_recordings q (settled x)) outcomes) old new
+    → SettlesRun s past run old new
+settles_by s q past run outcomes then works z name reached column are their old new puts =
+    puts_as _ _ _ _ _ _ _ _ old new
+    (ap₂ (λ (x : List ℕ) (k : ℕ). Text x ∷ Int (pos k) ∷ Int z ∷ []) name reached ∙ ap (λ (y : ℤ). Text s ∷ Int (pos run.reached) ∷ Int y ∷ []) (column ∙ ap pos are))
+    (ap (λ (x : List ℕ). map (λ o. settled_verdict x (settled o)) outcomes) name ∙ sym (map-map (settled_verdict s) settled outcomes) ∙ ap (map (settled_verdict s)) their)
+    (ap (λ (x : List ℕ). flat_map (λ o. settled_version x (settled o)) outcomes) name ∙ sym (flat_map-map (settled_version s) settled outcomes) ∙ ap (flat_map (settled_version s)) their)
+    (ap (λ (x : List ℕ). flat_map (λ o. settled_recordings x (settled o)) outcomes) name ∙ sym (flat_map-map (settled_recordings s) settled outcomes) ∙ ap (flat_map (settled_recordings s)) their)
+    puts

@@ -75,38 +75,39 @@ first_back : (key : SegmentKey) (o : Option End) → first_end (row_of_some (end
 first_back key None = refl
 first_back key (Some end) = ap Some (end_back key end)
 
--- what is found of a sender's ends shows them
-pub ends_found : (b : Book) (db : Trees) → HasEnds b db → (s : List ℕ) (found : List Row) → Lists layout.segment_ends (has_key (Text s ∷ [])) 2 db found → end_shown found ≡ ends_of b s
-ends_found b db has s found lists = λ i g. at_place g i
-  where
-    rows : List Row
-    rows = rows_in layout.segment_ends db
+module _ (b : Book) (db : Trees) (has : HasEnds b db) (s : List ℕ) where
+  abbrev rows : List Row
+  rows = rows_in layout.segment_ends db
 
-    named : filter (has_key (Text s ∷ [])) rows ≡ filter (is_named s) rows
-    named =
-        filter_same (has_key (Text s ∷ [])) (is_named s) rows
-        (keyed_as_named s rows (all_rows is_end_row segment_key_of (λ r. both_same (text_at 0 r) (segment_at 1 r)) HasName (end_rows b) rows has (λ q. ends_named q (end_at b q.sender q.segment))))
+  named : filter (has_key (Text s ∷ [])) rows ≡ filter (is_named s) rows
+  named =
+      filter_same (has_key (Text s ∷ [])) (is_named s) rows
+      (keyed_as_named s rows (all_rows is_end_row segment_key_of (λ r. both_same (text_at 0 r) (segment_at 1 r)) HasName (end_rows b) rows has (λ q. ends_named q (end_at b q.sender q.segment))))
 
-    module _ (g : ℕ) where
-      as_key : (row : Row) → is_end_row (segment_key s g) row ≡ (is_named s row && is_at_place g row)
-      as_key row = ap₂ (λ x y. x && y) (either_way s (text_at 0 row)) (numbers_either_way g (segment_at 1 row))
+  as_key : (g : ℕ) (row : Row) → is_end_row (segment_key s g) row ≡ (is_named s row && is_at_place g row)
+  as_key g row = ap₂ (λ x y. x && y) (either_way s (text_at 0 row)) (numbers_either_way g (segment_at 1 row))
 
-      of_key : filter (is_end_row (segment_key s g)) rows ≡ filter (is_at_place g) (filter (is_named s) rows)
-      of_key =
-          filter_same (is_end_row (segment_key s g)) (λ row. is_named s row && is_at_place g row) rows (every (λ row. is_end_row (segment_key s g) row ≡ (is_named s row && is_at_place g row)) as_key rows)
-          ∙ filter_both (is_named s) (is_at_place g) rows
+  of_key : (g : ℕ) → filter (is_end_row (segment_key s g)) rows ≡ filter (is_at_place g) (filter (is_named s) rows)
+  of_key g =
+      filter_same (is_end_row (segment_key s g)) (λ row. is_named s row && is_at_place g row) rows (every (λ row. is_end_row (segment_key s g) row ≡ (is_named s row && is_at_place g row)) (as_key g) rows)
+      ∙ filter_both (is_named s) (is_at_place g) rows
 
-      found_there : IsPermutation (end_rows b (segment_key s g)) (filter (is_at_place g) found)
-      found_there =
-          IsPermutation-trans (end_rows b (segment_key s g)) (filter (is_end_row (segment_key s g)) rows) (filter (is_at_place g) found) (has (segment_key s g))
-          (subst (λ (l : List Row). IsPermutation l (filter (is_at_place g) found)) (sym of_key)
-          (IsPermutation-filter (is_at_place g) (filter (is_named s) rows) found (subst (λ (l : List Row). IsPermutation l found) named lists.rows)))
+  module _ (found : List Row) (lists : Lists layout.segment_ends (has_key (Text s ∷ [])) 2 db found) where
+    found_there : (g : ℕ) → IsPermutation (end_rows b (segment_key s g)) (filter (is_at_place g) found)
+    found_there g =
+        IsPermutation-trans (end_rows b (segment_key s g)) (filter (is_end_row (segment_key s g)) rows) (filter (is_at_place g) found) (has (segment_key s g))
+        (subst (λ (l : List Row). IsPermutation l (filter (is_at_place g) found)) (sym (of_key g))
+        (IsPermutation-filter (is_at_place g) (filter (is_named s) rows) found (subst (λ (l : List Row). IsPermutation l found) named lists.rows)))
 
-      at_place : end_shown found g ≡ end_at b s g
-      at_place =
-          first_passing (is_at_place g) found
-          ∙ ap first_end (only (end_row (segment_key s g)) (end_at b s g) (filter (is_at_place g) found) found_there)
-          ∙ first_back (segment_key s g) (end_at b s g)
+    shown_at : (g : ℕ) → end_shown found g ≡ end_at b s g
+    shown_at g =
+        first_passing (is_at_place g) found
+        ∙ ap first_end (only (end_row (segment_key s g)) (end_at b s g) (filter (is_at_place g) found) (found_there g))
+        ∙ first_back (segment_key s g) (end_at b s g)
+
+    -- what is found of a sender's ends shows them
+    pub ends_found : end_shown found ≡ ends_of b s
+    ends_found = λ i g. shown_at g i
 
 -- ---- lists of ends
 
