@@ -22,14 +22,12 @@ use Rattle.society_rows.specs.declared.tables.TableName.{TableName}
 use Rattle.society_rows.specs.declared.tables.TableName.TheVariants as name
 use Rattle.sqlite.specs.Effect.{Database}
 use Rattle.sqlite.specs.State.{HasCleanDisk, State}
+use Rattle.society_book.specs.Arriving.{SettlesRun}
 use Rattle.society_book.specs.BookRows.{end_of, is_end_row, is_return_row, is_transmission_row, return_key_of}
 use Rattle.society_book.specs.Columns.{HasRows, blob_at, segment_at, text_at, whole_number_at}
 use Rattle.society_book.specs.DerivedRows.{front_rows, is_named, knows_sender, tells_recordings, tells_verdict, tells_version, told_to_front}
-use Rattle.society_book.specs.Runs.{RunValue, behind_run, is_among, settled_recordings, settled_run, settled_verdict, settled_version}
-use Rattle.society_book.specs.Shown.{PutsLine}
+use Rattle.society_book.specs.Runs.{RunValue, is_among}
 use Rattle.society_book.specs.Sources.{HasTransmissions}
-use Rattle.works_core.specs.Verdicts.{works_in}
-use Rattle.works_core.specs.Versions.{judged_of}
 use Rattle.work_ids.specs.Blanks.{fill, without_trailing_blanks}
 
 -- whether a value is a text
@@ -122,9 +120,7 @@ pub record HasLines (office : Office) (book : Book) (of_these : List ℕ → Boo
 
 -- the tables have what the transmissions of a sender's whole line tell, as it is noted
 abbrev pub SettlesLine : List ℕ → RunValue → Trees → Trees → Type 0
-SettlesLine sender run old new =
-    PutsLine (Text sender ∷ Int (pos run.reached) ∷ Int (pos (works_in (judged_of (behind_run [] run.notes)))) ∷ []) (map (settled_verdict sender) (settled_run [] run.notes))
-    (flat_map (settled_version sender) (settled_run [] run.notes)) (flat_map (settled_recordings sender) (settled_run [] run.notes)) old new
+SettlesLine sender run = SettlesRun sender [] run
 
 -- whether a tree is that of what was sent, stated or reported
 abbrev pub is_of_entries : ℕ → Bool

@@ -5,8 +5,8 @@ use Rattle.society_book.specs.Runs.{KnowsRun, Notes, behind_run, is_among, settl
 use Rattle.works_core.specs.Verdicts.{works_in}
 use Rattle.works_core.specs.Versions.{judged_of}
 use Rattle.society_tables.proofs.audit.AloneReads.{ok_also}
-use Rattle.society_tables.proofs.audit.LineWrites.{settles_by}
 use Rattle.society_book.proofs.lines.RunLines.{knows_each}
+use Rattle.society_book.proofs.lines.RunWrites.{settles_by}
 use Rattle.society_tables.proofs.lines.settle_line.Goals as goal
 
 pub returns : goal.returns
@@ -27,7 +27,7 @@ returns g c =
                 ok_also c.write_line.result
                 (λ written. (
                   written.0,
-                  settles_by c.args.sender.now c.as_bytes.result.now run c.as_slice-2.result.now c.reached.result c.works.result _ c.as_bytes.ensures.bytes c.reached.ensures c.in_ok-column_of.ensures.value
+                  settles_by c.args.sender.now c.as_bytes.result.now [] run c.as_slice-2.result.now c.reached.result c.works.result _ c.as_bytes.ensures.bytes c.reached.ensures c.in_ok-column_of.ensures.value
                       (c.works.ensures (is_among asked) (behind_run [] notes) ends ∙ ap (λ (xs : List Notes). works_in (judged_of (behind_run [] xs))) same) their _ _ written.1,
                 ))
                 ((rw (to_z-of_z w64 c.in_ok-column_of.field-0 c.in_ok-column_of.ensures.range) at c.write_line.ensures.written).written clean has);
