@@ -1,9 +1,9 @@
 -- What an audit notes of rows whose bodies it does not keep.
-use Rattle.std.specs.Prelude.{None, is_some, nat_le, ℕ, ◌≡◌, ◌≢◌, ◌≤◌, ◌||◌, map, filter, Bool, true, false, ◌&&◌, ◌==◌, List, [], ◌∷◌, ◌++◌, IsPermutation, OnOk, Result, if◌then◌else◌, bytes_eq, length, pos, negsuc, zero}
+use Rattle.std.specs.Prelude.{if◌then◌else◌, None, is_some, ℕ, ◌≡◌, ◌≢◌, ◌≤◌, ◌||◌, map, filter, Bool, true, false, ◌&&◌, ◌==◌, List, [], ◌∷◌, ◌++◌, OnOk, Result, bytes_eq, length, pos, negsuc, zero}
 use Rattle.sqlite_value.specs.declared.value.Value.TheVariants.{Blob, Int, Text}
 use Rattle.sqlite_value.specs.declared.value.Value.{Value}
 use Rattle.sqlite_value.specs.Order.{Row, column}
-use Rattle.std.specs.List.{AllByRecursion, flat_map, list_all}
+use Rattle.std.specs.List.{AllByRecursion, list_all}
 use Rattle.share_rules.specs.declared.office.Office.{Office}
 use Rattle.sqlite_trees.specs.Tree.{Trees}
 use Rattle.society_core.specs.Answers.{payer}
@@ -16,7 +16,7 @@ use Rattle.society_core.specs.Keys.{ascending, bytes_cmp}
 use Rattle.society_core.specs.declared.return_key.ReturnKey.{ReturnKey}
 use Rattle.society_rows.specs.Layout as layout
 use Rattle.society_rows.specs.Layout.{all_tables}
-use Rattle.society_rows.specs.Stored.{AreNumbered, HasLayout, put_over, rows_in}
+use Rattle.society_rows.specs.Stored.{AreNumbered, HasLayout, rows_in}
 use Rattle.society_rows.specs.declared.fault.RowFault.{RowFault}
 use Rattle.society_rows.specs.declared.tables.TableName.{TableName}
 use Rattle.society_rows.specs.declared.tables.TableName.TheVariants as name

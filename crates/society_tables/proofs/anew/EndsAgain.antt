@@ -1,5 +1,5 @@
 -- The ends of a book come again row by row, until all of them are there.
-use Rattle.std.proofs.Common.{◌≡◌, ◌∙◌, ◌+◌, ◌<◌, ◌≤◌, ◌&&◌, ◌==◌, ◌^◌, ◌||◌, inl, inr, ℕ, zero, suc, pos, Bool, true, false, cond, not, nat_le, nat_lt, List, [], ◌∷◌, Option, Some, None, is_some, Result, Ok, Err, filter, get_or, if◌then◌else◌, length, take, arith, ap, ap₂, refl, sym, subst, IsPermutation}
+use Rattle.std.proofs.Common.{if◌then◌else◌, ◌≡◌, ◌∙◌, ◌+◌, ◌<◌, ◌≤◌, ◌&&◌, ◌==◌, ◌^◌, ◌||◌, ℕ, zero, suc, pos, Bool, true, false, not, nat_le, nat_lt, List, [], ◌∷◌, Option, Some, None, is_some, Result, Ok, Err, filter, get_or, length, take, arith, ap, ap₂, refl, sym, subst, IsPermutation}
 use Rattle.std.specs.FinMap as finite
 use Rattle.std.specs.List.{AllByRecursion}
 use Rattle.std.proofs.lemmas.Bool.{false≢true, leb-true}
@@ -11,10 +11,10 @@ use Rattle.sqlite_value.specs.declared.value.Value.TheVariants.{Int, Text}
 use Rattle.sender_segments.specs.Ways.{End, end_stated}
 use Rattle.share_rules.specs.declared.office.Office.{Office}
 use Rattle.society_core.specs.Answers.{end_answer, end_book, stated_answer, stated_book, stating_answer, stating_book}
-use Rattle.society_core.specs.Book.{Book, Ends, IsSound, end_at, is_end_entry}
+use Rattle.society_core.specs.Book.{Book, Ends, IsSound, end_at}
 use Rattle.society_core.specs.Ends.{end_known_by, fault_stated, number_past, place_stated, same_end}
 use Rattle.society_core.specs.Keys.{segment_key, transmission_key}
-use Rattle.society_core.specs.Requests.{Ended, Query, Reply, States, told}
+use Rattle.society_core.specs.Requests.{Ended, States, told}
 use Rattle.society_core.specs.Runs.{Step}
 use Rattle.society_core.specs.declared.answers.Receipt.{Receipt}
 use Rattle.society_core.specs.declared.refusal.Refusal.{Refusal}

@@ -14,7 +14,7 @@ use Rattle.society_book.specs.Shown.{KeepsUnlined}
 use Rattle.society_book.specs.Sources.{HasEnds, KeepsBodies}
 use Rattle.society_book.specs.BookRows.{book_of}
 use Rattle.society_book.specs.Columns.{HasRows}
-use Rattle.society_book.specs.DerivedRows.{Telling, front_rows, knows_sender, is_named, tells_recordings, tells_verdict, tells_version, told_to_front, works_to}
+use Rattle.society_book.specs.DerivedRows.{front_rows, knows_sender, is_named, tells_recordings, tells_verdict, tells_version, told_to_front, works_to}
 use Rattle.society_book.specs.Kept.{HoldsOwnBook, HoldsBook}
 use Rattle.society_tables.specs.Opening.{Agree}
 use Rattle.society_tables.specs.Rebuilding.{without_pools}

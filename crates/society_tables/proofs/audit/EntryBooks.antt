@@ -19,7 +19,7 @@ use Rattle.society_core.proofs.HeadlineLemmas.{past_is_none}
 use Rattle.society_rows.specs.Layout as layout
 use Rattle.society_rows.specs.Stored.{rows_in}
 use Rattle.society_tables.specs.Auditing.{AreEndsAbove, HoldsEntries, IsAbove, has_body, has_end, is_right_return, is_right_sent, is_right_stated}
-use Rattle.society_book.specs.Sources.{HasEnds, HasTransmissions, KeepsBodies}
+use Rattle.society_book.specs.Sources.{HasEnds, KeepsBodies}
 use Rattle.society_book.specs.BookRows.{book_of, end_of, end_row, is_end_row, is_return_row, is_transmission_row, return_key_of, return_row, segment_key_of, transmission_key_of, transmission_row}
 use Rattle.society_book.specs.Columns.{blob_at, segment_at, whole_number_at, text_at}
 use Rattle.society_tables.specs.Rebuilding.{without_pools}

@@ -1,4 +1,4 @@
-use Rattle.std.proofs.Common.{◌≡◌, IsTrue, List, Ok, Option, Some, Vec, refl, subst, sym, ℕ}
+use Rattle.std.proofs.Common.{◌≡◌, List, Ok, Some, Vec, refl, subst, sym, ℕ}
 use Rattle.std.specs.declared.alloc.Global.{Global}
 use Rattle.sqlite.specs.Held.{state}
 use Rattle.sqlite_trees.specs.Tree.{Trees}

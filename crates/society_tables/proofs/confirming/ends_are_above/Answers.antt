@@ -5,15 +5,13 @@ use Rattle.std.proofs.lemmas.List.Sorted.{IsPermutation-sym}
 use Rattle.sqlite.specs.Held.{state}
 use Rattle.sqlite.specs.State.{State}
 use Rattle.sqlite_trees.proofs.ListLemmas.{all-permutation}
-use Rattle.sqlite_trees.specs.Tree.{Trees}
 use Rattle.sqlite_value.specs.Order.{Row}
 use Rattle.society_core.specs.Book.{Book}
 use Rattle.society_rows.specs.Layout.{segment_ends}
 use Rattle.society_rows.specs.Stored.{rows_in}
-use Rattle.society_rows.specs.declared.tables.TableName.TheVariants as name
 use Rattle.society_book.specs.Sources.{HasTransmissions}
 use Rattle.society_tables.specs.Auditing.{IsAbove}
-use Rattle.society_tables.specs.Opening.{Inspects, ListsAll}
+use Rattle.society_tables.specs.Opening.{Inspects}
 use Rattle.society_tables.specs.declared.audit_fault.AuditFault.{AuditFault}
 use Rattle.society_tables.proofs.alike.SameTables.{all_pass}
 use Rattle.society_tables.proofs.audit.Mixed.{one_more}

@@ -2,10 +2,11 @@ use Rattle.std.proofs.Common.{Ok, take}
 use Rattle.std.specs.List.{AllByRecursion}
 use Rattle.sqlite.specs.Held.{state}
 use Rattle.society_core.specs.Book.{Book}
+use Rattle.society_rows.specs.Listings.{ListsAll}
 use Rattle.society_rows.specs.declared.tables.TableName.TheVariants as name
 use Rattle.society_book.specs.Sources.{HasTransmissions}
 use Rattle.society_tables.specs.Auditing.{IsAbove}
-use Rattle.society_tables.specs.Opening.{Inspects, ListsAll}
+use Rattle.society_tables.specs.Opening.{Inspects}
 use Rattle.society_tables.specs.declared.audit_fault.AuditFault.{AuditFault}
 use Rattle.society_tables.proofs.confirming.ends_are_above.Given as goal
 

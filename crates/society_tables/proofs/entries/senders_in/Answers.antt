@@ -8,7 +8,6 @@ use Rattle.sqlite_trees.specs.Tree.{Trees}
 use Rattle.society_core.specs.Keys.{ascending, bytes_cmp}
 use Rattle.society_rows.specs.Layout as layout
 use Rattle.society_rows.specs.Stored.{rows_in}
-use Rattle.society_tables.specs.Auditing.{senders_in}
 use Rattle.society_tables.specs.LineSteps.{FindsSent, FindsStated}
 use Rattle.society_book.specs.Columns.{text_at}
 use Rattle.society_tables.proofs.audit.AloneReads.{reads_as, reads_then}

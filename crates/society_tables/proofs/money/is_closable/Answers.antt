@@ -1,4 +1,4 @@
-use Rattle.std.proofs.Common.{◌≡◌, ◌∙◌, List, Ok, true, subst, sym}
+use Rattle.std.proofs.Common.{◌≡◌, ◌∙◌, List, true, subst, sym}
 use Rattle.std.specs.List.{AllByRecursion, list_all}
 use Rattle.society_core.specs.Book.{is_applied}
 use Rattle.society_core.specs.declared.return_key.ReturnKey.{ReturnKey}
