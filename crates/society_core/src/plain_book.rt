@@ -1,5 +1,5 @@
 //! The book in memory.
-ghost use Rattle.std.specs.Prelude.{◌≡◌, ◌≤◌, ◌&&◌, IfOk, None, OnOk, OnErr, bytes_eq, false, if◌then◌else◌, is_some, map, nat_le, not, option_map, true, unwrap_or, ℕ, List};
+ghost use Rattle.std.specs.Prelude.{◌≡◌, ◌&&◌, IfOk, None, OnOk, OnErr, bytes_eq, if◌then◌else◌, is_some, map, nat_le, not, option_map, true, unwrap_or, ℕ, List};
 ghost use Rattle.std.specs.FinMap as finite;
 ghost use Rattle.std.specs.BTreeMap as tree;
 ghost use Rattle.std.specs.BTreeMap.{IsOrdered, is_at, keys, values};
