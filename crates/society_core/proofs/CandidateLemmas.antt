@@ -1,5 +1,5 @@
 -- What candidates stand for: one recording more, one transaction more, one transmission more.
-use Rattle.std.proofs.Common.{◌≡◌, ◌≢◌, ◌==◌, ⊎_elim, ℕ, zero, suc, ◌+◌, ◌<◌, ◌≤◌, Bool, true, false, ◌||◌, ◌&&◌, cond, not, List, [], ◌∷◌, ◌++◌, length, map, flat_map, None, Result, Ok, Err, OnOk, slice_get, refl, ap, sym, subst, ◌∙◌, arith, append_assoc, append-nil, get_or, unwrap_or}
+use Rattle.std.proofs.Common.{◌≡◌, ◌≢◌, ◌==◌, ⊎_elim, ℕ, zero, suc, ◌+◌, ◌<◌, Bool, true, false, ◌||◌, ◌&&◌, cond, not, List, [], ◌∷◌, ◌++◌, length, map, flat_map, None, Result, Ok, Err, OnOk, slice_get, refl, ap, sym, subst, ◌∙◌, arith, append_assoc, append-nil, get_or, unwrap_or}
 use Rattle.std.proofs.lemmas.List.{map-append, map_push, length-map}
 use Rattle.std.specs.Ordering.{eq_by_cmp}
 use Rattle.std.proofs.lemmas.Bool.{false≢true}

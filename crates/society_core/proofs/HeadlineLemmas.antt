@@ -23,6 +23,7 @@ use Rattle.society_core.specs.Ends.{end_known_by, is_past, last_below, last_numb
 use Rattle.society_core.specs.Entries.{Accepts, BookOf, End, Entry, Transmission, Return, Pool, HoldsExactly, IsAccepted, IsIn, entry_of}
 use Rattle.society_core.specs.Headline.{AcceptedAlike, BringsEntry, BroughtAlike, Came, HasNoEndFault, HoldsWhatCame, IsBrought, OneContent, TellsWhatCame}
 use Rattle.society_core.specs.Keys.{return_cmp, transmission_cmp}
+use Rattle.society_core.specs.Laws.{UnstatedIsOneContent}
 use Rattle.society_core.specs.Orders.{Order}
 use Rattle.society_core.specs.Requests.{Query, Puts, States, StatesFaulty, PutsReturn, Closes, ClosesFaulty, Inquires, AsksElsewhere, Reply, Refused, query_of, reply_of}
 use Rattle.society_core.specs.Runs.{Step, Run, AppendsRun}
@@ -503,6 +504,15 @@ same_book c d to from =
     ∙ ap (λ (m : Ends). let book : Book = record { transmissions = d.transmissions; ends = m; returns = c.returns; pools = c.pools } in book) ends
     ∙ ap (λ (m : finite.FinMap return_cmp (List ℕ)). let book : Book = record { transmissions = d.transmissions; ends = d.ends; returns = m; pools = c.pools } in book) returns
     ∙ ap (λ (m : finite.FinMap nat_cmp Order). let book : Book = record { transmissions = d.transmissions; ends = d.ends; returns = d.returns; pools = m } in book) pools
+
+-- where no end came, nothing is asked of ends
+pub one_of_unstated : UnstatedIsOneContent
+one_of_unstated b qs rs none sent paid = record {
+  transmissions = sent;
+  ends = λ s g x y came also. absurd (none s g x came);
+  within = λ s n x e came stated. absurd (none s (segment_of n) e stated);
+  returns = paid;
+}
 
 -- what was refused, repeated, reordered or asked between makes no difference to the book
 pub accepted_alike : (o : Office) (b : Book) (qs : List Query) (rs : List Reply) (c : Book) (ps : List Query) (ss : List Reply) (d : Book) → Run o b qs rs c → Run o b ps ss d → AcceptedAlike b qs rs ps ss → c ≡ d

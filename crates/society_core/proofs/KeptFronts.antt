@@ -1,6 +1,6 @@
 -- The fronts that are kept: a front of 0 for a sender that has none changes no front, and those of others stay.
 use Rattle.std.specs.Result.{is_err}
-use Rattle.std.proofs.Common.{◌≡◌, ◌≢◌, ◌≤◌, ◌+◌, arith, Result, Ok, Err, OnOk, ℕ, Bool, true, false, cond, List, Option, Some, None, BTreeMap, filter, is_some, unwrap_or, refl, ap, subst, sym, ◌∙◌, ⊎_elim}
+use Rattle.std.proofs.Common.{◌≡◌, ◌≢◌, ◌+◌, Result, Ok, Err, OnOk, ℕ, Bool, true, false, cond, List, Option, Some, None, BTreeMap, filter, is_some, unwrap_or, refl, ap, subst, sym, ◌∙◌, ⊎_elim}
 use Rattle.std.specs.BTreeMap as tree
 use Rattle.std.specs.BTreeMap.{is_at}
 use Rattle.std.specs.FinMap as finite
@@ -8,7 +8,7 @@ use Rattle.std.specs.Ordering.{is_eq}
 use Rattle.std.proofs.lemmas.Cmp.{nat_list_cmp_total, tied_itself}
 use Rattle.std.proofs.lemmas.Bool.{cases_Bool, false≢true}
 use Rattle.std.proofs.lemmas.Map.Lookups.{exact_bytes}
-use Rattle.sender_segments.specs.Ways.{End, IsGap, IsWithinEnd, is_reached, numbers_up_to}
+use Rattle.sender_segments.specs.Ways.{End, IsWithinEnd, is_reached, numbers_up_to}
 use Rattle.sender_segments.proofs.Grows.{same_numbers, still_reached}
 use Rattle.work_ids.specs.Segments.{segment_of}
 use Rattle.society_core.specs.Book.{AreOrderly, Book, Ends, IsSound, Transmissions, body_at, end_at, ends_among, ends_of, front, front_in, is_among, is_end_entry, is_entry, is_one_of, line, numbers_of, with_end, with_transmission}

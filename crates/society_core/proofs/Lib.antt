@@ -33,4 +33,5 @@ pub mod LineKeys
 pub mod Numbers
 pub mod FedLemmas
 mod Worked
+mod WorkedBooks
 pub mod OwnerLemmas

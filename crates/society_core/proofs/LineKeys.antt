@@ -5,6 +5,7 @@ use Rattle.std.specs.List.{last_or}
 use Rattle.sender_segments.specs.Ways.{numbers_up_to}
 use Rattle.society_core.specs.Book.{Book, Ends, ends_among, ends_of, front, held, is_in_line, is_one_of, line, numbers_led_through, numbers_of, numbers_to}
 use Rattle.society_core.specs.Ends.{is_past, last_number_of, number_past}
+use Rattle.society_core.specs.PlainLines.{numbers_passing}
 use Rattle.society_core.specs.declared.transmission_key.TransmissionKey.{TransmissionKey}
 use Rattle.society_core.proofs.LineNumbers.{in_line_is}
 use Rattle.society_core.proofs.NumbersThere.{chosen_twice, is_of}
@@ -67,16 +68,12 @@ past_by_keys b s g last keys are =
 abbrev pub is_key_past : List ℕ → ℕ → ℕ → TransmissionKey → Bool
 is_key_past s g last k = bytes_eq k.sender s && is_past g last k.number
 
--- the numbers of keys that pass
-abbrev pub passing : (TransmissionKey → Bool) → List TransmissionKey → List ℕ
-passing passes keys = map (λ k. k.number) (filter passes keys)
-
 -- the last of them, found key by key
 pub last_next : (passes : TransmissionKey → Bool) (so_far : Option ℕ) (left rest : List TransmissionKey) (k : TransmissionKey) (b : Bool) → left ≡ k ∷ rest → passes k ≡ b
-    → last_or (cond b (Some k.number) so_far) (passing passes rest) ≡ last_or so_far (passing passes left)
-last_next passes so_far left rest k b next is = by_test b ∙ sym (ap (λ (ks : List TransmissionKey). last_or so_far (passing passes ks)) next ∙ ap (λ (t : Bool). last_or so_far (map (λ j. j.number) (cond t (k ∷ filter passes rest) (filter passes rest)))) is)
+    → last_or (cond b (Some k.number) so_far) (numbers_passing passes rest) ≡ last_or so_far (numbers_passing passes left)
+last_next passes so_far left rest k b next is = by_test b ∙ sym (ap (λ (ks : List TransmissionKey). last_or so_far (numbers_passing passes ks)) next ∙ ap (λ (t : Bool). last_or so_far (map (λ j. j.number) (cond t (k ∷ filter passes rest) (filter passes rest)))) is)
   where
-    by_test : (t : Bool) → last_or (cond t (Some k.number) so_far) (passing passes rest) ≡ last_or so_far (map (λ j. j.number) (cond t (k ∷ filter passes rest) (filter passes rest)))
+    by_test : (t : Bool) → last_or (cond t (Some k.number) so_far) (numbers_passing passes rest) ≡ last_or so_far (map (λ j. j.number) (cond t (k ∷ filter passes rest) (filter passes rest)))
     by_test true = refl
     by_test false = refl
 

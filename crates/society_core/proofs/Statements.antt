@@ -1,15 +1,14 @@
 -- What a statement lets go on, and what holds of a sender that stated nothing.
-use Rattle.std.proofs.Common.{◌≡◌, ℕ, ◌+◌, ◌<◌, ◌≤◌, ◌&&◌, Bool, true, false, List, Option, Some, None, nat_le, refl, ap, sym, ◌∙◌, arith, ⊎_elim}
-use Rattle.std.specs.List.{range_with_len}
+use Rattle.std.proofs.Common.{◌≡◌, ℕ, ◌+◌, ◌<◌, ◌≤◌, true, false, List, Option, Some, None, length, ap, sym, ◌∙◌, arith, ⊎_elim}
 use Rattle.std.proofs.lemmas.Bool.{cases_Bool, cases_lt}
+use Rattle.std.proofs.lemmas.List.FromFn.{length-range_with_len}
 use Rattle.sender_segments.specs.Ways.{AreRight, End, IsGap}
 use Rattle.sender_segments.proofs.Ranks.{made_plain, number_is}
 use Rattle.sender_segments.proofs.Reached.{leads_is, next_reached}
-use Rattle.work_ids.specs.SegmentEnds.{StatedEnd}
-use Rattle.work_ids.specs.Segments.{base_of, most_in, segment_of, sequence_of}
-use Rattle.society_core.specs.Book.{Book, IsSound, end_at, ends_of, front, is_in_line, is_there, line}
+use Rattle.work_ids.specs.Segments.{base_of, most_in, segment_of}
+use Rattle.society_core.specs.Book.{Book, IsSound, ends_of, front, is_there}
 use Rattle.society_core.specs.Ends.{place_stated}
-use Rattle.society_core.specs.Laws.{NumbersOfPlainLines, PlainLinesCountFromOne, PlainLinesEndAtGaps, StatementsLeadOn, StatesNothing}
+use Rattle.society_core.specs.Laws.{NumbersOfPlainLines, PlainLinesAreAlike, PlainLinesCountFromOne, PlainLinesEndAtGaps, StatementsLeadOn, StatesNothing}
 use Rattle.sender_segments.specs.Ways.{end_stated}
 use Rattle.society_core.proofs.Books.{sound_order}
 use Rattle.society_core.proofs.Fronts.{all_there, front_gap, front_led, front_reaches, led_there}
@@ -74,3 +73,14 @@ plain_ends b s nothing plain =
     absurd (omega (arith, above)))
     (λ (gap : is_there b s (front b s + 1) ≡ false). gap)
     (cases_Bool (is_there b s (front b s + 1)))
+
+-- lines of one sender that stated nothing have one front
+pub plain_alike : PlainLinesAreAlike
+plain_alike a b s first second same bodies = record {
+  same_front =
+      sym (length-range_with_len 1 (front a s))
+      ∙ ap length (sym (plain_is_line a s first) ∙ same ∙ plain_is_line b s second)
+      ∙ length-range_with_len 1 (front b s);
+  same_line = same;
+  same_bodies = bodies;
+}

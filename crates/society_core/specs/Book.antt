@@ -1,5 +1,5 @@
 -- The book: what has been accepted, as finite maps that know no order of arrival.
-use Rattle.std.specs.Prelude.{ℕ, zero, suc, Bool, true, false, List, [], ◌∷◌, ◌≡◌, ◌&&◌, ◌==◌, Option, Some, None, is_some, is_none, not, Result, Ok, Err, map, max, nat_le, nat_lt, unwrap_or, if◌then◌else◌, bytes_eq}
+use Rattle.std.specs.Prelude.{ℕ, Bool, true, false, List, [], ◌∷◌, ◌≡◌, ◌&&◌, ◌==◌, Option, Some, None, is_some, is_none, not, Result, Ok, Err, map, max, nat_le, nat_lt, unwrap_or, if◌then◌else◌, bytes_eq}
 use Rattle.std.specs.FinMap as finite
 use Rattle.std.specs.List.{filter, list_all, list_any, slice_get}
 use Rattle.std.specs.Ordering.{nat_cmp}

@@ -1,7 +1,7 @@
 -- What a sender states of the end of a segment: what the book has of it, and which numbers stand against it.
-use Rattle.std.specs.Prelude.{ℕ, Bool, true, List, [], ◌∷◌, ◌==◌, ◌&&◌, Option, Some, None, if◌then◌else◌, nat_lt}
+use Rattle.std.specs.Prelude.{ℕ, Bool, List, [], ◌∷◌, ◌==◌, ◌&&◌, Option, Some, None, if◌then◌else◌, nat_lt}
 use Rattle.std.specs.List.{filter}
-use Rattle.sender_segments.specs.Ways.{End, end_stated}
+use Rattle.sender_segments.specs.Ways.{End}
 use Rattle.work_ids.specs.SegmentEnds.{StatedEnd, segment_fault, segment_fault_number}
 use Rattle.work_ids.specs.declared.segment_end.SegmentFault.{SegmentFault}
 use Rattle.work_ids.specs.Segments.{index_of, segment_of, sequence_of}

@@ -9,9 +9,10 @@ use Rattle.society_core.specs.Book.{Book, IsSound, body_at, end_at, front, held,
 use Rattle.society_core.specs.Ends.{fault_stated, number_past, place_stated}
 use Rattle.society_core.specs.Growth.{GoesOn}
 use Rattle.sender_segments.specs.Ways.{end_stated}
+use Rattle.sender_segments.specs.Ways as ways
 use Rattle.work_ids.specs.SegmentEnds.{StatedEnd}
 use Rattle.work_ids.specs.SenderKey.{is_sender_key}
-use Rattle.society_core.specs.Entries.{BookOf, Entry, HoldsExactly, IsIn}
+use Rattle.society_core.specs.Entries.{BookOf, End, Entry, HoldsExactly, IsIn, Return, Transmission}
 use Rattle.society_core.specs.Headline.{AcceptedAlike, AlikeToTheGap, AlikeToTheGaps, AllAskRightly, BroughtAlike, Came, HoldsWhatCame, OneContent}
 use Rattle.society_core.specs.Keys.{ascending, return_cmp}
 use Rattle.society_core.specs.Orders.{IsOrder, Order, names_return}
@@ -42,6 +43,14 @@ BookIsWhatWasAccepted = OfEachRun (λ office before queries replies after. Holds
 -- where no number came with two contents, the book after a run holds exactly what came
 abbrev pub BookHoldsWhatCame : Type 0
 BookHoldsWhatCame = OfEachRun (λ office before queries replies after. OneContent before queries replies → HoldsWhatCame before queries replies after)
+
+-- where no end of a segment came, one content is asked of transmissions and returns alone
+abbrev pub UnstatedIsOneContent : Type 0
+UnstatedIsOneContent =
+    (book : Book) (queries : List Query) (replies : List Reply) → ((s : List ℕ) (g : ℕ) (e : ways.End) → Came book queries replies (End s g e) → ⊥)
+    → ((s : List ℕ) (n : ℕ) (x y : List ℕ) → Came book queries replies (Transmission s n x) → Came book queries replies (Transmission s n y) → x ≡ y)
+    → ((key : ReturnKey) (x y : List ℕ) → Came book queries replies (Return key x) → Came book queries replies (Return key y) → x ≡ y)
+    → OneContent book queries replies
 
 -- a run keeps each entry of its opening book
 abbrev pub EntriesStay : Type 0
@@ -100,6 +109,12 @@ NumbersOfPlainLines =
 abbrev pub PlainLinesEndAtGaps : Type 0
 PlainLinesEndAtGaps =
     (book : Book) (sender : List ℕ) → StatesNothing book sender → ((n : ℕ) → is_there book sender n ≡ true → n < 1000000) → is_there book sender (front book sender + 1) ≡ false
+
+-- so where a sender stated nothing, one line with the same bodies in it is all that two books need to be alike to its gap
+abbrev pub PlainLinesAreAlike : Type 0
+PlainLinesAreAlike =
+    (a b : Book) (sender : List ℕ) → StatesNothing a sender → StatesNothing b sender → line a sender ≡ line b sender
+    → ((n : ℕ) → is_in_line a sender n ≡ true → body_at a sender n ≡ body_at b sender n) → AlikeToTheGap a b sender
 
 -- what a sender states of a segment without an end, above which nothing is, lets its line go on by some numbers
 abbrev pub StatementsLeadOn : Type 0

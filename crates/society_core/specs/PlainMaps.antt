@@ -8,7 +8,7 @@ use Rattle.std.specs.Global.{Global}
 use Rattle.std.specs.Ordering.{nat_cmp}
 use Rattle.sender_segments.specs.Ways.{End, end_stated, is_reached}
 use Rattle.society_core.specs.Book.{Book, Ends, Transmissions, ends_among, front_in, is_among}
-use Rattle.society_core.specs.Keys.{bytes_cmp, coded_end, coded_return_key, coded_segment_key, coded_transmission_key, return_cmp, segment_cmp, transmission_cmp}
+use Rattle.society_core.specs.Keys.{bytes_cmp, coded_end, coded_return_key, coded_segment_key, coded_transmission_key, return_cmp, transmission_cmp}
 use Rattle.society_core.specs.Orders.{Order, coded_order}
 use Rattle.society_core.specs.declared.return_key.ReturnKey.{ReturnKey}
 use Rattle.society_core.specs.declared.segment_key.SegmentKey.{SegmentKey}

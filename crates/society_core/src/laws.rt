@@ -7,7 +7,7 @@ ghost use Rattle.pool_split.specs.Credits.{units_of};
 ghost use Rattle.share_rules.specs.declared.office.Office.{Office};
 ghost use Rattle.society_core.specs.Book.{Book, IsSound, ends_of, front, held, is_in_line, is_there};
 ghost use Rattle.sender_segments.specs.Ways.{IsGap};
-ghost use Rattle.society_core.specs.Laws.{AcceptedAlikeAnswersAlike, AcceptedAlikeIsOneBook, AnswersToTheGap, AnswersToTheGaps, BalancesAddUp, BookHoldsWhatCame, BookIsWhatWasAccepted, BroughtAlikeIsOneBook, ClosedPoolsStay, EntriesCame, EntriesStay, HeldNumbersWait, NumbersOfPlainLines, OtherBytesAreReused, OwnersAreAlone, PlainLinesCountFromOne, PlainLinesEndAtGaps, ReturnsAreNamedOnce, ReturnsArePaidOnce, RunsKeepBooksSound, StatementsLeadOn};
+ghost use Rattle.society_core.specs.Laws.{AcceptedAlikeAnswersAlike, AcceptedAlikeIsOneBook, AnswersToTheGap, AnswersToTheGaps, BalancesAddUp, BookHoldsWhatCame, BookIsWhatWasAccepted, BroughtAlikeIsOneBook, ClosedPoolsStay, EntriesCame, EntriesStay, HeldNumbersWait, NumbersOfPlainLines, OtherBytesAreReused, OwnersAreAlone, PlainLinesAreAlike, PlainLinesCountFromOne, PlainLinesEndAtGaps, ReturnsAreNamedOnce, ReturnsArePaidOnce, RunsKeepBooksSound, StatementsLeadOn, UnstatedIsOneContent};
 ghost use Rattle.society_core.specs.Orders.{Order};
 ghost use Rattle.society_core.specs.Pools.{credits_of};
 ghost use Rattle.society_core.specs.declared.inquiry.Inquiry.TheVariants.{Acknowledgement, Balance, Credits, Verdicts, Work};
@@ -17,9 +17,11 @@ pub fn book_is_what_was_accepted()
     ensures { BookIsWhatWasAccepted }
 {}
 
-/// Where no number came with two contents, the book after any list of requests holds exactly what came.
+/// Where no number came with two contents, the book after any list of requests holds exactly what came. Where nothing was stated
+/// of a segment, that is asked of the numbers of transmissions and returns alone.
 pub fn book_holds_what_came()
-    ensures { BookHoldsWhatCame }
+    ensures came { BookHoldsWhatCame }
+    ensures unstated { UnstatedIsOneContent }
 {}
 
 /// What was accepted stays, whatever contents came: a run keeps each entry of its opening book, so the first content of a
@@ -56,11 +58,13 @@ pub fn order_of_arrival_is_free()
 {}
 
 /// What waits behind a sender's first gap is unapplied: two books with the same transmissions of a sender up to the
-/// gap answer alike whatever is asked of its works, verdicts and acknowledgements.
+/// gap answer alike whatever is asked of its works, verdicts and acknowledgements. Where the sender stated nothing, these are the
+/// transmissions of its line.
 pub fn what_waits_is_unapplied()
     ensures works { AnswersToTheGap Work }
     ensures verdicts { AnswersToTheGap Verdicts }
     ensures acks { AnswersToTheGap Acknowledgement }
+    ensures plain { PlainLinesAreAlike }
 {}
 
 /// A closed pool is closed for good: whatever comes after, a revision too, its credits are answered as before; what

@@ -1,9 +1,9 @@
 //! The book in memory.
-ghost use Rattle.std.specs.Prelude.{◌≡◌, ◌≤◌, ◌&&◌, IfOk, None, OnOk, OnErr, bytes_eq, false, if◌then◌else◌, is_some, map, nat_le, not, option_map, true, unwrap_or, ℕ, List};
+ghost use Rattle.std.specs.Prelude.{◌≡◌, ◌&&◌, IfOk, None, OnOk, OnErr, bytes_eq, if◌then◌else◌, is_some, map, nat_le, not, option_map, true, unwrap_or, ℕ, List};
 ghost use Rattle.std.specs.FinMap as finite;
 ghost use Rattle.std.specs.BTreeMap as tree;
 ghost use Rattle.std.specs.BTreeMap.{IsOrdered, is_at, keys, values};
-ghost use Rattle.std.specs.List.{filter, find};
+ghost use Rattle.std.specs.List.{find};
 ghost use Rattle.std.specs.Ordering.{nat_cmp};
 ghost use Rattle.std.specs.List.Sorted.{IsStrictlySortedBy};
 ghost use Rattle.sender_segments.specs.Ways.{end_stated};
@@ -12,7 +12,7 @@ ghost use Rattle.society_core.specs.Book.{AreOrderly, IsSound, body_at, empty_bo
 ghost use Rattle.society_core.specs.Ends.{is_past, last_number_of, number_past, place_stated};
 ghost use Rattle.society_core.specs.Keys.{bytes_cmp, transmission_cmp};
 ghost use Rattle.society_core.specs.Orders.{IsOrder, names_return};
-ghost use Rattle.society_core.specs.PlainLines.{has};
+ghost use Rattle.society_core.specs.PlainLines.{has, numbers_passing};
 ghost use Rattle.society_core.specs.PlainMaps.{HasFronts, IsReachedBy, ends_kept, transmissions_of};
 
 use crate::line::{Line, front_on};
@@ -59,7 +59,7 @@ fn numbers_apart(
     sender: &SenderKey,
     line: &Line<'_>,
 ) -> Result<Vec<TransmissionNumber>, AllocError>
-    ensures numbers { IfOk result (λ numbers. numbers.items ≡ map (λ k. k.number) (filter (λ k. bytes_eq k.sender sender.now && not (has line.now k.number)) (keys entries.now))) }
+    ensures numbers { IfOk result (λ numbers. numbers.items ≡ numbers_passing (λ k. bytes_eq k.sender sender.now && not (has line.now k.number)) (keys entries.now)) }
     ensures ordered { IsStrictlySortedBy transmission_cmp (keys entries.now) }
 {
     entries
@@ -77,7 +77,7 @@ fn numbers_within(
     line: &Line<'_>,
     last: u32,
 ) -> Result<Vec<TransmissionNumber>, AllocError>
-    ensures numbers { IfOk result (λ numbers. numbers.items ≡ map (λ k. k.number) (filter (λ k. bytes_eq k.sender sender.now && (has line.now k.number && nat_le k.number last)) (keys entries.now))) }
+    ensures numbers { IfOk result (λ numbers. numbers.items ≡ numbers_passing (λ k. bytes_eq k.sender sender.now && (has line.now k.number && nat_le k.number last)) (keys entries.now)) }
     ensures ordered { IsStrictlySortedBy transmission_cmp (keys entries.now) }
 {
     entries
@@ -107,7 +107,7 @@ fn number_past(
     sender: &SenderKey,
     end: &SegmentEnd,
 ) -> Option<TransmissionNumber>
-    ensures number { result ≡ last_number_of (map (λ k. k.number) (filter (λ k. bytes_eq k.sender sender.now && is_past (place_stated end.now) end.now.last k.number) (keys entries.now))) }
+    ensures number { result ≡ last_number_of (numbers_passing (λ k. bytes_eq k.sender sender.now && is_past (place_stated end.now) end.now.last k.number) (keys entries.now)) }
     ensures ordered { IsStrictlySortedBy transmission_cmp (keys entries.now) }
 {
     let mut last = None;

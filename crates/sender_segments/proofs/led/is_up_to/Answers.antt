@@ -1,4 +1,4 @@
-use Rattle.std.proofs.Common.{◌≡◌, ◌∙◌, ◌&&◌, ℕ, Bool, nat_le, ap, sym}
+use Rattle.std.proofs.Common.{◌∙◌, ◌&&◌, ℕ, Bool, nat_le, ap, sym}
 use Rattle.work_ids.specs.Segments.{sequence_of}
 use Rattle.sender_segments.specs.Ways.{leads_to}
 use Rattle.sender_segments.proofs.LedTo.{up_to_front}

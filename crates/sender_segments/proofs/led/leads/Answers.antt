@@ -1,5 +1,5 @@
-use Rattle.std.proofs.Common.{◌≡◌, ◌<◌, ◌≤◌, ◌-◌, ℕ, Some, None, true, false, sym, ap, ◌∙◌, option_map, arith, subst}
-use Rattle.work_ids.specs.Segments.{base_of, index_of, segment_of, sequence_of}
+use Rattle.std.proofs.Common.{◌≡◌, ◌<◌, ◌≤◌, ℕ, Some, true, sym, ap, ◌∙◌, option_map, arith, subst}
+use Rattle.work_ids.specs.Segments.{base_of, index_of, segment_of}
 use Rattle.work_ids.specs.declared.segment.Segment.TheVariants.{Year}
 use Rattle.sender_segments.specs.Ways.{End, end_stated, leads_to}
 use Rattle.sender_segments.proofs.LedTo.{base_is, base_segment, bases_back, led_over, skips, stops}

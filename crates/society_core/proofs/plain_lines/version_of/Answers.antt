@@ -1,6 +1,6 @@
-use Rattle.std.proofs.Common.{◌≡◌, ◌≤◌, ◌⊎◌, inl, inr, [], List, Option, None, ap, false, true, sym, ◌∙◌, ℕ, arith}
+use Rattle.std.proofs.Common.{◌≡◌, ◌⊎◌, inl, inr, [], List, Option, None, ap, sym, ◌∙◌, ℕ, arith}
 use Rattle.std.proofs.lemmas.Bool.{false≢true}
-use Rattle.society_core.specs.Book.{ends_of, front, is_one_of, numbers_to, version_in}
+use Rattle.society_core.specs.Book.{front}
 use Rattle.society_core.proofs.Books.{sound_order}
 use Rattle.society_core.proofs.LineNumbers.{in_line_of_to, there_in_line}
 use Rattle.society_core.proofs.Lines.{last_in_line, last_within, line_rises, line_to, versions_at_end}

@@ -1,11 +1,10 @@
-use Rattle.std.proofs.Common.{◌≡◌, ℕ, Option, option_map, ap, sym, ◌∙◌}
+use Rattle.std.proofs.Common.{option_map, ap, sym, ◌∙◌}
 use Rattle.sender_segments.specs.Ways.{end_stated}
 use Rattle.society_core.specs.Book.{ends_among}
 use Rattle.society_core.specs.Keys.{segment_key}
 use Rattle.society_core.specs.PlainMaps.{ends_kept}
-use Rattle.society_core.proofs.Kept.{get_shown, lent_one, shown_one}
+use Rattle.society_core.proofs.Kept.{get_shown}
 use Rattle.society_core.proofs.KeyOrders.{exact_segments, segments_total}
-use Rattle.work_ids.specs.SegmentEnds.{StatedEnd}
 use Rattle.society_core.proofs.line.SenderNumbersNumbers.end_of.Goals as goal
 
 pub returns : goal.returns

@@ -1,4 +1,4 @@
-use Rattle.std.proofs.Common.{ℕ, ap, sym, ◌∙◌}
+use Rattle.std.proofs.Common.{ap, sym, ◌∙◌}
 use Rattle.std.specs.FinMap as finite
 use Rattle.sender_segments.specs.Ways.{end_stated}
 use Rattle.society_core.specs.Book.{Book}

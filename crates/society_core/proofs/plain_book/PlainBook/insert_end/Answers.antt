@@ -1,4 +1,4 @@
-use Rattle.std.proofs.Common.{ℕ, List, ap, subst, sym}
+use Rattle.std.proofs.Common.{ℕ, subst, sym}
 use Rattle.std.specs.FinMap as finite
 use Rattle.society_core.specs.Keys.{segment_key}
 use Rattle.society_core.specs.PlainMaps.{ends_kept, transmissions_of}

@@ -1,4 +1,4 @@
-use Rattle.std.proofs.Common.{◌≡◌, ℕ, List, ap, ap₂, sym, subst, ◌∙◌}
+use Rattle.std.proofs.Common.{ap, ap₂, sym, subst, ◌∙◌}
 use Rattle.sender_segments.specs.Ways.{numbers_up_to}
 use Rattle.society_core.specs.Answers.{place_of}
 use Rattle.society_core.specs.Book.{AreOrderly, Book, Transmissions, ends_among, with_transmission}

@@ -1,4 +1,4 @@
-use Rattle.std.proofs.Common.{ℕ, List, ap, sym, subst, ◌∙◌}
+use Rattle.std.proofs.Common.{ap, sym, subst, ◌∙◌}
 use Rattle.sender_segments.specs.Ways.{numbers_up_to}
 use Rattle.society_core.specs.Book.{AreOrderly, Book, ends_among}
 use Rattle.society_core.specs.PlainMaps.{ends_kept}

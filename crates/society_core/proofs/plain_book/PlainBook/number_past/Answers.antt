@@ -1,4 +1,4 @@
-use Rattle.std.proofs.Common.{◌≡◌, ℕ, List, Vec, Global, map, ap, sym, ◌∙◌}
+use Rattle.std.proofs.Common.{◌≡◌, ℕ, Vec, Global, map, ap, sym, ◌∙◌}
 use Rattle.std.specs.FinMap as finite
 use Rattle.society_core.specs.Book.{Book}
 use Rattle.society_core.specs.Ends.{place_stated}
