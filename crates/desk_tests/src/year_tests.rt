@@ -105,12 +105,30 @@ fn check_tables(rt: &impl Abort, alloc: Global, tables: &[&[Row<'_>]]) -> Result
 const GOING_OVER: [Row<'static>; 9] = [
     (PUT_1, REGISTERED, CREATED, JSON, APPLIED_1),
     (FILE_1, EMPTY, ACCEPTED, JSON, HELD_1),
-    (SENDER, b"", DONE, JSON, b"{\"front\":1,\"held\":[\"26-0001\"]}"),
+    (
+        SENDER,
+        b"",
+        DONE,
+        JSON,
+        b"{\"front\":1,\"held\":[\"26-0001\"]}",
+    ),
     (PLAIN_END, ONE_THEN_26, CREATED, JSON, ENDED_BY_YEAR),
     (ACK_OF_FILE_1, b"", DONE, OCTETS, EMPTY_ACK),
     (PLAIN_END, ONE_THEN_26, DONE, JSON, ENDED_BY_YEAR),
-    (PLAIN_END, b"{\"last\":2,\"next\":26}", CONFLICT, JSON, REUSED),
-    (PUT_2, EMPTY, CONFLICT, JSON, b"{\"error\":\"ended\",\"last\":1}"),
+    (
+        PLAIN_END,
+        b"{\"last\":2,\"next\":26}",
+        CONFLICT,
+        JSON,
+        REUSED,
+    ),
+    (
+        PUT_2,
+        EMPTY,
+        CONFLICT,
+        JSON,
+        b"{\"error\":\"ended\",\"last\":1}",
+    ),
     (FILE_1_AGAIN, EMPTY, DONE, JSON, APPLIED_BY_YEAR),
 ];
 
@@ -362,21 +380,13 @@ const CUTS: [(&str, &str, &[u8]); 6] = [
         UNPROCESSABLE,
         b"{\"error\":\"order\",\"fault\":1}",
     ),
-    (
-        "\"1\"",
-        UNPROCESSABLE,
-        b"{\"error\":\"order\",\"fault\":1}",
-    ),
+    ("\"1\"", UNPROCESSABLE, b"{\"error\":\"order\",\"fault\":1}"),
     (
         "\"25-0001\"",
         CONFLICT,
         b"{\"error\":\"cut\",\"front\":\"26-0001\",\"sender\":\"PB000000012\"}",
     ),
-    (
-        "\"26-0001\"",
-        CREATED,
-        b"{\"pool\":7,\"state\":\"closed\"}",
-    ),
+    ("\"26-0001\"", CREATED, b"{\"pool\":7,\"state\":\"closed\"}"),
 ];
 
 /// An order can cut a sender at a number of a year that is in its line.
