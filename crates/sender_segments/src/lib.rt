@@ -5,7 +5,7 @@
 #![tactic(auto)]
 
 mod front;
-mod leads;
+mod led;
 
 pub use front::{Numbers, first_rank, front_from, sequence};
-pub use leads::is_up_to;
+pub use led::{is_up_to, is_up_to_end, leads};

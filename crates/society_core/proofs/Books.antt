@@ -296,6 +296,7 @@ sound_with_end b s g end sound free entry below = record {
 
 -- a sound book is sound with one return more
 pub sound_with_return : (b : Book) (key : ReturnKey) (body : List ℕ) → IsSound b → return_at b key ≡ None → is_return_entry key body ≡ true → IsSound (with_return b key body)
+unfolding line
 sound_with_return b key body sound free entry = record {
   transmissions = sound.transmissions;
   ends = sound.ends;
@@ -318,6 +319,7 @@ sound_with_return b key body sound free entry = record {
 
 -- a sound book is sound with one pool more that may stand in it and whose returns no other pool names
 pub sound_with_pool : (b : Book) (pool : ℕ) (order : Order) → IsSound b → is_pool_entry b pool order ≡ true → IsOrder order → ((other : ℕ) (another : Order) (key : ReturnKey) → order_at b other ≡ Some another → names_return key order ≡ true → names_return key another ≡ true → ⊥) → IsSound (with_pool b pool order)
+unfolding line
 sound_with_pool b pool order sound entry is unpaid = record {
   transmissions = sound.transmissions;
   ends = sound.ends;

@@ -222,7 +222,7 @@ stated_year stated none = by_range (is_end_out_of_range stated.segment stated.la
         omega (arith, within)
 
 -- ends that say the same are one
-same_end_is : (x y : ways.End) → same_end x y ≡ true → x ≡ y
+pub same_end_is : (x y : ways.End) → same_end x y ≡ true → x ≡ y
 same_end_is x y h = by_parts (x.last == y.last) refl h
   where
     equal : (a c : ℕ) → (a == c) ≡ true → a ≡ c

@@ -126,7 +126,7 @@ run_came o b [] (r ∷ rs) c run e there = absurd run
 run_came o b (q ∷ qs) [] c run e there = absurd run
 
 -- a book has no end before a number, nor a number above an end
-abbrev Fits : Book → Entry → Type 0
+abbrev pub Fits : Book → Entry → Type 0
 Fits b (Transmission s n x) = (e : ways.End) → end_at b s (segment_of n) ≡ Some e → sequence_of n ≤ e.last
 Fits b (End s g e) = (n : ℕ) (x : List ℕ) → body_at b s n ≡ Some x → segment_of n ≡ g → sequence_of n ≤ e.last
 Fits b (Return key x) = ⊤
@@ -170,9 +170,11 @@ is_not_ended sequence (Some x) none e is =
     by_case false is h = within x.last sequence is
 
 put_there : (b : Book) (s : List ℕ) (n : ℕ) (y : List ℕ) (o : Option (List ℕ)) → body_at b s n ≡ o → file_fault s y ≡ None → Fits b (Transmission s n y) → (z : List ℕ) × IsIn (put_book b s n y (known_by y o)) (Transmission s n z)
-put_there b s n y None free right fits =
-    (y, subst (λ (f : Option FileFault). IsIn (added_book b s n y f) (Transmission s n y)) (sym right)
-    (subst (λ (m : Option ℕ). IsIn (taken_book b s n y m) (Transmission s n y)) (sym (not_ended (sequence_of n) (end_at b s (segment_of n)) fits)) (entry_there b (Transmission s n y))))
+put_there b s n y None free right fits = (
+  y,
+  subst (λ (f : Option FileFault). IsIn (added_book b s n y f) (Transmission s n y)) (sym right)
+      (subst (λ (m : Option ℕ). IsIn (taken_book b s n y m) (Transmission s n y)) (sym (not_ended (sequence_of n) (end_at b s (segment_of n)) fits)) (entry_there b (Transmission s n y))),
+)
 put_there b s n y (Some kept) there right fits = (kept, stays (bytes_eq kept y))
   where
     stays : (t : Bool) → IsIn (put_book b s n y (cond t Same Other)) (Transmission s n kept)
@@ -187,7 +189,7 @@ none_last passes (n ∷ ns) none =
     ∙ none_last passes ns (λ k one. none k (is_later n k ns one))
 
 -- an end that fits is above all numbers of its segment
-none_past : (b : Book) (s : List ℕ) (g : ℕ) (e : ways.End) → Fits b (End s g e) → number_past b s g e.last ≡ None
+pub none_past : (b : Book) (s : List ℕ) (g : ℕ) (e : ways.End) → Fits b (End s g e) → number_past b s g e.last ≡ None
 none_past b s g e fits = none_last (is_past g e.last) (numbers_of b s) (λ n one. by_found n (body_at b s n) refl (sym (there_of_numbers b s n) ∙ one))
   where
     not_past : (n : ℕ) → (segment_of n ≡ g → sequence_of n ≤ e.last) → is_past g e.last n ≡ false

@@ -29,6 +29,7 @@ pub mod SoundRuns
 pub mod Statements
 pub mod LineNumbers
 pub mod Lines
+pub mod LineKeys
 pub mod Numbers
 pub mod FedLemmas
 mod Worked

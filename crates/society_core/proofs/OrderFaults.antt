@@ -9,7 +9,8 @@ use Rattle.std.proofs.lemmas.List.Sorted.{IsPermutation-map, length_permutation,
 use Rattle.std.proofs.lemmas.List.Sums.{sum_by-cons}
 use Rattle.std.proofs.lemmas.Map.Views.{tells_apart}
 use Rattle.std.proofs.lemmas.Slice.Eq.{bytes_eq-Decides}
-use Rattle.work_ids.specs.Numbers.{is_plain_number, is_return_number}
+use Rattle.work_ids.specs.Numbers.{is_return_number}
+use Rattle.work_ids.specs.Segments.{is_transmission_number}
 use Rattle.society_core.specs.Keys.{ascending, return_cmp, return_key, transmission_cmp, transmission_key}
 use Rattle.society_core.specs.Orders.{has_repeat, is_out_of_range, is_too_long, names_twice, order_fault, return_pair, same_numbered, same_sender, sent_pair}
 use Rattle.society_core.specs.declared.order_fault.OrderFault.TheVariants.{OutOfRange, TooLong, NamedTwice}
@@ -141,7 +142,7 @@ fault_permutes amount cut returns cut′ returns′ cuts pays none =
     let once = told_none (names_twice cut returns) NamedTwice _ short.1 in
     let each = neither_holds (has_repeat same_sender cut) (has_repeat same_numbered returns) once.0 in
     none_told (is_out_of_range amount cut′ returns′) (is_too_long cut′ returns′) (names_twice cut′ returns′)
-    (ap₂ (λ (a b : Bool). nat_lt 1000000000000 amount || not a || not b) (sym (all_permuted (λ c. is_plain_number c.1) cut cut′ cuts)) (sym (all_permuted (λ r. is_return_number r.1) returns returns′ pays)) ∙ in_range.0)
+    (ap₂ (λ (a b : Bool). nat_lt 1000000000000 amount || not a || not b) (sym (all_permuted (λ c. is_transmission_number c.1) cut cut′ cuts)) (sym (all_permuted (λ r. is_return_number r.1) returns returns′ pays)) ∙ in_range.0)
     (ap₂ (λ (a b : ℕ). nat_lt 200 a || nat_lt 1000 b) (length_permutation cut cut′ cuts) (length_permutation returns returns′ pays) ∙ short.0)
     (neither_from (has_repeat same_sender cut′) (has_repeat same_numbered returns′) (once_permuted same_sender sender_itself senders_alike cut cut′ cuts each.0) (once_permuted same_numbered numbered_itself numbered_alike returns returns′ pays each.1))
 

@@ -3,7 +3,8 @@ use Rattle.std.specs.Prelude.{ℕ, Bool, true, false, not, List, [], ◌∷◌, 
 use Rattle.std.specs.Cmp.Lexicographic.{pointwise}
 use Rattle.std.specs.Coded.{Coded, code_by, coded×, coded_ℕ, coded_list}
 use Rattle.std.specs.List.{list_any, list_all}
-use Rattle.work_ids.specs.Numbers.{is_plain_number, is_return_number}
+use Rattle.work_ids.specs.Numbers.{is_return_number}
+use Rattle.work_ids.specs.Segments.{is_transmission_number}
 use Rattle.work_ids.specs.SenderKey.{is_sender_key}
 use Rattle.society_core.specs.Keys.{ascending, coded_return_key, coded_transmission_key, return_cmp, return_key, transmission_cmp, transmission_key}
 use Rattle.society_core.specs.declared.order.OrderError.{OrderError}
@@ -63,7 +64,7 @@ order_fault_number NamedTwice = 4
 -- order fault 2: a number is out of its range (profile)
 abbrev pub is_out_of_range : ℕ → List (List ℕ × ℕ) → List (List ℕ × ℕ) → Bool
 is_out_of_range amount cut returns =
-    nat_lt 1000000000000 amount || not (list_all (λ c. is_plain_number c.1) cut) || not (list_all (λ r. is_return_number r.1) returns)
+    nat_lt 1000000000000 amount || not (list_all (λ c. is_transmission_number c.1) cut) || not (list_all (λ r. is_return_number r.1) returns)
 
 -- order fault 3: more than 200 senders or 1,000 returns, repeats counted (profile)
 abbrev pub is_too_long : List (List ℕ × ℕ) → List (List ℕ × ℕ) → Bool

@@ -17,6 +17,7 @@ use crate::transmission_key::TransmissionKey;
 use cwr_files::{FileReader, ReadFault};
 use perf_returns::read_return;
 use pool_split::Credit;
+use share_rules::Office;
 use std::alloc::{AllocError, Global};
 use std::marker::Model;
 use work_ids::{Account, PoolNumber, SegmentEnd, SenderKey, TransmissionNumber, WorkNumber};
@@ -76,6 +77,13 @@ impl<S: Store> Desk<S> {
         ensures { result ≡ self }
     {
         self.store
+    }
+
+    /// The office whose book it is.
+    pub fn office(&self) -> &Office
+        ensures { result.now ≡ (S.state self.now).office }
+    {
+        self.store.office()
     }
 
     /// Puts a sender's transmission under a number: a repeat, or added; `Reused` where the number has other
@@ -150,6 +158,8 @@ impl<S: Store> Desk<S> {
     ) -> Result<(Receipt, u32), Refusal>
         ensures { Proceeds (S.state self.old) (S.state self.new) (States sender.now end.now) (told (λ kept. Ended kept.0 kept.1) result) }
     {
+        // That an end has no fault is part of what it says of itself.
+        let _last = end.last();
         match self.store.known_end(sender, end)? {
             KnownEnd::Same(front) => Ok((Receipt::Repeated, front)),
             KnownEnd::Other => Err(Refusal::Reused),

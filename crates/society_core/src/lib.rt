@@ -34,8 +34,8 @@ pub use inquiry::{Inquiry, Showing};
 pub use laws::{
     balances_add_up, book_holds_what_came, book_is_what_was_accepted, closed_pools_stay,
     front_is_the_first_gap, held_numbers_wait, order_of_arrival_is_free, owners_are_alone,
-    pools_are_whole, runs_keep_books_sound, statements_lead_on, what_is_accepted_stays, what_is_held_pays_nothing,
-    what_waits_is_unapplied,
+    pools_are_whole, runs_keep_books_sound, statements_lead_on, what_is_accepted_stays,
+    what_is_held_pays_nothing, what_waits_is_unapplied,
 };
 pub use order::{OrderError, PoolOrder, orders_are_sets};
 pub use order_fault::OrderFault;

@@ -4,7 +4,8 @@ ghost use Rattle.std.specs.BTreeSet.{IsFromIterResult};
 ghost use Rattle.std.specs.List.{list_all, list_any};
 ghost use Rattle.society_core.specs.Keys.{ascending, return_cmp, return_key, transmission_cmp, transmission_key};
 ghost use Rattle.society_core.specs.Orders.{IsOrder, OrdersAs, OrdersAreSets, has_repeat, is_out_of_range, names_return, order_fault, same_numbered, same_order, same_sender};
-ghost use Rattle.work_ids.specs.Numbers.{is_plain_number, is_return_number, number_where};
+ghost use Rattle.work_ids.specs.Numbers.{is_return_number, number_where};
+ghost use Rattle.work_ids.specs.Segments.{is_transmission_number};
 ghost use Rattle.work_ids.specs.SenderKey.{is_sender_key};
 
 use crate::order_fault::OrderFault;
@@ -74,12 +75,12 @@ impl Model for PoolOrder {
     ghost invariant = { λ o. IsOrder (record { amount = o.amount; cut = o.cut.items; returns = o.returns.items }) };
 }
 
-// The plain number of a transmission, where it is within its limits.
+// The number of a transmission with a rank, where one has it.
 fn transmission_number(number: u64) -> Option<TransmissionNumber>
-    ensures { result ≡ number_where is_plain_number number }
+    ensures { result ≡ number_where is_transmission_number number }
 {
     let number = u32::try_from(number).ok()?;
-    TransmissionNumber::plain(number)
+    TransmissionNumber::from_u32(number)
 }
 
 // The number of a return, where it is within its limits.
@@ -136,7 +137,7 @@ fn has_repeated_return(returns: &[(Reporter, u64)]) -> bool
 
 // Whether the numbers of a cut are all within their limits.
 fn are_transmission_numbers(cut: &[(SenderKey, u64)]) -> bool
-    ensures { result ≡ list_all (λ c. is_plain_number c.1) cut.now }
+    ensures { result ≡ list_all (λ c. is_transmission_number c.1) cut.now }
 {
     cut.iter().all(|key| transmission_number(key.1).is_some())
 }
@@ -177,7 +178,7 @@ fn order_fault(
 
 // The key of a sender's transmission.
 fn transmission_key(sender: SenderKey, number: u64) -> TransmissionKey
-    requires { is_plain_number number ≡ true }
+    requires { is_transmission_number number ≡ true }
     ensures key { result ≡ transmission_key sender number }
     ensures sender { is_sender_key sender ≡ true }
 {
@@ -194,7 +195,7 @@ fn transmission_keys(
     alloc: Global,
     cut: &[(SenderKey, u64)],
 ) -> Result<Vec<TransmissionKey>, AllocError>
-    requires { list_all (λ c. is_plain_number c.1) cut.now ≡ true }
+    requires { list_all (λ c. is_transmission_number c.1) cut.now ≡ true }
     ensures keys { IfOk result (λ keys. keys.items ≡ map (λ c. transmission_key c.0 c.1) cut.now) }
     ensures senders { IfOk result (λ _. list_all (λ c. is_sender_key c.0) cut.now ≡ true) }
 {
@@ -220,7 +221,7 @@ fn ascending_cut(
     alloc: Global,
     cut: &[(SenderKey, u64)],
 ) -> Result<Vec<TransmissionKey>, AllocError>
-    requires { list_all (λ c. is_plain_number c.1) cut.now ≡ true }
+    requires { list_all (λ c. is_transmission_number c.1) cut.now ≡ true }
     ensures keys { IfOk result (λ keys. keys.items ≡ ascending transmission_cmp (map (λ c. transmission_key c.0 c.1) cut.now)) }
     ensures senders { IfOk result (λ _. list_all (λ c. is_sender_key c.0) cut.now ≡ true) }
 {
@@ -271,8 +272,8 @@ fn ascending_returns(
 }
 
 impl PoolOrder {
-    /// The order that these numbers make; else the least fault of them all. Memory may run out only where they make an
-    /// order.
+    /// The order that these numbers make, those of the cut by their ranks (`TransmissionNumber`); else the least fault of them
+    /// all. Memory may run out only where they make an order.
     pub fn new(
         alloc: Global,
         amount: u64,

@@ -94,6 +94,13 @@ fn is_past(number: TransmissionNumber, end: &SegmentEnd) -> bool
     number.segment() == end.segment() && end.last() < number.sequence()
 }
 
+// Whether a key is of a sender and of a number above the end of its segment.
+fn is_key_past(key: &TransmissionKey, sender: &SenderKey, end: &SegmentEnd) -> bool
+    ensures { result ≡ (bytes_eq key.now.sender sender.now && is_past (place_stated end.now) end.now.last key.now.number) }
+{
+    key.sender == *sender && is_past(key.number, end)
+}
+
 // The greatest number of a sender's entries that is above the end of its segment; entries are in the order of their keys.
 fn number_past(
     entries: &BTreeMap<TransmissionKey, Vec<u8>>,
@@ -105,7 +112,7 @@ fn number_past(
 {
     let mut last = None;
     for key in entries.keys() {
-        if key.sender == *sender && is_past(key.number, end) {
+        if is_key_past(key, sender, end) {
             last = Some(key.number);
         }
     }

@@ -73,11 +73,7 @@ impl Store for PlainStore {
         Ok(ack_of(alloc, &self.office, &self.book, sender, number)?)
     }
 
-    fn place(
-        &mut self,
-        sender: &SenderKey,
-        number: TransmissionNumber,
-    ) -> Result<Place, StoreFault>
+    fn place(&mut self, sender: &SenderKey, number: TransmissionNumber) -> Result<Place, StoreFault>
         ensures question { AsksPlain self.old.office self.old.book self.new.office self.new.book result (λ s. IsPlaceOf s sender.now number) }
         ensures never { is_ok result ≡ true }
     {

@@ -136,11 +136,7 @@ pub trait Store {
         ensures { Question (state self.old) (state self.new) result (IsAckOf (state self.old) sender.now number) };
 
     /// Where a number of a sender stands.
-    fn place(
-        &mut self,
-        sender: &SenderKey,
-        number: TransmissionNumber,
-    ) -> Result<Place, StoreFault>
+    fn place(&mut self, sender: &SenderKey, number: TransmissionNumber) -> Result<Place, StoreFault>
         ensures question { Question (state self.old) (state self.new) result (IsPlaceOf (state self.old) sender.now number) };
 
     /// What the book has of the segment of an end.
@@ -209,7 +205,12 @@ pub trait Store {
 
     /// Adds an end that a sender stated of a segment without one, above which nothing is, and tells the sender's front then,
     /// as a rank. After an error the book is as before.
-    fn add_end(&mut self, alloc: Global, sender: &SenderKey, end: &SegmentEnd) -> Result<u32, StoreFault>
+    fn add_end(
+        &mut self,
+        alloc: Global,
+        sender: &SenderKey,
+        end: &SegmentEnd,
+    ) -> Result<u32, StoreFault>
         requires free { IsTrue (state self.old).is_clean → end_at (state self.old).book sender.now (place_stated end.now) ≡ None }
         requires above { IsTrue (state self.old).is_clean → number_past (state self.old).book sender.now (place_stated end.now) end.now.last ≡ None }
         ensures { AddsEnd (state self.old) (state self.new) sender.now end.now result };

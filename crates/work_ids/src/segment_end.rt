@@ -3,8 +3,8 @@ ghost use Rattle.std.specs.Prelude.{◌≡◌, None};
 ghost use Rattle.work_ids.specs.Segments.{index_of};
 ghost use Rattle.work_ids.specs.SegmentEnds.{is_next_not_later, segment_fault, segment_fault_number, stated_end};
 
-use crate::{Segment, SegmentPlace};
 use crate::transmission_number::GREATEST_YEAR;
+use crate::{Segment, SegmentPlace};
 use std::marker::Model;
 use thiserror::Error;
 
@@ -43,7 +43,7 @@ pub struct SegmentEnd {
 impl Model for SegmentEnd {
     ghost use Rattle.std.specs.Prelude.{◌≡◌, None};
     ghost use Rattle.work_ids.specs.Segments.{index_of};
-ghost use Rattle.work_ids.specs.SegmentEnds.{StatedEnd, segment_fault};
+    ghost use Rattle.work_ids.specs.SegmentEnds.{StatedEnd, segment_fault};
 
     ghost Value = { StatedEnd };
 

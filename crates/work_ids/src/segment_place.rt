@@ -2,14 +2,14 @@
 ghost use Rattle.std.specs.Prelude.{◌≡◌, ◌≤◌};
 ghost use Rattle.work_ids.specs.Segments.{index_of, segment_of};
 
-use crate::{Segment, SegmentEnd};
 use crate::transmission_number::{FIRST_YEAR, GREATEST_YEAR, YEAR};
+use crate::{Segment, SegmentEnd};
 use std::cmp::Ordering;
 use std::marker::Model;
 
 /// A segment by its place among all: the plain one first, then the years 00 to 99 in order (profile). Clauses see the place,
 /// from 0.
-#[derive(Clone, Copy, Debug, PartialEq, Eq)]
+#[derive(Clone, Copy, Debug)]
 pub struct SegmentPlace {
     segment: Segment,
 }
@@ -25,6 +25,27 @@ impl Model for SegmentPlace {
     ghost invariant = { λ p. index_of p.segment ≤ 100 };
 
     ghost inverse = { λ place. record { segment = segment_at place } };
+}
+
+impl PartialEq for SegmentPlace {
+    ghost use Rattle.std.specs.Prelude.{nat_eq};
+    ghost use Rattle.std.proofs.Common.{rules};
+    ghost use Rattle.std.specs.Cmp.Rules.{comparing};
+
+    ghost eq = { nat_eq };
+
+    ghost laws = { Prim.search (comparing, rules) };
+
+    fn eq(&self, other: &SegmentPlace) -> bool {
+        self.segment == other.segment
+    }
+}
+
+impl Eq for SegmentPlace {
+    ghost use Rattle.std.proofs.Common.{rules};
+    ghost use Rattle.std.specs.Cmp.Rules.{comparing};
+
+    ghost laws = { Prim.search (comparing, rules) };
 }
 
 impl Ord for SegmentPlace {

@@ -20,7 +20,7 @@ pub(crate) const YEAR: u32 = 10_000;
 
 /// The number of a sender's transmission: a plain number of 1 to 999,999, or a number of 1 to 9,999 within a year of 00 to 99
 /// (profile). Plain ones come first, then those of a year by year and number. Clauses see the rank in this order.
-#[derive(Clone, Copy, Debug, PartialEq, Eq)]
+#[derive(Clone, Copy, Debug)]
 pub struct TransmissionNumber {
     segment: Segment,
     sequence: u32,
@@ -37,6 +37,27 @@ impl Model for TransmissionNumber {
     ghost invariant = { λ n. is_in_segment n.segment n.sequence ≡ true };
 
     ghost inverse = { λ rank. record { segment = segment_at (segment_of rank); sequence = sequence_of rank } };
+}
+
+impl PartialEq for TransmissionNumber {
+    ghost use Rattle.std.specs.Prelude.{nat_eq};
+    ghost use Rattle.std.proofs.Common.{rules};
+    ghost use Rattle.std.specs.Cmp.Rules.{comparing};
+
+    ghost eq = { nat_eq };
+
+    ghost laws = { Prim.search (comparing, rules) };
+
+    fn eq(&self, other: &TransmissionNumber) -> bool {
+        self.segment == other.segment && self.sequence == other.sequence
+    }
+}
+
+impl Eq for TransmissionNumber {
+    ghost use Rattle.std.proofs.Common.{rules};
+    ghost use Rattle.std.specs.Cmp.Rules.{comparing};
+
+    ghost laws = { Prim.search (comparing, rules) };
 }
 
 impl Ord for TransmissionNumber {

@@ -2,7 +2,8 @@ use Rattle.std.proofs.Common.{◌≡◌, ◌∙◌, ◌||◌, ◌≤◌, ℕ, tr
 use Rattle.std.proofs.lemmas.List.{length-map}
 use Rattle.std.proofs.lemmas.List.Folds.{list_all-map}
 use Rattle.std.specs.List.{list_all}
-use Rattle.work_ids.specs.Numbers.{is_plain_number, is_return_number}
+use Rattle.work_ids.specs.Numbers.{is_return_number}
+use Rattle.work_ids.specs.Segments.{is_transmission_number}
 use Rattle.work_ids.specs.SenderKey.{is_sender_key}
 use Rattle.society_core.specs.Keys.{ascending, return_cmp, return_key, transmission_cmp, transmission_key}
 use Rattle.society_core.specs.Orders.{IsOrder, has_repeat, is_out_of_range, is_too_long, names_twice, order_fault, order_of, return_pair, same_numbered, same_sender, sent_pair}
@@ -22,7 +23,7 @@ order_is_kept : (amount : ℕ) (cut returns : List (List ℕ × ℕ)) → list_a
 order_is_kept amount cut returns senders_are none =
     let in_range = told_none (is_out_of_range amount cut returns) OutOfRange _ none in
     let short = told_none (is_too_long cut returns) TooLong _ in_range.1 in
-    let sent_in_range = list_all (λ (c : List ℕ × ℕ). is_plain_number c.1) cut in
+    let sent_in_range = list_all (λ (c : List ℕ × ℕ). is_transmission_number c.1) cut in
     let returned_in_range = list_all (λ (r : List ℕ × ℕ). is_return_number r.1) returns in
     let large = (neither_holds (nat_lt 1000000000000 amount) (not sent_in_range) (neither_holds (nat_lt 1000000000000 amount || not sent_in_range) (not returned_in_range) in_range.0).0).0 in
     let few = neither_holds (nat_lt 200 (length cut)) (nat_lt 1000 (length returns)) short.0 in

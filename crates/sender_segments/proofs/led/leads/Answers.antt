@@ -4,7 +4,7 @@ use Rattle.work_ids.specs.declared.segment.Segment.TheVariants.{Year}
 use Rattle.sender_segments.specs.Ways.{End, end_stated, leads_to}
 use Rattle.sender_segments.proofs.LedTo.{base_is, base_segment, bases_back, led_over, skips, stops}
 use Rattle.sender_segments.proofs.Ranks.{base_within}
-use Rattle.sender_segments.proofs.leads.leads.Goals as goal
+use Rattle.sender_segments.proofs.led.leads.Goals as goal
 
 pub loop-at-preserved : goal.loop-at-preserved
 loop-at-preserved g c =

@@ -6,8 +6,8 @@ ghost use Rattle.sender_segments.specs.Ways.{AreRight, IsWithinEnd, LeadToYears,
 
 use crate::front::{Numbers, first_rank, sequence};
 
-// Whether the ends lead to the number of a rank.
-fn leads<N: Numbers>(numbers: &N, rank: u32) -> bool
+/// Whether the ends lead to the number of a rank.
+pub fn leads<N: Numbers>(numbers: &N, rank: u32) -> bool
     requires limit { rank ≤ 1999999 }
     requires right { AreRight (N.ends numbers.now) }
     requires years { LeadToYears (N.ends numbers.now) }
@@ -24,8 +24,8 @@ fn leads<N: Numbers>(numbers: &N, rank: u32) -> bool
     at == wanted
 }
 
-// Whether a rank is not above the end of its segment, if that has one.
-fn is_up_to_end<N: Numbers>(numbers: &N, rank: u32) -> bool
+/// Whether a rank is not above the end of its segment, if that has one.
+pub fn is_up_to_end<N: Numbers>(numbers: &N, rank: u32) -> bool
     requires limit { rank ≤ 1999999 }
     ensures { result ≡ is_up_to_end (N.ends numbers.now (segment_of rank)) (sequence_of rank) }
 {

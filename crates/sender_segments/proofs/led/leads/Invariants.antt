@@ -1,7 +1,7 @@
 use Rattle.std.proofs.Common.{◌≡◌, ◌<◌, ◌≤◌, ◌-◌, true, false}
 use Rattle.work_ids.specs.Segments.{base_of, segment_of}
 use Rattle.sender_segments.specs.Ways.{leads_to}
-use Rattle.sender_segments.proofs.leads.leads.Given as goal
+use Rattle.sender_segments.proofs.led.leads.Given as goal
 
 -- the way has come to the first rank of a segment; where that is behind the wanted one, nothing leads to the rank
 abbrev pub invariant-loop-at : goal.invariant-loop-at
