@@ -105,12 +105,30 @@ fn check_tables(rt: &impl Abort, alloc: Global, tables: &[&[Row<'_>]]) -> Result
 const GOING_OVER: [Row<'static>; 9] = [
     (PUT_1, REGISTERED, CREATED, JSON, APPLIED_1),
     (FILE_1, EMPTY, ACCEPTED, JSON, HELD_1),
-    (SENDER, b"", DONE, JSON, b"{\"front\":1,\"held\":[\"26-0001\"]}"),
+    (
+        SENDER,
+        b"",
+        DONE,
+        JSON,
+        b"{\"front\":1,\"held\":[\"26-0001\"]}",
+    ),
     (PLAIN_END, ONE_THEN_26, CREATED, JSON, ENDED_BY_YEAR),
     (ACK_OF_FILE_1, b"", DONE, OCTETS, EMPTY_ACK),
     (PLAIN_END, ONE_THEN_26, DONE, JSON, ENDED_BY_YEAR),
-    (PLAIN_END, b"{\"last\":2,\"next\":26}", CONFLICT, JSON, REUSED),
-    (PUT_2, EMPTY, CONFLICT, JSON, b"{\"error\":\"ended\",\"last\":1}"),
+    (
+        PLAIN_END,
+        b"{\"last\":2,\"next\":26}",
+        CONFLICT,
+        JSON,
+        REUSED,
+    ),
+    (
+        PUT_2,
+        EMPTY,
+        CONFLICT,
+        JSON,
+        b"{\"error\":\"ended\",\"last\":1}",
+    ),
     (FILE_1_AGAIN, EMPTY, DONE, JSON, APPLIED_BY_YEAR),
 ];
 
@@ -232,48 +250,56 @@ fn targets_of_years(rt: HostRuntime) -> Result<(), Fail> {
     check_tables(&rt, alloc, &[GOING_OVER.as_slice(), rows.as_slice()])
 }
 
-/// Bodies that are no end of 2026, with the fault of each.
+const END_FAULT_1: &[u8] = b"{\"error\":\"segment\",\"fault\":1}";
+
+const END_FAULT_2: &[u8] = b"{\"error\":\"segment\",\"fault\":2}";
+
+const END_FAULT_3: &[u8] = b"{\"error\":\"segment\",\"fault\":3}";
+
+/// Bodies that are no end of 2026, with the least fault of each.
 const NO_ENDS: [(&[u8], &[u8]); 12] = [
-    (b"{\"last\":3,\"next\":26}", b"3"),
-    (b"{\"last\":3,\"next\":0}", b"3"),
-    (b"{\"last\":10000,\"next\":26}", b"2"),
-    (b"{\"last\":3,\"next\":100}", b"2"),
-    (b"{\"last\":10000,\"next\":27,\"more\":0}", b"1"),
-    (b"{\"last\":3}", b"1"),
-    (b"{\"last\":3,\"Next\":27}", b"1"),
-    (b"{\"last\":-1,\"next\":27}", b"1"),
-    (b"{\"last\":3,\"next\":\"27\"}", b"1"),
-    (b"[3,27]", b"1"),
-    (b"{\"last\":3,\"next\":27", b"1"),
-    (b"", b"1"),
+    (b"{\"last\":3,\"next\":26}", END_FAULT_3),
+    (b"{\"last\":3,\"next\":0}", END_FAULT_3),
+    (b"{\"last\":10000,\"next\":26}", END_FAULT_2),
+    (b"{\"last\":3,\"next\":100}", END_FAULT_2),
+    (b"{\"last\":10000,\"next\":27,\"more\":0}", END_FAULT_1),
+    (b"{\"last\":3}", END_FAULT_1),
+    (b"{\"last\":3,\"Next\":27}", END_FAULT_1),
+    (b"{\"last\":-1,\"next\":27}", END_FAULT_1),
+    (b"{\"last\":3,\"next\":\"27\"}", END_FAULT_1),
+    (b"[3,27]", END_FAULT_1),
+    (b"{\"last\":3,\"next\":27", END_FAULT_1),
+    (b"", END_FAULT_1),
+];
+
+/// Behind them: the book is as before, and a last plain number can be greater.
+const BEHIND_NO_ENDS: [Row<'static>; 3] = [
+    (SENDER, b"", DONE, JSON, b"{\"front\":0,\"held\":[]}"),
+    (
+        PLAIN_END,
+        b"{\"last\":1000000,\"next\":26}",
+        UNPROCESSABLE,
+        JSON,
+        END_FAULT_2,
+    ),
+    (
+        PLAIN_END,
+        b"{\"last\":999999,\"next\":0}",
+        CREATED,
+        JSON,
+        b"{\"front\":0,\"state\":\"ended\"}",
+    ),
 ];
 
 /// A faulty end is refused for its least fault, and leaves the book as it was.
 #[test]
 fn faults_of_ends(rt: HostRuntime) -> Result<(), Fail> {
     let alloc = rt.alloc();
-    let mut texts = Vec::new(alloc);
-    for (_, fault) in NO_ENDS {
-        let mut text = Vec::from_slice(alloc, b"{\"error\":\"segment\",\"fault\":")?;
-        text.extend_from_slice(fault)?;
-        text.extend_from_slice(b"}")?;
-        texts.push(text)?;
-    }
     let mut rows = Vec::new(alloc);
-    for ((body, _), text) in NO_ENDS.iter().zip(texts.iter()) {
-        rows.push((END_OF_2026, *body, UNPROCESSABLE, JSON, text.as_slice()))?;
+    for (body, text) in NO_ENDS {
+        rows.push((END_OF_2026, body, UNPROCESSABLE, JSON, text))?;
     }
-    let last: [Row<'_>; 2] = [
-        (SENDER, b"", DONE, JSON, b"{\"front\":0,\"held\":[]}"),
-        (
-            PLAIN_END,
-            b"{\"last\":1000000,\"next\":26}",
-            UNPROCESSABLE,
-            JSON,
-            b"{\"error\":\"segment\",\"fault\":2}",
-        ),
-    ];
-    check_tables(&rt, alloc, &[rows.as_slice(), last.as_slice()])
+    check_tables(&rt, alloc, &[rows.as_slice(), BEHIND_NO_ENDS.as_slice()])
 }
 
 /// A file fault comes before the end of a segment, and the greatest number of a year is told above its end.
@@ -337,43 +363,41 @@ fn a_revision_by_year(rt: HostRuntime) -> Result<(), Fail> {
     check_tables(&rt, rt.alloc(), &[rows.as_slice()])
 }
 
-/// An order that cuts the sender at this number, as it stands in JSON.
-fn order(alloc: Global, number: &str) -> Result<Vec<u8>, AllocError> {
-    let text = format!(in alloc;
-        "{{\"amount\":5,\"cut\":[[\"PB000000012\",{number}]],\"returns\":[]}}"
-    )?;
-    Ok(text.into_bytes())
-}
+const POOL_7: &str = "PUT /v1/pools/7";
 
-/// The numbers of cuts, with the status and the answer to the close of pool 7.
-const CUTS: [(&str, &str, &[u8]); 6] = [
+const NO_ORDER: &[u8] = b"{\"error\":\"order\",\"fault\":1}";
+
+const OVER_A_LIMIT: &[u8] = b"{\"error\":\"order\",\"fault\":2}";
+
+/// Orders that cut the sender at numbers, with the status and the answer of each.
+const CUTS: [(&[u8], &str, &[u8]); 6] = [
     (
-        "1260001",
+        b"{\"amount\":5,\"cut\":[[\"PB000000012\",1260001]],\"returns\":[]}",
         UNPROCESSABLE,
-        b"{\"error\":\"order\",\"fault\":2}",
+        OVER_A_LIMIT,
     ),
     (
-        "\"26-0000\"",
+        b"{\"amount\":5,\"cut\":[[\"PB000000012\",\"26-0000\"]],\"returns\":[]}",
         UNPROCESSABLE,
-        b"{\"error\":\"order\",\"fault\":2}",
+        OVER_A_LIMIT,
     ),
     (
-        "\"26-001\"",
+        b"{\"amount\":5,\"cut\":[[\"PB000000012\",\"26-001\"]],\"returns\":[]}",
         UNPROCESSABLE,
-        b"{\"error\":\"order\",\"fault\":1}",
+        NO_ORDER,
     ),
     (
-        "\"1\"",
+        b"{\"amount\":5,\"cut\":[[\"PB000000012\",\"1\"]],\"returns\":[]}",
         UNPROCESSABLE,
-        b"{\"error\":\"order\",\"fault\":1}",
+        NO_ORDER,
     ),
     (
-        "\"25-0001\"",
+        b"{\"amount\":5,\"cut\":[[\"PB000000012\",\"25-0001\"]],\"returns\":[]}",
         CONFLICT,
         b"{\"error\":\"cut\",\"front\":\"26-0001\",\"sender\":\"PB000000012\"}",
     ),
     (
-        "\"26-0001\"",
+        b"{\"amount\":5,\"cut\":[[\"PB000000012\",\"26-0001\"]],\"returns\":[]}",
         CREATED,
         b"{\"pool\":7,\"state\":\"closed\"}",
     ),
@@ -383,13 +407,9 @@ const CUTS: [(&str, &str, &[u8]); 6] = [
 #[test]
 fn cuts_by_year(rt: HostRuntime) -> Result<(), Fail> {
     let alloc = rt.alloc();
-    let mut orders = Vec::new(alloc);
-    for (number, _, _) in CUTS {
-        orders.push(order(alloc, number)?)?;
-    }
     let mut rows = Vec::new(alloc);
-    for ((_, status, text), body) in CUTS.iter().zip(orders.iter()) {
-        rows.push(("PUT /v1/pools/7", body.as_slice(), *status, JSON, *text))?;
+    for (body, status, text) in CUTS {
+        rows.push((POOL_7, body, status, JSON, text))?;
     }
     check_tables(&rt, alloc, &[GOING_OVER.as_slice(), rows.as_slice()])
 }

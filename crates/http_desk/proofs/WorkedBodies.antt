@@ -12,7 +12,7 @@ use Rattle.work_ids.specs.declared.segment.Segment.{Segment}
 use Rattle.work_ids.specs.declared.segment.Segment.TheVariants.{Plain, Year}
 use Rattle.work_ids.specs.declared.segment_end.SegmentFault.TheVariants as faults
 use Rattle.works_core.specs.declared.verdict.Verdict.TheVariants.{Accepted, Rejected}
-use Rattle.society_core.specs.Keys.{transmission_key}
+use Rattle.society_core.specs.Orders.{order_of}
 use Rattle.society_core.specs.Requests.{Query, Closes, ClosesFaulty, States, StatesFaulty}
 use Rattle.society_core.specs.declared.end_fault.EndFault.TheVariants as ends
 use Rattle.society_core.specs.declared.order_fault.OrderFault.TheVariants.{NamedTwice, OutOfRange, Shape}
@@ -83,7 +83,7 @@ return_named_twice = refl
 abbrev close_at : List ℕ → Query
 close_at number = close_of (codes "{\"amount\":1,\"cut\":[[\"PB000000012\"," ++ number ++ codes "]],\"returns\":[]}")
 
-cut_at_a_year : close_at (codes "\"26-0001\"") ≡ Closes 7 (record { amount = 1; cut = transmission_key (codes "PB000000012") 1260001 ∷ []; returns = [] })
+cut_at_a_year : close_at (codes "\"26-0001\"") ≡ Closes 7 (order_of 1 ((codes "PB000000012", 1260001) ∷ []) [])
 unfolding serde_json_on_literals dated_in_text is_dated_text
 cut_at_a_year = refl
 

@@ -34,10 +34,7 @@ pub(crate) enum Wanted {
 #[derive(Drop)]
 pub(crate) enum WithBody {
     /// To take down where this sender says that this segment ends.
-    Segment {
-        sender: SenderKey,
-        segment: Segment,
-    },
+    Segment { sender: SenderKey, segment: Segment },
     /// To put this performance return.
     Return(ReturnKey),
     /// To close this pool.
@@ -142,12 +139,7 @@ fn put_of_pool(scratch: &mut Scratch, params: &Params<'_, '_>) -> Wanted
 }
 
 // What a put asks the office of a society of a route.
-fn put_of(
-    society: u16,
-    route: Route,
-    scratch: &mut Scratch,
-    params: &Params<'_, '_>,
-) -> Wanted
+fn put_of(society: u16, route: Route, scratch: &mut Scratch, params: &Params<'_, '_>) -> Wanted
     requires { IsTaken params.now }
     ensures asks { (body : List ℕ)
         → asked_with result body ≡ asked_by_put society route (parts_of params.now) body }
