@@ -10,3 +10,4 @@ pub mod RunLines
 pub mod OutcomeLemmas
 pub mod RunWrites
 pub mod RunBooks
+pub mod ArrivedRuns

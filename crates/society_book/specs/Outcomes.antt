@@ -1,5 +1,5 @@
 -- Settled transactions as the office works them out, and what follows of the end of the line before them (representation).
-use Rattle.std.specs.Prelude.{◌++◌, ◌≡◌, Bool, List, map}
+use Rattle.std.specs.Prelude.{ℕ, ◌++◌, ◌≡◌, Bool, List, map}
 use Rattle.works_core.specs.Ends.{EndsAt, KnowsWorks}
 use Rattle.works_core.specs.Versions.{Placed, judged_of}
 use Rattle.works_core.specs.Verdicts.{verdicts_from}

@@ -13,12 +13,12 @@ use Rattle.sender_segments.proofs.Reached.{leads_of, next_numbers, next_reached,
 use Rattle.society_core.specs.Book.{AreOrderly, Book, body_at, ends_of, is_there}
 use Rattle.society_core.specs.Keys.{transmission_key}
 use Rattle.society_core.proofs.Fronts.{has_sequence}
-use Rattle.society_rows.specs.Folds.{AreFrom, IsRun}
+use Rattle.society_rows.specs.Folds.{AreFrom, HasTaken, IsRun}
 use Rattle.society_rows.specs.Layout as layout
 use Rattle.society_rows.specs.Reads.{Lists, has_key}
 use Rattle.society_book.specs.BookRows.{row_of_some, transmission_row}
 use Rattle.society_book.specs.Columns.{blob_at, whole_number_at}
-use Rattle.society_book.specs.Going.{ComesTo, ComesToGap, HasAbove, StaysIn}
+use Rattle.society_book.specs.Going.{ComesTo, ComesToGap, HasAbove, RunsOn, StaysIn}
 use Rattle.society_book.specs.Runs.{Notes, RunValue, notes_in, take_row}
 use Rattle.society_book.proofs.rows_alike.KeyRows.{transmission_listed}
 use Rattle.work_ids.specs.Segments.{base_of, segment_of, sequence_of}
@@ -117,3 +117,9 @@ module _ (o : Office) (b : Book) (s : List ℕ) (order : AreOrderly b.transmissi
         },
         record { later = omega (arith, last); segment = behind.segment },
       )
+
+-- a run that has taken the rows of the numbers behind its own has gone on by them
+pub taken_runs : (s : List ℕ) (next : ℕ) (old new : RunValue) (db : Trees) → next ≡ old.reached + 1 → HasTaken take_row (IsRun s next db) old new → RunsOn s old new db
+taken_runs s next old new db at taken o b from above order comes =
+    subst (λ (run : RunValue). ComesToGap o b s from run × StaysIn old run) (sym taken.folded)
+    (over_rows o b s order from old.reached db above taken.rows old (omega arith) comes (subst (λ (k : ℕ). IsRun s k db taken.rows) at taken.these))

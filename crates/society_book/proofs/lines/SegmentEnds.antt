@@ -4,7 +4,8 @@ use Rattle.std.proofs.lemmas.List.{append_cancel_left}
 use Rattle.std.proofs.lemmas.Bool.{cases_lt}
 use Rattle.std.proofs.lemmas.Bool.Decides.{nat_tests}
 use Rattle.share_rules.specs.declared.office.Office.{Office}
-use Rattle.sender_segments.specs.Ways.{AreRight, End, IsWithinEnd, is_reached, numbers_up_to}
+use Rattle.sqlite_trees.specs.Tree.{Trees}
+use Rattle.sender_segments.specs.Ways.{AreRight, End, IsWithinEnd, StatedEnds, is_reached, numbers_up_to}
 use Rattle.sender_segments.proofs.Grows.{same_numbers}
 use Rattle.sender_segments.proofs.LedTo.{base_segment, has_itself}
 use Rattle.sender_segments.proofs.Ranks.{bases_order, number_is}
@@ -14,9 +15,10 @@ use Rattle.society_core.specs.Growth.{GoesOn}
 use Rattle.society_core.proofs.Fronts.{front_led, front_only}
 use Rattle.society_core.proofs.LineNumbers.{line_is, one_passes}
 use Rattle.society_book.specs.Arriving.{GoesOnTo}
-use Rattle.society_book.specs.EndLists.{behind_end}
-use Rattle.society_book.specs.Going.{ComesTo, ComesToEnd, ComesToGap}
+use Rattle.society_book.specs.EndLists.{behind_end, end_listed}
+use Rattle.society_book.specs.Going.{ComesTo, ComesToEnd, ComesToGap, RunsOn, RunsOver, RunsPast}
 use Rattle.society_book.specs.Runs.{IsWhole, RunValue, numbers_in}
+use Rattle.work_ids.specs.SegmentEnds.{StatedEnd}
 use Rattle.work_ids.specs.Segments.{base_of, most_in, segment_of, sequence_of}
 
 -- an end that is reached, and the first rank behind it
@@ -135,3 +137,28 @@ module _ (o : Office) (b : Book) (s : List ℕ) (order : AreOrderly b.transmissi
           goes = record { goes = subst (λ (ns : List ℕ). GoesOn a b s ns) same goes; each = end.comes.each };
           reached = end_front (front a s) run end;
         }
+
+-- ---- over one end after another
+
+-- a run that goes on over no end yet
+pub past_none : (s : List ℕ) (ends : List StatedEnd) (begun : ℕ) (run : RunValue) (db : Trees) → RunsPast s ends begun run begun run db
+past_none s ends begun run db o b from above order listed same gap = (gap, omega arith, same)
+
+-- over one end more, and by the numbers behind it
+pub past_more : (s : List ℕ) (ends : List StatedEnd) (begun : ℕ) (old : RunValue) (rank next : ℕ) (run after : RunValue) (db : Trees) → behind_end (base_of (segment_of rank)) run.reached (end_listed ends (segment_of rank)) ≡ Some next
+    → RunsPast s ends begun old rank run db → RunsOn s (record run { reached = next }) after db → RunsPast s ends begun old next after db
+past_more s ends begun old rank next run after db is past on o b from above order listed same gap =
+    let before = past o b from above order listed same gap in
+    let later = before.1 in
+    let over = over_end o b s order from rank run before.2 next before.0.comes (ap (λ (stated : StatedEnds). behind_end (base_of (segment_of rank)) run.reached (stated (segment_of rank))) (sym listed) ∙ is) in
+    let up = over.1 in
+    let went = on o b from (record { before = above.before; has = above.has; same = λ k behind. above.same k (omega (arith, behind, up, later)) }) order over.0 in
+    let further = went.1.later in
+    (went.0, omega (arith, later, up, further), went.1.segment)
+
+-- where it reaches no further end it has gone over all of them
+pub past_all : (s : List ℕ) (ends : List StatedEnd) (begun : ℕ) (old : RunValue) (rank : ℕ) (run : RunValue) (db : Trees) → behind_end (base_of (segment_of rank)) run.reached (end_listed ends (segment_of rank)) ≡ None
+    → RunsPast s ends begun old rank run db → RunsOver s ends begun old run db
+past_all s ends begun old rank run db is past o b from above order listed same gap =
+    let before = past o b from above order listed same gap in
+    at_end o b s order from rank run before.2 before.0 (ap (λ (stated : StatedEnds). behind_end (base_of (segment_of rank)) run.reached (stated (segment_of rank))) (sym listed) ∙ is)

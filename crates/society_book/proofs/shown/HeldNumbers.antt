@@ -1,16 +1,18 @@
 -- Which numbers of a sender are held: those above its front, and those that its line skips.
-use Rattle.std.proofs.Common.{◌≡◌, ◌∙◌, ◌<◌, ◌≤◌, ◌&&◌, ◌||◌, ◌++◌, ℕ, Bool, true, false, List, [], ◌∷◌, Option, Some, None, filter, flat_map, nat_le, nat_lt, not, refl, ap, ap₂, sym, subst, arith, ⊎_elim}
+use Rattle.std.proofs.Common.{◌≡◌, ◌∙◌, ◌<◌, ◌≤◌, ◌+◌, ◌==◌, ◌&&◌, ◌||◌, ◌++◌, ℕ, Bool, true, false, List, [], ◌∷◌, Option, Some, None, filter, flat_map, nat_le, nat_lt, not, refl, ap, ap₂, sym, subst, arith, ⊎_elim}
 use Rattle.std.specs.List.{AllByRecursion}
 use Rattle.std.specs.List.Sorted.{IsStrictlySortedBy}
 use Rattle.std.specs.Ordering.{nat_cmp}
 use Rattle.std.specs.declared.cmp.Ordering.TheVariants.{Less}
 use Rattle.std.proofs.lemmas.Bool.{cases_lt, false≢true}
-use Rattle.std.proofs.lemmas.Bool.Decides.{nat_tests}
+use Rattle.std.proofs.lemmas.Bool.Decides.{Decides-eqb, nat_tests}
 use Rattle.std.proofs.lemmas.List.Kept.{IsStrictlySortedBy-filter}
-use Rattle.sqlite_keyed.proofs.ListLemmas.{all-append, all_weaker}
+use Rattle.sqlite_keyed.proofs.ListLemmas.{all-append, all_weaker, filter_same}
 use Rattle.sender_segments.specs.Ways.{End, IsWithinEnd, is_up_to_end, leads_to, numbers_up_to}
 use Rattle.sender_segments.proofs.LedTo.{up_to_front}
+use Rattle.sender_segments.proofs.Ranks.{IsMade, number_is}
 use Rattle.society_core.specs.Book.{AreOrderly, Book, IsSound, ends_of, front, held, is_in_line, is_one_of, is_there, numbers_of}
+use Rattle.society_core.specs.Ends.{is_past, last_number_of, number_past}
 use Rattle.society_core.proofs.Books.{sound_order}
 use Rattle.society_core.proofs.Fronts.{front_led, has_sequence}
 use Rattle.society_core.proofs.HeldLemmas.{held_ascend, held_waits}
@@ -19,7 +21,8 @@ use Rattle.society_core.proofs.LineNumbers.{each_of, in_line_is, one_of_either, 
 use Rattle.society_core.proofs.NumbersThere.{numbers_ascend, there_of_numbers}
 use Rattle.society_book.specs.Standing.{AreSkipped, ListsSkipped, SkipsRise, is_skipped, is_within, numbers_above, numbers_within}
 use Rattle.society_book.specs.declared.skips.Skip.{Skip}
-use Rattle.work_ids.specs.Segments.{segment_of, sequence_of}
+use Rattle.society_book.proofs.shown.Skips.{order, past_fails, within_fails}
+use Rattle.work_ids.specs.Segments.{base_of, most_in, segment_of, sequence_of}
 
 less_holds : (a b : ℕ) → a < b → nat_cmp a b ≡ Less
 less_holds a b h = grind (arith, nat_tests, h)
@@ -129,15 +132,15 @@ module _ (b : Book) (s : List ℕ) where
     abbrev f : ℕ
     f = front b s
 
-    order : AreOrderly b.transmissions b.ends s
-    order = sound_order b sound s
+    orderly : AreOrderly b.transmissions b.ends s
+    orderly = sound_order b sound s
 
     within_end : (o : Option End) (k : ℕ) → ((end : End) → o ≡ Some end → k ≤ end.last) → is_up_to_end o k ≡ true
     within_end None k h = refl
     within_end (Some end) k h = le_holds k end.last (h end refl)
 
     in_line : (n : ℕ) → is_in_line b s n ≡ (nat_le 1 (sequence_of n) && (nat_le n f && (leads_to (ends_of b s) n && is_up_to_end (ends_of b s (segment_of n)) (sequence_of n))))
-    in_line n = in_line_is b s n ∙ up_to_front (ends_of b s) order.right f n (front_led b.transmissions b.ends s) (kept_front_fits b.transmissions b.ends s order)
+    in_line n = in_line_is b s n ∙ up_to_front (ends_of b s) orderly.right f n (front_led b.transmissions b.ends s) (kept_front_fits b.transmissions b.ends s orderly)
 
     -- a number that is there is held where it is skipped or above the front
     waits : (n : ℕ) → is_there b s n ≡ true → (is_skipped skips n || nat_lt f n) ≡ not (is_in_line b s n)
@@ -147,12 +150,12 @@ module _ (b : Book) (s : List ℕ) where
         ap (λ x. is_skipped skips n || x) (lt_holds f n above) ∙ or_true (is_skipped skips n)
         ∙ sym (ap not (in_line n ∙ ap (λ x. nat_le 1 (sequence_of n) && (x && (leads_to (ends_of b s) n && is_up_to_end (ends_of b s (segment_of n)) (sequence_of n)))) (le_fails n f above) ∙ and_false (nat_le 1 (sequence_of n)))))
         (λ (up : n ≤ f).
-        let some = has_sequence b.transmissions b.ends s order n there in
+        let some = has_sequence b.transmissions b.ends s orderly n there in
         ap₂ (λ x y. x || y) (are.skipped n some up) (lt_fails f n up) ∙ or_false (not (leads_to (ends_of b s) n))
         ∙ sym (ap not (in_line n
         ∙ ap (λ x. x && (nat_le n f && (leads_to (ends_of b s) n && is_up_to_end (ends_of b s (segment_of n)) (sequence_of n)))) (le_holds 1 (sequence_of n) some)
         ∙ ap (λ x. x && (leads_to (ends_of b s) n && is_up_to_end (ends_of b s (segment_of n)) (sequence_of n))) (le_holds n f up)
-        ∙ ap (λ x. leads_to (ends_of b s) n && x) (within_end (ends_of b s (segment_of n)) (sequence_of n) (order.within n there))
+        ∙ ap (λ x. leads_to (ends_of b s) n && x) (within_end (ends_of b s (segment_of n)) (sequence_of n) (orderly.within n there))
         ∙ and_true (leads_to (ends_of b s) n))))
         (cases_lt f n)
       where
@@ -220,3 +223,55 @@ module _ (b : Book) (s : List ℕ) where
 -- the numbers that are skipped up to the front, and those above it, are those that are held
 pub held_is : (b : Book) (s : List ℕ) → IsSound b → (list : List ℕ) → ListsSkipped b s (front b s) list → list ++ numbers_above b s (front b s) ≡ held b s
 held_is b s sound list lists = ap (λ (ns : List ℕ). ns ++ numbers_above b s (front b s)) lists.numbers ∙ held_are b s sound lists.skips lists.are
+
+-- ---- the numbers of a segment above a last one
+
+lt_moved : (a k n m : ℕ) → n ≡ a + m → nat_lt (a + k) n ≡ nat_lt k m
+lt_moved a k n m h = grind (arith, nat_tests, h)
+
+other_segment : (g h : ℕ) → (h ≡ g → ⊥) → (h == g) ≡ false
+other_segment g h apart = by_case (h == g) refl
+  where
+    by_case : (c : Bool) → (h == g) ≡ c → c ≡ false
+    by_case false is = refl
+    by_case true is = absurd (apart ((Decides-eqb h g).0 is))
+
+-- they are those above its rank and below the rank behind the segment
+past_is_within : (g last n : ℕ) → is_past g last n ≡ is_within (base_of g + last) ((base_of g + most_in g) + 1) n
+past_is_within g last n =
+    ⊎_elim
+    (λ (former : segment_of n < g).
+    let far = order (segment_of n) g former in
+    ap (λ x. x && nat_lt last (sequence_of n)) (other_segment g (segment_of n) (λ e. omega (arith, e, former)))
+    ∙ sym (within_fails (base_of g + last) ((base_of g + most_in g) + 1) n (omega (arith, made.is, made.within, far))))
+    (λ (up : g ≤ segment_of n).
+    ⊎_elim
+    (λ (later : g < segment_of n).
+    let far = order g (segment_of n) later in
+    ap (λ x. x && nat_lt last (sequence_of n)) (other_segment g (segment_of n) (λ e. omega (arith, e, later)))
+    ∙ sym (past_fails (base_of g + last) ((base_of g + most_in g) + 1) n (omega (arith, made.is, far))))
+    (λ (near : segment_of n ≤ g). own (omega (arith, up, near)))
+    (cases_lt g (segment_of n)))
+    (cases_lt (segment_of n) g)
+  where
+    made : IsMade n (segment_of n) (sequence_of n)
+    made = number_is n
+
+    own : segment_of n ≡ g → is_past g last n ≡ is_within (base_of g + last) ((base_of g + most_in g) + 1) n
+    own same =
+        let base : base_of (segment_of n) ≡ base_of g = ap base_of same in
+        let most : most_in (segment_of n) ≡ most_in g = ap most_in same in
+        let at : n ≡ base_of g + sequence_of n = omega (arith, made.is, base) in
+        let below : n < (base_of g + most_in g) + 1 = omega (arith, made.is, made.within, base, most) in
+        ap (λ x. x && nat_lt last (sequence_of n)) ((Decides-eqb (segment_of n) g).1 same)
+        ∙ sym (lt_moved (base_of g) last n (sequence_of n) at)
+        ∙ keep (nat_lt (base_of g + last) n)
+        ∙ ap (λ x. nat_lt (base_of g + last) n && x) (sym (lt_holds n ((base_of g + most_in g) + 1) below))
+      where
+        keep : (x : Bool) → x ≡ (x && true)
+        keep true = refl
+        keep false = refl
+
+-- so the greatest of them is the last of these
+pub past_found : (b : Book) (s : List ℕ) (g last : ℕ) → last_number_of (numbers_within b s (base_of g + last) ((base_of g + most_in g) + 1)) ≡ number_past b s g last
+past_found b s g last = ap last_number_of (sym (filter_same (is_past g last) (is_within (base_of g + last) ((base_of g + most_in g) + 1)) (past_is_within g last) (numbers_of b s)))

@@ -21,10 +21,10 @@ below_of a b h = grind (arith, nat_tests)
 within_holds : (above below n : ℕ) → above < n → n < below → is_within above below n ≡ true
 within_holds above below n low high = grind (arith, nat_tests, low, high)
 
-within_fails : (above below n : ℕ) → n ≤ above → is_within above below n ≡ false
+pub within_fails : (above below n : ℕ) → n ≤ above → is_within above below n ≡ false
 within_fails above below n high = grind (arith, nat_tests, high)
 
-past_fails : (above below n : ℕ) → below ≤ n → is_within above below n ≡ false
+pub past_fails : (above below n : ℕ) → below ≤ n → is_within above below n ≡ false
 past_fails above below n low = by_first (nat_lt above n)
   where
     not_below : nat_lt n below ≡ false
@@ -39,6 +39,13 @@ none_some x e = cc
 
 some_same : {X : Type 0} (x y : X) → ◌≡◌ {A = Option X} (Some x) (Some y) → x ≡ y
 some_same x y e = cc
+
+-- a later segment begins behind a former one
+pub order : (low high : ℕ) → low < high → base_of low + most_in low < base_of high
+order low high less =
+    let k = high - suc low in
+    let e : suc low + k ≡ high = omega (arith, less) in
+    subst (λ (h : ℕ). base_of low + most_in low < base_of h) e (bases_order low k)
 
 -- an end whose first rank behind is not above a front
 record IsPassed (front : ℕ) (o : Option End) (next : ℕ) : Type 0 where
@@ -105,7 +112,7 @@ module _ (ends : StatedEnds) (right : AreRight ends) (front : ℕ) where
     pub skipped : (n : ℕ) → 1 ≤ sequence_of n → segment_of n < segment_of first → is_skipped list n ≡ not (leads_to ends n)
 
   pub none_yet : AreSkippedTo 0 []
-  none_yet = record { led = refl; begins = refl; within = omega arith; rise = omega arith; skipped = λ n some before. absurd (omega (arith, before)) }
+  none_yet = record { led = refl; begins = refl; within = omega arith; rise = omega arith; skipped = λ n some before. let none : segment_of n < 0 = before in absurd (omega (arith, none)) }
 
   module _ (first : ℕ) (list : List Skip) (so_far : AreSkippedTo first list) where
     abbrev g : ℕ
@@ -114,12 +121,6 @@ module _ (ends : StatedEnds) (right : AreRight ends) (front : ℕ) where
     -- numbers of a segment are behind its first rank
     behind : (n : ℕ) → 1 ≤ sequence_of n → (base_of (segment_of n) < n) × (n ≤ base_of (segment_of n) + most_in (segment_of n))
     behind n some = let made = number_is n in (omega (arith, made.is, some), omega (arith, made.is, made.within))
-
-    order : (low high : ℕ) → low < high → base_of low + most_in low < base_of high
-    order low high less =
-        let k = high - suc low in
-        let e : suc low + k ≡ high = omega (arith, less) in
-        subst (λ (h : ℕ). base_of low + most_in low < base_of h) e (bases_order low k)
 
     module _ (next : ℕ) (passed : passed_to front (ends g) ≡ Some next) where
       by : IsPassed front (ends g) next
@@ -184,8 +185,8 @@ module _ (ends : StatedEnds) (right : AreRight ends) (front : ℕ) where
       within_next : next ≤ front
       within_next = let le = by.within in let at = by.at in omega (arith, le, at)
 
-      cases : (n : ℕ) → segment_of n < segment_of next → (P : Type 0) → (segment_of n < g → P) → (segment_of n ≡ g → P) → (g < segment_of n → segment_of n < by.end.next → P) → P
-      cases n before P former own skipped =
+      by_place : (n : ℕ) → segment_of n < segment_of next → (P : Type 0) → (segment_of n < g → P) → (segment_of n ≡ g → P) → (g < segment_of n → segment_of n < by.end.next → P) → P
+      by_place n before P former own skipped =
           let at = next_segment in
           ⊎_elim former
           (λ (up : g ≤ segment_of n).
@@ -203,7 +204,7 @@ module _ (ends : StatedEnds) (right : AreRight ends) (front : ℕ) where
             rise = rises_with 0 first list skip so_far.rise first_below apart;
             skipped = λ n some before.
                 skipped_with list skip n
-                ∙ cases n before ((is_skipped list n || is_within (base_of (suc g)) next n) ≡ not (leads_to ends n))
+                ∙ by_place n before ((is_skipped list n || is_within (base_of (suc g)) next n) ≡ not (leads_to ends n))
                 (λ former. ap₂ (λ x y. x || y) (so_far.skipped n some former) (of_former n some former) ∙ last (not (leads_to ends n)))
                 (λ own. let is = of_own n some own in ap₂ (λ x y. x || y) is.1 is.0 ∙ sym (ap not is.2))
                 (λ after till. let is = of_skipped n some after till in ap (λ y. is_skipped list n || y) is.0 ∙ or_true (is_skipped list n) ∙ sym (ap not is.1));
@@ -225,7 +226,7 @@ module _ (ends : StatedEnds) (right : AreRight ends) (front : ℕ) where
         within = within_next;
         rise = rises_on 0 first next list so_far.rise (let at = so_far.begins in let to = by.at in let far = order g by.end.next later in omega (arith, at, to, far));
         skipped = λ n some before.
-            cases n before (is_skipped list n ≡ not (leads_to ends n))
+            by_place n before (is_skipped list n ≡ not (leads_to ends n))
             (λ former. so_far.skipped n some former)
             (λ own. let is = of_own n some own in is.1 ∙ sym (ap not is.2))
             (λ after till. let is = of_skipped n some after till in let less = is.2 in absurd (omega (arith, less, near)));
