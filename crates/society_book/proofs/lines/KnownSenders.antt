@@ -35,7 +35,7 @@ neither_second : (a b : Bool) → (a || b) ≡ false → b ≡ false
 neither_second false b h = h
 neither_second true b h = absurd (false≢true (sym h))
 
-module _ {K V : Type 0} {R : K → K → Ordering} (total : IsTotalOrder R) (exact : IsAntisymmetric R) (sender_of : K → List ℕ) where
+module _ {K : Type 0} {R : K → K → Ordering} (total : IsTotalOrder R) (exact : IsAntisymmetric R) (sender_of : K → List ℕ) where
   -- whether some keys have one of a sender
   abbrev pub has_of : List K → List ℕ → Bool
   has_of keys t = list_any (λ key. bytes_eq (sender_of key) t) keys
@@ -68,7 +68,7 @@ module _ {K V : Type 0} {R : K → K → Ordering} (total : IsTotalOrder R) (exa
           is_or (bytes_eq (sender_of other) (sender_of key)) (has_of keys (sender_of key)) ((bytes_eq-Decides (sender_of other) (sender_of key)).1 (sym (ap sender_of (exact key other (tied (R key other) is)))))
       by_case false is some later = or_is (bytes_eq (sender_of other) (sender_of key)) (has_of keys (sender_of key)) (later some)
 
-  module _ (m : FinMap R V) where
+  module _ {V : Type 0} (m : FinMap R V) where
     -- a sender that has something in a map has it under a key
     pub key_there : (t : List ℕ) → has_of (finite.keys m) t ≡ true → (key : K) × (sender_of key ≡ t) × (is_some (finite.get m key) ≡ true)
     key_there t h = let found = one_of_them t (finite.keys m) h in (found.key, found.its, finite.contains_key-keys m found.key ∙ found.there)
