@@ -6,7 +6,7 @@ of the run with the least processor time (user and system), its processor second
 program in MB, the bytes in and out, and how many answers of each status came. The last line says whether a case took over 2 s.
 """
 import common
-from common import CSV_HEADER, FIRST, FIRST_LINES, MAX_BODY, get, put_pool, request
+from common import CSV_HEADER, FIRST, FIRST_LINES, MAX_BODY, NO_WORKS, get, put_pool, request
 
 LIMIT = 2.0
 SENDER = f"/v1/senders/{common.SENDER}"
@@ -315,6 +315,35 @@ def quoted_fields_of_ten_thousand_rows():
     return put_return(body[:MAX_BODY]) + put_pool(1, 5, [], [["RADIO1", 1]]) + POOL
 
 
+# Files by year and ends of segments.
+def put_year(year, number):
+    return request("PUT", f"{SENDER}/files/CW{year:02}{number:04}EXA_900.V22", NO_WORKS)
+
+
+def state_end(segment, last, following):
+    return request("PUT", f"{SENDER}/segments/{segment}", b'{"last":%d,"next":%d}' % (last, following))
+
+
+@case
+def one_statement_lets_a_hundred_years_go():
+    files = b"".join(put_year(year, number) for year in range(100) for number in range(1, 41))
+    ends = b"".join(state_end(f"{year:02}", 40, year + 1) for year in range(99))
+    return files + ends + state_end("plain", 0, 0) + get(SENDER)
+
+
+@case
+def every_second_year_is_skipped():
+    files = b"".join(put_year(year, number) for year in range(100) for number in range(1, 11))
+    ends = b"".join(state_end(f"{year:02}", 10, year + 2) for year in range(0, 98, 2))
+    return files + ends + state_end("plain", 0, 0) + get(SENDER) * 1_000
+
+
+@case
+def statements_again_and_again():
+    one = state_end("plain", 1, 26)
+    return one * (MAX_BODY // len(one))
+
+
 # Orders.
 def pool_of(body):
     assert len(body) <= MAX_BODY
@@ -407,6 +436,7 @@ def escapes_in_every_parameter():
     ]
     text = get(*paths) + request("PUT", f"/v1/senders/{escaped(1_350)}/transmissions/{escaped(1_350)}")
     text += request("PUT", f"/v1/returns/{escaped(1_350)}/{escaped(1_350)}")
+    text += request("PUT", f"/v1/senders/{escaped(1_350)}/files/{escaped(1_350)}") + request("PUT", f"/v1/senders/{escaped(1_350)}/segments/{escaped(1_350)}")
     return text * (MAX_BODY // len(text))
 
 

@@ -148,6 +148,40 @@ def recordings(answers):
     check("points_of_one_recording, plays", found, [(422, b'{"error":"csv","fault":4,"row":2}')] * 2)
 
 
+def put_year(name, body=NO_WORKS):
+    return common.request("PUT", f"{T}files/{name}", body)
+
+
+def state_end(segment, last, following):
+    return common.request("PUT", f"{T}segments/{segment}", b'{"last":%d,"next":%d}' % (last, following))
+
+
+def standing(front, state, status=201):
+    return status, b'{"front":%s,"state":"%s"}' % (front, state)
+
+
+def years(answers):
+    first, year = put(1, FIRST), put_year("CW260001EXA_900.V22")
+    ended, begun = b'"26-0001"', state_end("plain", 1, 26)
+    sender, ack = get(T[:-1]), get(T + "acks/26-0001")
+    told = answers(first, year, sender, begun, ack, begun, state_end("plain", 2, 26), put(2, NO_WORKS), put_year("cw260001ex_900.v21"),
+                   put_year("CW250001EXA_900.V22"), sender, get(T + "acks/25-0001"))
+    check("a year behind its statement", told[:4] + told[5:], [
+        applied(1), standing(b"1", b"held", 202), (200, b'{"front":1,"held":["26-0001"]}'), standing(ended, b"ended"),
+        standing(ended, b"ended", 200), REUSED, (409, b'{"error":"ended","last":1}'), standing(ended, b"applied", 200),
+        standing(ended, b"held", 202), (200, b'{"front":"26-0001","held":["25-0001"]}'), UNKNOWN])
+    check("its acknowledgement", (told[4][0], len(told[4][1])), (200, 129))
+    told = answers(begun, year, first, ack)
+    check("a statement first", told[:3], [standing(b"0", b"ended"), standing(b"0", b"held", 202), standing(ended, b"applied")])
+    check("its acknowledgement", (told[3][0], len(told[3][1])), (200, 129))
+    check("a year with nothing yet", answers(state_end("plain", 0, 26)), [standing(b'"26-0000"', b"ended")])
+    check("an end below a number", answers(put(2, NO_WORKS), begun)[1], (409, b'{"error":"segment","number":2}'))
+    names = ["CW260000EXA_900.V22", "CW260001EXA_901.V22", "CW260001EXA_900.V30"]
+    check("no names", answers(*map(put_year, names)), [UNKNOWN] * 3)
+    check("segment faults", answers(state_end("26", 3, 26), state_end("26", 10_000, 27)), [
+        (422, b'{"error":"segment","fault":3}'), (422, b'{"error":"segment","fault":2}')])
+
+
 def requests(answers):
     found = answers(put(999_999, NO_WORKS), put(1_000_000, NO_WORKS), put(0, NO_WORKS), put("01", NO_WORKS))
     check("numbers_at_the_limits", found, [held(0), UNKNOWN, UNKNOWN, UNKNOWN])
@@ -159,7 +193,7 @@ def requests(answers):
 
 def main():
     options = common.parser(__doc__).parse_args()
-    for rows in registrations, shares, cut_files, money, recordings, requests:
+    for rows in registrations, shares, cut_files, money, recordings, years, requests:
         rows(functools.partial(answers_of, options.program))
     sys.exit(1 if WRONG else 0)
 

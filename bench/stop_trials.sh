@@ -36,4 +36,6 @@ trial a_pool_is_closed_over_stops_in_the_log Pool Requests Log
 trial a_pool_is_closed_over_stops_in_the_database Pool Requests Database
 trial a_run_is_let_go_over_stops_in_the_log Run Requests Log
 trial a_run_is_let_go_over_stops_in_the_database Run Requests Database
+trial a_statement_lets_two_years_go_over_stops_in_the_log Statement Requests Log
+trial a_statement_lets_two_years_go_over_stops_in_the_database Statement Requests Database
 rt try --test --seconds 900 -- "${1:-stops_in}"

@@ -1,6 +1,6 @@
 // The page for staff: what the office answers, section by section. Data reaches the page as text only, never as markup.
 import * as office from "./office.js";
-import { answerText, partText, ranges, refusalText, units, whoText } from "./words.js";
+import { answerText, fileText, following, numberOf, partText, ranges, refusalText, units, whoText } from "./words.js";
 
 /** Files of each sender that are looked through for rejected works at first, and further ones at each press of the button. */
 const NEWEST_FILES = 20;
@@ -60,9 +60,9 @@ async function showSenders(place) {
   known.senders.forEach((it, at) => Object.assign(it, standings[at] ?? { front: null, held: [] }));
   clearRows(place);
   for (const { key, name, front, held } of known.senders) {
-    const missing = held.length ? units(front + 1) : "";
+    const missing = held.length ? fileText(following(front)) : "";
     const kind = front === null ? "bad" : held.length ? "wait" : "";
-    addRow(place, [key, name, front === null ? "no such sender" : units(front), ranges(held), missing], kind);
+    addRow(place, [key, name, front === null ? "no such sender" : fileText(front), ranges(held), missing], kind);
   }
   const waiting = known.senders.filter((it) => it.held.length).length;
   say(place, waiting ? `${waiting} of ${known.senders.length} senders wait for a missing file.` : "Nothing waits.", waiting ? "wait" : "good");
@@ -79,16 +79,18 @@ async function rejectedIn(key, number) {
   return verdicts.flatMap(({ fault }, at) => (fault ? [{ fault, ...works[at] }] : []));
 }
 
-/** Looks through a number of a sender's files, from the newest one that was not looked through yet. */
+/** Looks through a number of a sender's files, from the newest one that was not looked through yet: of a year's files those of this year. */
 async function lookThrough(place, sender, count) {
-  const { key, lowest = sender.front + 1 } = sender;
-  const numbers = Array.from({ length: Math.min(count, lowest - 1) }, (_, at) => lowest - 1 - at);
+  const [last, year] = String(sender.front).split("-").reverse();
+  const { key, lowest = Number(last) + 1 } = sender;
+  const named = (number) => (year === undefined ? number : `${year}-${String(number).padStart(4, "0")}`);
+  const numbers = Array.from({ length: Math.min(count, lowest - 1) }, (_, at) => named(lowest - 1 - at));
   const found = await Promise.all(numbers.map((it) => rejectedIn(key, it)));
   sender.lowest = lowest - numbers.length;
   numbers.forEach((file, at) => {
     for (const { number, title, fault } of found[at]) {
       const { means, cure } = known.faults.transaction[fault] ?? { means: `fault ${fault}`, cure: "" };
-      addRow(place, [key, units(file), number, title, `${fault}: ${means}`, cure], "bad");
+      addRow(place, [key, fileText(file), number, title, `${fault}: ${means}`, cure], "bad");
       known.rejected += 1;
     }
   });
@@ -108,7 +110,8 @@ async function showRejected(place, count) {
   }
   known.looked += count;
   more.hidden = applied.every((it) => it.lowest === 1);
-  const range = more.hidden ? "All files" : `The newest ${units(known.looked)} files of each sender`;
+  const all = applied.some((it) => typeof it.front === "string") ? "All files, of a year those of the present one," : "All files";
+  const range = more.hidden ? all : `The newest ${units(known.looked)} files of each sender`;
   say(place, `${range} were looked through. Rejected works: ${known.rejected || "none"}.`, known.rejected ? "" : "good");
 }
 
@@ -130,7 +133,7 @@ async function lookUp(place, form) {
     "Work number": found.number,
     ISWC: found.iswc ?? "none",
     Recordings: found.isrcs.join(", ") || "none",
-    Version: `${version}, by file ${units(found.transmission)}`,
+    Version: `${version}, by file ${fileText(found.transmission)}`,
     "The office's number": `${key.slice(2)}${String(found.ordinal).padStart(11, "0")}`,
   };
   for (const [name, value] of Object.entries(lines)) {
@@ -234,16 +237,17 @@ function showSums(place, accounts) {
 // Sending.
 const KINDS = ["file", "return", "order"];
 
-/** The number that comes next: a sender's first missing file, or the pool after the last one; a return's is not known. */
+/** The number that comes next: a sender's first missing file if it is plain, or the pool after the last one; a return's is not known. */
 function nextNumber(form) {
   const chosen = known.senders.find((it) => it.key === form.sender.value);
-  const next = { file: (chosen?.front ?? 0) + 1, return: "", order: Math.max(0, ...known.pools.keys()) + 1 };
+  const file = following(chosen?.front ?? 0);
+  const next = { file: typeof file === "number" ? file : "", return: "", order: Math.max(0, ...known.pools.keys()) + 1 };
   return next[form.kind.value];
 }
 
 /** An order over all that has come, for staff to fill in. */
 function orderDraft() {
-  const cut = known.senders.filter((it) => it.front).map((it) => [it.key, it.front]);
+  const cut = known.senders.filter((it) => it.front && !String(it.front).endsWith("-0000")).map((it) => [it.key, it.front]);
   return `{"amount":0,\n "cut":${JSON.stringify(cut)},\n "returns":[["RADIO1",1]]}`;
 }
 
@@ -254,25 +258,26 @@ function showKind(form) {
   }
   form.reporter.required = kind === "return";
   form.body.required = kind !== "order";
-  form.number.max = kind === "order" ? 99_999 : 999_999;
+  form.number.pattern = { file: "[1-9][0-9]{0,5}|[Cc][Ww].*", return: "[1-9][0-9]{0,5}", order: "[1-9][0-9]{0,4}" }[kind];
   form.number.value = nextNumber(form);
   if (kind === "order" && !form.order.value) {
     form.order.value = orderDraft();
   }
 }
 
-/** Chooses the sender that a file names in its first line, where it is one of ours. */
+/** Chooses the sender that a file names in its first line, where it is one of ours, and takes the file's own name where that has a number by year. */
 async function chooseSender(form) {
   const head = form.body.files[0] ? await form.body.files[0].slice(3, 14).text() : "";
   if (form.kind.value === "file" && known.senders.some((it) => it.key === head)) {
+    const { name } = form.body.files[0];
     form.sender.value = head;
-    form.number.value = nextNumber(form);
+    form.number.value = typeof numberOf(name) === "string" ? name : nextNumber(form);
   }
 }
 
 /** Sends what the form holds; answers what the office says. */
 async function sent(form) {
-  const number = form.number.value;
+  const number = form.number.value.trim();
   switch (form.kind.value) {
     case "file":
       return office.putFile(form.sender.value, number, await form.body.files[0].arrayBuffer());
@@ -297,13 +302,13 @@ async function worksOf(key, number) {
 }
 
 async function send(place, form) {
-  const [kind, key, number] = [form.kind.value, form.sender.value, form.number.value];
+  const [kind, key, number] = [form.kind.value, form.sender.value, numberOf(form.number.value.trim())];
   const list = place.querySelector(".outcome");
   list.replaceChildren();
   say(place, "Sending ..");
   const answer = await sent(form);
   const taken = answer.status < 300;
-  say(place, answerText(kind, Number(number), answer, known.faults), taken ? (answer.state === "held" ? "wait" : "good") : "bad");
+  say(place, answerText(kind, number, answer, known.faults), taken ? (answer.state === "held" ? "wait" : "good") : "bad");
   if (kind === "file" && answer.state === "applied") {
     for (const line of await worksOf(key, number)) {
       list.append(Object.assign(document.createElement("li"), { textContent: line }));
@@ -314,7 +319,7 @@ async function send(place, form) {
   }
   if (taken && kind === "order") {
     form.order.value = "";
-    known.pools.set(Number(number), await office.pool(number));
+    known.pools.set(number, await office.pool(number));
     await guarded(section("pools"), showPools);
     await guarded(section("balances"), showBalances);
   }

@@ -1,4 +1,4 @@
-// The office's nine requests, and what their answers say. Nothing here knows the page.
+// The office's requests but the statement of an end, and what their answers say. Nothing here knows the page.
 
 /** The most requests under way at once: a proxy in front limits how many connections and requests a second one browser may have. */
 const MOST_AT_ONCE = 4;
@@ -66,7 +66,7 @@ async function json(...parts) {
   return bytes && JSON.parse(text(bytes));
 }
 
-/** How a sender stands: `front`, the greatest n such that 1 to n have come, and `held`, the numbers that wait. */
+/** How a sender stands: `front`, the number up to which all have come, and `held`, the numbers that wait. A number by year is a text. */
 export function sender(key) {
   return json("senders", key);
 }
@@ -159,8 +159,9 @@ async function put(body, ...parts) {
   }
 }
 
+/** Sends a file of works under a plain number, or under its name by year. */
 export function putFile(key, number, body) {
-  return put(body, "senders", key, "transmissions", number);
+  return put(body, "senders", key, /^cw/i.test(number) ? "files" : "transmissions", number);
 }
 
 export function putReturn(reporter, number, body) {

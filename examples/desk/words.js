@@ -5,16 +5,44 @@ export function units(number) {
   return String(number).replace(/\B(?=(\d{3})+$)/g, ",");
 }
 
+/** The rank of a file's number: a plain one is its own, "26-0001" has 1260001. Within a year ranks follow one another as numbers do. */
+function rankOf(number) {
+  const [year, sequence] = String(number).split("-").map(Number);
+  return sequence === undefined ? year : 1_000_000 + 10_000 * year + sequence;
+}
+
+/** The number of a file with this rank, as the office writes it. */
+function numberAt(rank) {
+  const [year, sequence] = [Math.floor(rank / 10_000) - 100, rank % 10_000];
+  return year < 0 ? rank : `${String(year).padStart(2, "0")}-${String(sequence).padStart(4, "0")}`;
+}
+
+/** A file's number in words: a plain one with commas, one of a year as it is. */
+export function fileText(number) {
+  return typeof number === "number" ? units(number) : number;
+}
+
+/** The number behind a front. */
+export function following(front) {
+  return numberAt(rankOf(front) + 1);
+}
+
+/** The number of a file by its name, as in CW260001EXA_900.V22, else the number that is given. */
+export function numberOf(text) {
+  const [, year, sequence] = /^CW(\d\d)(\d{4})[A-Z0-9]{2,3}_\d{3}\.V2[12]$/i.exec(text) ?? [];
+  return year === undefined ? Number(text) : `${year}-${sequence}`;
+}
+
 /** A part of an amount, both BigInt, with its percentage. */
 export function partText(part, amount) {
   const tenths = amount ? (part * 1000n + amount / 2n) / amount : 0n;
   return `${units(part)} (${tenths / 10n}.${tenths % 10n} %)`;
 }
 
-/** Ascending numbers as ranges; after ten of them, how many more there are. */
+/** Ascending numbers of files as ranges; after ten of them, how many more there are. */
 export function ranges(numbers) {
   const found = [];
-  for (const it of numbers) {
+  for (const it of numbers.map(rankOf)) {
     const last = found.at(-1);
     if (last && last[1] === it - 1) {
       last[1] = it;
@@ -22,7 +50,8 @@ export function ranges(numbers) {
       found.push([it, it]);
     }
   }
-  const shown = found.slice(0, 10).map(([from, to]) => (from === to ? units(from) : `${units(from)} to ${units(to)}`));
+  const name = (rank) => fileText(numberAt(rank));
+  const shown = found.slice(0, 10).map(([from, to]) => (from === to ? name(from) : `${name(from)} to ${name(to)}`));
   const left = found.slice(10).reduce((total, [from, to]) => total + to - from + 1, 0);
   return shown.join(", ") + (left ? ` and ${units(left)} more` : "");
 }
@@ -68,16 +97,17 @@ function takenText(kind, number, { status, state, front }) {
     return `${again}Pool ${units(number)} is closed.`;
   }
   if (state === "held") {
-    return `${again}File ${units(number)} waits: file ${units(front + 1)} has to come first.`;
+    return `${again}File ${fileText(number)} waits: file ${fileText(following(front))} has to come first, or an end to be stated.`;
   }
-  return `${again}File ${units(number)} is applied; files 1 to ${units(front)} have come.`;
+  return `${again}File ${fileText(number)} is applied; all files up to ${fileText(front)} have come.`;
 }
 
 /** Why a request stands against what is there already. */
-function conflictText(kind, number, { error, front, sender, pool, reporter, number: other }) {
+function conflictText(kind, number, { error, front, sender, pool, reporter, last, number: other }) {
   const words = {
-    reused: () => `Another ${kind} stands under number ${units(number)}, and stays. Send this one under the next number.`,
-    cut: () => `${sender} has files 1 to ${units(front)} only: wait for the missing ones, or cut it lower.`,
+    reused: () => `Another ${kind} stands under number ${fileText(number)}, and stays. Send this one under the next number.`,
+    ended: () => `The sender stated that these numbers end with ${units(last)}. Send it under a number of a later year.`,
+    cut: () => `${sender} has all files up to ${fileText(front)} only: wait for the missing ones, or cut it lower.`,
     return: () => `Return ${units(other)} of ${reporter} has not come.`,
     paid: () => `Return ${units(other)} of ${reporter} is paid by pool ${units(pool)}.`,
   };

@@ -5,7 +5,6 @@
 mod checks;
 #[cfg(test)]
 mod desk_rows;
-pub mod failing_store;
 #[cfg(test)]
 mod feeding_tests;
 #[cfg(test)]
@@ -16,3 +15,5 @@ mod peer_tests;
 mod request_tests;
 #[cfg(test)]
 mod streams;
+#[cfg(test)]
+mod year_tests;

@@ -1,8 +1,8 @@
 //! Requests over bytes: which heads are taken and what their bodies are, which targets stand for what, and how answers are written.
 use crate::checks::told;
 use crate::desk_rows::new_desk;
-use crate::failing_store::FailingStore;
 use crate::streams::{answer, ask, served};
+use failing_store::FailingStore;
 use society_core::{Desk, Store};
 use std::alloc::{AllocError, Global};
 use std::process::Abort;
@@ -322,8 +322,18 @@ fn answers_to_returns(rt: HostRuntime) -> Result<(), Fail> {
 }
 
 /// Requests that ask the store, whose bodies have no fault that is found without it.
-const ASKING: [(&str, &[u8]); 9] = [
+const ASKING: [(&str, &[u8]); 13] = [
     ("PUT /v1/senders/PB000000012/transmissions/1", REGISTERED),
+    (
+        "PUT /v1/senders/PB000000012/files/CW260001EXA_900.V22",
+        EMPTY,
+    ),
+    (
+        "PUT /v1/senders/PB000000012/segments/plain",
+        b"{\"last\":1,\"next\":26}",
+    ),
+    ("GET /v1/senders/PB000000012/acks/26-0001", b""),
+    ("GET /v1/senders/PB000000012/verdicts/26-0001", b""),
     ("GET /v1/senders/PB000000012/acks/1", b""),
     ("GET /v1/senders/PB000000012", b""),
     ("GET /v1/senders/PB000000012/verdicts/1", b""),

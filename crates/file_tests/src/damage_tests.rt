@@ -1,7 +1,7 @@
 //! Databases in which one value was changed, opened as the tables of an office.
 use crate::checks::{holds, told};
 use crate::listing::{TABLES, rows_by};
-use crate::row_tests::left_by_pool;
+use crate::row_tests::{left_by_pool, left_by_year};
 use share_rules::Office;
 use society_tables::{OpenFault, Tables};
 use sqlite::{Connection, MemStore, params};
@@ -30,6 +30,44 @@ const DAMAGES: [&str; 14] = [
     "UPDATE credits SET line = 9 WHERE line = 0; UPDATE credits SET line = 0 WHERE line = 1; UPDATE credits SET line = 1 WHERE line = 9",
     "INSERT INTO segment_ends (sender, segment, last, next) VALUES ('PB000000012', -1, 3, 26)",
     "INSERT INTO mechanical_pools (pool) VALUES (7)",
+];
+
+/// Changes of the rows of a year begun that no requests leave so.
+const YEAR_DAMAGES: [&str; 21] = [
+    "DELETE FROM segment_ends",
+    // The end is below a number that is there.
+    "UPDATE segment_ends SET last = 0",
+    // The ends lead past the number that is there.
+    "UPDATE segment_ends SET last = 2",
+    "UPDATE segment_ends SET next = 27",
+    "UPDATE segment_ends SET segment = 25",
+    "UPDATE segment_ends SET sender = 'PB000000034'",
+    "UPDATE segment_ends SET next = 100",
+    "UPDATE segment_ends SET last = -1",
+    "UPDATE segment_ends SET segment = -2",
+    "UPDATE segment_ends SET segment = 100",
+    "UPDATE segment_ends SET sender = 'PB1'",
+    "INSERT INTO segment_ends (sender, segment, last, next) VALUES ('PB000000012', 26, 0, 27)",
+    "INSERT INTO segment_ends (sender, segment, last, next) VALUES ('PB000000012', 26, 10000, 27)",
+    "INSERT INTO segment_ends (sender, segment, last, next) VALUES ('PB000000012', 30, 4, 30)",
+    "UPDATE transmissions SET number = 1250001 WHERE number = 1260001",
+    // No number, though the front before it is one.
+    "UPDATE transmissions SET number = 1260000 WHERE number = 1260001",
+    // A number that only a year past 99 could have.
+    "UPDATE transmissions SET number = 2000001 WHERE number = 1260001",
+    "UPDATE versions SET number = 1250001 WHERE number = 1260001",
+    "UPDATE fronts SET front = 1",
+    // An end alone has its front too, at the year that it leads to.
+    "INSERT INTO segment_ends (sender, segment, last, next) VALUES ('PB000000034', -1, 0, 26)",
+    "INSERT INTO segment_ends (sender, segment, last, next) VALUES ('PB000000034', -1, 0, 26); INSERT INTO fronts (sender, front, works) VALUES ('PB000000034', 0, 0)",
+];
+
+/// Changes of those rows that requests leave so.
+const YEAR_CHANGES: [&str; 3] = [
+    "",
+    // An end of a year to which none leads.
+    "INSERT INTO segment_ends (sender, segment, last, next) VALUES ('PB000000012', 30, 4, 31)",
+    "INSERT INTO segment_ends (sender, segment, last, next) VALUES ('PB000000034', -1, 0, 26); INSERT INTO fronts (sender, front, works) VALUES ('PB000000034', 1260000, 0)",
 ];
 
 /// Makes changes.
@@ -102,6 +140,31 @@ fn an_unchanged_database_is_opened(rt: HostRuntime) -> Result<(), Fail> {
 fn a_changed_row_is_damage(rt: HostRuntime) -> Result<(), Fail> {
     for changes in DAMAGES {
         check_changed(&rt, rt.alloc(), changes, OpenFault::Damaged)?;
+    }
+    Ok(())
+}
+
+#[test]
+fn a_changed_end_is_damage(rt: HostRuntime) -> Result<(), Fail> {
+    let alloc = rt.alloc();
+    for changes in YEAR_DAMAGES {
+        let mut conn = left_by_year(alloc)?;
+        change(&mut conn, changes)?;
+        check_refused(&rt, alloc, conn, &TABLES, OpenFault::Damaged)?;
+    }
+    Ok(())
+}
+
+#[test]
+fn a_year_begun_is_opened(rt: HostRuntime) -> Result<(), Fail> {
+    for changes in YEAR_CHANGES {
+        let mut conn = left_by_year(rt.alloc())?;
+        change(&mut conn, changes)?;
+        if !conn.is_autocommit() {
+            return Err(Fail::new("no transaction"));
+        }
+        let opened = Tables::open(rt.alloc(), conn, &office()?);
+        holds(&rt, changes, opened.is_ok());
     }
     Ok(())
 }

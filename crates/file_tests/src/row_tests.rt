@@ -3,6 +3,7 @@ use crate::checks::told;
 use crate::listing::{TABLES, lines, rows_by};
 use crate::steps::{
     BEFORE_RETURN, Step, closed_at_a_cut, gap_filled, order_at_a_cut, reverse_arrival, send_all,
+    two_years, year_begun,
 };
 use society_core::Desk;
 use society_tables::Tables;
@@ -11,6 +12,7 @@ use std::alloc::Global;
 use std::process::Abort;
 use std::test::Fail;
 use test_bodies::office;
+use work_ids::Segment;
 
 /// What a registration, its revision and a file with no group leave, in whichever order they come.
 const THREE_FILES: [&str; 11] = [
@@ -25,6 +27,49 @@ const THREE_FILES: [&str; 11] = [
     "versions|PB000000012|W1|1|2|0|1",
     "recordings|PB000000012|W1|0|ATABC2600001",
     "recordings|PB000000012|W1|1|ATABC2600001",
+];
+
+/// What a registration, its revision under the first number of 2026 and the end of the plain numbers leave.
+const YEAR_BEGUN: [&str; 11] = [
+    "office|1|3|900|40|EXAMPLE SOCIETY",
+    "transmissions|PB000000012|1",
+    "transmissions|PB000000012|1260001",
+    "fronts|PB000000012|1260001|1",
+    "verdicts|PB000000012|1|0|0|1|0",
+    "verdicts|PB000000012|1260001|0|0|1|1",
+    "versions|PB000000012|W1|0|1|0|1",
+    "versions|PB000000012|W1|1|1260001|0|1",
+    "recordings|PB000000012|W1|0|ATABC2600001",
+    "recordings|PB000000012|W1|1|ATABC2600001",
+    "segment_ends|PB000000012|-1|1|26",
+];
+
+/// What the end of the plain numbers leaves before anything has come.
+const END_ALONE: [&str; 3] = [
+    "office|1|3|900|40|EXAMPLE SOCIETY",
+    "fronts|PB000000012|1260000|0",
+    "segment_ends|PB000000012|-1|0|26",
+];
+
+/// What a registration, its revisions in 2025 and 2026, a file of a year that is skipped and the ends of the plain numbers and of 2025 leave.
+const TWO_YEARS: [&str; 17] = [
+    "office|1|3|900|40|EXAMPLE SOCIETY",
+    "transmissions|PB000000012|1",
+    "transmissions|PB000000012|1240001",
+    "transmissions|PB000000012|1250001",
+    "transmissions|PB000000012|1260001",
+    "fronts|PB000000012|1260001|1",
+    "verdicts|PB000000012|1|0|0|1|0",
+    "verdicts|PB000000012|1250001|0|0|1|1",
+    "verdicts|PB000000012|1260001|0|0|1|2",
+    "versions|PB000000012|W1|0|1|0|1",
+    "versions|PB000000012|W1|1|1250001|0|1",
+    "versions|PB000000012|W1|2|1260001|0|1",
+    "recordings|PB000000012|W1|0|ATABC2600001",
+    "recordings|PB000000012|W1|1|ATABC2600001",
+    "recordings|PB000000012|W1|2|ATABC2600001",
+    "segment_ends|PB000000012|-1|1|25",
+    "segment_ends|PB000000012|25|1|26",
 ];
 
 /// What a registration, two files with no group, a return and a pool over it leave.
@@ -97,7 +142,30 @@ fn rows_of_a_reverse_arrival(rt: HostRuntime) -> Result<(), Fail> {
 }
 
 #[test]
+fn rows_of_a_year_begun(rt: HostRuntime) -> Result<(), Fail> {
+    let mut conn = left_by(rt.alloc(), &year_begun())?;
+    check_rows(&rt, rt.alloc(), &mut conn, &YEAR_BEGUN)
+}
+
+#[test]
+fn rows_of_an_end_alone(rt: HostRuntime) -> Result<(), Fail> {
+    let mut conn = left_by(rt.alloc(), &[Step::Ends(Segment::Plain, 0, 26)])?;
+    check_rows(&rt, rt.alloc(), &mut conn, &END_ALONE)
+}
+
+#[test]
+fn rows_of_two_years(rt: HostRuntime) -> Result<(), Fail> {
+    let mut conn = left_by(rt.alloc(), &two_years())?;
+    check_rows(&rt, rt.alloc(), &mut conn, &TWO_YEARS)
+}
+
+#[test]
 fn rows_of_a_pool_closed_at_a_cut(rt: HostRuntime) -> Result<(), Fail> {
     let mut conn = left_by_pool(rt.alloc())?;
     check_rows(&rt, rt.alloc(), &mut conn, &CLOSED_POOL)
+}
+
+/// The database that a year begun leaves.
+pub fn left_by_year(alloc: Global) -> Result<Connection<MemStore>, Fail> {
+    left_by(alloc, &year_begun())
 }

@@ -3,7 +3,9 @@ use society_core::{Arrival, Desk, PoolOrder, Receipt, Refusal, ReturnKey, Store}
 use std::alloc::Global;
 use std::test::Fail;
 use test_bodies::{EMPTY, REGISTERED, REVISED};
-use work_ids::{PoolNumber, Reporter, ReturnNumber, SenderKey, TransmissionNumber};
+use work_ids::{
+    PoolNumber, Reporter, ReturnNumber, Segment, SegmentEnd, SenderKey, TransmissionNumber,
+};
 
 /// A return of one recording: 10 plays of 200 seconds.
 pub const TEN_PLAYS: &[u8] = b"isrc,plays,seconds\nATABC2600001,10,200\n";
@@ -13,6 +15,8 @@ pub const TEN_PLAYS: &[u8] = b"isrc,plays,seconds\nATABC2600001,10,200\n";
 pub enum Step<'a> {
     /// This transmission is put under this number.
     Put(u32, &'a [u8]),
+    /// This segment ends with this number, and the year of the second number comes next.
+    Ends(Segment, u64, u64),
     /// This return is put under this number.
     Played(u32, &'a [u8]),
     /// The pool of this number is closed by this order.
@@ -24,6 +28,8 @@ pub enum Step<'a> {
 pub enum Told {
     /// How a transmission stands.
     Arrived(Arrival),
+    /// That an end is taken, and the sender's front then.
+    Ended(Receipt, u32),
     /// That a return or an order is taken.
     Taken(Receipt),
     /// Why it is refused.
@@ -35,7 +41,7 @@ impl Told {
     pub fn is_known(&self) -> bool {
         match self {
             Told::Arrived(arrival) => arrival.known,
-            Told::Taken(receipt) => *receipt == Receipt::Repeated,
+            Told::Ended(receipt, _) | Told::Taken(receipt) => *receipt == Receipt::Repeated,
             Told::Refused(_) => false,
         }
     }
@@ -58,6 +64,7 @@ impl Told {
                 front: arrival.front,
                 standing: arrival.standing,
             }),
+            Told::Ended(_, front) => Told::Ended(Receipt::Repeated, *front),
             Told::Taken(_) => Told::Taken(Receipt::Repeated),
             Told::Refused(refusal) => Told::Refused(*refusal),
         }
@@ -102,6 +109,27 @@ pub fn reverse_arrival() -> [Step<'static>; 3] {
     ]
 }
 
+/// The revision under the first number of 2026, a registration, and the end of the plain numbers that leads from the one to the other.
+pub fn year_begun() -> [Step<'static>; 3] {
+    [
+        Step::Put(1_260_001, REVISED),
+        Step::Put(1, REGISTERED),
+        Step::Ends(Segment::Plain, 1, 26),
+    ]
+}
+
+/// A registration, its revisions in 2025 and 2026 and a file of 2024, which all wait for the end of the plain numbers. That leads to 2025.
+pub fn two_years() -> [Step<'static>; 6] {
+    [
+        Step::Put(1_260_001, REVISED),
+        Step::Put(1_250_001, REVISED),
+        Step::Put(1_240_001, EMPTY),
+        Step::Ends(Segment::Year(25), 1, 26),
+        Step::Put(1, REGISTERED),
+        Step::Ends(Segment::Plain, 1, 25),
+    ]
+}
+
 /// What comes before the return of the pool that is closed at a cut.
 pub const BEFORE_RETURN: [Step<'static>; 2] = [Step::Put(1, REGISTERED), Step::Put(2, EMPTY)];
 
@@ -128,6 +156,20 @@ fn put<S: Store>(
             Err(refusal) => Told::Refused(refusal),
         },
     )
+}
+
+fn put_end<S: Store>(
+    alloc: Global,
+    desk: &mut Desk<S>,
+    segment: Segment,
+    last: u64,
+    next: u64,
+) -> Result<Told, Fail> {
+    let end = SegmentEnd::new(segment, last, next).ok().ok_or("an end")?;
+    Ok(match desk.put_end(alloc, &sender()?, &end) {
+        Ok((receipt, front)) => Told::Ended(receipt, front),
+        Err(refusal) => Told::Refused(refusal),
+    })
 }
 
 /// What is told of a receipt.
@@ -165,6 +207,7 @@ fn close<S: Store>(
 pub fn send<S: Store>(alloc: Global, desk: &mut Desk<S>, step: &Step<'_>) -> Result<Told, Fail> {
     match step {
         Step::Put(number, body) => put(alloc, desk, *number, body),
+        Step::Ends(segment, last, next) => put_end(alloc, desk, *segment, *last, *next),
         Step::Played(number, body) => put_return(alloc, desk, *number, body),
         Step::Close(pool, order) => close(alloc, desk, *pool, order),
     }

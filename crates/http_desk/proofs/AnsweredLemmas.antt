@@ -13,7 +13,7 @@ use Rattle.society_core.proofs.CleanStores.{stays_through}
 use Rattle.society_core.proofs.HeadlineLemmas.{holds_what_came, step_keeps}
 use Rattle.http_desk.specs.Part.{Part}
 use Rattle.http_desk.specs.Path.{request_of}
-use Rattle.http_desk.specs.Serves.{Answered, AnsweredThrough, AreAnswered, Steps}
+use Rattle.http_desk.specs.Serves.{Answered, AnsweredThrough, AreAnswered, Steps, queries_of}
 
 -- ---- one after another
 
@@ -88,15 +88,15 @@ answered_run state (q ∷ qs) [] a b first clean = absurd first
 -- ---- the requests of a connection
 
 -- all that is told of them follows from the steps
-answered_so : {S : Type 0} (state : S → State) (parts : List Part) (replies : List Reply) (desk new_desk : S) → Answered state (map request_of parts) replies desk new_desk
+answered_so : {S : Type 0} (state : S → State) (parts : List Part) (replies : List Reply) (desk new_desk : S) → Answered state (queries_of (state desk).office parts) replies desk new_desk
     → AreAnswered state parts replies desk new_desk
 answered_so state parts replies desk new_desk steps = record {
-  each = answered_each state (map request_of parts) replies desk new_desk steps ∙ length-map parts request_of;
-  office = answered_office state (map request_of parts) replies desk new_desk steps;
+  each = answered_each state (queries_of (state desk).office parts) replies desk new_desk steps ∙ length-map parts (request_of (state desk).office.society);
+  office = answered_office state (queries_of (state desk).office parts) replies desk new_desk steps;
   steps = steps;
-  stays = answered_stays state (map request_of parts) replies desk new_desk steps;
-  run = answered_run state (map request_of parts) replies desk new_desk steps;
-  came = λ clean. holds_what_came _ _ (map request_of parts) replies _ (answered_run state (map request_of parts) replies desk new_desk steps clean);
+  stays = answered_stays state (queries_of (state desk).office parts) replies desk new_desk steps;
+  run = answered_run state (queries_of (state desk).office parts) replies desk new_desk steps;
+  came = λ clean. holds_what_came _ _ (queries_of (state desk).office parts) replies _ (answered_run state (queries_of (state desk).office parts) replies desk new_desk steps clean);
 }
 
 pub none_answered : {S : Type 0} (state : S → State) (desk : S) → AreAnswered state [] [] desk desk
@@ -106,9 +106,10 @@ none_answered state desk = answered_so state [] [] desk desk refl
 pub answered_on : {S : Type 0} (state : S → State) (ps qs : List Part) (rs ss : List Reply) (old mid new : S)
     → AreAnswered state ps rs old mid → AreAnswered state qs ss mid new → AreAnswered state (ps ++ qs) (rs ++ ss) old new
 answered_on state ps qs rs ss old mid new first more =
+    let behind = subst (λ (o : Office). Answered state (queries_of o qs) ss mid new) first.office more.steps in
     answered_so state (ps ++ qs) (rs ++ ss) old new
-    (subst (λ (queries : List Query). Answered state queries (rs ++ ss) old new) (sym (map-append request_of ps qs))
-    (answered_append state (map request_of ps) (map request_of qs) rs ss old mid new first.steps more.steps))
+    (subst (λ (queries : List Query). Answered state queries (rs ++ ss) old new) (sym (map-append (request_of (state old).office.society) ps qs))
+    (answered_append state (queries_of (state old).office ps) (queries_of (state old).office qs) rs ss old mid new first.steps behind))
 
 -- behind some requests one more was answered
 pub one_answered_on : {S : Type 0} (state : S → State) (parts : List Part) (replies : List Reply) (old mid new : S) (part : Part) (reply : Reply)

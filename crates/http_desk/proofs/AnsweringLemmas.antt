@@ -44,12 +44,13 @@ use Rattle.http_desk.proofs.UpcomingLemmas.{ReadsOn-join}
 -- ---- heads
 
 -- what a head asks is asked by the request that begins with it
-pub part_asks : (bytes later more : List ℕ) (kept other : Head) (wanted : Wanted) → HasHead bytes kept → later ≡ bytes ++ more → AsksFor bytes kept wanted → PartAsks later other wanted
-part_asks bytes later more kept other wanted h grown asks = λ has.
+pub part_asks : (society : ℕ) (bytes later more : List ℕ) (kept other : Head) (wanted : Wanted) → HasHead bytes kept → later ≡ bytes ++ more → AsksFor society bytes kept wanted
+    → PartAsks society later other wanted
+part_asks society bytes later more kept other wanted h grown asks = λ has.
     let P : List ℕ → Type 0 = λ v. BeginsWithHead v h.0 (h.1 ++ more) in
     let begins = subst P (sym grown) (Begins-append bytes more h.1 h.0 h.2) in
     let same = Begins-unique later _ _ _ _ begins (begins_of has.part later has.rest has.is_part has.whole) in
-    asks h has.part.body ∙ ap (λ (r : RequestHead). query_for (is_put r.method) r.target has.part.body) same.0
+    asks h has.part.body ∙ ap (λ (r : RequestHead). query_for society (is_put r.method) r.target has.part.body) same.0
 
 -- ---- one request
 
@@ -84,7 +85,7 @@ takes_part state desk new_desk bytes rest told close kept has front is step = re
 
 -- a request whose body was fed was answered
 pub takes_fed : {S : Type 0} (state : S → State) (desk new_desk : S) (before rest : List ℕ) (turns spare : ℕ) (known now : Option (List ℕ)) (reads now_reads : ℕ) (kept : Head) (sink : Fed) (left : ℕ) (told : Told) (key : TransmissionKey) (reply : Reply)
-    → (so : HasFed before rest turns spare known now reads now_reads kept sink left) → HasHead before kept → left ≡ 0 → AsksFor before kept (wanted.Fed key)
+    → (so : HasFed before rest turns spare known now reads now_reads kept sink left) → HasHead before kept → left ≡ 0 → AsksFor (state desk).office.society before kept (wanted.Fed key)
     → TellsReply reply (told_reply told) → ((bytes : List ℕ) → WasFed sink bytes → Calls state desk new_desk (Puts key.sender key.number bytes) reply)
     → TakesRequest state desk new_desk (pending before kept so.fed rest) rest told kept.closes
 takes_fed state desk new_desk before rest turns spare known now reads now_reads kept sink left told key reply so h none asks tells calls = record {

@@ -1,5 +1,5 @@
 -- Lemmas on the JSON of answers: none of it is a float, and what is escaped of a title.
-use Rattle.std.proofs.Common.{◌≡◌, ℕ, zero, suc, ◌<◌, ◌≤◌, Bool, true, false, cond, List, [], ◌∷◌, ◌++◌, map, flat_map, Vec, Result, IfOk, Global, refl, sym, ◌∙◌, ap, subst, arith}
+use Rattle.std.proofs.Common.{◌≡◌, ℕ, zero, suc, ◌-◌, ◌/◌, ◌%◌, ◌<◌, ◌≤◌, Bool, true, false, cond, List, [], ◌∷◌, ◌++◌, map, flat_map, Vec, Result, IfOk, Global, refl, sym, ◌∙◌, ap, subst, arith}
 use Rattle.std.specs.Prelude.{◌&&◌, not, nat_le, nat_lt}
 use Rattle.std.specs.Char.{is_ascii}
 use Rattle.std.proofs.lemmas.Bool.{and_parts}
@@ -8,10 +8,15 @@ use Rattle.std.proofs.lemmas.Result.{IfOk-weaker}
 use Rattle.percent_encoding.specs.AsciiSet.{should_percent_encode}
 use Rattle.percent_encoding.specs.Percent.{encode_byte, percent_encode, percent_encode_byte}
 use Rattle.percent_encoding.specs.declared.ascii_set.AsciiSet.{AsciiSet}
-use Rattle.serde_json.specs.Data.{Data}
+use Rattle.serde_json.specs.Data.{Data, string}
 use Rattle.serde_json.specs.View.{items_of}
 use Rattle.serde_json.specs.Written.{compact_text, has_float, items_have_float}
-use Rattle.http_desk.specs.Json.{is_plain, title_byte, title_text}
+use Rattle.work_ids.specs.Segments.{segment_at, segment_of, sequence_of}
+use Rattle.work_ids.specs.SpelledNumber.{dated_text}
+use Rattle.work_ids.specs.declared.segment.Segment.{Segment}
+use Rattle.work_ids.specs.declared.segment.Segment.TheVariants.{Plain, Year}
+use Rattle.http_desk.specs.Json.{is_plain, number_json, number_json_in, title_byte, title_text, whole_number}
+use Rattle.http_desk.proofs.NumberTextLemmas.{of_dated, of_plain}
 
 -- an array of values that are no floats has none
 pub items_without_float : {X : Type 0} (f : X → Data) (xs : List X) → ((x : X) → has_float (f x) ≡ false) → items_have_float (items_of (map f xs)) ≡ false
@@ -24,6 +29,25 @@ pub text_is : {E : Type 0} (result : Result (Vec ℕ Global) E) (value known : D
 text_is result value known same none made =
     IfOk-weaker result _ _ (λ text is. is none)
     (subst (λ (d : Data). IfOk result (λ text. has_float d ≡ false → text.items ≡ compact_text d)) same made)
+
+-- ---- numbers of transmissions
+
+pub plain_json : (rank : ℕ) → rank < 1000000 → number_json rank ≡ whole_number rank
+unfolding number_json
+plain_json rank h = of_plain number_json_in rank h
+
+pub year_json : (rank : ℕ) → 1000000 ≤ rank → number_json rank ≡ string (dated_text ((rank - 1000000) / 10000) ((rank - 1000000) % 10000))
+unfolding number_json
+year_json rank h = of_dated number_json_in rank h
+
+-- a number is no float
+pub number_without_float : (rank : ℕ) → has_float (number_json rank) ≡ false
+unfolding number_json
+number_without_float rank = in_segment (segment_at (segment_of rank)) (sequence_of rank)
+  where
+    in_segment : (segment : Segment) (sequence : ℕ) → has_float (number_json_in segment sequence) ≡ false
+    in_segment Plain sequence = refl
+    in_segment (Year year) sequence = refl
 
 -- ---- titles
 

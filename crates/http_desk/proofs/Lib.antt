@@ -4,8 +4,11 @@ pub mod CuttingLemmas
 pub mod FeedingLemmas
 pub mod FieldLemmas
 pub mod HeadLemmas
+pub mod JsonBodyLemmas
 pub mod JsonLemmas
+pub mod EndLemmas
 pub mod Known
+pub mod NumberTextLemmas
 pub mod UpcomingLemmas
 pub mod OrderLemmas
 pub mod PathLemmas

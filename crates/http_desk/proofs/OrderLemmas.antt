@@ -1,28 +1,14 @@
 -- Lemmas on the JSON of orders.
 use Rattle.std.proofs.Common.{◌≡◌, ◌≢◌, ℕ, ◌+◌, Bool, true, false, List, [], ◌∷◌, ◌++◌, drop, Option, Some, None, option_map, refl, sym, ◌∙◌, ap, append_assoc}
 use Rattle.std.specs.Prelude.{option_and_then}
-use Rattle.std.specs.Str.{is_utf8, IsUtf8}
-use Rattle.std.proofs.lemmas.Str.{IsUtf8-from_is_utf8, is_utf8-from_IsUtf8}
 use Rattle.serde_json.specs.Data.{Data}
-use Rattle.serde_json.specs.Read.{read}
 use Rattle.serde_json.specs.View.{items_view, view}
 use Rattle.serde_json.specs.declared.value.Value.{Value}
 use Rattle.society_core.specs.Orders.{Order, order_fault, order_of}
 use Rattle.society_core.specs.Requests.{AsksElsewhere, Closes, ClosesFaulty}
 use Rattle.society_core.specs.declared.order_fault.OrderFault.{OrderFault}
-use Rattle.http_desk.specs.OrderText.{OrderNumbers, before, close_asked, close_query, close_by_numbers, json_of, numbers_in, named_number, named_numbers}
-
--- ---- the value of a body
-
-pub value_read : (body : List ℕ) (value : Data) → IsUtf8 body → read body ≡ Some value → Some value ≡ json_of body
-value_read body value text is = rw (is_utf8-from_IsUtf8 body text) (sym is)
-
-pub value_missing : (body : List ℕ) → (IsUtf8 body → read body ≡ None) → None ≡ json_of body
-value_missing body none = by_text (is_utf8 body) refl
-  where
-    by_text : (t : Bool) → is_utf8 body ≡ t → None ≡ json_of body
-    by_text true e = rw e (sym (none (IsUtf8-from_is_utf8 body e)))
-    by_text false e = rw e refl
+use Rattle.http_desk.specs.JsonBodies.{json_of}
+use Rattle.http_desk.specs.OrderText.{OrderNumbers, before, close_asked, close_query, close_by_numbers, numbers_in, named_numbers}
 
 -- ---- what numbers ask
 
@@ -55,12 +41,12 @@ abbrev pub behind : List (List ℕ × ℕ) → Option (List (List ℕ × ℕ)) �
 behind done others = option_map (λ (rest : List (List ℕ × ℕ)). done ++ rest) others
 
 -- so far these elements were names with numbers
-abbrev pub ReadSoFar : (List ℕ → Option (List ℕ)) → List Value → ℕ → List (List ℕ × ℕ) → Type 0
-ReadSoFar name values count done =
-    named_numbers name (items_view values) ≡ behind done (named_numbers name (items_view (drop count values)))
+abbrev pub ReadSoFar : (Data → Option (List ℕ × ℕ)) → List Value → ℕ → List (List ℕ × ℕ) → Type 0
+ReadSoFar entry values count done =
+    named_numbers entry (items_view values) ≡ behind done (named_numbers entry (items_view (drop count values)))
 
-pub ReadSoFar-none : (name : List ℕ → Option (List ℕ)) (values : List Value) → ReadSoFar name values 0 []
-ReadSoFar-none name values = all (named_numbers name (items_view values))
+pub ReadSoFar-none : (entry : Data → Option (List ℕ × ℕ)) (values : List Value) → ReadSoFar entry values 0 []
+ReadSoFar-none entry values = all (named_numbers entry (items_view values))
   where
     all : (o : Option (List (List ℕ × ℕ))) → o ≡ behind [] o
     all (Some rest) = refl
@@ -70,27 +56,27 @@ behind_more : (done : List (List ℕ × ℕ)) (first : List ℕ × ℕ) (others 
 behind_more done first (Some rest) = ap Some (sym (append_assoc done (first ∷ []) rest))
 behind_more done first None = refl
 
-pub ReadSoFar-more : (name : List ℕ → Option (List ℕ)) (values : List Value) (count : ℕ) (done : List (List ℕ × ℕ)) (value : Value) (first : List ℕ × ℕ)
-    → ReadSoFar name values count done → drop count values ≡ value ∷ drop (count + 1) values → Some first ≡ named_number name (view value)
-    → ReadSoFar name values (count + 1) (done ++ first ∷ [])
-ReadSoFar-more name values count done value first so next is =
+pub ReadSoFar-more : (entry : Data → Option (List ℕ × ℕ)) (values : List Value) (count : ℕ) (done : List (List ℕ × ℕ)) (value : Value) (first : List ℕ × ℕ)
+    → ReadSoFar entry values count done → drop count values ≡ value ∷ drop (count + 1) values → Some first ≡ entry (view value)
+    → ReadSoFar entry values (count + 1) (done ++ first ∷ [])
+ReadSoFar-more entry values count done value first so next is =
     so
-    ∙ ap (λ (vs : List Value). behind done (named_numbers name (items_view vs))) next
-    ∙ ap (λ (o : Option (List ℕ × ℕ)). behind done (before o (named_numbers name (items_view (drop (count + 1) values))))) (sym is)
-    ∙ behind_more done first (named_numbers name (items_view (drop (count + 1) values)))
+    ∙ ap (λ (vs : List Value). behind done (named_numbers entry (items_view vs))) next
+    ∙ ap (λ (o : Option (List ℕ × ℕ)). behind done (before o (named_numbers entry (items_view (drop (count + 1) values))))) (sym is)
+    ∙ behind_more done first (named_numbers entry (items_view (drop (count + 1) values)))
 
-pub ReadSoFar-fails : (name : List ℕ → Option (List ℕ)) (values : List Value) (count : ℕ) (done : List (List ℕ × ℕ)) (value : Value)
-    → ReadSoFar name values count done → drop count values ≡ value ∷ drop (count + 1) values → None ≡ named_number name (view value)
-    → None ≡ named_numbers name (items_view values)
-ReadSoFar-fails name values count done value so next is =
+pub ReadSoFar-fails : (entry : Data → Option (List ℕ × ℕ)) (values : List Value) (count : ℕ) (done : List (List ℕ × ℕ)) (value : Value)
+    → ReadSoFar entry values count done → drop count values ≡ value ∷ drop (count + 1) values → None ≡ entry (view value)
+    → None ≡ named_numbers entry (items_view values)
+ReadSoFar-fails entry values count done value so next is =
     sym (so
-    ∙ ap (λ (vs : List Value). behind done (named_numbers name (items_view vs))) next
-    ∙ ap (λ (o : Option (List ℕ × ℕ)). behind done (before o (named_numbers name (items_view (drop (count + 1) values))))) (sym is))
+    ∙ ap (λ (vs : List Value). behind done (named_numbers entry (items_view vs))) next
+    ∙ ap (λ (o : Option (List ℕ × ℕ)). behind done (before o (named_numbers entry (items_view (drop (count + 1) values))))) (sym is))
 
-pub ReadSoFar-all : (name : List ℕ → Option (List ℕ)) (values : List Value) (count : ℕ) (done : List (List ℕ × ℕ))
-    → ReadSoFar name values count done → drop count values ≡ [] → Some done ≡ named_numbers name (items_view values)
-ReadSoFar-all name values count done so end =
-    sym (so ∙ ap (λ (vs : List Value). behind done (named_numbers name (items_view vs))) end ∙ ap Some (append-none done))
+pub ReadSoFar-all : (entry : Data → Option (List ℕ × ℕ)) (values : List Value) (count : ℕ) (done : List (List ℕ × ℕ))
+    → ReadSoFar entry values count done → drop count values ≡ [] → Some done ≡ named_numbers entry (items_view values)
+ReadSoFar-all entry values count done so end =
+    sym (so ∙ ap (λ (vs : List Value). behind done (named_numbers entry (items_view vs))) end ∙ ap Some (append-none done))
   where
     append-none : (xs : List (List ℕ × ℕ)) → xs ++ [] ≡ xs
     append-none [] = refl

@@ -105,7 +105,7 @@ AllText-walk pattern text path (name ∷ rest) token at t p = (
 -- the texts of the routes are ASCII
 routes_ascii : AllKeys (λ (route : RouteOf Route). is_ascii_text route.text ≡ true) office_routes
 unfolding office_routes with_book_routes with_file_routes matchit_on_literals
-routes_ascii = (refl, (refl, (refl, (refl, (refl, (refl, (refl, (refl, tt))))))))
+routes_ascii = (refl, (refl, (refl, (refl, (refl, (refl, (refl, (refl, (refl, (refl, tt))))))))))
 
 pub route_text : (path : List ℕ) (route : RouteOf Route) → first office_routes path ≡ Some route → IsAscii path
     → AllText (walk route.pattern route.text path route.names 0 0)

@@ -6,10 +6,12 @@ use Rattle.cwr_files.specs.declared.fault.FileFault.{FileFault}
 use Rattle.perf_returns.specs.Returns.{return_fault}
 use Rattle.perf_returns.specs.declared.fault.ReturnFault.{ReturnFault}
 use Rattle.share_rules.specs.declared.office.Office.{Office}
-use Rattle.society_core.specs.Answers.{added_answer, added_book, answer, close_answer, close_book, close_refusal, closed_answer, closed_book, known_as, next, pool_known_as, put_answer, put_book, return_answer, return_book, return_known_as, stored_answer, stored_book}
+use Rattle.sender_segments.specs.Ways.{End, end_stated}
+use Rattle.society_core.specs.Answers.{added_answer, added_book, answer, close_answer, close_book, close_refusal, closed_answer, closed_book, known_as, next, pool_known_as, end_answer, end_book, put_answer, put_book, return_answer, return_book, return_known_as, stated_answer, stated_book, stating_answer, stating_book, stored_answer, stored_book, taken_answer, taken_book}
 use Rattle.society_core.specs.Book.{Book}
+use Rattle.society_core.specs.Ends.{end_known_as, ended_before, fault_stated, number_past, place_stated}
 use Rattle.society_core.specs.Orders.{Order}
-use Rattle.society_core.specs.Requests.{Query, Puts, PutsReturn, Closes, ClosesFaulty, Inquires, AsksElsewhere, Reply, Refused}
+use Rattle.society_core.specs.Requests.{Query, Puts, States, StatesFaulty, PutsReturn, Closes, ClosesFaulty, Inquires, AsksElsewhere, Reply, Refused}
 use Rattle.society_core.specs.Runs.{Calls, Proceeds, Step, asks_store}
 use Rattle.society_core.specs.State.{Goes, State}
 use Rattle.society_core.specs.declared.order_fault.OrderFault.{OrderFault}
@@ -18,22 +20,46 @@ use Rattle.society_core.specs.declared.refusal.Refusal.TheVariants.{Order as NoO
 use Rattle.society_core.specs.declared.return_key.ReturnKey.{ReturnKey}
 use Rattle.society_core.specs.declared.store.Known.{Known}
 use Rattle.society_core.specs.declared.store.Known.TheVariants.{Absent, Same, Other}
+use Rattle.work_ids.specs.SegmentEnds.{StatedEnd}
+use Rattle.work_ids.specs.declared.segment_end.SegmentFault.{SegmentFault}
 use Rattle.http_desk.specs.Told.{IsShown, TellsReply}
 use Rattle.http_desk.specs.Wanted.{StandsFor}
 use Rattle.http_desk.specs.declared.asked.Asked.{Asked}
 use Rattle.http_desk.specs.declared.asked.Asked.TheVariants as asked_so
 use Rattle.http_desk.specs.declared.fed_put.FedPut.{FedPut}
 
+taken_stays : (book : Book) (sender : List ℕ) (number : ℕ) (body : List ℕ) (ended : Option ℕ)
+    → IsShown (taken_answer book sender number body ended) → taken_book book sender number body ended ≡ book
+taken_stays book sender number body (Some last) shown = refl
+taken_stays book sender number body None shown = absurd shown
+
 added_stays : (book : Book) (sender : List ℕ) (number : ℕ) (body : List ℕ) (fault : Option FileFault)
     → IsShown (added_answer book sender number body fault) → added_book book sender number body fault ≡ book
 added_stays book sender number body (Some fault) shown = refl
-added_stays book sender number body None shown = absurd shown
+added_stays book sender number body None shown = taken_stays book sender number body (ended_before book sender number) shown
 
 put_stays : (book : Book) (sender : List ℕ) (number : ℕ) (body : List ℕ) (known : Known)
     → IsShown (put_answer book sender number body known) → put_book book sender number body known ≡ book
 put_stays book sender number body Same shown = refl
 put_stays book sender number body Other shown = refl
 put_stays book sender number body Absent shown = added_stays book sender number body (file_fault sender body) shown
+
+stated_stays : (book : Book) (sender : List ℕ) (segment : ℕ) (end : End) (past : Option ℕ)
+    → IsShown (stated_answer book sender segment end past) → stated_book book sender segment end past ≡ book
+stated_stays book sender segment end (Some number) shown = refl
+stated_stays book sender segment end None shown = absurd shown
+
+end_stays : (book : Book) (sender : List ℕ) (segment : ℕ) (end : End) (known : Known)
+    → IsShown (end_answer book sender segment end known) → end_book book sender segment end known ≡ book
+end_stays book sender segment end Same shown = refl
+end_stays book sender segment end Other shown = refl
+end_stays book sender segment end Absent shown = stated_stays book sender segment end (number_past book sender segment end.last) shown
+
+stating_stays : (book : Book) (sender : List ℕ) (stated : StatedEnd) (fault : Option SegmentFault)
+    → IsShown (stating_answer book sender stated fault) → stating_book book sender stated fault ≡ book
+stating_stays book sender stated (Some fault) shown = refl
+stating_stays book sender stated None shown =
+    end_stays book sender (place_stated stated) (end_stated stated) (end_known_as book sender (place_stated stated) (end_stated stated)) shown
 
 stored_stays : (book : Book) (key : ReturnKey) (body : List ℕ) (fault : Option ReturnFault)
     → IsShown (stored_answer fault) → stored_book book key body fault ≡ book
@@ -60,6 +86,8 @@ close_stays book pool order Absent shown = closed_stays book pool order (close_r
 -- a reply that shows something leaves the book as it was
 pub shown_stays : (office : Office) (book : Book) (query : Query) → IsShown (answer office book query) → next book query ≡ book
 shown_stays office book (Puts sender number body) shown = put_stays book sender number body (known_as book sender number body) shown
+shown_stays office book (States sender stated) shown = stating_stays book sender stated (fault_stated stated) shown
+shown_stays office book (StatesFaulty fault) shown = refl
 shown_stays office book (PutsReturn key body) shown = return_stays book key body (return_known_as book key body) shown
 shown_stays office book (Closes pool order) shown = close_stays book pool order (pool_known_as book pool order) shown
 shown_stays office book (ClosesFaulty fault) shown = refl

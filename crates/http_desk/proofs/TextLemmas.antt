@@ -15,6 +15,13 @@ phrase_short TooLarge = lit≤ tt
 phrase_short Unprocessable = lit≤ tt
 phrase_short Unavailable = lit≤ tt
 
+-- three appends in a row
+pub join_three : (old a b c p q r : List ℕ) → p ≡ old ++ a → q ≡ p ++ b → r ≡ q ++ c → r ≡ old ++ (a ++ b ++ c)
+join_three old a b c p q r i j k = rw (k, j, i) (regroup_three old a b c)
+  where
+    regroup_three : (old a b c : List ℕ) → ((old ++ a) ++ b) ++ c ≡ old ++ (a ++ b ++ c)
+    regroup_three old a b c = simp append_assoc
+
 regroup : (old a b c d e f : List ℕ) → (((((old ++ a) ++ b) ++ c) ++ d) ++ e) ++ f ≡ old ++ (a ++ b ++ c ++ d ++ e ++ f)
 regroup old a b c d e f = simp append_assoc
 

@@ -9,6 +9,10 @@ use Rattle.work_ids.specs.Account.{account_text}
 use Rattle.work_ids.specs.Blanks.{without_trailing_blanks}
 use Rattle.work_ids.specs.Characters.{is_printable}
 use Rattle.work_ids.specs.Iswc.{printed}
+use Rattle.work_ids.specs.Segments.{segment_at, segment_of, sequence_of}
+use Rattle.work_ids.specs.SpelledNumber.{dated_text}
+use Rattle.work_ids.specs.declared.segment.Segment.{Segment}
+use Rattle.work_ids.specs.declared.segment.Segment.TheVariants.{Plain, Year}
 use Rattle.work_ids.specs.declared.account.Account.{Account}
 use Rattle.share_rules.specs.declared.holder.Holder.{Holder}
 use Rattle.works_core.specs.declared.verdict.Verdict.{Verdict}
@@ -19,6 +23,15 @@ use Rattle.society_core.specs.Requests.{Shown}
 abbrev pub whole_number : ℕ → Data
 whole_number value = number (unsigned value)
 
+-- the number of a segment: a plain one is a number, one of a year a string as in "26-0001"
+abbrev pub number_json_in : Segment → ℕ → Data
+number_json_in Plain sequence = whole_number sequence
+number_json_in (Year year) sequence = string (dated_text year sequence)
+
+-- the number with a rank; a front at a year of which nothing is there has number 0000
+unfoldable pub number_json : ℕ → Data
+number_json rank = number_json_in (segment_at (segment_of rank)) (sequence_of rank)
+
 -- an array of these values
 abbrev pub array_of : List Data → Data
 array_of values = array (items_of values)
@@ -26,7 +39,7 @@ array_of values = array (items_of values)
 -- how a sender stands: its front, and the numbers that are held, ascending
 abbrev pub sender_json : ℕ → List ℕ → Data
 sender_json front held =
-    object (member (codes "front") (whole_number front) (member (codes "held") (array_of (map whole_number held)) no_members))
+    object (member (codes "front") (number_json front) (member (codes "held") (array_of (map number_json held)) no_members))
 
 -- a verdict: the work's ordinal and which revision it is, or the fault
 abbrev pub verdict_json : Verdict → Data
@@ -76,7 +89,7 @@ work_json work =
     (member (codes "ordinal") (whole_number work.version.ordinal)
     (member (codes "revision") (whole_number work.version.revision)
     (member (codes "title") (string (title_text work.title))
-    (member (codes "transmission") (whole_number work.version.transmission) no_members))))))))
+    (member (codes "transmission") (number_json work.version.transmission) no_members))))))))
 
 -- the text of how a sender stands
 unfoldable pub sender_json_text : ℕ → List ℕ → List ℕ

@@ -1,11 +1,14 @@
 pub mod Answering
 pub mod BodyLength
 pub mod Counted
+pub mod EndText
 pub mod Feeding
 pub mod Fields
 pub mod Head
 pub mod Input
 pub mod Json
+pub mod JsonBodies
+pub mod NumberTexts
 pub mod OrderRead
 pub mod OrderText
 pub mod Outbox

@@ -1,48 +1,64 @@
 -- The shape of an order that is spelled in JSON, and what a close by it asks (profile).
-use Rattle.std.specs.Prelude.{ℕ, Bool, false, List, [], ◌∷◌, ◌==◌, codes, if◌then◌else◌, Option, Some, None, option_and_then}
+use Rattle.std.specs.Prelude.{ℕ, Bool, false, List, [], ◌∷◌, ◌==◌, codes, if◌then◌else◌, Option, Some, None, option_and_then, unwrap_or}
 use Rattle.std.specs.Option.{option_map, option_zip}
 use Rattle.std.specs.Result.{result_ok}
-use Rattle.std.specs.Str.{is_utf8}
-use Rattle.serde_json.specs.Data.{Data, Items, no_items, item, Members}
-use Rattle.serde_json.specs.Events.{items_len, members_len}
-use Rattle.serde_json.specs.Find.{at, get, as_array, as_number, as_object, as_str, as_u64}
-use Rattle.serde_json.specs.Read.{read}
+use Rattle.serde_json.specs.Data.{Data, Items, no_items, item}
+use Rattle.serde_json.specs.Events.{items_len}
+use Rattle.serde_json.specs.Find.{at, get, as_array, as_object, as_str}
 use Rattle.work_ids.specs.Reporter.{reporter_of}
 use Rattle.work_ids.specs.SenderKey.{sender_key_of}
+use Rattle.work_ids.specs.SpelledNumber.{dated_in_text, transmission_number_spelled}
+use Rattle.work_ids.specs.declared.spelled_number.SpelledNumber.{SpelledNumber}
+use Rattle.work_ids.specs.declared.spelled_number.SpelledNumber.TheVariants.{Plain}
 use Rattle.society_core.specs.Orders.{order_fault, order_of}
 use Rattle.society_core.specs.Requests.{Query, Closes, ClosesFaulty}
 use Rattle.society_core.specs.declared.order_fault.OrderFault.{OrderFault}
 use Rattle.society_core.specs.declared.order_fault.OrderFault.TheVariants.{Shape}
+use Rattle.http_desk.specs.JsonBodies.{has_members, json_of, whole_in, whole_member}
 
--- what an order's JSON spells, whatever its limits: an amount, of each sender of the cut a number, and the returns
+-- what an order's JSON spells, whatever its limits: an amount, of each sender of the cut the rank of a number, and the returns
 pub record OrderNumbers : Type 0 where
   pub amount : ℕ
   pub cut : List (List ℕ × ℕ)
   pub returns : List (List ℕ × ℕ)
 
--- a whole number from 0
-abbrev pub whole_in : Data → Option ℕ
-whole_in value = option_and_then as_u64 (as_number value)
+-- the number that a whole number or a text spells: a text is one of a year, as in 26-0001 (profile)
+abbrev pub spelled_by : Option ℕ → Option (List ℕ) → Option SpelledNumber
+spelled_by (Some number) text = Some (Plain number)
+spelled_by None (Some text) = dated_in_text text
+spelled_by None None = None
+
+-- the number that a value spells
+abbrev pub spelled_in : Data → Option SpelledNumber
+spelled_in value = spelled_by (whole_in value) (as_str value)
+
+-- the rank of what is spelled; 0, which is out of range, where it is no number of a transmission (profile)
+abbrev pub rank_spelled : SpelledNumber → ℕ
+rank_spelled spelled = unwrap_or (transmission_number_spelled spelled) 0
+
+-- the rank of the number that a value spells
+abbrev pub rank_in : Data → Option ℕ
+rank_in value = option_map rank_spelled (spelled_in value)
 
 -- there are two elements
 abbrev pub are_two : Option Items → Bool
 are_two (Some items) = items_len items == 2
 are_two None = false
 
--- a text and a whole number, as an array of the two
-abbrev pub pair_in : Data → Option (List ℕ × ℕ)
-pair_in value =
+-- a text and a number, which is read so, as an array of the two
+abbrev pub pair_in : (Data → Option ℕ) → Data → Option (List ℕ × ℕ)
+pair_in number value =
     if are_two (as_array value)
-    then option_zip (option_and_then as_str (at 0 value)) (option_and_then whole_in (at 1 value))
+    then option_zip (option_and_then as_str (at 0 value)) (option_and_then number (at 1 value))
     else None
 
 -- the text names something, which is known as other bytes
 abbrev pub named_pair : (List ℕ → Option (List ℕ)) → List ℕ × ℕ → Option (List ℕ × ℕ)
 named_pair name pair = option_map (λ known. (known, pair.1)) (name pair.0)
 
--- a name that reads well and a whole number from 0
-abbrev pub named_number : (List ℕ → Option (List ℕ)) → Data → Option (List ℕ × ℕ)
-named_number name value = option_and_then (named_pair name) (pair_in value)
+-- a name that reads well and a number
+abbrev pub named_number : (List ℕ → Option (List ℕ)) → (Data → Option ℕ) → Data → Option (List ℕ × ℕ)
+named_number name number value = option_and_then (named_pair name) (pair_in number value)
 
 -- the first and all others, where they are there
 abbrev pub before : Option (List ℕ × ℕ) → Option (List (List ℕ × ℕ)) → Option (List (List ℕ × ℕ))
@@ -51,13 +67,13 @@ before (Some first) None = None
 before None others = None
 
 -- names with numbers, where all elements are such
-abbrev pub named_numbers : (List ℕ → Option (List ℕ)) → Items → Option (List (List ℕ × ℕ))
-named_numbers name no_items = Some []
-named_numbers name (item value items) = before (named_number name value) (named_numbers name items)
+abbrev pub named_numbers : (Data → Option (List ℕ × ℕ)) → Items → Option (List (List ℕ × ℕ))
+named_numbers entry no_items = Some []
+named_numbers entry (item value items) = before (entry value) (named_numbers entry items)
 
 -- an array of them
-abbrev pub named_numbers_in : (List ℕ → Option (List ℕ)) → Data → Option (List (List ℕ × ℕ))
-named_numbers_in name value = option_and_then (named_numbers name) (as_array value)
+abbrev pub named_numbers_in : (Data → Option (List ℕ × ℕ)) → Data → Option (List (List ℕ × ℕ))
+named_numbers_in entry value = option_and_then (named_numbers entry) (as_array value)
 
 -- the sender key that the bytes spell
 abbrev pub sender_of : List ℕ → Option (List ℕ)
@@ -67,6 +83,14 @@ sender_of bytes = result_ok (sender_key_of bytes)
 abbrev pub reporter_named : List ℕ → Option (List ℕ)
 reporter_named bytes = result_ok (reporter_of bytes)
 
+-- a sender and the rank of the number of one of its transmissions
+abbrev pub sender_entry : Data → Option (List ℕ × ℕ)
+sender_entry value = named_number sender_of rank_in value
+
+-- a reporter and the number of one of its returns, a whole number from 0
+abbrev pub return_entry : Data → Option (List ℕ × ℕ)
+return_entry value = named_number reporter_named whole_in value
+
 -- the numbers, where all three are there
 abbrev pub numbers_by : Option ℕ → Option (List (List ℕ × ℕ)) → Option (List (List ℕ × ℕ)) → Option OrderNumbers
 numbers_by (Some amount) (Some cut) (Some returns) = Some (record { amount = amount; cut = cut; returns = returns })
@@ -74,33 +98,20 @@ numbers_by (Some amount) (Some cut) None = None
 numbers_by (Some amount) None returns = None
 numbers_by None cut returns = None
 
--- there are three members
-abbrev pub are_three : Option Members → Bool
-are_three (Some members) = members_len members == 3
-are_three None = false
-
--- the amount that an object spells
-abbrev pub amount_in : Data → Option ℕ
-amount_in value = option_and_then whole_in (get (codes "amount") value)
-
--- the cut that it spells
+-- the cut that an object spells
 abbrev pub cut_in : Data → Option (List (List ℕ × ℕ))
-cut_in value = option_and_then (named_numbers_in sender_of) (get (codes "cut") value)
+cut_in value = option_and_then (named_numbers_in sender_entry) (get (codes "cut") value)
 
 -- the returns that it spells
 abbrev pub returns_in : Data → Option (List (List ℕ × ℕ))
-returns_in value = option_and_then (named_numbers_in reporter_named) (get (codes "returns") value)
+returns_in value = option_and_then (named_numbers_in return_entry) (get (codes "returns") value)
 
 -- what an object spells: its members are the amount, the cut and the returns, and no others
 abbrev pub numbers_in : Data → Option OrderNumbers
 numbers_in value =
-    if are_three (as_object value)
-    then numbers_by (amount_in value) (cut_in value) (returns_in value)
+    if has_members 3 (as_object value)
+    then numbers_by (whole_member (codes "amount") value) (cut_in value) (returns_in value)
     else None
-
--- the value that a body is, where it is JSON in UTF-8 (RFC 8259)
-abbrev pub json_of : List ℕ → Option Data
-json_of body = if is_utf8 body then read body else None
 
 -- what numbers without that fault ask of a pool
 abbrev pub close_by_numbers : ℕ → OrderNumbers → Option OrderFault → Query

@@ -13,16 +13,20 @@ use Rattle.matchit.specs.Seek.{first}
 use Rattle.matchit.specs.declared.error.InsertError.{InsertError}
 use Rattle.percent_encoding.specs.Percent.{percent_decode}
 use Rattle.work_ids.specs.Account.{account_of}
-use Rattle.work_ids.specs.Numbers.{is_pool_number, is_return_number, is_transmission_number, number_in_text}
+use Rattle.work_ids.specs.FileNames.{number_in_name}
+use Rattle.work_ids.specs.Numbers.{is_plain_number, is_pool_number, is_return_number, number_in_text}
 use Rattle.work_ids.specs.WorkNumber.{work_number_of}
 use Rattle.work_ids.specs.declared.account.Account.{Account as AccountKey}
+use Rattle.work_ids.specs.declared.segment.Segment.{Segment as NumberSegment}
 use Rattle.society_core.specs.Keys.{return_key}
 use Rattle.society_core.specs.Requests.{Query, Puts, PutsReturn, Inquires, AsksElsewhere}
 use Rattle.society_core.specs.declared.inquiry.Inquiry.{Inquiry}
 use Rattle.society_core.specs.declared.inquiry.Inquiry.TheVariants as inquiries
 use Rattle.http_desk.specs.declared.routes.Route.{Route}
-use Rattle.http_desk.specs.declared.routes.Route.TheVariants.{Transmission, Acknowledgement, Return, Sender, Verdicts, Work, Account, Pool}
+use Rattle.http_desk.specs.declared.routes.Route.TheVariants.{Transmission, File, Segment, Acknowledgement, Return, Sender, Verdicts, Work, Account, Pool}
 use Rattle.http_desk.specs.BodyLength.{is_put}
+use Rattle.http_desk.specs.EndText.{state_query}
+use Rattle.http_desk.specs.NumberTexts.{number_spelled, segment_named}
 use Rattle.http_desk.specs.OrderText.{close_query, reporter_named, sender_of}
 use Rattle.http_desk.specs.Part.{Part}
 
@@ -35,12 +39,14 @@ added (Err error) route rows = rows
 abbrev pub with_route : List ℕ → Route → RowsOf (RouteOf Route) → RowsOf (RouteOf Route)
 with_route text route rows = added (parse_route text) route rows
 
--- the routes of what comes as a file, and of its acknowledgement (profile)
+-- the routes of what comes as a file, of its acknowledgement, and of the ends of segments (profile)
 unfoldable pub with_file_routes : RowsOf (RouteOf Route) → RowsOf (RouteOf Route)
 with_file_routes rows =
     with_route (codes "/v1/returns/{reporter}/{n}") Return
     (with_route (codes "/v1/senders/{sender}/acks/{n}") Acknowledgement
-    (with_route (codes "/v1/senders/{sender}/transmissions/{n}") Transmission rows))
+    (with_route (codes "/v1/senders/{sender}/segments/{segment}") Segment
+    (with_route (codes "/v1/senders/{sender}/files/{name}") File
+    (with_route (codes "/v1/senders/{sender}/transmissions/{n}") Transmission rows))))
 
 -- the routes of what the book shows of senders and accounts, and of pools (profile)
 unfoldable pub with_book_routes : RowsOf (RouteOf Route) → RowsOf (RouteOf Route)
@@ -71,9 +77,21 @@ parameter name parts = option_map percent_decode (named name parts)
 abbrev pub sender_in_path : List (List ℕ × List ℕ) → Option (List ℕ)
 sender_in_path parts = option_and_then sender_of (parameter (codes "sender") parts)
 
--- the number of a transmission in it
+-- the plain number of a transmission in it
+abbrev pub plain_number_in_path : List (List ℕ × List ℕ) → Option ℕ
+plain_number_in_path parts = option_and_then (number_in_text is_plain_number) (parameter (codes "n") parts)
+
+-- the number of a transmission in it, plain or of a year
 abbrev pub transmission_number_in_path : List (List ℕ × List ℕ) → Option ℕ
-transmission_number_in_path parts = option_and_then (number_in_text is_transmission_number) (parameter (codes "n") parts)
+transmission_number_in_path parts = option_and_then number_spelled (parameter (codes "n") parts)
+
+-- the number in the name of a file in it, which is sent to this society
+abbrev pub file_number_in_path : ℕ → List (List ℕ × List ℕ) → Option ℕ
+file_number_in_path society parts = option_and_then (number_in_name society) (parameter (codes "name") parts)
+
+-- the segment of a sender's numbers in it
+abbrev pub segment_in_path : List (List ℕ × List ℕ) → Option NumberSegment
+segment_in_path parts = option_and_then segment_named (parameter (codes "segment") parts)
 
 -- the reporter in it
 abbrev pub reporter_in_path : List (List ℕ × List ℕ) → Option (List ℕ)
@@ -106,14 +124,18 @@ abbrev pub asked_of : {X : Type 0} → (X → Query) → Option X → Query
 asked_of asks (Some thing) = asks thing
 asked_of asks None = AsksElsewhere
 
--- what a put asks of a route, by what its parameters took and the body: a route reads its own and no other
-abbrev pub asked_by_put : Route → List (List ℕ × List ℕ) → List ℕ → Query
-asked_by_put Transmission parts body =
-    asked_of (λ query. query) (of_both (λ sender number. Puts sender number body) (sender_in_path parts) (transmission_number_in_path parts))
-asked_by_put Return parts body =
+-- what a put asks the office of a society of a route, by what its parameters took and the body: a route reads its own and no other
+abbrev pub asked_by_put : ℕ → Route → List (List ℕ × List ℕ) → List ℕ → Query
+asked_by_put society Transmission parts body =
+    asked_of (λ query. query) (of_both (λ sender number. Puts sender number body) (sender_in_path parts) (plain_number_in_path parts))
+asked_by_put society File parts body =
+    asked_of (λ query. query) (of_both (λ sender number. Puts sender number body) (sender_in_path parts) (file_number_in_path society parts))
+asked_by_put society Segment parts body =
+    asked_of (λ query. query) (of_both (λ sender segment. state_query sender segment body) (sender_in_path parts) (segment_in_path parts))
+asked_by_put society Return parts body =
     asked_of (λ query. query) (of_both (λ reporter number. PutsReturn (return_key reporter number) body) (reporter_in_path parts) (return_number_in_path parts))
-asked_by_put Pool parts body = asked_of (λ pool. close_query pool body) (pool_number_in_path parts)
-asked_by_put other parts body = AsksElsewhere
+asked_by_put society Pool parts body = asked_of (λ pool. close_query pool body) (pool_number_in_path parts)
+asked_by_put society other parts body = AsksElsewhere
 
 -- what a get asks to be shown of a route, whatever its body
 abbrev pub inquiry_at : Route → List (List ℕ × List ℕ) → Option Inquiry
@@ -130,25 +152,26 @@ abbrev pub asked_by_get : Route → List (List ℕ × List ℕ) → Query
 asked_by_get route parts = asked_of Inquires (inquiry_at route parts)
 
 -- what is asked of a route, by whether the method is PUT
-abbrev pub asked_of_route : Bool → Route → List (List ℕ × List ℕ) → List ℕ → Query
-asked_of_route true route parts body = asked_by_put route parts body
-asked_of_route false route parts body = asked_by_get route parts
+abbrev pub asked_of_route : ℕ → Bool → Route → List (List ℕ × List ℕ) → List ℕ → Query
+asked_of_route society true route parts body = asked_by_put society route parts body
+asked_of_route society false route parts body = asked_by_get route parts
 
 -- what is asked, where a route takes the path
-abbrev pub asked_by : Bool → List ℕ → Option (RouteOf Route) → List ℕ → Query
-asked_by put path (Some route) body =
-    asked_of_route put route.value (walk route.pattern route.text path route.names 0 0) body
-asked_by put path None body = AsksElsewhere
+abbrev pub asked_by : ℕ → Bool → List ℕ → Option (RouteOf Route) → List ℕ → Query
+asked_by society put path (Some route) body =
+    asked_of_route society put route.value (walk route.pattern route.text path route.names 0 0) body
+asked_by society put path None body = AsksElsewhere
 
--- what is asked by a method, a target and a body
-abbrev pub query_for : Bool → List ℕ → List ℕ → Query
-query_for put target body = if is_path target then asked_by put target (first office_routes target) body else AsksElsewhere
+-- what is asked of the office of a society by a method, a target and a body
+abbrev pub query_for : ℕ → Bool → List ℕ → List ℕ → Query
+query_for society put target body =
+    if is_path target then asked_by society put target (first office_routes target) body else AsksElsewhere
 
--- what a request as bytes asks
-abbrev pub request_of : Part → Query
-request_of part = query_for (is_put part.head.method) part.head.target part.body
+-- what a request as bytes asks of the office of a society
+abbrev pub request_of : ℕ → Part → Query
+request_of society part = query_for society (is_put part.head.method) part.head.target part.body
 
--- a head asks to put a transmission, whatever the body behind it
+-- a head asks the office of some society to put a transmission, whatever the body behind it: the name of a file tells of which
 abbrev pub PutsTransmission : RequestHead → Type 0
 PutsTransmission head =
-    (sender : List ℕ) × (number : ℕ) × ((body : List ℕ) → query_for (is_put head.method) head.target body ≡ Puts sender number body)
+    (society : ℕ) × (sender : List ℕ) × (number : ℕ) × ((body : List ℕ) → query_for society (is_put head.method) head.target body ≡ Puts sender number body)

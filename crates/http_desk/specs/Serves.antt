@@ -2,6 +2,7 @@
 use Rattle.std.specs.Prelude.{◌≡◌, ◌⊎◌, ℕ, ◌+◌, ◌*◌, ◌≤◌, IsTrue, IfSome, List, [], ◌∷◌, ◌++◌, length, map, Option}
 use Rattle.std.specs.Io.KnownBytes.{Appends, Consumes}
 use Rattle.std.specs.List.{flat_map, AllByRecursion}
+use Rattle.share_rules.specs.declared.office.Office.{Office}
 use Rattle.society_core.specs.Book.{Book}
 use Rattle.society_core.specs.Entries.{Entry, IsIn}
 use Rattle.society_core.specs.Headline.{OneContent, HoldsWhatCame}
@@ -25,7 +26,11 @@ use Rattle.http_desk.specs.declared.head.Head.{Head}
 
 -- a request of a connection was answered so
 abbrev pub Steps : {S : Type 0} → (S → State) → S → S → Part → Reply → Type 0
-Steps state desk new_desk part reply = Calls state desk new_desk (request_of part) reply
+Steps state desk new_desk part reply = Calls state desk new_desk (request_of (state desk).office.society part) reply
+
+-- what the requests of a connection ask of an office
+abbrev pub queries_of : Office → List Part → List Query
+queries_of office parts = map (request_of office.society) parts
 
 -- the request at the front of the bytes, of whose head this is kept, was answered by such a call
 abbrev pub IsAnswered : {S : Type 0} → (S → State) → S → S → List ℕ → Head → Reply → Type 0
@@ -45,11 +50,11 @@ Answered state (query ∷ queries) [] desk new_desk = ⊥
 pub record AreAnswered {S : Type 0} (state : S → State) (parts : List Part) (replies : List Reply) (desk new_desk : S) : Type 0 where
   pub each : length replies ≡ length parts
   pub office : (state new_desk).office ≡ (state desk).office
-  pub steps : Answered state (map request_of parts) replies desk new_desk
+  pub steps : Answered state (queries_of (state desk).office parts) replies desk new_desk
   pub stays : StaysClean (state desk) (state new_desk)
-  pub run : IsTrue (state new_desk).is_clean → Run (state desk).office (state desk).book (map request_of parts) replies (state new_desk).book
-  pub came : IsTrue (state new_desk).is_clean → OneContent (state desk).book (map request_of parts) replies
-      → HoldsWhatCame (state desk).book (map request_of parts) replies (state new_desk).book
+  pub run : IsTrue (state new_desk).is_clean → Run (state desk).office (state desk).book (queries_of (state desk).office parts) replies (state new_desk).book
+  pub came : IsTrue (state new_desk).is_clean → OneContent (state desk).book (queries_of (state desk).office parts) replies
+      → HoldsWhatCame (state desk).book (queries_of (state desk).office parts) replies (state new_desk).book
 
 -- First these requests were answered and then more, with a store in between. Where that one is clean, the first are a run from the
 -- opening book, its book holds what came, and whatever befell the store later, its entries stand in the later book where the store is

@@ -1,6 +1,7 @@
 -- The bytes of an answer (RFC 9112, section 4; the fields and bodies: profile).
 use Rattle.std.specs.Prelude.{ℕ, Bool, true, false, List, [], ◌∷◌, ◌++◌, length, codes, decimal, if◌then◌else◌, unwrap_or}
 use Rattle.http.specs.StatusCode.{reason_phrase}
+use Rattle.society_core.specs.Ends.{end_fault_number}
 use Rattle.society_core.specs.Orders.{order_fault_number}
 use Rattle.society_core.specs.declared.answers.Arrival.{Arrival}
 use Rattle.society_core.specs.declared.answers.Receipt.{Receipt}
@@ -8,8 +9,8 @@ use Rattle.society_core.specs.declared.answers.Receipt.TheVariants.{New, Repeate
 use Rattle.society_core.specs.declared.answers.Standing.{Standing}
 use Rattle.society_core.specs.declared.answers.Standing.TheVariants.{Applied, Held}
 use Rattle.society_core.specs.declared.refusal.Refusal.{Refusal}
-use Rattle.society_core.specs.declared.refusal.Refusal.TheVariants.{Reused, File, Csv, Order, Cut, ReturnUnknown, ReturnPaid, Unknown, Unavailable}
-use Rattle.society_core.specs.Requests.{Reply, Arrived, Stored, Closed, Showed, Refused, Showing, Acknowledged, Stands, Described, Judged, Credited, Owed}
+use Rattle.society_core.specs.declared.refusal.Refusal.TheVariants.{Reused, File, Ended as EndedBefore, Segment, End as NoEnd, Csv, Order, Cut, ReturnUnknown, ReturnPaid, Unknown, Unavailable}
+use Rattle.society_core.specs.Requests.{Reply, Arrived, Ended, Stored, Closed, Showed, Refused, Showing, Acknowledged, Stands, Described, Judged, Credited, Owed}
 use Rattle.work_ids.specs.Blanks.{without_trailing_blanks}
 use Rattle.http_desk.specs.declared.status.ContentType.{ContentType}
 use Rattle.http_desk.specs.declared.status.ContentType.TheVariants as types
@@ -17,6 +18,7 @@ use Rattle.http_desk.specs.declared.status.Status.{Status}
 use Rattle.http_desk.specs.declared.status.Status.TheVariants as statuses
 use Rattle.http_desk.specs.BodyLength.{closes}
 use Rattle.http_desk.specs.Json.{balance_json_text, sender_json_text, verdicts_json_text, work_json_text}
+use Rattle.http_desk.specs.NumberTexts.{number_text}
 use Rattle.http_desk.specs.Part.{Part}
 use Rattle.http_desk.specs.Table.{table_text}
 use Rattle.http_desk.specs.declared.connection_end.End.{End}
@@ -77,7 +79,7 @@ standing_text Held = codes "held"
 -- the body of an accepted transmission: its sender's front and whether it is applied
 abbrev pub arrival_text : Arrival → List ℕ
 arrival_text arrival =
-    codes "{\"front\":" ++ decimal arrival.front ++ codes ",\"state\":\"" ++ standing_text arrival.standing ++ codes "\"}"
+    codes "{\"front\":" ++ number_text arrival.front ++ codes ",\"state\":\"" ++ standing_text arrival.standing ++ codes "\"}"
 
 -- the status of a transmission that was not there: applied at once, or held
 abbrev pub standing_status : Standing → Status
@@ -88,10 +90,14 @@ standing_status Held = statuses.Accepted
 abbrev pub arrival_status : Arrival → Status
 arrival_status arrival = if arrival.known then statuses.Done else standing_status arrival.standing
 
--- the status of a return or an order that was taken: OK for a repeat (profile)
+-- the status of an end, a return or an order that was taken: OK for a repeat (profile)
 abbrev pub receipt_status : Receipt → Status
 receipt_status New = statuses.Created
 receipt_status Repeated = statuses.Done
+
+-- the body of an end that is taken down: its sender's front (profile)
+abbrev pub ended_text : ℕ → List ℕ
+ended_text front = codes "{\"front\":" ++ number_text front ++ codes ",\"state\":\"ended\"}"
 
 -- the body of a return that is stored (profile)
 abbrev pub stored_text : List ℕ
@@ -101,10 +107,10 @@ stored_text = codes "{\"state\":\"stored\"}"
 abbrev pub closed_text : ℕ → List ℕ
 closed_text pool = codes "{\"pool\":" ++ decimal pool ++ codes ",\"state\":\"closed\"}"
 
--- the body of a cut above its sender's front (profile)
+-- the body of a cut that is not in its sender's line (profile)
 abbrev pub cut_text : List ℕ → ℕ → List ℕ
 cut_text sender front =
-    codes "{\"error\":\"cut\",\"front\":" ++ decimal front ++ codes ",\"sender\":\"" ++ sender ++ codes "\"}"
+    codes "{\"error\":\"cut\",\"front\":" ++ number_text front ++ codes ",\"sender\":\"" ++ sender ++ codes "\"}"
 
 -- the body of a return that is not there (profile)
 abbrev pub return_text : List ℕ → ℕ → List ℕ
@@ -123,6 +129,9 @@ abbrev pub refusal_text : Refusal → List ℕ
 refusal_text Reused = codes "{\"error\":\"reused\"}"
 refusal_text (File fault) =
     codes "{\"error\":\"file\",\"fault\":" ++ decimal fault.number ++ codes ",\"line\":" ++ decimal fault.line ++ codes "}"
+refusal_text (EndedBefore last) = codes "{\"error\":\"ended\",\"last\":" ++ decimal last ++ codes "}"
+refusal_text (Segment number) = codes "{\"error\":\"segment\",\"number\":" ++ number_text number ++ codes "}"
+refusal_text (NoEnd fault) = codes "{\"error\":\"segment\",\"fault\":" ++ decimal (end_fault_number fault) ++ codes "}"
 refusal_text (Csv fault) =
     codes "{\"error\":\"csv\",\"fault\":" ++ decimal fault.number ++ codes ",\"row\":" ++ decimal fault.row ++ codes "}"
 refusal_text (Order fault) = codes "{\"error\":\"order\",\"fault\":" ++ decimal (order_fault_number fault) ++ codes "}"
@@ -136,6 +145,9 @@ refusal_text Unavailable = codes "{\"error\":\"busy\"}"
 abbrev pub refusal_status : Refusal → Status
 refusal_status Reused = statuses.Conflict
 refusal_status (File fault) = statuses.Unprocessable
+refusal_status (EndedBefore last) = statuses.Conflict
+refusal_status (Segment number) = statuses.Conflict
+refusal_status (NoEnd fault) = statuses.Unprocessable
 refusal_status (Csv fault) = statuses.Unprocessable
 refusal_status (Order fault) = statuses.Unprocessable
 refusal_status (Cut sender front) = statuses.Conflict
@@ -166,6 +178,7 @@ showing_text (Owed account units) = balance_json_text account units
 -- the bytes of an answer; close says that the connection ends after it
 abbrev pub reply_text : Reply → Bool → List ℕ
 reply_text (Arrived arrival) close = answer_text (arrival_status arrival) types.Json (arrival_text arrival) close
+reply_text (Ended receipt front) close = answer_text (receipt_status receipt) types.Json (ended_text front) close
 reply_text (Stored receipt) close = answer_text (receipt_status receipt) types.Json stored_text close
 reply_text (Closed receipt pool) close = answer_text (receipt_status receipt) types.Json (closed_text pool) close
 reply_text (Showed showing) close = answer_text statuses.Done (showing_type showing) (showing_text showing) close

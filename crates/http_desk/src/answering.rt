@@ -55,7 +55,7 @@ fn answer_front<S: Store>(
     wanted: WithBody,
 ) -> Answer
     requires part { HasPart bytes.now head.now }
-    requires asks { PartAsks bytes.now head.now (Wanted.Whole wanted) }
+    requires asks { PartAsks (S.state desk.old).office.society bytes.now head.now (Wanted.Whole wanted) }
     ensures { IsAnswered S.state desk.old desk.new bytes.now head.now (reply_of result) }
 {
     let body = &bytes[head.length..head.length + head.body as usize];
@@ -75,7 +75,8 @@ fn answer_next<S: Store>(
 ) -> Told
     requires ready { IsReady room.old }
     requires part { HasPart (unread room.old.input) head.now }
-    requires asks { PartAsks (unread room.old.input) head.now (Wanted.Whole wanted) }
+    requires asks { PartAsks (S.state desk.old).office.society (unread room.old.input) head.now
+        (Wanted.Whole wanted) }
     ensures step { IsAnswered S.state desk.old desk.new (unread room.old.input) head.now
         (told_reply result) }
     ensures told { IsReadyToSend result }
@@ -102,7 +103,8 @@ fn answer_whole<S: Store, R: Read>(
 ) -> Result<Next, FaultKind>
     requires ready { IsReady room.old }
     requires head { HasHead (unread room.old.input) head }
-    requires asks { AsksFor (unread room.old.input) head (Wanted.Whole wanted) }
+    requires asks { AsksFor (S.state desk.old).office.society (unread room.old.input) head
+        (Wanted.Whole wanted) }
     ensures comes { ComesNext S.state R.remaining desk.old desk.new reader.old reader.new
         room.old.input room.new.input result }
     ensures told { IfOk result IsReadyNext }
@@ -138,7 +140,8 @@ fn answer_fed<S: Store, R: Read>(
 ) -> Result<Next, FaultKind>
     requires ready { IsReady room.old }
     requires head { HasHead (unread room.old.input) head.now }
-    requires asks { AsksFor (unread room.old.input) head.now (Wanted.Fed key) }
+    requires asks { AsksFor (S.state desk.old).office.society (unread room.old.input) head.now
+        (Wanted.Fed key) }
     ensures comes { ComesNext S.state R.remaining desk.old desk.new reader.old reader.new
         room.old.input room.new.input result }
     ensures told { IfOk result IsReadyNext }
@@ -166,17 +169,17 @@ fn answer_fed<S: Store, R: Read>(
     }
 }
 
-// What the head at the front asks.
-fn wanted_at_front(room: &mut Room, head: &Head) -> Wanted
+// What the head at the front asks of the office of a society.
+fn wanted_at_front(society: u16, room: &mut Room, head: &Head) -> Wanted
     requires ready { IsReady room.old }
     requires head { HasHead (unread room.old.input) head.now }
-    ensures asks { AsksFor (unread room.old.input) head.now result }
+    ensures asks { AsksFor society (unread room.old.input) head.now result }
     ensures input { room.new.input ≡ room.old.input }
     ensures outbox { room.new.outbox ≡ room.old.outbox }
     ensures ready { IsReady room.new }
 {
     let target = head.target.of(room.input.unread());
-    wanted_for(&room.router, &mut room.parameter, head.put, target)
+    wanted_for(society, &room.router, &mut room.parameter, head.put, target)
 }
 
 // Answers the request whose head stands at the front.
@@ -200,7 +203,8 @@ fn answer_head<S: Store, R: Read>(
     ensures outbox { room.new.outbox ≡ room.old.outbox }
     ensures ready { IsReady room.new }
 {
-    match wanted_at_front(room, &head) {
+    let society = desk.office().society;
+    match wanted_at_front(society, room, &head) {
         Wanted::Fed(key) => answer_fed(alloc, desk, reader, room, &head, key),
         Wanted::Whole(wanted) => answer_whole(alloc, desk, reader, room, head, wanted),
     }

@@ -8,6 +8,7 @@ ghost use Rattle.work_ids.specs.Account.{account_text};
 ghost use Rattle.work_ids.specs.Blanks.{without_trailing_blanks};
 ghost use Rattle.http_desk.specs.Json as spec;
 
+use crate::number_text::{FIRST_YEAR, dated_text_of};
 use percent_encoding::{AsciiSet, CONTROLS, ascii_set, percent_encode};
 use serde_json::{Value, json};
 use share_rules::Holder;
@@ -48,13 +49,23 @@ fn account_value(alloc: Global, account: &Account) -> Result<Value, AllocError>
     string_value(text)
 }
 
+// The number with a rank, as a value.
+fn rank_value(alloc: Global, rank: u32) -> Result<Value, AllocError>
+    ensures { IfOk result (λ value. view value ≡ spec.number_json rank) }
+{
+    if rank < FIRST_YEAR {
+        return Ok(Value::from(rank));
+    }
+    string_value(Vec::from_slice(alloc, &dated_text_of(rank))?)
+}
+
 // The numbers of transmissions, as values.
 fn number_values(alloc: Global, numbers: &[TransmissionNumber]) -> Result<Vec<Value>, AllocError>
-    ensures { IfOk result (λ values. map view values.items ≡ map spec.whole_number numbers.now) }
+    ensures { IfOk result (λ values. map view values.items ≡ map spec.number_json numbers.now) }
 {
     let mut values = Vec::with_capacity(alloc, numbers.len())?;
     for number in numbers {
-        values.push(Value::from(number.value()))?;
+        values.push(rank_value(alloc, number.value())?)?;
     }
     Ok(values)
 }
@@ -64,8 +75,9 @@ fn sender_value(alloc: Global, status: &SenderStatus) -> Result<Value, AllocErro
     ensures { IfOk result (λ value.
         view value ≡ spec.sender_json status.now.front status.now.held.items) }
 {
+    let front = rank_value(alloc, status.front)?;
     let held = number_values(alloc, &status.held)?;
-    json!(in alloc; {"front": status.front, "held": held})
+    json!(in alloc; {"front": front, "held": held})
 }
 
 /// The body that tells how a sender stands.
@@ -205,7 +217,7 @@ fn work_value(alloc: Global, work: &Work) -> Result<Value, AllocError>
         "ordinal": version.ordinal,
         "revision": version.revision,
         "title": title_text(alloc, &work.title)?,
-        "transmission": version.transmission.value(),
+        "transmission": rank_value(alloc, version.transmission.value())?,
     })
 }
 

@@ -1,16 +1,18 @@
 //! Orders that are spelled in JSON.
 ghost use Rattle.std.specs.Prelude.{◌≡◌, option_and_then, IfOk};
 ghost use Rattle.std.specs.Option.{option_map};
-ghost use Rattle.serde_json.specs.Find.{as_array, as_object};
+ghost use Rattle.serde_json.specs.Find.{as_array};
 ghost use Rattle.serde_json.specs.View.{view};
 ghost use Rattle.society_core.specs.Requests.{query_of};
-ghost use Rattle.http_desk.specs.OrderText.{are_three, are_two, close_query, json_of, named_number, named_numbers_in, numbers_in, pair_in, reporter_named, sender_of};
+ghost use Rattle.http_desk.specs.JsonBodies.{json_of, whole_in};
+ghost use Rattle.http_desk.specs.OrderText.{are_two, close_query, named_numbers_in, numbers_in, pair_in, rank_in, rank_spelled, return_entry, sender_entry, spelled_in};
 ghost use Rattle.http_desk.specs.OrderRead.{numbers_read};
 
+use crate::json_body::{has_members, value_of, whole_member};
 use serde_json::Value;
 use society_core::{OrderError, OrderFault, PoolOrder, Request};
 use std::alloc::{AllocError, Global};
-use work_ids::{PoolNumber, Reporter, SenderKey};
+use work_ids::{PoolNumber, Reporter, SenderKey, SpelledNumber};
 
 /// Members of an order.
 const MEMBERS: usize = 3;
@@ -18,7 +20,7 @@ const MEMBERS: usize = 3;
 /// Elements of an entry of a cut, or of the list of returns.
 const ELEMENTS: usize = 2;
 
-// The numbers that an order's JSON spells, whatever their limits.
+// The numbers that an order's JSON spells, whatever their limits; those of the cut by their ranks.
 #[derive(Drop)]
 pub(crate) struct Numbers {
     amount: u64,
@@ -36,9 +38,50 @@ fn is_array_of_two(value: &Value) -> bool
     }
 }
 
+// The number that a value spells: a whole number, or a text of one of a year.
+fn spelled_number(value: &Value) -> Option<SpelledNumber>
+    ensures { result ≡ spelled_in (view value.now) }
+{
+    if let Some(number) = value.as_u64() {
+        return Some(SpelledNumber::Plain(number));
+    }
+    let text = value.as_str()?;
+    SpelledNumber::from_text(text.as_bytes())
+}
+
+// The rank of what is spelled; 0, which is out of range, where it is no number of a transmission.
+fn rank_of(spelled: SpelledNumber) -> u64
+    ensures { result ≡ rank_spelled spelled }
+{
+    match spelled.number() {
+        Some(number) => u64::from(number.value()),
+        None => 0,
+    }
+}
+
+// The rank of the number that a value spells.
+fn rank(value: &Value) -> Option<u64>
+    ensures { result ≡ rank_in (view value.now) }
+{
+    let spelled = spelled_number(value)?;
+    Some(rank_of(spelled))
+}
+
+// A text and the rank of a number, where the value is an array of the two.
+fn pair_of_rank(value: &Value) -> Option<(&str, u64)>
+    ensures { option_map (λ pair. (pair.0.now, pair.1)) result ≡ pair_in rank_in (view value.now) }
+{
+    if !is_array_of_two(value) {
+        return None;
+    }
+    let name = value.get(0usize).and_then(Value::as_str)?;
+    let number = value.get(1usize).and_then(rank)?;
+    Some((name, number))
+}
+
 // A text and a whole number, where the value is an array of the two.
 fn pair(value: &Value) -> Option<(&str, u64)>
-    ensures { option_map (λ pair. (pair.0.now, pair.1)) result ≡ pair_in (view value.now) }
+    ensures { option_map (λ pair. (pair.0.now, pair.1)) result ≡ pair_in whole_in (view value.now) }
 {
     if !is_array_of_two(value) {
         return None;
@@ -48,18 +91,18 @@ fn pair(value: &Value) -> Option<(&str, u64)>
     Some((name, number))
 }
 
-// A sender and a number.
+// A sender and the rank of a number.
 fn numbered_sender(value: &Value) -> Option<(SenderKey, u64)>
-    ensures { result ≡ named_number sender_of (view value.now) }
+    ensures { result ≡ sender_entry (view value.now) }
 {
-    let (name, number) = pair(value)?;
+    let (name, number) = pair_of_rank(value)?;
     let sender = SenderKey::from_bytes(name.as_bytes()).ok()?;
     Some((sender, number))
 }
 
 // A reporter and a number.
 fn numbered_reporter(value: &Value) -> Option<(Reporter, u64)>
-    ensures { result ≡ named_number reporter_named (view value.now) }
+    ensures { result ≡ return_entry (view value.now) }
 {
     let (name, number) = pair(value)?;
     let reporter = Reporter::from_bytes(name.as_bytes()).ok()?;
@@ -69,7 +112,7 @@ fn numbered_reporter(value: &Value) -> Option<(Reporter, u64)>
 // The cut of an order.
 fn cut_of(alloc: Global, value: &Value) -> Result<Option<Vec<(SenderKey, u64)>>, AllocError>
     ensures { IfOk result (λ cut.
-        option_map (λ v. v.items) cut ≡ named_numbers_in sender_of (view value.now)) }
+        option_map (λ v. v.items) cut ≡ named_numbers_in sender_entry (view value.now)) }
 {
     let Some(list) = value.as_array() else {
         return Ok(None);
@@ -87,7 +130,7 @@ fn cut_of(alloc: Global, value: &Value) -> Result<Option<Vec<(SenderKey, u64)>>,
 // The returns of an order.
 fn returns_of(alloc: Global, value: &Value) -> Result<Option<Vec<(Reporter, u64)>>, AllocError>
     ensures { IfOk result (λ returns.
-        option_map (λ v. v.items) returns ≡ named_numbers_in reporter_named (view value.now)) }
+        option_map (λ v. v.items) returns ≡ named_numbers_in return_entry (view value.now)) }
 {
     let Some(list) = value.as_array() else {
         return Ok(None);
@@ -102,24 +145,14 @@ fn returns_of(alloc: Global, value: &Value) -> Result<Option<Vec<(Reporter, u64)
     Ok(Some(returns))
 }
 
-// Whether a value is an object with as many members as an order.
-fn has_members_of_order(value: &Value) -> bool
-    ensures { result ≡ are_three (as_object (view value.now)) }
-{
-    match value.as_object() {
-        Some(members) => members.len() == MEMBERS,
-        None => false,
-    }
-}
-
 // The numbers of an order, where the value has the shape of one.
 fn numbers_of(alloc: Global, value: &Value) -> Result<Option<Numbers>, AllocError>
     ensures { IfOk result (λ numbers. option_map numbers_read numbers ≡ numbers_in (view value.now)) }
 {
-    if !has_members_of_order(value) {
+    if !has_members(value, MEMBERS) {
         return Ok(None);
     }
-    let Some(amount) = value.get("amount").and_then(Value::as_u64) else {
+    let Some(amount) = whole_member(value, "amount") else {
         return Ok(None);
     };
     let Some(cut) = value.get("cut") else {
@@ -139,21 +172,6 @@ fn numbers_of(alloc: Global, value: &Value) -> Result<Option<Numbers>, AllocErro
         cut,
         returns,
     }))
-}
-
-// The value that a body is, where it is JSON in UTF-8.
-fn value_of(alloc: Global, body: &[u8]) -> Result<Option<Value>, AllocError>
-    ensures { IfOk result (λ value. option_map view value ≡ json_of body.now) }
-{
-    match Value::from_slice(alloc, body) {
-        Ok(value) => Ok(Some(value)),
-        Err(error) => {
-            if error.is_memory() {
-                return Err(AllocError);
-            }
-            Ok(None)
-        }
-    }
 }
 
 // The numbers that a body spells.

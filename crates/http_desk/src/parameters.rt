@@ -2,14 +2,16 @@
 ghost use Rattle.std.specs.Prelude.{◌≡◌, ◌≤◌, length, vec_capacity};
 ghost use Rattle.percent_encoding.specs.Percent.{percent_decode};
 ghost use Rattle.http_desk.specs.Parameters.{IsDecoded, IsTaken, parts_of};
-ghost use Rattle.http_desk.specs.Path.{parameter, sender_in_path, transmission_number_in_path, reporter_in_path, return_number_in_path, pool_number_in_path, work_number_in_path, account_in_path};
+ghost use Rattle.http_desk.specs.Path.{parameter, sender_in_path, plain_number_in_path, transmission_number_in_path, file_number_in_path, segment_in_path, reporter_in_path, return_number_in_path, pool_number_in_path, work_number_in_path, account_in_path};
 
 use crate::head::MAX_HEAD;
+use crate::number_text::{number_spelled, segment_named};
 use matchit::Params;
 use percent_encoding::percent_decode;
 use std::alloc::{AllocError, Global};
 use work_ids::{
-    Account, PoolNumber, Reporter, ReturnNumber, SenderKey, TransmissionNumber, WorkNumber,
+    Account, PoolNumber, Reporter, ReturnNumber, Segment, SenderKey, TransmissionNumber,
+    WorkNumber, read_file_name,
 };
 
 /// Room in which one parameter of a path is decoded at a time: a path is no longer than a head.
@@ -68,7 +70,21 @@ pub(crate) fn sender_in_path(scratch: &mut Scratch, params: &Params<'_, '_>) -> 
     SenderKey::from_bytes(&scratch.bytes).ok()
 }
 
-/// The number of a transmission in the parameters.
+/// The plain number of a transmission in the parameters.
+pub(crate) fn plain_number_in_path(
+    scratch: &mut Scratch,
+    params: &Params<'_, '_>,
+) -> Option<TransmissionNumber>
+    requires { IsTaken params.now }
+    ensures value { result ≡ plain_number_in_path (parts_of params.now) }
+{
+    if !take_parameter(scratch, params, "n") {
+        return None;
+    }
+    TransmissionNumber::from_text(&scratch.bytes)
+}
+
+/// The number of a transmission in the parameters, plain or of a year.
 pub(crate) fn number_in_path(
     scratch: &mut Scratch,
     params: &Params<'_, '_>,
@@ -79,7 +95,33 @@ pub(crate) fn number_in_path(
     if !take_parameter(scratch, params, "n") {
         return None;
     }
-    TransmissionNumber::from_text(&scratch.bytes)
+    number_spelled(&scratch.bytes)
+}
+
+/// The number in the name of a file in the parameters, which is sent to this society.
+pub(crate) fn file_number_in_path(
+    society: u16,
+    scratch: &mut Scratch,
+    params: &Params<'_, '_>,
+) -> Option<TransmissionNumber>
+    requires { IsTaken params.now }
+    ensures value { result ≡ file_number_in_path society (parts_of params.now) }
+{
+    if !take_parameter(scratch, params, "name") {
+        return None;
+    }
+    read_file_name(&scratch.bytes, society)
+}
+
+/// The segment of a sender's numbers in the parameters.
+pub(crate) fn segment_in_path(scratch: &mut Scratch, params: &Params<'_, '_>) -> Option<Segment>
+    requires { IsTaken params.now }
+    ensures value { result ≡ segment_in_path (parts_of params.now) }
+{
+    if !take_parameter(scratch, params, "segment") {
+        return None;
+    }
+    segment_named(&scratch.bytes)
 }
 
 /// The reporter in the parameters.

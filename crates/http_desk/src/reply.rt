@@ -46,6 +46,9 @@ fn refusal_status(refusal: &Refusal) -> Status
     match refusal {
         Refusal::Reused => Status::Conflict,
         Refusal::File(_) => Status::Unprocessable,
+        Refusal::Ended { .. } => Status::Conflict,
+        Refusal::Segment { .. } => Status::Conflict,
+        Refusal::End(_) => Status::Unprocessable,
         Refusal::Csv(_) => Status::Unprocessable,
         Refusal::Order(_) => Status::Unprocessable,
         Refusal::Cut { .. } => Status::Conflict,
@@ -114,6 +117,11 @@ pub(crate) fn put_reply<W: Write>(
         Answer::Arrived(arrival) => {
             body.set_arrival(*arrival);
             let status = arrival_status(*arrival);
+            outbox.put_answer(writer, status, ContentType::Json, body.bytes(), close)
+        }
+        Answer::Ended(receipt, front) => {
+            body.set_ended(*front);
+            let status = receipt_status(*receipt);
             outbox.put_answer(writer, status, ContentType::Json, body.bytes(), close)
         }
         Answer::Stored(receipt) => {

@@ -7,17 +7,19 @@ ghost use Rattle.http_desk.specs.Part.{max_head};
 ghost use Rattle.http_desk.specs.Wanted.{asked_whole, asked_with};
 ghost use Rattle.http_desk.specs.Path.{office_routes, is_path_byte, is_path, asked_by_put, inquiry_at, query_for};
 
+use crate::end_text::state_by;
 use crate::order_text::close_by;
 use crate::parameters::{
-    Scratch, account_in_path, number_in_path, pool_in_path, reporter_in_path,
-    return_number_in_path, sender_in_path, work_in_path,
+    Scratch, account_in_path, file_number_in_path, number_in_path, plain_number_in_path,
+    pool_in_path, reporter_in_path, return_number_in_path, segment_in_path, sender_in_path,
+    work_in_path,
 };
 use crate::routes::Route;
 use matchit::{Params, Router};
 use society_core::{Inquiry, Request, ReturnKey, TransmissionKey};
 use std::alloc::{AllocError, Global};
 use std::str;
-use work_ids::PoolNumber;
+use work_ids::{PoolNumber, Segment, SenderKey};
 
 /// What is asked, as far as a method and a target tell it, by how its body comes to the desk.
 #[derive(Drop)]
@@ -31,6 +33,8 @@ pub(crate) enum Wanted {
 /// What is asked with a body that is read whole.
 #[derive(Drop)]
 pub(crate) enum WithBody {
+    /// To take down where this sender says that this segment ends.
+    Segment { sender: SenderKey, segment: Segment },
     /// To put this performance return.
     Return(ReturnKey),
     /// To close this pool.
@@ -62,26 +66,56 @@ fn is_path(target: &[u8]) -> bool
     target.iter().all(|byte| is_path_byte(*byte))
 }
 
-// The put of a transmission.
+// The put of a transmission under a plain number.
 fn put_of_transmission(scratch: &mut Scratch, params: &Params<'_, '_>) -> Wanted
     requires { IsTaken params.now }
-    ensures asks { (body : List ℕ)
-        → asked_with result body ≡ asked_by_put route.Transmission (parts_of params.now) body }
+    ensures asks { (society : ℕ) (body : List ℕ)
+        → asked_with result body ≡ asked_by_put society route.Transmission (parts_of params.now) body }
 {
     let Some(sender) = sender_in_path(scratch, params) else {
         return elsewhere();
     };
-    let Some(number) = number_in_path(scratch, params) else {
+    let Some(number) = plain_number_in_path(scratch, params) else {
         return elsewhere();
     };
     Wanted::Fed(TransmissionKey { sender, number })
 }
 
+// The put of a transmission under the number in the name of its file, which is sent to this society.
+fn put_of_file(society: u16, scratch: &mut Scratch, params: &Params<'_, '_>) -> Wanted
+    requires { IsTaken params.now }
+    ensures asks { (body : List ℕ)
+        → asked_with result body ≡ asked_by_put society route.File (parts_of params.now) body }
+{
+    let Some(sender) = sender_in_path(scratch, params) else {
+        return elsewhere();
+    };
+    let Some(number) = file_number_in_path(society, scratch, params) else {
+        return elsewhere();
+    };
+    Wanted::Fed(TransmissionKey { sender, number })
+}
+
+// The statement of the end of a segment.
+fn put_of_segment(scratch: &mut Scratch, params: &Params<'_, '_>) -> Wanted
+    requires { IsTaken params.now }
+    ensures asks { (society : ℕ) (body : List ℕ)
+        → asked_with result body ≡ asked_by_put society route.Segment (parts_of params.now) body }
+{
+    let Some(sender) = sender_in_path(scratch, params) else {
+        return elsewhere();
+    };
+    let Some(segment) = segment_in_path(scratch, params) else {
+        return elsewhere();
+    };
+    Wanted::Whole(WithBody::Segment { sender, segment })
+}
+
 // The put of a performance return.
 fn put_of_return(scratch: &mut Scratch, params: &Params<'_, '_>) -> Wanted
     requires { IsTaken params.now }
-    ensures asks { (body : List ℕ)
-        → asked_with result body ≡ asked_by_put route.Return (parts_of params.now) body }
+    ensures asks { (society : ℕ) (body : List ℕ)
+        → asked_with result body ≡ asked_by_put society route.Return (parts_of params.now) body }
 {
     let Some(reporter) = reporter_in_path(scratch, params) else {
         return elsewhere();
@@ -95,8 +129,8 @@ fn put_of_return(scratch: &mut Scratch, params: &Params<'_, '_>) -> Wanted
 // The close of a pool.
 fn put_of_pool(scratch: &mut Scratch, params: &Params<'_, '_>) -> Wanted
     requires { IsTaken params.now }
-    ensures asks { (body : List ℕ)
-        → asked_with result body ≡ asked_by_put route.Pool (parts_of params.now) body }
+    ensures asks { (society : ℕ) (body : List ℕ)
+        → asked_with result body ≡ asked_by_put society route.Pool (parts_of params.now) body }
 {
     match pool_in_path(scratch, params) {
         Some(pool) => Wanted::Whole(WithBody::Pool(pool)),
@@ -104,14 +138,16 @@ fn put_of_pool(scratch: &mut Scratch, params: &Params<'_, '_>) -> Wanted
     }
 }
 
-// What a put asks of a route.
-fn put_of(route: Route, scratch: &mut Scratch, params: &Params<'_, '_>) -> Wanted
+// What a put asks the office of a society of a route.
+fn put_of(society: u16, route: Route, scratch: &mut Scratch, params: &Params<'_, '_>) -> Wanted
     requires { IsTaken params.now }
     ensures asks { (body : List ℕ)
-        → asked_with result body ≡ asked_by_put route (parts_of params.now) body }
+        → asked_with result body ≡ asked_by_put society route (parts_of params.now) body }
 {
     match route {
         Route::Transmission => put_of_transmission(scratch, params),
+        Route::File => put_of_file(society, scratch, params),
+        Route::Segment => put_of_segment(scratch, params),
         Route::Return => put_of_return(scratch, params),
         Route::Pool => put_of_pool(scratch, params),
         _ => elsewhere(),
@@ -187,12 +223,14 @@ fn get_of(route: Route, scratch: &mut Scratch, params: &Params<'_, '_>) -> Optio
         Route::Work => get_of_work(scratch, params),
         Route::Account => get_of_balance(scratch, params),
         Route::Pool => get_of_table(scratch, params),
-        Route::Transmission | Route::Return => None,
+        Route::Transmission | Route::File | Route::Segment | Route::Return => None,
     }
 }
 
-/// What is asked by a method and a target, whatever body comes with them; a parameter is decoded in the scratch.
+/// What is asked of the office of a society by a method and a target, whatever body comes with them; a parameter is
+/// decoded in the scratch.
 pub(crate) fn wanted_for(
+    society: u16,
     router: &Router<Route>,
     scratch: &mut Scratch,
     put: bool,
@@ -200,7 +238,7 @@ pub(crate) fn wanted_for(
 ) -> Wanted
     requires routes { router.now ≡ office_routes }
     requires short { length target.now ≤ max_head }
-    ensures asks { (body : List ℕ) → asked_with result body ≡ query_for put target.now body }
+    ensures asks { (body : List ℕ) → asked_with result body ≡ query_for society put target.now body }
 {
     if !is_path(target) {
         return elsewhere();
@@ -212,7 +250,7 @@ pub(crate) fn wanted_for(
         return elsewhere();
     };
     if put {
-        return put_of(*found.value, scratch, &found.params);
+        return put_of(society, *found.value, scratch, &found.params);
     }
     match get_of(*found.value, scratch, &found.params) {
         Some(inquiry) => Wanted::Whole(WithBody::Show(inquiry)),
@@ -220,7 +258,7 @@ pub(crate) fn wanted_for(
     }
 }
 
-/// What is asked with a body that was read whole. `AllocError` where memory is refused while an order is read.
+/// What is asked with a body that was read whole. `AllocError` where memory is refused while JSON is read.
 pub(crate) fn request_with<'b>(
     alloc: Global,
     wanted: WithBody,
@@ -230,6 +268,7 @@ pub(crate) fn request_with<'b>(
     ensures refused { OnErr result (asked_whole wanted body.now ≢ AsksElsewhere) }
 {
     match wanted {
+        WithBody::Segment { sender, segment } => state_by(alloc, sender, segment, body),
         WithBody::Return(key) => Ok(Request::PutReturn { key, body }),
         WithBody::Pool(pool) => close_by(alloc, pool, body),
         WithBody::Show(inquiry) => Ok(Request::Show(inquiry)),

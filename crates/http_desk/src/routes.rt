@@ -8,8 +8,12 @@ use std::alloc::{AllocError, Global};
 /// What a path leads to.
 #[derive(Clone, Copy, Debug, PartialEq, Eq)]
 pub(crate) enum Route {
-    /// A transmission of a sender.
+    /// A transmission of a sender, under a plain number.
     Transmission,
+    /// A transmission of a sender, under the number in the name of its file.
+    File,
+    /// The end of a segment of a sender's numbers.
+    Segment,
     /// The acknowledgement of a transmission.
     Acknowledgement,
     /// A performance return of a reporter.
@@ -36,12 +40,15 @@ pub(crate) fn routes(alloc: Global) -> Result<Router<Route>, AllocError>
     Ok(router)
 }
 
-// Adds the routes of what comes as a file, and of its acknowledgement.
+// Adds the routes of what comes as a file, of its acknowledgement, and of the ends of segments.
 fn add_file_routes(router: &mut Router<Route>) -> Result<(), AllocError>
     ensures { OnOk result (router.new ≡ with_file_routes router.old) }
 {
     let transmissions = "/v1/senders/{sender}/transmissions/{n}";
     add(router, transmissions, Route::Transmission)?;
+    add(router, "/v1/senders/{sender}/files/{name}", Route::File)?;
+    let segments = "/v1/senders/{sender}/segments/{segment}";
+    add(router, segments, Route::Segment)?;
     let acks = "/v1/senders/{sender}/acks/{n}";
     add(router, acks, Route::Acknowledgement)?;
     add(router, "/v1/returns/{reporter}/{n}", Route::Return)?;

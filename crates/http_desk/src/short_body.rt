@@ -3,12 +3,12 @@ ghost use Rattle.std.specs.Prelude.{◌≡◌, ◌≤◌, length, vec_capacity};
 ghost use Rattle.work_ids.specs.Blanks.{without_trailing_blanks};
 ghost use Rattle.http_desk.specs.Text.{standing_text};
 
-use crate::text::{put, put_number};
+use crate::text::{put, put_number, put_rank};
 use cwr_files::FileFault;
 use perf_returns::ReturnFault;
-use society_core::{Arrival, OrderFault, Refusal, ReturnKey, Standing};
+use society_core::{Arrival, EndFault, OrderFault, Refusal, ReturnKey, Standing};
 use std::alloc::{AllocError, Global};
-use work_ids::{PoolNumber, Reporter, SenderKey};
+use work_ids::{PoolNumber, Reporter, SenderKey, TransmissionNumber};
 
 /// Room for the body of an answer that is made here, in bytes.
 const BODY_ROOM: usize = 512;
@@ -41,7 +41,8 @@ fn reporter_text(reporter: &Reporter) -> &[u8]
 
 impl ShortBody {
     ghost use Rattle.std.specs.Prelude.{◌≡◌, ◌≤◌, ◌+◌, [], ◌++◌, length, decimal, vec_len, IfOk};
-    ghost use Rattle.http_desk.specs.Text.{arrival_text, closed_text, cut_text, paid_text, refusal_text, return_text, stored_text};
+    ghost use Rattle.http_desk.specs.NumberTexts.{number_text};
+    ghost use Rattle.http_desk.specs.Text.{arrival_text, closed_text, cut_text, ended_text, paid_text, refusal_text, return_text, stored_text};
 
     /// With nothing in it yet.
     pub(crate) fn new(alloc: Global) -> Result<ShortBody, AllocError>
@@ -76,16 +77,65 @@ impl ShortBody {
         put_number(&mut self.bytes, number);
     }
 
+    // Appends the number with a rank, of which there are at most 40 bytes.
+    fn put_rank(&mut self, rank: u32)
+        requires { vec_len self.old.bytes + 40 ≤ 512 }
+        ensures items { self.new.bytes.items ≡ self.old.bytes.items ++ number_text rank }
+        ensures len { vec_len self.new.bytes ≤ vec_len self.old.bytes + 40 }
+    {
+        put_rank(&mut self.bytes, rank);
+    }
+
     /// Puts the body of an accepted transmission into it.
     pub(crate) fn set_arrival(&mut self, arrival: Arrival)
         ensures { self.new.bytes.items ≡ arrival_text arrival }
     {
         self.bytes.clear();
         self.put(b"{\"front\":");
-        self.put_number(u64::from(arrival.front));
+        self.put_rank(arrival.front);
         self.put(b",\"state\":\"");
         self.put(standing_name(arrival.standing).as_bytes());
         self.put(b"\"}");
+    }
+
+    /// Puts the body of an end that is taken down into it.
+    pub(crate) fn set_ended(&mut self, front: u32)
+        ensures { self.new.bytes.items ≡ ended_text front }
+    {
+        self.bytes.clear();
+        self.put(b"{\"front\":");
+        self.put_rank(front);
+        self.put(b",\"state\":\"ended\"}");
+    }
+
+    // Puts the body that tells that a number is above the end of its segment into it.
+    fn set_ended_before(&mut self, last: u32)
+        ensures { self.new.bytes.items ≡ refusal_text (Refusal.Ended last) }
+    {
+        self.bytes.clear();
+        self.put(b"{\"error\":\"ended\",\"last\":");
+        self.put_number(u64::from(last));
+        self.put(b"}");
+    }
+
+    // Puts the body that tells a number above an end that was stated into it.
+    fn set_past(&mut self, number: TransmissionNumber)
+        ensures { self.new.bytes.items ≡ refusal_text (Refusal.Segment number) }
+    {
+        self.bytes.clear();
+        self.put(b"{\"error\":\"segment\",\"number\":");
+        self.put_rank(number.value());
+        self.put(b"}");
+    }
+
+    // Puts the body that tells the fault of an end into it.
+    fn set_end_fault(&mut self, fault: EndFault)
+        ensures { self.new.bytes.items ≡ refusal_text (Refusal.End fault) }
+    {
+        self.bytes.clear();
+        self.put(b"{\"error\":\"segment\",\"fault\":");
+        self.put_number(u64::from(fault.number()));
+        self.put(b"}");
     }
 
     // Puts the body that tells a file fault into it.
@@ -148,13 +198,13 @@ impl ShortBody {
         self.put(b"}");
     }
 
-    // Puts the body that tells a cut above its sender's front into it.
+    // Puts the body that tells a cut that is not in its sender's line into it.
     fn set_cut(&mut self, sender: &SenderKey, front: u32)
         ensures { self.new.bytes.items ≡ cut_text sender.now front }
     {
         self.bytes.clear();
         self.put(b"{\"error\":\"cut\",\"front\":");
-        self.put_number(u64::from(front));
+        self.put_rank(front);
         self.put(b",\"sender\":\"");
         self.put(sender.as_bytes());
         self.put(b"\"}");
@@ -193,6 +243,9 @@ impl ShortBody {
         match refusal {
             Refusal::Reused => self.set(b"{\"error\":\"reused\"}"),
             Refusal::File(fault) => self.set_file_fault(*fault),
+            Refusal::Ended { last } => self.set_ended_before(*last),
+            Refusal::Segment { number } => self.set_past(*number),
+            Refusal::End(fault) => self.set_end_fault(*fault),
             Refusal::Csv(fault) => self.set_return_fault(*fault),
             Refusal::Order(fault) => self.set_order_fault(*fault),
             Refusal::Cut { sender, front } => self.set_cut(sender, *front),

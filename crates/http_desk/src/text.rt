@@ -1,7 +1,9 @@
 //! The bytes of answers, put into room that was taken before the first read.
 ghost use Rattle.std.specs.Prelude.{◌≡◌, ◌≤◌, ◌+◌, ◌++◌, length, decimal, vec_len, vec_capacity};
+ghost use Rattle.http_desk.specs.NumberTexts.{number_text};
 ghost use Rattle.http_desk.specs.Text.{code_of, connection_field, fields_text, head_text, status_text, type_text};
 
+use crate::number_text::{FIRST_YEAR, dated_text_of};
 use crate::status::{ContentType, Status, code, phrase, type_name};
 use itoa::Buffer;
 
@@ -24,6 +26,23 @@ pub(crate) fn put_number(out: &mut Vec<u8>, number: u64)
 {
     let mut digits = Buffer::new();
     put(out, digits.format(number).as_bytes());
+}
+
+/// Appends the number with a rank, of which there are at most 40 bytes: a plain one in decimal digits, one of a year as a
+/// string.
+pub(crate) fn put_rank(out: &mut Vec<u8>, rank: u32)
+    requires { vec_len out.old + 40 ≤ vec_capacity out.old }
+    ensures items { out.new.items ≡ out.old.items ++ number_text rank }
+    ensures len { vec_len out.new ≤ vec_len out.old + 40 }
+    ensures room { vec_capacity out.old ≤ vec_capacity out.new }
+{
+    if rank < FIRST_YEAR {
+        put_number(out, u64::from(rank));
+        return;
+    }
+    put(out, b"\"");
+    put(out, &dated_text_of(rank));
+    put(out, b"\"");
 }
 
 // Appends the status line without its end.

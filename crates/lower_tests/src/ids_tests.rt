@@ -3,8 +3,8 @@ use crate::checks::told;
 use std::process::Abort;
 use std::test::Fail;
 use work_ids::{
-    Account, FileNumber, IdFault, IpiName, Isrc, Iswc, PartyNumber, PoolNumber, Reporter,
-    ReturnNumber, Segment, SegmentEnd, SegmentFault, SenderKey, SpelledNumber, TransmissionNumber,
+    Account, IdFault, IpiName, Isrc, Iswc, PartyNumber, PoolNumber, Reporter, ReturnNumber,
+    Segment, SegmentEnd, SegmentFault, SegmentPlace, SenderKey, SpelledNumber, TransmissionNumber,
     WorkNumber, check_digit, dated_text, read_file_name,
 };
 
@@ -172,12 +172,13 @@ fn numbers_of_transmissions_returns_and_pools(rt: HostRuntime) {
 
 /// A text, and the number of a transmission or a return that it spells, and of a pool. None is spelled with a leading zero, by
 /// zero, nothing, a letter, a blank or a sign, nor where it is far too great.
-const TEXTS: [(&str, Option<u32>, Option<u32>); 12] = [
+const TEXTS: [(&str, Option<u32>, Option<u32>); 13] = [
     ("1", Some(1), Some(1)),
     ("99999", Some(99_999), Some(99_999)),
     ("100000", Some(100_000), None),
     ("999999", Some(999_999), None),
     ("1000000", None, None),
+    ("1260001", None, None),
     ("01", None, None),
     ("0", None, None),
     ("", None, None),
@@ -200,29 +201,43 @@ fn texts_of_numbers(rt: HostRuntime) {
 }
 
 /// A rank, and the segment and the number there that have it.
-const RANKS: [(u32, Option<(Segment, u32)>); 8] = [
+const RANKS: [(u32, Option<(Segment, u32)>); 14] = [
     (0, None),
     (1, Some((Segment::Plain, 1))),
     (999_999, Some((Segment::Plain, 999_999))),
     (1_000_000, None),
     (1_000_001, Some((Segment::Year(0), 1))),
+    (1_009_999, Some((Segment::Year(0), 9_999))),
+    (1_010_000, None),
+    (1_010_001, Some((Segment::Year(1), 1))),
+    (1_260_000, None),
     (1_260_001, Some((Segment::Year(26), 1))),
     (1_999_999, Some((Segment::Year(99), 9_999))),
+    (2_000_000, None),
     (2_000_001, None),
+    (u32::MAX, None),
 ];
 
 /// Checks that a number of a segment has this rank, and is the number with it.
 fn check_rank(rt: &impl Abort, segment: Segment, sequence: u32, rank: u32) {
-    let ranked = FileNumber::from_rank(rank);
-    told(rt, "made", FileNumber::new(segment, sequence), ranked);
-    let made = FileNumber::new(segment, sequence).map(|number| number.rank());
+    let ranked = TransmissionNumber::from_u32(rank);
+    told(
+        rt,
+        "made",
+        TransmissionNumber::new(segment, sequence),
+        ranked,
+    );
+    let made = TransmissionNumber::new(segment, sequence).map(|number| number.value());
     told(rt, "rank", made, Some(rank));
 }
 
 #[test]
-fn ranks_of_file_numbers(rt: HostRuntime) {
+fn ranks_of_transmission_numbers(rt: HostRuntime) {
     for (rank, wanted) in RANKS {
-        let parts = FileNumber::from_rank(rank).map(|number| (number.segment(), number.sequence()));
+        let parts = TransmissionNumber::from_u32(rank).map(|number| (
+            number.segment(),
+            number.sequence(),
+        ));
         told(&rt, "parts", (rank, parts), (rank, wanted));
         if let Some((segment, sequence)) = wanted {
             check_rank(&rt, segment, sequence, rank);
@@ -230,14 +245,70 @@ fn ranks_of_file_numbers(rt: HostRuntime) {
     }
 }
 
+/// Numbers that their segments do not have.
+const BEYOND: [(Segment, u32); 6] = [
+    (Segment::Plain, 0),
+    (Segment::Plain, 1_000_000),
+    (Segment::Year(26), 0),
+    (Segment::Year(26), 10_000),
+    (Segment::Year(100), 1),
+    (Segment::Year(255), 1),
+];
+
 #[test]
-fn order_of_file_numbers(rt: HostRuntime) {
+fn numbers_that_no_segment_has(rt: HostRuntime) {
+    for (segment, sequence) in BEYOND {
+        let number = TransmissionNumber::new(segment, sequence);
+        told(
+            &rt,
+            "number",
+            (segment, sequence, number),
+            (segment, sequence, None),
+        );
+    }
+    for rank in [0, 1_000_000, 1_260_001] {
+        told(
+            &rt,
+            "plain",
+            (rank, TransmissionNumber::plain(rank)),
+            (rank, None),
+        );
+    }
+}
+
+/// A rank and the segment to which it belongs, ascending.
+const PLACES: [(u32, Segment); 8] = [
+    (0, Segment::Plain),
+    (999_999, Segment::Plain),
+    (1_000_000, Segment::Year(0)),
+    (1_009_999, Segment::Year(0)),
+    (1_010_000, Segment::Year(1)),
+    (1_260_001, Segment::Year(26)),
+    (1_990_000, Segment::Year(99)),
+    (1_999_999, Segment::Year(99)),
+];
+
+#[test]
+fn places_of_segments(rt: HostRuntime) -> Result<(), Fail> {
+    for (rank, segment) in PLACES {
+        if rank <= 1_999_999 {
+            let place = SegmentPlace::of_rank(rank);
+            let is_behind_27 = place >= SegmentEnd::new(Segment::Year(27), 0, 28)?.place();
+            let seen = (rank, place.segment(), is_behind_27);
+            told(&rt, "place", seen, (rank, segment, rank >= 1_270_000));
+        }
+    }
+    Ok(())
+}
+
+#[test]
+fn order_of_transmission_numbers(rt: HostRuntime) {
     let ascending = [
-        FileNumber::new(Segment::Plain, 2),
-        FileNumber::new(Segment::Plain, 999_999),
-        FileNumber::new(Segment::Year(0), 9_999),
-        FileNumber::new(Segment::Year(25), 9_999),
-        FileNumber::new(Segment::Year(26), 1),
+        TransmissionNumber::new(Segment::Plain, 2),
+        TransmissionNumber::new(Segment::Plain, 999_999),
+        TransmissionNumber::new(Segment::Year(0), 9_999),
+        TransmissionNumber::new(Segment::Year(25), 9_999),
+        TransmissionNumber::new(Segment::Year(26), 1),
     ];
     for index in 1..ascending.len() {
         let is_less = ascending[index - 1] < ascending[index];
@@ -246,7 +317,7 @@ fn order_of_file_numbers(rt: HostRuntime) {
 }
 
 /// A text, and the year and number that it spells.
-const DATED_TEXTS: [(&str, Option<(u8, u16)>); 12] = [
+const DATED_TEXTS: [(&str, Option<(u8, u16)>); 15] = [
     ("26-0001", Some((26, 1))),
     ("00-0000", Some((0, 0))),
     ("99-9999", Some((99, 9_999))),
@@ -256,6 +327,9 @@ const DATED_TEXTS: [(&str, Option<(u8, u16)>); 12] = [
     ("26_0001", None),
     ("2a-0001", None),
     ("26-00O1", None),
+    ("26-0001 ", None),
+    ("plain", None),
+    ("1260001", None),
     ("1", None),
     (" 26-001", None),
     ("", None),
@@ -297,17 +371,18 @@ fn spelled_numbers(rt: HostRuntime) {
             Some(1_260_001),
         ),
     ] {
-        let rank = spelled.number().map(|number| number.rank());
+        let rank = spelled.number().map(|number| number.value());
         told(&rt, "rank", (spelled, rank), (spelled, wanted));
     }
 }
 
 /// A name of a file that is sent to society 900, and the rank of its number.
-const NAMES: [(&str, Option<u32>); 20] = [
+const NAMES: [(&str, Option<u32>); 29] = [
     ("CW260001EXA_900.V22", Some(1_260_001)),
     ("CW260001EXA_900.V21", Some(1_260_001)),
     ("cw260001ex_900.v21", Some(1_260_001)),
     ("Cw00999912_900.V22", Some(1_009_999)),
+    ("cW990001e9Z_900.v22", Some(1_990_001)),
     ("CW260000EXA_900.V22", None),
     ("CW260001EXA_901.V22", None),
     ("CW260001EXA_90.V22", None),
@@ -319,6 +394,14 @@ const NAMES: [(&str, Option<u32>); 20] = [
     ("CW260001EXAM_900.V22", None),
     ("CW260001E-A_900.V22", None),
     ("CW260001EXA-900.V22", None),
+    ("CW260001ÉX_900.V22", None),
+    ("CW260001EXA_900_V22", None),
+    ("CW260001EXA_900.W22", None),
+    ("CW260001EXA_900.V22x", None),
+    ("CW260001EXA_900.V22 ", None),
+    ("CW260001EXA_09.V22", None),
+    ("CW260001EXA_9OO.V22", None),
+    ("CW2026001EX_900.V22", Some(1_202_600)),
     ("CW26001EXA_900.V22", None),
     ("CW26O001EXA_900.V22", None),
     ("CX260001EXA_900.V22", None),
@@ -330,33 +413,44 @@ const NAMES: [(&str, Option<u32>); 20] = [
 fn file_names(rt: HostRuntime) {
     for (name, wanted) in NAMES {
         let number = read_file_name(name.as_bytes(), 900);
-        told(&rt, name, number.map(|number| number.rank()), wanted);
+        told(&rt, name, number.map(|number| number.value()), wanted);
     }
     let small = read_file_name(b"CW260012EXA_007.V22", 7);
     told(
         &rt,
         "007",
-        small.map(|number| number.rank()),
+        small.map(|number| number.value()),
         Some(1_260_012),
     );
 }
 
+/// A segment, its last number and the next year, and the least fault of that end.
+const ENDS: [(Segment, u64, u64, Option<u8>); 20] = [
+    (Segment::Plain, 1, 26, None),
+    (Segment::Plain, 0, 0, None),
+    (Segment::Plain, 999_999, 99, None),
+    (Segment::Plain, 1_000_000, 26, Some(2)),
+    (Segment::Plain, 1, 100, Some(2)),
+    (Segment::Plain, 1_000_000, 100, Some(2)),
+    (Segment::Year(0), 0, 1, None),
+    (Segment::Year(0), 0, 0, Some(3)),
+    (Segment::Year(98), 9_999, 99, None),
+    (Segment::Year(26), 9_999, 27, None),
+    (Segment::Year(26), 3, 26, Some(3)),
+    (Segment::Year(26), 3, 25, Some(3)),
+    (Segment::Year(26), 10_000, 26, Some(2)),
+    (Segment::Year(26), 10_000, 0, Some(2)),
+    (Segment::Year(200), 1, 99, Some(3)),
+    (Segment::Year(99), 1, 99, Some(3)),
+    (Segment::Year(99), 1, 100, Some(2)),
+    (Segment::Year(0), 4_294_967_296, 1, Some(2)),
+    (Segment::Year(0), 1, 257, Some(2)),
+    (Segment::Year(26), u64::MAX, u64::MAX, Some(2)),
+];
+
 #[test]
 fn segment_ends(rt: HostRuntime) -> Result<(), Fail> {
-    for (segment, last, next, wanted) in [
-        (Segment::Plain, 1, 26, None),
-        (Segment::Plain, 0, 0, None),
-        (Segment::Plain, 999_999, 99, None),
-        (Segment::Plain, 1_000_000, 26, Some(2)),
-        (Segment::Plain, 1, 100, Some(2)),
-        (Segment::Year(26), 9_999, 27, None),
-        (Segment::Year(26), 3, 26, Some(3)),
-        (Segment::Year(26), 3, 25, Some(3)),
-        (Segment::Year(26), 10_000, 26, Some(2)),
-        (Segment::Year(99), 1, 99, Some(3)),
-        (Segment::Year(99), 1, 100, Some(2)),
-        (Segment::Year(0), 4_294_967_296, 1, Some(2)),
-    ] {
+    for (segment, last, next, wanted) in ENDS {
         let fault = SegmentEnd::new(segment, last, next).err();
         let number = fault.map(|fault| fault.number());
         told(

@@ -103,6 +103,31 @@ fn numbers_that_do_not_follow_one_another(rt: HostRuntime) -> Result<(), Fail> {
     Ok(())
 }
 
+/// A cut, and the number and revision of the version there, where a line has 2, 26-0001 and 27-0001.
+const CUTS_BY_YEAR: [(u32, Option<(u32, u64)>); 7] = [
+    (1, None),
+    (2, Some((2, 0))),
+    (999_999, Some((2, 0))),
+    (1_250_001, Some((2, 0))),
+    (1_260_001, Some((1_260_001, 1))),
+    (1_269_999, Some((1_260_001, 1))),
+    (1_999_999, Some((1_270_001, 2))),
+];
+
+#[test]
+fn versions_at_cuts_by_year(rt: HostRuntime) -> Result<(), Fail> {
+    let alloc = rt.alloc();
+    let line = revised_twice(alloc, [2, 1_260_001, 1_270_001])?;
+    told(&rt, "front", line.front(), 1_270_001);
+    for (cut, wanted) in CUTS_BY_YEAR {
+        let row = format!(in alloc; "cut {cut}")?;
+        let version = line.work_at(&work(b"W1")?, number(cut)?);
+        let seen = version.map(|it| (it.transmission.value(), it.revision));
+        told(&rt, &row, seen, wanted);
+    }
+    Ok(())
+}
+
 #[test]
 fn isrcs_of_a_transaction(rt: HostRuntime) -> Result<(), Fail> {
     let transmission = read(rt.alloc(), REGISTERED)?;

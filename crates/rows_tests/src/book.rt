@@ -231,7 +231,12 @@ pub fn write_ends<S: Alter>(tx: &mut Transaction<'_, S>) -> Result<(), RowFault>
     add_segment_end(tx, &plain)
 }
 
+/// Marks a pool.
+pub fn mark<S: Alter>(tx: &mut Transaction<'_, S>, pool: u32) -> Result<(), RowFault> {
+    add_mechanical_pool(tx, &MechanicalPoolRow { pool })
+}
+
 /// Marks the pool of the book.
 pub fn write_mechanical<S: Alter>(tx: &mut Transaction<'_, S>) -> Result<(), RowFault> {
-    add_mechanical_pool(tx, &MechanicalPoolRow { pool: 7 })
+    mark(tx, 7)
 }

@@ -1,6 +1,6 @@
 //! Rows are read back as they were written, in a transaction of a new book in memory.
 use crate::book::{
-    SENDER, book, write_balances, write_book, write_ends, write_fronts, write_mechanical,
+    SENDER, book, mark, write_balances, write_book, write_ends, write_fronts, write_mechanical,
     write_pools, write_verdicts, write_works,
 };
 use crate::checks::told;
@@ -110,6 +110,9 @@ fn the_book_is_read_back(rt: HostRuntime) -> Result<(), Fail> {
     check(&rt, rt.alloc(), Case::Book)
 }
 
+/// The ends and the marked pool.
+const MARKS: &str = "PB000000012|-1|2|0|;PB000000012|0|9999|99|;PB000000034|26|0|27|;7|;";
+
 fn check_marks<S: Alter>(
     rt: &impl Abort,
     alloc: Global,
@@ -120,12 +123,7 @@ fn check_marks<S: Alter>(
     write_ends(tx)?;
     write_mechanical(tx)?;
     let seen = read_marks(tx, alloc)?;
-    told(
-        rt,
-        "ends and pools",
-        seen.as_str(),
-        "PB000000012|-1|2|0|;PB000000012|0|9999|99|;PB000000034|26|0|27|;7|;",
-    );
+    told(rt, "ends and pools", seen.as_str(), MARKS);
     let seen = read_marks_by_key(tx, alloc)?;
     told(
         rt,
@@ -135,6 +133,12 @@ fn check_marks<S: Alter>(
     );
     told(rt, "ends", ends_are_there(tx)?, true);
     told(rt, "pool", mechanical_is_there(tx)?, true);
+    told(rt, "an end again", write_ends(tx).is_err(), true);
+    for pool in [7, 8] {
+        told(rt, "marked, not there", mark(tx, pool).is_err(), true);
+    }
+    let seen = read_marks(tx, alloc)?;
+    told(rt, "as before", seen.as_str(), MARKS);
     Ok(())
 }
 

@@ -1,4 +1,5 @@
 pub mod Grows
+pub mod LedTo
 pub mod Members
 pub mod Ranks
 pub mod Reached

@@ -1,5 +1,5 @@
 -- A sender's way through its segments: which numbers come before one, by the ends that the sender stated. A number is its rank, and a segment its place among all (profile).
-use Rattle.std.specs.Prelude.{ℕ, zero, suc, ◌+◌, ◌≡◌, ◌<◌, ◌≤◌, Bool, true, false, ◌&&◌, ◌==◌, List, [], ◌++◌, Option, Some, None, if◌then◌else◌}
+use Rattle.std.specs.Prelude.{ℕ, zero, suc, ◌+◌, ◌≡◌, ◌<◌, ◌≤◌, Bool, true, false, ◌&&◌, ◌==◌, List, [], ◌++◌, Option, Some, None, if◌then◌else◌, nat_le}
 use Rattle.std.specs.List.{list_all, range_with_len}
 use Rattle.work_ids.specs.SegmentEnds.{StatedEnd}
 use Rattle.work_ids.specs.Segments.{base_of, index_of, most_in, segment_of, sequence_of}
@@ -59,6 +59,11 @@ greatest_passing (suc n) passes = if passes (suc n) then suc n else greatest_pas
 -- the sequence of a number is within the end of its segment, if that has one
 abbrev pub IsWithinEnd : StatedEnds → ℕ → Type 0
 IsWithinEnd ends number = (e : End) → ends (segment_of number) ≡ Some e → sequence_of number ≤ e.last
+
+-- whether a sequence is within the end of its segment, if that has one
+abbrev pub is_up_to_end : Option End → ℕ → Bool
+is_up_to_end None sequence = true
+is_up_to_end (Some end) sequence = nat_le sequence end.last
 
 -- a number at which no way goes on: the next one is not there, and the end of its segment, if it has one, is not reached
 pub record IsGap (there : ℕ → Bool) (ends : StatedEnds) (number : ℕ) : Type 0 where

@@ -20,6 +20,7 @@ pub trait Numbers {
 
     /// The end of the segment that a rank belongs to, none where none was stated.
     fn end_of(&self, rank: u32) -> Option<SegmentEnd>
+        requires { rank ≤ 1999999 }
         ensures { option_map end_stated result ≡ ends self.now (segment_of rank) };
 }
 

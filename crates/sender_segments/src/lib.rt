@@ -5,5 +5,7 @@
 #![tactic(auto)]
 
 mod front;
+mod led;
 
 pub use front::{Numbers, first_rank, front_from, sequence};
+pub use led::{is_up_to, is_up_to_end, leads};

@@ -1,10 +1,13 @@
--- A transmission that comes, and how far its sender goes on.
+-- A transmission that comes, or an end of a segment, and how far its sender's line goes on.
 pub mod Growth
 pub mod LineRows
+pub mod KnownSenders
 pub mod HeldAdds
+pub mod RunFolds
+pub mod SegmentEnds
 pub mod RunTables
-pub mod HeldTables
 pub mod RunLines
 pub mod OutcomeLemmas
 pub mod RunWrites
 pub mod RunBooks
+pub mod ArrivedRuns

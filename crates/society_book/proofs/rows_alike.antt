@@ -6,3 +6,4 @@ pub mod NamedRows
 pub mod KeyRows
 pub mod SortedRows
 pub mod PutRows
+pub mod EndRows

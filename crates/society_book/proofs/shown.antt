@@ -1,6 +1,7 @@
 -- What the rows show that answer a question.
 pub mod AskLemmas
 pub mod QuestionLemmas
+pub mod AskedInTurn
 pub mod FrontRows
 pub mod AccountTexts
 pub mod AccountRows
@@ -8,7 +9,9 @@ pub mod PaidRows
 pub mod VerdictRows
 pub mod AckRows
 pub mod WorkRows
-pub mod HeldRows
+pub mod NumberRows
+pub mod Skips
+pub mod HeldNumbers
 pub mod CreditParts
 pub mod CreditRows
 pub mod OrderRows

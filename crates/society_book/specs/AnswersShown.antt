@@ -1,5 +1,5 @@
 -- What the answers to the questions of a book say.
-use Rattle.std.specs.Prelude.{ℕ, ◌≡◌, List, Option, Some, Vec, map, option_map}
+use Rattle.std.specs.Prelude.{ℕ, ◌≡◌, List, Option, Some, Vec, option_map}
 use Rattle.std.specs.List.{slice_get}
 use Rattle.std.specs.declared.alloc.Global.{Global}
 use Rattle.ack_files.specs.Acknowledgement.{acknowledgement}

@@ -1,18 +1,21 @@
 -- The rows of the book's own tables, and the book that such rows stand for.
-use Rattle.std.specs.Prelude.{◌≡◌, ℕ, pos, Bool, List, [], ◌∷◌, ◌==◌, Option, Some, None, filter, map}
+use Rattle.std.specs.Prelude.{◌≡◌, ◌&&◌, ℕ, pos, Bool, List, [], ◌∷◌, ◌==◌, Option, Some, None, filter, map, bytes_eq}
 use Rattle.std.specs.FinMap as finite
 use Rattle.sqlite_value.specs.declared.value.Value.TheVariants.{Int, Text, Blob}
 use Rattle.sqlite_value.specs.Order.{Row}
 use Rattle.sqlite_trees.specs.Tree.{Trees}
-use Rattle.society_core.specs.Book.{Book, body_at, order_at, return_at}
-use Rattle.society_core.specs.Keys.{ascending, return_cmp, return_key, transmission_cmp, transmission_key}
+use Rattle.sender_segments.specs.Ways.{End}
+use Rattle.society_core.specs.Book.{Book, body_at, end_at, order_at, return_at}
+use Rattle.society_core.specs.Keys.{ascending, return_cmp, return_key, segment_key, transmission_cmp, transmission_key}
 use Rattle.society_core.specs.Orders.{Order, same_return_key, same_transmission_key}
 use Rattle.society_core.specs.declared.return_key.ReturnKey.{ReturnKey}
+use Rattle.society_core.specs.declared.segment_key.SegmentKey.{SegmentKey}
 use Rattle.society_core.specs.declared.transmission_key.TransmissionKey.{TransmissionKey}
 use Rattle.society_rows.specs.Layout as layout
+use Rattle.society_rows.specs.SegmentColumns.{segment_column}
 use Rattle.society_rows.specs.Stored.{rows_in}
 use Rattle.work_ids.specs.Blanks.{fill, without_trailing_blanks}
-use Rattle.society_book.specs.Columns.{HasRows, blob_at, whole_number_at, text_at}
+use Rattle.society_book.specs.Columns.{HasRows, blob_at, segment_at, whole_number_at, text_at}
 
 -- what a key has, as one row or none
 abbrev pub row_of_some : {X : Type 0} → (X → Row) → Option X → List Row
@@ -34,6 +37,30 @@ is_transmission_row key row = same_transmission_key key (transmission_key_of row
 -- the row of a transmission that the book has
 abbrev pub transmission_rows : Book → TransmissionKey → List Row
 transmission_rows book key = row_of_some (transmission_row key) (body_at book key.sender key.number)
+
+-- whether two keys are one
+abbrev pub same_segment_key : SegmentKey → SegmentKey → Bool
+same_segment_key a b = bytes_eq a.sender b.sender && a.segment == b.segment
+
+-- the row of the end of a segment: sender, the segment, its last number, the segment that comes next
+abbrev pub end_row : SegmentKey → End → Row
+end_row key end = Text key.sender ∷ Int (segment_column key.segment) ∷ Int (pos end.last) ∷ Int (segment_column end.next) ∷ []
+
+-- the key of a row of an end
+abbrev pub segment_key_of : Row → SegmentKey
+segment_key_of row = segment_key (text_at 0 row) (segment_at 1 row)
+
+-- whether a row is of the end of a segment
+abbrev pub is_end_row : SegmentKey → Row → Bool
+is_end_row key row = same_segment_key key (segment_key_of row)
+
+-- the row of the end of a segment that the book has
+abbrev pub end_rows : Book → SegmentKey → List Row
+end_rows book key = row_of_some (end_row key) (end_at book key.sender key.segment)
+
+-- the end that a row says
+abbrev pub end_of : Row → End
+end_of row = record { last = whole_number_at 2 row; next = segment_at 3 row }
 
 -- the row of a return: reporter without the blanks that fill it, number, body
 abbrev pub return_row : ReturnKey → List ℕ → Row
@@ -84,19 +111,23 @@ paid_row pool key = Text (without_trailing_blanks key.reporter) ∷ Int (pos key
 abbrev pub paid_rows : Book → ℕ → List Row
 paid_rows book pool = rows_of_order (paid_row pool) (λ order. order.returns) (order_at book pool)
 
--- the book's own tables have exactly the rows of a book; no book states where a segment ends yet, and none has a pool of mechanical rights
+-- the book's own tables have exactly the rows of a book; no book has a pool of mechanical rights yet
 pub record AreOfBook (book : Book) (db : Trees) : Type 0 where
   pub transmissions : HasRows is_transmission_row (transmission_rows book) (rows_in layout.transmissions db)
   pub returns : HasRows is_return_row (return_rows book) (rows_in layout.returns db)
   pub pools : HasRows (is_of_pool 0) (pool_rows book) (rows_in layout.pools db)
   pub cuts : HasRows (is_of_pool 0) (cut_rows book) (rows_in layout.pool_cuts db)
   pub paid : HasRows (is_of_pool 2) (paid_rows book) (rows_in layout.pool_returns db)
-  pub ends : rows_in layout.segment_ends db ≡ []
+  pub ends : HasRows is_end_row (end_rows book) (rows_in layout.segment_ends db)
   pub mechanical : rows_in layout.mechanical_pools db ≡ []
 
 -- a row of a transmission as an entry of the book
 abbrev pub transmission_entry : Row → TransmissionKey × List ℕ
 transmission_entry row = (transmission_key_of row, blob_at 2 row)
+
+-- a row of the end of a segment as an entry of the book
+abbrev pub end_entry : Row → SegmentKey × End
+end_entry row = (segment_key_of row, end_of row)
 
 -- a row of a return as an entry of the book
 abbrev pub return_entry : Row → ReturnKey × List ℕ
@@ -122,6 +153,7 @@ pool_entry cuts paid row = (whole_number_at 0 row, order_in cuts paid (whole_num
 unfoldable pub book_of : Trees → Book
 book_of db = record {
   transmissions = finite.from_entries (map transmission_entry (rows_in layout.transmissions db));
+  ends = finite.from_entries (map end_entry (rows_in layout.segment_ends db));
   returns = finite.from_entries (map return_entry (rows_in layout.returns db));
   pools = finite.from_entries (map (pool_entry (rows_in layout.pool_cuts db) (rows_in layout.pool_returns db)) (rows_in layout.pools db));
 }

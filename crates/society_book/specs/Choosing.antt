@@ -14,7 +14,7 @@ use Rattle.share_rules.specs.declared.kind.Kind.TheVariants.{Performing}
 use Rattle.sqlite_trees.specs.Tree.{Trees}
 use Rattle.sqlite_value.specs.Order.{Row}
 use Rattle.society_rows.specs.declared.fault.RowFault.{RowFault}
-use Rattle.society_core.specs.Book.{Book, is_applied, version_in}
+use Rattle.society_core.specs.Book.{Book, is_applied, is_one_of, numbers_to, version_in}
 pub use Rattle.society_core.specs.Candidates.{AddsWorks, AreFor}
 use Rattle.society_core.specs.Candidates.{ReachesCut, rows_of_return, transactions_sent, work_where}
 use Rattle.society_core.specs.Orders.{Order}
@@ -35,7 +35,7 @@ use Rattle.works_core.specs.declared.version.WorkVersion.{WorkVersion}
 -- the candidates of the versions at a sender's cut are added that stand in one transmission
 abbrev pub AddsOfTransmission : Kind → Office → Tally → TransmissionKey → ℕ → Chosen → List Candidate → List Candidate → Trees → Type 0
 AddsOfTransmission kind office tally key number chosen old new db =
-    (book : Book) → HoldsWorks office book db → number ≤ key.number → ChoosesNaming office book key (is_tallied tally) chosen
+    (book : Book) → HoldsWorks office book db → is_one_of (numbers_to book key.sender key.number) number ≡ true → ChoosesNaming office book key (is_tallied tally) chosen
     → AddsWorks kind office tally (versions_of_transmission office book key number (transactions_sent book key.sender number)) old new
 
 -- the candidates of the versions at a sender's cut are added, by those that are chosen

@@ -1,5 +1,5 @@
 -- The works of a pool's candidates out of the tables: those that name its recordings, and the version of each at its sender's cut.
-use Rattle.std.specs.Prelude.{ℕ, ◌≡◌, ◌≤◌, Bool, true, false, List, Option, Some, None, Result, Ok, Err, if◌then◌else◌, is_some, map}
+use Rattle.std.specs.Prelude.{ℕ, ◌≡◌, Bool, true, false, List, Option, Some, None, Result, Ok, Err, if◌then◌else◌, is_some, map}
 use Rattle.std.specs.BTreeMap as tree
 use Rattle.std.specs.BTreeSet.{BTreeSet, contains}
 use Rattle.std.specs.List.{AllByRecursion, enumerate_from, filter, slice_get}
@@ -7,7 +7,7 @@ use Rattle.std.specs.Ordering.{nat_cmp}
 use Rattle.cwr_files.specs.Transaction.{number_of_work}
 use Rattle.cwr_files.specs.declared.transmission.Transaction.{Transaction}
 use Rattle.share_rules.specs.declared.office.Office.{Office}
-use Rattle.society_core.specs.Book.{Book, version_in}
+use Rattle.society_core.specs.Book.{Book, is_one_of, numbers_to, version_in}
 use Rattle.society_core.specs.Candidates.{transactions_sent}
 use Rattle.society_core.specs.Keys.{bytes_cmp}
 use Rattle.society_core.specs.Owners.{CutWork, cut_work, is_at, is_version_at, names_recording}
@@ -67,11 +67,11 @@ NotesRecordings db of_these named = (isrc : List ℕ) → of_these isrc ≡ true
 abbrev pub chosen_at : Chosen → List ℕ → Option WorkVersion
 chosen_at chosen work = tree.get bytes_cmp chosen.versions work
 
--- of each of these works of a sender its version at a cut is chosen, and of no other work any; the transmissions of all are known, and none is above the cut
+-- of each of these works of a sender its version at a cut is chosen, and of no other work any; the transmissions of all are known, and each is of the line up to the cut
 pub record Chooses (office : Office) (book : Book) (key : TransmissionKey) (of_these : List ℕ → Bool) (chosen : Chosen) : Type 0 where
   pub versions : (work : List ℕ) → chosen_at chosen work ≡ (if of_these work then version_in office book key.sender work key.number else None)
   pub transmissions : (work : List ℕ) (version : WorkVersion) → chosen_at chosen work ≡ Some version → contains nat_cmp chosen.transmissions version.transmission ≡ true
-  pub within : (number : ℕ) → contains nat_cmp chosen.transmissions number ≡ true → (1 ≤ number) × (number ≤ key.number)
+  pub within : (number : ℕ) → contains nat_cmp chosen.transmissions number ≡ true → is_one_of (numbers_to book key.sender key.number) number ≡ true
 
 -- whether a transaction is the version that is chosen of its work, by its transmission and place
 abbrev pub is_chosen : Chosen → ℕ → ℕ → Result (List ℕ) IdFault → Bool
@@ -83,8 +83,8 @@ abbrev pub works_chosen : Chosen → List ℕ → ℕ → ℕ → List Transacti
 works_chosen chosen sender number place transactions =
     map (λ placed. cut_work sender placed.1) (filter (λ placed. is_chosen chosen number placed.0 (number_of_work placed.1)) (enumerate_from place transactions))
 
--- of the transactions up to a sender's cut that name one of these recordings those are chosen that are the versions of their works there; the transmissions of all that are chosen are known, and none is above the cut
+-- of the transactions of a sender's line up to its cut that name one of these recordings those are chosen that are the versions of their works there; the transmissions of all that are chosen are known, and each is of the line up to the cut
 pub record ChoosesNaming (office : Office) (book : Book) (key : TransmissionKey) (of_these : List ℕ → Bool) (chosen : Chosen) : Type 0 where
-  pub right : (number place : ℕ) (transaction : Transaction) (isrc : List ℕ) → number ≤ key.number → slice_get (transactions_sent book key.sender number) place ≡ Some transaction → of_these isrc ≡ true → names_recording isrc (cut_work key.sender transaction) ≡ true → is_chosen chosen number place (number_of_work transaction) ≡ is_version_at office book key number place (number_of_work transaction)
+  pub right : (number place : ℕ) (transaction : Transaction) (isrc : List ℕ) → is_one_of (numbers_to book key.sender key.number) number ≡ true → slice_get (transactions_sent book key.sender number) place ≡ Some transaction → of_these isrc ≡ true → names_recording isrc (cut_work key.sender transaction) ≡ true → is_chosen chosen number place (number_of_work transaction) ≡ is_version_at office book key number place (number_of_work transaction)
   pub transmissions : (work : List ℕ) (version : WorkVersion) → chosen_at chosen work ≡ Some version → contains nat_cmp chosen.transmissions version.transmission ≡ true
-  pub within : (number : ℕ) → contains nat_cmp chosen.transmissions number ≡ true → (1 ≤ number) × (number ≤ key.number)
+  pub within : (number : ℕ) → contains nat_cmp chosen.transmissions number ≡ true → is_one_of (numbers_to book key.sender key.number) number ≡ true

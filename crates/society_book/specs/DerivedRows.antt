@@ -1,5 +1,5 @@
 -- The rows that are derived from a book.
-use Rattle.std.specs.Prelude.{ℕ, pos, ◌+◌, Bool, List, [], ◌∷◌, ◌++◌, ◌==◌, Option, Some, None, filter, if◌then◌else◌, map, unwrap_or, bytes_eq}
+use Rattle.std.specs.Prelude.{ℕ, pos, ◌+◌, Bool, List, [], ◌∷◌, ◌++◌, ◌==◌, ◌||◌, Option, Some, None, filter, if◌then◌else◌, map, unwrap_or, bytes_eq}
 use Rattle.std.specs.FinMap as finite
 use Rattle.std.specs.List.{enumerate_from, flat_map, list_any, sum_by}
 use Rattle.cwr_files.specs.Contents.{transactions_of, transmission_in}
@@ -34,14 +34,22 @@ is_named name row = bytes_eq (text_at 0 row) name
 abbrev pub has_sent : Book → List ℕ → Bool
 has_sent book sender = list_any (λ key. bytes_eq key.sender sender) (finite.keys book.transmissions)
 
+-- whether a book has the end of a segment of a sender
+abbrev pub has_stated : Book → List ℕ → Bool
+has_stated book sender = list_any (λ key. bytes_eq key.sender sender) (finite.keys book.ends)
+
+-- whether a book has anything of a sender: a transmission, or the end of a segment
+abbrev pub knows_sender : Book → List ℕ → Bool
+knows_sender book sender = has_sent book sender || has_stated book sender
+
 -- how many NWR of a sender are accepted up to its front
 abbrev pub works_to : Office → Book → List ℕ → ℕ
 works_to office book sender = works_in (judged_of (placed_line (line_of office (transmissions_to book sender (front book sender)))))
 
--- the row of a sender that has sent something: sender, front, works (profile)
+-- the row of a sender of whom the book has anything: sender, front, works (profile)
 abbrev pub front_rows : Office → Book → List ℕ → List Row
 front_rows office book sender =
-    if has_sent book sender then (Text sender ∷ Int (pos (front book sender)) ∷ Int (pos (works_to office book sender)) ∷ []) ∷ [] else []
+    if knows_sender book sender then (Text sender ∷ Int (pos (front book sender)) ∷ Int (pos (works_to office book sender)) ∷ []) ∷ [] else []
 
 -- a transaction's verdict with its place: a rejected one has its fault, an accepted one its ordinal and its revision (profile)
 abbrev pub verdict_row : List ℕ → ℕ → ℕ → Verdict → Row

@@ -6,6 +6,8 @@ pub mod Closings
 pub mod Columns
 pub mod CutWorks
 pub mod DerivedRows
+pub mod EndLists
+pub mod Going
 pub mod Items
 pub mod Kept
 pub mod OrderShown
@@ -13,4 +15,5 @@ pub mod Outcomes
 pub mod Runs
 pub mod Shown
 pub mod Sources
+pub mod Standing
 pub mod Steps

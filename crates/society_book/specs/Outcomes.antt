@@ -25,5 +25,5 @@ abbrev pub AddsSettled : List Settled → List Outcome → List Outcome → Type
 AddsSettled more old new = map settled new ≡ map settled old ++ more
 
 -- the transactions of a transmission as they are settled behind those before it
-abbrev pub settled_behind : List Placed → ℕ → Notes → List Settled
-settled_behind past number notes = settled_from number 0 notes.judged notes.isrcs (verdicts_from (judged_of past) notes.judged)
+abbrev pub settled_behind : List Placed → Notes → List Settled
+settled_behind past notes = settled_from notes.number 0 notes.judged notes.isrcs (verdicts_from (judged_of past) notes.judged)

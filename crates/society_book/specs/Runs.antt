@@ -1,15 +1,15 @@
 -- A run: the transmissions with which a sender's front goes on, what is noted of them, and what their transactions tell.
-use Rattle.std.specs.Prelude.{ℕ, pos, ◌+◌, ◌≡◌, Bool, List, [], ◌∷◌, ◌++◌, Some, length, map, unwrap_or, bytes_eq}
-use Rattle.std.specs.List.{AllByRecursion, list_any, range_with_len, slice_get}
+use Rattle.std.specs.Prelude.{ℕ, pos, ◌+◌, ◌≡◌, Bool, List, [], ◌∷◌, ◌++◌, Some, map, unwrap_or, bytes_eq}
+use Rattle.std.specs.List.{AllByRecursion, list_any, slice_get}
 use Rattle.cwr_files.specs.Contents.{transactions_of, transmission_in}
 use Rattle.cwr_files.specs.declared.transmission.Transmission.{Transmission}
 use Rattle.share_rules.specs.declared.office.Office.{Office}
-use Rattle.society_core.specs.Book.{Book, body_at, front, transmissions_to}
+use Rattle.society_core.specs.Book.{Book, body_at, front, line, transmissions_to}
 use Rattle.society_core.specs.Growth.{GoesOn}
 use Rattle.society_core.specs.Keys.{ascending, bytes_cmp}
 use Rattle.sqlite_value.specs.declared.value.Value.TheVariants.{Int, Text}
 use Rattle.sqlite_value.specs.Order.{Row}
-use Rattle.society_book.specs.Columns.{blob_at}
+use Rattle.society_book.specs.Columns.{blob_at, whole_number_at}
 use Rattle.society_book.specs.DerivedRows.{verdict_row}
 use Rattle.work_ids.specs.Blanks.{without_trailing_blanks}
 use Rattle.works_core.specs.Ends.{EndsAt, KnowsWorks}
@@ -24,37 +24,52 @@ use Rattle.works_core.specs.declared.line_end.LineEnd.{LineEnd}
 use Rattle.works_core.specs.declared.verdict.Verdict.{Verdict}
 use Rattle.works_core.specs.declared.verdict.Verdict.TheVariants.{Accepted, Rejected}
 
--- what is noted of a transmission: what is judged of each of its transactions, and the ISRCs of each, ascending, each once
+-- what is noted of a transmission: its number, what is judged of each of its transactions, and the ISRCs of each, ascending, each once
 pub record Notes : Type 0 where
+  pub number : ℕ
   pub judged : List Judged
   pub isrcs : List (List (List ℕ))
 
--- what an office notes of a transmission
-abbrev pub notes_of : Office → Transmission → Notes
-notes_of office t = record { judged = judged_in office t; isrcs = map (λ x. ascending bytes_cmp (isrcs_of x)) (transactions_of t) }
+-- what an office notes of a transmission under its number
+abbrev pub notes_of : Office → ℕ → Transmission → Notes
+notes_of office number t =
+    record { number = number; judged = judged_in office t; isrcs = map (λ x. ascending bytes_cmp (isrcs_of x)) (transactions_of t) }
 
 -- what an office notes of the transmission that a body is
-abbrev pub notes_in : Office → List ℕ → Notes
-notes_in office body = notes_of office (transmission_in body)
+abbrev pub notes_in : Office → ℕ → List ℕ → Notes
+notes_in office number body = notes_of office number (transmission_in body)
 
--- an office, and what it noted of some transmissions, one after another
+-- an office, the number that a run has come to, and what the office noted of its transmissions, one after another
 pub record RunValue : Type 0 where
   pub office : Office
+  pub reached : ℕ
   pub notes : List Notes
 
 -- a run with the transmission of one more row
 abbrev pub take_row : RunValue → Row → RunValue
-take_row run row = record run { notes = run.notes ++ notes_in run.office (blob_at 2 row) ∷ [] }
+take_row run row = record run {
+  reached = whole_number_at 1 row;
+  notes = run.notes ++ notes_in run.office (whole_number_at 1 row) (blob_at 2 row) ∷ [];
+}
 
--- so are a sender's transmissions from a number on noted
-abbrev pub AreNoted : Office → Book → List ℕ → ℕ → List Notes → Type 0
-AreNoted office book sender from [] = Unit {0}
-AreNoted office book sender from (x ∷ xs) = (x ≡ notes_in office (unwrap_or (body_at book sender from) [])) × AreNoted office book sender (from + 1) xs
+-- the numbers of the transmissions of a run
+abbrev pub numbers_in : List Notes → List ℕ
+numbers_in notes = map (λ x. x.number) notes
+
+-- a sender's transmissions are noted, each under its number
+abbrev pub AreNoted : Office → Book → List ℕ → List Notes → Type 0
+AreNoted office book sender notes = AllByRecursion (λ x. x ≡ notes_in office x.number (unwrap_or (body_at book sender x.number) [])) notes
 
 -- from one book to another a sender's line goes on by these transmissions
 pub record GoesOnBy (office : Office) (a b : Book) (sender : List ℕ) (notes : List Notes) : Type 0 where
-  pub goes : GoesOn a b sender (range_with_len (front a sender + 1) (length notes))
-  pub each : AreNoted office b sender (front a sender + 1) notes
+  pub goes : GoesOn a b sender (numbers_in notes)
+  pub each : AreNoted office b sender notes
+
+-- a run is a sender's whole line, up to its front
+pub record IsWhole (office : Office) (book : Book) (sender : List ℕ) (run : RunValue) : Type 0 where
+  pub reached : run.reached ≡ front book sender
+  pub numbers : numbers_in run.notes ≡ line book sender
+  pub each : AreNoted office book sender run.notes
 
 -- a transaction of a run: its transmission's number, its place there, its work number as text, its ISRCs and its verdict
 pub record Settled : Type 0 where
@@ -75,23 +90,23 @@ settled_from number place (judged ∷ more) (isrcs ∷ others) (verdict ∷ verd
 settled_from number place _ _ _ = []
 
 -- some transactions have the one at a place of a transmission more, with this verdict
-pub record AddsAt (number : ℕ) (notes : Notes) (place : ℕ) (verdict : Verdict) (old new : List Settled) : Type 0 where
+pub record AddsAt (notes : Notes) (place : ℕ) (verdict : Verdict) (old new : List Settled) : Type 0 where
   pub judged : Judged
   pub isrcs : List (List ℕ)
   pub judged_there : slice_get notes.judged place ≡ Some judged
   pub isrcs_there : slice_get notes.isrcs place ≡ Some isrcs
-  pub more : new ≡ old ++ record { number = number; place = place; work = clean_work_number judged; isrcs = isrcs; verdict = verdict } ∷ []
+  pub more : new ≡ old ++ record { number = notes.number; place = place; work = clean_work_number judged; isrcs = isrcs; verdict = verdict } ∷ []
 
--- the transactions of the transmissions from a number on, behind those before them
-abbrev pub settled_run : List Placed → ℕ → List Notes → List Settled
-settled_run past number [] = []
-settled_run past number (x ∷ xs) =
-    settled_from number 0 x.judged x.isrcs (verdicts_from (judged_of past) x.judged) ++ settled_run (placed_behind past number 0 x.judged) (number + 1) xs
+-- the transactions of the transmissions of a run, behind those before them
+abbrev pub settled_run : List Placed → List Notes → List Settled
+settled_run past [] = []
+settled_run past (x ∷ xs) =
+    settled_from x.number 0 x.judged x.isrcs (verdicts_from (judged_of past) x.judged) ++ settled_run (placed_behind past x.number 0 x.judged) xs
 
 -- what stands before once they have come
-abbrev pub behind_run : List Placed → ℕ → List Notes → List Placed
-behind_run past number [] = past
-behind_run past number (x ∷ xs) = behind_run (placed_behind past number 0 x.judged) (number + 1) xs
+abbrev pub behind_run : List Placed → List Notes → List Placed
+behind_run past [] = past
+behind_run past (x ∷ xs) = behind_run (placed_behind past x.number 0 x.judged) xs
 
 -- the works of all clean transactions of a run are known
 abbrev pub KnowsRun : (List ℕ → Bool) → List Notes → Type 0

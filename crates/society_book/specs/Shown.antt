@@ -12,7 +12,7 @@ use Rattle.society_rows.specs.Balances.{AddsUnits}
 use Rattle.society_rows.specs.declared.fault.RowFault.{RowFault}
 use Rattle.society_rows.specs.Stored.{AreNumbered, HasLayout, KeepsOthers, put_over, rows_in}
 use Rattle.society_rows.specs.Layout as layout
-use Rattle.society_rows.specs.Layout.{all_tables, fronts, recordings, transmissions, verdicts, versions, returns}
+use Rattle.society_rows.specs.Layout.{all_tables, fronts, recordings, verdicts, versions, returns}
 use Rattle.std.specs.Prelude.{◌≢◌}
 use Rattle.pool_split.specs.declared.claim.Credit.{Credit}
 use Rattle.society_core.specs.Book.{Book}
@@ -139,31 +139,19 @@ ShowCredits credits rows = (pool : ℕ) × (rows ≡ map (λ line. credit_row po
 abbrev pub ShowPool : Option Order → List Row → Type 0
 ShowPool kept rows = ((rows ≡ []) × (kept ≡ None)) ⊎ ((pool : ℕ) × (order : Order) × (rows ≡ (Int (pos pool) ∷ Int (pos order.amount) ∷ []) ∷ []) × (kept ≡ Some order))
 
--- every table but those of the transmissions and of the fronts is as it was
-abbrev pub KeepsBoth : Trees → Trees → Type 0
-KeepsBoth old new = AllByRecursion (λ t. t.tree ≢ transmissions.tree → t.tree ≢ fronts.tree → new t.tree ≡ old t.tree) all_tables
+-- every table but those of fronts, verdicts, versions and recordings is as it was
+abbrev pub KeepsUnlined : Trees → Trees → Type 0
+KeepsUnlined old new =
+    AllByRecursion (λ t. t.tree ≢ fronts.tree → t.tree ≢ verdicts.tree → t.tree ≢ versions.tree → t.tree ≢ recordings.tree → new t.tree ≡ old t.tree) all_tables
 
--- the tables have this row of a transmission more, and this row of a front in place of its sender's; the other tables are as they were
-pub record Waits (row front : Row) (old new : Trees) : Type 0 where
-  pub rows : IsPermutation ((row ∷ []) ++ rows_in transmissions old) (rows_in transmissions new)
-  pub put : AreNumbered fronts old → IsPermutation (put_over front (rows_in fronts old)) (rows_in fronts new)
-  pub numbered : AreNumbered fronts old → AreNumbered fronts new
-  pub others : KeepsBoth old new
-
--- every table but the five of a sender's line is as it was
-abbrev pub KeepsRest : Trees → Trees → Type 0
-KeepsRest old new =
-    AllByRecursion (λ t. t.tree ≢ transmissions.tree → t.tree ≢ fronts.tree → t.tree ≢ verdicts.tree → t.tree ≢ versions.tree → t.tree ≢ recordings.tree → new t.tree ≡ old t.tree) all_tables
-
--- the tables have this row of a transmission more, this row of a front in place of its sender's, and these rows of verdicts, of versions and of recordings more; the other tables are as they were
-pub record Runs (row front : Row) (judged told named : List Row) (old new : Trees) : Type 0 where
-  pub rows : IsPermutation ((row ∷ []) ++ rows_in transmissions old) (rows_in transmissions new)
+-- the tables have this row of a front in place of its sender's, and these rows of verdicts, of versions and of recordings more; the other tables are as they were
+pub record PutsLine (front : Row) (judged told named : List Row) (old new : Trees) : Type 0 where
   pub put : AreNumbered fronts old → IsPermutation (put_over front (rows_in fronts old)) (rows_in fronts new)
   pub numbered : AreNumbered fronts old → AreNumbered fronts new
   pub verdicts : IsPermutation (judged ++ rows_in verdicts old) (rows_in verdicts new)
   pub versions : IsPermutation (told ++ rows_in versions old) (rows_in versions new)
   pub recordings : IsPermutation (named ++ rows_in recordings old) (rows_in recordings new)
-  pub others : KeepsRest old new
+  pub others : KeepsUnlined old new
 
 -- every table but those of verdicts, versions and recordings is as it was
 abbrev pub KeepsUntold : Trees → Trees → Type 0

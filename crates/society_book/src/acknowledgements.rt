@@ -16,7 +16,7 @@ use share_rules::Office;
 use society_rows::{Idle, Question, RowFault, TransmissionRow, ask};
 use sqlite::{Alter, Row};
 use std::alloc::Global;
-use work_ids::SenderKey;
+use work_ids::{SenderKey, TransmissionNumber};
 use works_core::Verdict;
 
 /// The transmission that a body is; `Unread` where it is none of the sender.
@@ -70,18 +70,25 @@ fn written_of<S: Alter>(
     written(alloc, office, sender, rows.as_slice(), verdicts)
 }
 
-/// The acknowledgement of a sender's transmission at this office, none where its number is above the sender's front.
+/// The acknowledgement of a sender's transmission at this office, none where its number is not in the sender's line.
 pub fn ack_of<S: Alter>(
     alloc: Global,
     conn: &mut Idle<S>,
     office: &Office,
     sender: &SenderKey,
-    number: u32,
+    number: TransmissionNumber,
 ) -> Result<Option<Vec<u8>>, RowFault>
     ensures asked { between S.Store conn.old conn.new Asks result (ByOwnBook office.now (λ book text. items_of text ≡ ack office.now book sender.now number)) }
 {
     let Some(verdicts) = verdicts_of(alloc, conn, sender.as_bytes(), number)? else {
         return Ok(None);
     };
-    written_of(alloc, conn, office, sender, number, verdicts.as_slice())
+    written_of(
+        alloc,
+        conn,
+        office,
+        sender,
+        number.value(),
+        verdicts.as_slice(),
+    )
 }

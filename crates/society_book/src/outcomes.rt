@@ -1,5 +1,5 @@
 //! What the transactions of a run are answered, and the rows that tell it.
-ghost use Rattle.std.specs.Prelude.{◌≡◌, ◌+◌, ◌∷◌, ◌++◌, [], flat_map, map, pos, FitsSigned, IfOk, OnOk};
+ghost use Rattle.std.specs.Prelude.{◌≡◌, ◌∷◌, ◌++◌, [], flat_map, map, pos, FitsSigned, IfOk, OnOk};
 ghost use Rattle.std.specs.Int.{w64};
 ghost use Rattle.sqlite_value.specs.declared.value.Value.TheVariants.{Int, Text};
 ghost use Rattle.society_rows.specs.Rows.{recording_values, verdict_values, version_values};
@@ -56,13 +56,12 @@ fn work_of(judged: &Judged) -> &[u8]
 
 // Appends the outcome of the transaction at a place; `Unread` where the transmission has none there.
 fn append_outcome<'a>(
-    number: TransmissionNumber,
     noted: &'a Noted,
     at: usize,
     verdict: Verdict,
     list: &mut Vec<Outcome<'a>>,
 ) -> Result<(), RowFault>
-    ensures { OnOk result (AddsAt number noted.now at verdict (map settled list.old.items) (map settled list.new.items)) }
+    ensures { OnOk result (AddsAt noted.now at verdict (map settled list.old.items) (map settled list.new.items)) }
 {
     let Some(judged) = noted.judged().get(at) else {
         return Err(RowFault::Unread);
@@ -74,7 +73,7 @@ fn append_outcome<'a>(
         return Err(RowFault::Overflow);
     };
     let outcome = Outcome {
-        number: number.value(),
+        number: noted.number().value(),
         place,
         work: work_of(judged),
         isrcs,
@@ -85,15 +84,14 @@ fn append_outcome<'a>(
 
 // Appends the outcomes of a transmission's transactions; `Unread` where one of them lacks a part.
 fn append_outcomes<'a>(
-    number: TransmissionNumber,
     noted: &'a Noted,
     verdicts: &[Verdict],
     list: &mut Vec<Outcome<'a>>,
 ) -> Result<(), RowFault>
-    ensures { OnOk result (AddsSettled (settled_from number 0 noted.now.judged noted.now.isrcs verdicts.now) list.old.items list.new.items) }
+    ensures { OnOk result (AddsSettled (settled_from noted.now.number 0 noted.now.judged noted.now.isrcs verdicts.now) list.old.items list.new.items) }
 {
     for (at, verdict) in verdicts.iter().enumerate() {
-        append_outcome(number, noted, at, *verdict, list)?;
+        append_outcome(noted, at, *verdict, list)?;
     }
     Ok(())
 }
@@ -102,38 +100,28 @@ fn append_outcomes<'a>(
 fn settle_next<'a>(
     alloc: Global,
     end: &mut LineEnd,
-    number: u32,
     noted: &'a Noted,
     list: &mut Vec<Outcome<'a>>,
 ) -> Result<(), RowFault>
-    ensures settled { FromEnd end.old noted.now.judged (λ known past. OnOk result (AddsSettled (settled_behind past number noted.now) list.old.items list.new.items)) }
-    ensures ends { FromEnd end.old noted.now.judged (λ known past. OnOk result (EndsAt known (placed_behind past number 0 noted.now.judged) end.new)) }
+    ensures settled { FromEnd end.old noted.now.judged (λ known past. OnOk result (AddsSettled (settled_behind past noted.now) list.old.items list.new.items)) }
+    ensures ends { FromEnd end.old noted.now.judged (λ known past. OnOk result (EndsAt known (placed_behind past noted.now.number 0 noted.now.judged) end.new)) }
 {
-    let Some(number) = TransmissionNumber::from_u32(number) else {
-        return Err(RowFault::Unread);
-    };
-    let verdicts = verdicts_next(alloc, end, number, noted.judged())?;
-    append_outcomes(number, noted, verdicts.as_slice(), list)
+    let verdicts = verdicts_next(alloc, end, noted.number(), noted.judged())?;
+    append_outcomes(noted, verdicts.as_slice(), list)
 }
 
-/// The outcomes of the transactions of a run behind a number, behind which the line then ends; their works have to be known.
+/// The outcomes of the transactions of a run, behind which the line then ends; their works have to be known.
 pub fn settle_run<'a>(
     alloc: Global,
     end: &mut LineEnd,
-    reached: u32,
     run: &'a [Noted],
 ) -> Result<Vec<Outcome<'a>>, RowFault>
-    ensures settled { FromEndOf end.old run.now (λ known past. IfOk result (λ list. map settled list.items ≡ settled_run past (reached + 1) run.now)) }
-    ensures ends { FromEndOf end.old run.now (λ known past. OnOk result (EndsAt known (behind_run past (reached + 1) run.now) end.new)) }
+    ensures settled { FromEndOf end.old run.now (λ known past. IfOk result (λ list. map settled list.items ≡ settled_run past run.now)) }
+    ensures ends { FromEndOf end.old run.now (λ known past. OnOk result (EndsAt known (behind_run past run.now) end.new)) }
 {
     let mut list = Vec::new(alloc);
-    let mut number = reached;
     for noted in run {
-        let Some(next) = number.checked_add(1) else {
-            return Err(RowFault::Overflow);
-        };
-        settle_next(alloc, end, next, noted, &mut list)?;
-        number = next;
+        settle_next(alloc, end, noted, &mut list)?;
     }
     Ok(list)
 }

@@ -16,12 +16,14 @@ use sqlite::Row;
 use std::alloc::{AllocError, Global};
 use std::collections::BTreeSet;
 use std::marker::Model;
-use work_ids::{Isrc, SenderKey, WorkNumber};
+use work_ids::{Isrc, SenderKey, TransmissionNumber, WorkNumber};
 use works_core::{Judged, isrcs, judge_all};
 
-/// What is noted of a transmission: what is judged of each of its transactions, and the ISRCs of each, ascending, each once.
+/// What is noted of a transmission: its number, what is judged of each of its transactions, and the ISRCs of each, ascending,
+/// each once.
 #[derive(Drop)]
 pub struct Noted {
+    number: TransmissionNumber,
     judged: Vec<Judged>,
     isrcs: Vec<Vec<Isrc>>,
 }
@@ -32,7 +34,7 @@ impl Model for Noted {
 
     ghost Value = { Notes };
 
-    ghost view = { λ n. record { judged = n.judged.items; isrcs = map (λ list. list.items) n.isrcs.items } };
+    ghost view = { λ n. record { number = n.number; judged = n.judged.items; isrcs = map (λ list. list.items) n.isrcs.items } };
 }
 
 /// The set of some ISRCs.
@@ -116,17 +118,29 @@ pub fn ascending_works(alloc: Global, run: &[Noted]) -> Result<Vec<WorkNumber>, 
 }
 
 impl Noted {
-    // What is noted of a transmission.
+    // What is noted of a transmission under its number.
     fn of(
         alloc: Global,
+        number: TransmissionNumber,
         transmission: &Transmission<'_>,
         office: &Office,
     ) -> Result<Noted, AllocError>
-        ensures { IfOk result (λ notes. notes ≡ notes_of office.now transmission.now) }
+        ensures { IfOk result (λ notes. notes ≡ notes_of office.now number transmission.now) }
     {
         let judged = judge_all(alloc, transmission, office)?;
         let isrcs = isrcs_of_groups(alloc, transmission.groups.as_slice())?;
-        Ok(Noted { judged, isrcs })
+        Ok(Noted {
+            number,
+            judged,
+            isrcs,
+        })
+    }
+
+    /// Its number.
+    pub fn number(&self) -> TransmissionNumber
+        ensures { result ≡ self.now.number }
+    {
+        self.number
     }
 
     /// What is judged of its transactions.
@@ -147,12 +161,14 @@ impl Noted {
     }
 }
 
-/// Transmissions of a sender as an office notes them, one after another. Of a body nothing is kept.
+/// Transmissions of a sender as an office notes them, one after another, and the number that they have come to, by its rank.
+/// Of a body nothing is kept.
 #[derive(Drop)]
 pub struct Run {
     alloc: Global,
     office: Office,
     sender: SenderKey,
+    reached: u32,
     noted: Vec<Noted>,
 }
 
@@ -161,40 +177,43 @@ impl Model for Run {
 
     ghost Value = { RunValue };
 
-    ghost view = { λ r. record { office = r.office; notes = r.noted.items } };
+    ghost view = { λ r. record { office = r.office; reached = r.reached; notes = r.noted.items } };
 }
 
 impl Run {
-    /// A run of no transmission.
-    pub fn new(alloc: Global, office: &Office, sender: &SenderKey) -> Run
-        ensures { result ≡ record { office = office.now; notes = [] } }
+    /// A run of no transmission, at a number.
+    pub fn new(alloc: Global, office: &Office, sender: &SenderKey, reached: u32) -> Run
+        ensures { result ≡ record { office = office.now; reached = reached; notes = [] } }
     {
         Run {
             alloc,
             office: *office,
             sender: *sender,
+            reached,
             noted: Vec::new(alloc),
         }
     }
 
-    /// Takes a body of which it is known that it is a transmission of the sender.
+    /// Takes a body of which it is known that it is a transmission of the sender, under its number.
     pub fn begin(
         alloc: Global,
         office: &Office,
         sender: &SenderKey,
+        number: TransmissionNumber,
         body: &[u8],
     ) -> Result<Run, AllocError>
         requires right { file_fault sender.now body.now ≡ None }
-        ensures { IfOk result (λ run. run ≡ record { office = office.now; notes = notes_in office.now body.now ∷ [] }) }
+        ensures { IfOk result (λ run. run ≡ record { office = office.now; reached = number; notes = notes_in office.now number body.now ∷ [] }) }
     {
         let transmission = known_transmission(alloc, body, sender)?;
-        let noted = Noted::of(alloc, &transmission, office)?;
+        let noted = Noted::of(alloc, number, &transmission, office)?;
         let mut list = Vec::new(alloc);
         list.push(noted)?;
         Ok(Run {
             alloc,
             office: *office,
             sender: *sender,
+            reached: number.value(),
             noted: list,
         })
     }
@@ -205,6 +224,20 @@ impl Run {
     {
         self.noted.as_slice()
     }
+
+    /// The number that it has come to.
+    pub fn reached(&self) -> u32
+        ensures { result ≡ self.now.reached }
+    {
+        self.reached
+    }
+
+    /// Comes to the rank before the first number of a segment.
+    pub(crate) fn pass(&mut self, rank: u32)
+        ensures { self.new ≡ record self.old { reached = rank } }
+    {
+        self.reached = rank;
+    }
 }
 
 impl RowFold for Run {
@@ -214,9 +247,13 @@ impl RowFold for Run {
 
     fn take(&mut self, row: &Row) -> Result<(), RowFault> {
         let row = TransmissionRow::from_row(row)?;
+        let Some(number) = TransmissionNumber::from_u32(row.number) else {
+            return Err(RowFault::Unread);
+        };
         let transmission = read(self.alloc, row.body, &self.sender)?;
-        let noted = Noted::of(self.alloc, &transmission, &self.office)?;
+        let noted = Noted::of(self.alloc, number, &transmission, &self.office)?;
         self.noted.push(noted)?;
+        self.reached = row.number;
         Ok(())
     }
 }

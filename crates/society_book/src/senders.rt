@@ -1,19 +1,17 @@
 //! What is asked of a sender.
 ghost use Rattle.std.specs.Prelude.{◌≡◌, List, ℕ, None, Option, Some, map, IfOk, if◌then◌else◌};
-ghost use Rattle.society_core.specs.Answers.{known_as, known_by, known_with_front};
-ghost use Rattle.society_core.specs.declared.store.Known.TheVariants.{Same};
-ghost use Rattle.society_core.specs.Book.{front, held, is_one_of, numbers_to, shown_verdicts};
+ghost use Rattle.society_core.specs.Answers.{free_under, known_as, known_by, place_in, transmission_known};
+ghost use Rattle.society_core.specs.declared.store.KnownTransmission.TheVariants as transmissions;
+ghost use Rattle.society_core.specs.Book.{front, is_in_line, shown_verdicts};
+ghost use Rattle.society_core.specs.Ends.{ended_before};
 ghost use Rattle.society_rows.specs.Questions.{Asks};
-ghost use Rattle.society_book.specs.Columns.{whole_number_at};
 ghost use Rattle.society_book.specs.Shown.{ByBook, ShowBody, ShowFront, ShowVerdicts, verdict_in};
 ghost use Rattle.society_rows.specs.Between.{between};
 ghost use Rattle.society_book.specs.Items.{items_of};
-ghost use Rattle.society_book.specs.AnswersShown.{IsStanding};
 
-use society_core::{Known, KnownTransmission, SenderStatus};
-use society_rows::{
-    FrontRow, Idle, Question, RowFault, TransmissionKeyRow, TransmissionRow, VerdictRow, ask,
-};
+use crate::ends_read::ends_of;
+use society_core::{Known, KnownTransmission, Place};
+use society_rows::{FrontRow, Idle, Question, RowFault, TransmissionRow, VerdictRow, ask};
 use sqlite::{Alter, Row};
 use std::alloc::Global;
 use work_ids::TransmissionNumber;
@@ -68,30 +66,74 @@ fn compared_with_kept<S: Alter>(
     compared(rows.as_slice(), body)
 }
 
-// What is known of a transmission that the book has, with its sender's front.
-fn same_with_front<S: Alter>(
+// Where a number of a sender stands that has come to a front.
+fn place_at<S: Alter>(
     conn: &mut Idle<S>,
     sender: &[u8],
-) -> Result<KnownTransmission, RowFault>
-    ensures asked { between S.Store conn.old conn.new Asks result (ByBook (λ _ book found. found ≡ known_with_front (front book sender.now) Same)) }
+    number: TransmissionNumber,
+    reached: u32,
+) -> Result<Place, RowFault>
+    ensures asked { between S.Store conn.old conn.new Asks result (ByBook (λ _ book place. reached ≡ front book sender.now → place ≡ place_in book sender.now number)) }
 {
-    let front = front_of(conn, sender)?;
-    Ok(KnownTransmission::Same(front))
+    let ends = ends_of(conn, sender)?;
+    Ok(Place {
+        front: reached,
+        is_applied: ends.is_in_line(reached, number),
+    })
 }
 
-/// What the book has under a transmission's number, with the sender's front where it is these bytes. The front of any other
+/// Where a number of a sender stands.
+pub fn place_of<S: Alter>(
+    conn: &mut Idle<S>,
+    sender: &[u8],
+    number: TransmissionNumber,
+) -> Result<Place, RowFault>
+    ensures asked { between S.Store conn.old conn.new Asks result (ByBook (λ _ book place. place ≡ place_in book sender.now number)) }
+{
+    let reached = front_of(conn, sender)?;
+    place_at(conn, sender, number, reached)
+}
+
+// What is known of a transmission that the book has, with its place.
+fn same_at_place<S: Alter>(
+    conn: &mut Idle<S>,
+    sender: &[u8],
+    number: TransmissionNumber,
+) -> Result<KnownTransmission, RowFault>
+    ensures asked { between S.Store conn.old conn.new Asks result (ByBook (λ _ book found. found ≡ transmissions.Same (place_in book sender.now number))) }
+{
+    let place = place_of(conn, sender, number)?;
+    Ok(KnownTransmission::Same(place))
+}
+
+// What is known of a number under which nothing is.
+fn free_number<S: Alter>(
+    conn: &mut Idle<S>,
+    sender: &[u8],
+    number: TransmissionNumber,
+) -> Result<KnownTransmission, RowFault>
+    ensures asked { between S.Store conn.old conn.new Asks result (ByBook (λ _ book found. found ≡ free_under (ended_before book sender.now number))) }
+{
+    let ends = ends_of(conn, sender)?;
+    Ok(match ends.ended_before(number) {
+        Some(last) => KnownTransmission::Ended(last),
+        None => KnownTransmission::Absent,
+    })
+}
+
+/// What the book has under a transmission's number, with its place where it is these bytes. The front of any other
 /// is not asked for: an arrival reads it in its own transaction.
 pub fn known_of<S: Alter>(
     conn: &mut Idle<S>,
     sender: &[u8],
-    number: u32,
+    number: TransmissionNumber,
     body: &[u8],
 ) -> Result<KnownTransmission, RowFault>
-    ensures asked { between S.Store conn.old conn.new Asks result (ByBook (λ _ book found. found ≡ known_with_front (front book sender.now) (known_as book sender.now number body.now))) }
+    ensures asked { between S.Store conn.old conn.new Asks result (ByBook (λ _ book found. found ≡ transmission_known book sender.now number body.now)) }
 {
-    match compared_with_kept(conn, sender, number, body)? {
-        Known::Absent => Ok(KnownTransmission::Absent),
-        Known::Same => same_with_front(conn, sender),
+    match compared_with_kept(conn, sender, number.value(), body)? {
+        Known::Absent => free_number(conn, sender, number),
+        Known::Same => same_at_place(conn, sender, number),
         Known::Other => Ok(KnownTransmission::Other),
     }
 }
@@ -128,13 +170,6 @@ fn verdicts_in(alloc: Global, rows: &[Row]) -> Result<Vec<Verdict>, RowFault>
     Ok(list)
 }
 
-// Whether a number is in a line up to a front.
-fn is_up_to(number: u32, front: u32) -> bool
-    ensures { result ≡ is_one_of (numbers_to front) number }
-{
-    1 <= number && number <= front
-}
-
 // The verdicts that rows show, where there are to be some.
 fn shown_where(
     alloc: Global,
@@ -150,18 +185,18 @@ fn shown_where(
     Ok(Some(list))
 }
 
-// The verdicts of a transmission whose sender has come to a front.
-fn judged_to<S: Alter>(
+// The verdicts of a transmission, where its number is in its sender's line.
+fn judged_where<S: Alter>(
     alloc: Global,
     conn: &mut Idle<S>,
     sender: &[u8],
-    number: u32,
-    reached: u32,
+    number: TransmissionNumber,
+    is_applied: bool,
 ) -> Result<Option<Vec<Verdict>>, RowFault>
-    ensures asked { between S.Store conn.old conn.new Asks result (ByBook (λ office book shown. reached ≡ front book sender.now → items_of shown ≡ shown_verdicts office book sender.now number)) }
+    ensures asked { between S.Store conn.old conn.new Asks result (ByBook (λ office book shown. is_applied ≡ is_in_line book sender.now number → items_of shown ≡ shown_verdicts office book sender.now number)) }
 {
-    let rows = ask(conn, Question::Verdicts(sender, number))?;
-    shown_where(alloc, rows.as_slice(), is_up_to(number, reached))
+    let rows = ask(conn, Question::Verdicts(sender, number.value()))?;
+    shown_where(alloc, rows.as_slice(), is_applied)
 }
 
 /// The verdicts of a transmission, none where its number is not in its sender's line.
@@ -169,67 +204,10 @@ pub fn verdicts_of<S: Alter>(
     alloc: Global,
     conn: &mut Idle<S>,
     sender: &[u8],
-    number: u32,
+    number: TransmissionNumber,
 ) -> Result<Option<Vec<Verdict>>, RowFault>
     ensures asked { between S.Store conn.old conn.new Asks result (ByBook (λ office book shown. items_of shown ≡ shown_verdicts office book sender.now number)) }
 {
-    let reached = front_of(conn, sender)?;
-    judged_to(alloc, conn, sender, number, reached)
-}
-
-// The number that the key of a transmission has; `Unread` where it is no transmission's number.
-fn number_of(row: &Row) -> Result<TransmissionNumber, RowFault>
-    ensures { IfOk result (λ number. number ≡ whole_number_at 1 row.now) }
-{
-    match TransmissionNumber::from_u32(TransmissionKeyRow::from_row(row)?.number) {
-        Some(number) => Ok(number),
-        None => Err(RowFault::Unread),
-    }
-}
-
-// The numbers that keys of transmissions have, in their order.
-fn numbers_in(alloc: Global, rows: &[Row]) -> Result<Vec<TransmissionNumber>, RowFault>
-    ensures { IfOk result (λ list. list.items ≡ map (whole_number_at 1) rows.now) }
-{
-    let mut list = Vec::with_capacity(alloc, rows.len())?;
-    for row in rows {
-        list.push(number_of(row)?)?;
-    }
-    Ok(list)
-}
-
-// How a sender stands with a front and the keys of its transmissions above it.
-fn status_in(alloc: Global, rows: &[Row], reached: u32) -> Result<SenderStatus, RowFault>
-    ensures { IfOk result (λ status. (status.front ≡ reached) × (status.held.items ≡ map (whole_number_at 1) rows.now)) }
-{
-    let held = numbers_in(alloc, rows)?;
-    Ok(SenderStatus {
-        front: reached,
-        held,
-    })
-}
-
-// How a sender stands that has come to a front.
-fn status_at<S: Alter>(
-    alloc: Global,
-    conn: &mut Idle<S>,
-    sender: &[u8],
-    reached: u32,
-) -> Result<SenderStatus, RowFault>
-    ensures asked { between S.Store conn.old conn.new Asks result (ByBook (λ _ book status. reached ≡ front book sender.now → IsStanding book sender.now status)) }
-{
-    let rows = ask(conn, Question::NumbersAbove(sender, reached))?;
-    status_in(alloc, rows.as_slice(), reached)
-}
-
-/// How a sender stands: its front, and the numbers of its held transmissions, ascending.
-pub fn status_of<S: Alter>(
-    alloc: Global,
-    conn: &mut Idle<S>,
-    sender: &[u8],
-) -> Result<SenderStatus, RowFault>
-    ensures asked { between S.Store conn.old conn.new Asks result (ByBook (λ _ book status. IsStanding book sender.now status)) }
-{
-    let reached = front_of(conn, sender)?;
-    status_at(alloc, conn, sender, reached)
+    let place = place_of(conn, sender, number)?;
+    judged_where(alloc, conn, sender, number, place.is_applied)
 }

@@ -1,9 +1,8 @@
 -- What a connection comes to, at an office to which nothing has come.
-use Rattle.std.proofs.Common.{◌≡◌, ℕ, IsTrue, List, Option, map, subst}
+use Rattle.std.proofs.Common.{◌≡◌, ℕ, IsTrue, List, Option, subst}
 use Rattle.http_desk.specs.Counted.{inner_of}
 use Rattle.http_desk.specs.Part.{Part}
-use Rattle.http_desk.specs.Path.{request_of}
-use Rattle.http_desk.specs.Serves.{AreAnswered, Breaks, CausedBy, Serves}
+use Rattle.http_desk.specs.Serves.{AreAnswered, Breaks, CausedBy, Serves, queries_of}
 use Rattle.http_desk.specs.declared.counted.Counted.{Counted}
 use Rattle.http_desk.specs.declared.fault.DeskFault.{DeskFault}
 use Rattle.share_rules.specs.declared.office.Office.{Office}
@@ -21,10 +20,11 @@ from_nothing state office desk new_desk parts replies same empty clean answers =
   after = (state new_desk).book;
   each = answers.each;
   run =
-      subst (λ (o : Office). Run o empty_book (map request_of parts) replies (state new_desk).book) same
-      (subst (λ (b : Book). Run (state desk).office b (map request_of parts) replies (state new_desk).book) empty (answers.run clean));
+      subst (λ (o : Office). Run o empty_book (queries_of o parts) replies (state new_desk).book) same
+      (subst (λ (b : Book). Run (state desk).office b (queries_of (state desk).office parts) replies (state new_desk).book) empty (answers.run clean));
   came =
-      subst (λ (b : Book). OneContent b (map request_of parts) replies → HoldsWhatCame b (map request_of parts) replies (state new_desk).book) empty (answers.came clean);
+      subst (λ (o : Office). OneContent empty_book (queries_of o parts) replies → HoldsWhatCame empty_book (queries_of o parts) replies (state new_desk).book) same
+      (subst (λ (b : Book). OneContent b (queries_of (state desk).office parts) replies → HoldsWhatCame b (queries_of (state desk).office parts) replies (state new_desk).book) empty (answers.came clean));
 }
 
 module _ {S R W : Type 0} (desk new_desk : S) (state : S → State) (office : Office) (remaining : R → Option (List ℕ)) (contents : W → Option (List ℕ)) (reader new_reader : Counted R) (out new_out : Counted W)

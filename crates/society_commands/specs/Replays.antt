@@ -1,11 +1,10 @@
 -- What is written where a stream of bytes is served at an office to which nothing has come, and why a stream breaks off.
-use Rattle.std.specs.Prelude.{◌≡◌, ℕ, IfSome, List, ◌++◌, codes, map, length, Option}
+use Rattle.std.specs.Prelude.{◌≡◌, ℕ, IfSome, List, ◌++◌, codes, length, Option}
 use Rattle.std.specs.Io.KnownBytes.{Appends}
 use Rattle.http_desk.specs.Counted.{inner_of}
 use Rattle.http_desk.specs.Part.{Part}
-use Rattle.http_desk.specs.Path.{request_of}
 use Rattle.http_desk.specs.Reads.{ReadsAsRequests}
-use Rattle.http_desk.specs.Serves.{CausedBy, Written}
+use Rattle.http_desk.specs.Serves.{CausedBy, Written, queries_of}
 use Rattle.http_desk.specs.Text.{texts, ending}
 use Rattle.http_desk.specs.declared.connection_end.End.{End}
 use Rattle.http_desk.specs.declared.counted.Counted.{Counted}
@@ -26,8 +25,8 @@ most_turns = 100000000
 pub record AnswersFromNothing (office : Office) (parts : List Part) (replies : List Reply) : Type 0 where
   pub after : Book
   pub each : length replies ≡ length parts
-  pub run : Run office empty_book (map request_of parts) replies after
-  pub came : OneContent empty_book (map request_of parts) replies → HoldsWhatCame empty_book (map request_of parts) replies after
+  pub run : Run office empty_book (queries_of office parts) replies after
+  pub came : OneContent empty_book (queries_of office parts) replies → HoldsWhatCame empty_book (queries_of office parts) replies after
 
 -- the bytes are requests and an end; what is written are the texts of their answers from the empty book on, in order, then that of the end, and nothing else; where the reader's bytes are known they are those
 pub record Replays {R W : Type 0} (office : Office) (remaining : R → Option (List ℕ)) (contents : W → Option (List ℕ)) (reader : Counted R) (out new_out : Counted W) : Type 0 where

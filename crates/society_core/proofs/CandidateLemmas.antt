@@ -1,6 +1,6 @@
 -- What candidates stand for: one recording more, one transaction more, one transmission more.
-use Rattle.std.proofs.Common.{◌≡◌, ◌≢◌, ◌==◌, ⊎_elim, ℕ, zero, suc, ◌+◌, ◌<◌, ◌≤◌, Bool, true, false, ◌||◌, ◌&&◌, cond, not, List, [], ◌∷◌, ◌++◌, length, map, flat_map, None, Result, Ok, Err, OnOk, slice_get, refl, ap, sym, subst, ◌∙◌, arith, append_assoc, append-nil, get_or, unwrap_or}
-use Rattle.std.proofs.lemmas.List.{map-append, length-map}
+use Rattle.std.proofs.Common.{◌≡◌, ◌≢◌, ◌==◌, ⊎_elim, ℕ, zero, suc, ◌+◌, ◌<◌, Bool, true, false, ◌||◌, ◌&&◌, cond, not, List, [], ◌∷◌, ◌++◌, length, map, flat_map, None, Result, Ok, Err, OnOk, slice_get, refl, ap, sym, subst, ◌∙◌, arith, append_assoc, append-nil, get_or, unwrap_or}
+use Rattle.std.proofs.lemmas.List.{map-append, map_push, length-map}
 use Rattle.std.specs.Ordering.{eq_by_cmp}
 use Rattle.std.proofs.lemmas.Bool.{false≢true}
 use Rattle.std.proofs.lemmas.Map.Text.{is_eq-slice_cmp}
@@ -25,8 +25,7 @@ use Rattle.share_rules.specs.declared.office.Office.{Office}
 use Rattle.society_core.specs.Book.{Book, body_at, is_applied, is_one_of, numbers_to, sent_under, transmissions_to}
 use Rattle.society_core.specs.Candidates.{AddsCandidates, ListsOnce, ReachesCut, StandFor, candidate_with, holders_among, holders_naming, is_version_by, transactions_sent, work_where}
 use Rattle.society_core.specs.Claims.{is_candidate_for}
-use Rattle.society_core.proofs.LineNumbers.{one_of_first, one_of_within}
-use Rattle.society_core.proofs.Lines.{judged_under, line_has, line_push, line_to, sent_push}
+use Rattle.society_core.proofs.Lines.{line_has_one, line_over, line_to}
 use Rattle.society_core.specs.Orders.{Order}
 use Rattle.society_core.specs.Owners.{CutWork, cut_work, is_version_at, names_recording, versions_at_cut, versions_of_transmission}
 use Rattle.society_core.specs.declared.claim_list.Candidate.{Candidate}
@@ -180,20 +179,20 @@ versions_push office book key number ts t =
     by_case true = refl
     by_case false = refl
 
--- the versions of a sender's works at its cut, of its transmissions up to a number
-abbrev pub versions_to : Office → Book → TransmissionKey → ℕ → List CutWork
-versions_to office book key n =
-    flat_map (λ (sent : NumberedTransmission). versions_of_transmission office book key sent.0 (transactions_of sent.1)) (transmissions_to book key.sender n)
+-- the versions of a sender's works at its cut, of its transmissions under some numbers
+abbrev pub versions_over : Office → Book → TransmissionKey → List ℕ → List CutWork
+versions_over office book key ns =
+    flat_map (λ (sent : NumberedTransmission). versions_of_transmission office book key sent.0 (transactions_of sent.1)) (map (sent_under book key.sender) ns)
 
--- one transmission more
-pub versions_to_next : (office : Office) (book : Book) (key : TransmissionKey) (n : ℕ) →
-    versions_to office book key (suc n) ≡ versions_to office book key n ++ versions_of_transmission office book key (suc n) (transactions_sent book key.sender (suc n))
-versions_to_next office book key n =
-    let last = sent_under book key.sender (suc n) in
+-- one number more
+pub versions_over_push : (office : Office) (book : Book) (key : TransmissionKey) (ns : List ℕ) (n : ℕ) →
+    versions_over office book key (ns ++ n ∷ []) ≡ versions_over office book key ns ++ versions_of_transmission office book key n (transactions_sent book key.sender n)
+versions_over_push office book key ns n =
+    let last = sent_under book key.sender n in
     let f = λ (sent : NumberedTransmission). versions_of_transmission office book key sent.0 (transactions_of sent.1) in
-    ap (flat_map f) (sent_push office book key.sender n)
-    ∙ flat_map-append f (transmissions_to book key.sender n) (last ∷ [])
-    ∙ ap (λ (ws : List CutWork). versions_to office book key n ++ ws) (append-nil (f last))
+    ap (flat_map f) (map_push (sent_under book key.sender) ns n)
+    ∙ flat_map-append f (map (sent_under book key.sender) ns) (last ∷ [])
+    ∙ ap (λ (ws : List CutWork). versions_over office book key ns ++ ws) (append-nil (f last))
 
 -- one sender more
 pub works_push : (office : Office) (book : Book) (keys : List TransmissionKey) (key : TransmissionKey) →
@@ -226,22 +225,16 @@ all_append P [] ys a b = b
 all_append P (x ∷ xs) ys a b = (a.0, all_append P xs ys a.1 b)
 
 -- what is judged under a number of a line is as much as the transactions there
-counted_line : (office : Office) (book : Book) (sender : List ℕ) (number n : ℕ) → AllByRecursion (λ (x : JudgedTransmission). x.number ≡ number → length x.judged ≡ length (transactions_sent book sender number)) (line_to office book sender n)
-counted_line office book sender number zero = tt
-counted_line office book sender number (suc n) =
-    let P = λ (x : JudgedTransmission). x.number ≡ number → length x.judged ≡ length (transactions_sent book sender number) in
-    subst (AllByRecursion P) (sym (line_push office book sender n))
-    (all_append P (line_to office book sender n) (judged_under office book sender (suc n) ∷ []) (counted_line office book sender number n)
-    (λ same. judged_counted office (transmission_in (unwrap_or (body_at book sender (suc n)) [])) ∙ ap (λ (k : ℕ). length (transactions_sent book sender k)) same, tt))
+counted_over : (office : Office) (book : Book) (sender : List ℕ) (number : ℕ) (ns : List ℕ) → AllByRecursion (λ (x : JudgedTransmission). x.number ≡ number → length x.judged ≡ length (transactions_sent book sender number)) (line_over office book sender ns)
+counted_over office book sender number [] = tt
+counted_over office book sender number (n ∷ ns) =
+    (λ same. judged_counted office (transmission_in (unwrap_or (body_at book sender n) [])) ∙ ap (λ (k : ℕ). length (transactions_sent book sender k)) same, counted_over office book sender number ns)
 
 -- as many verdicts as transactions
-pub verdicts_are_counted : (office : Office) (book : Book) (sender : List ℕ) (n k : ℕ) → 1 ≤ k → k ≤ n → length (verdicts_at (line_of office (transmissions_to book sender n)) k) ≡ length (transactions_sent book sender k)
+pub verdicts_counted_in : (office : Office) (book : Book) (sender : List ℕ) (n k : ℕ) → is_one_of (numbers_to book sender n) k ≡ true → length (verdicts_at (line_of office (transmissions_to book sender n)) k) ≡ length (transactions_sent book sender k)
 unfolding verdicts_at
-verdicts_are_counted office book sender n k some within =
-    counted_behind [] k (length (transactions_sent book sender k)) (line_to office book sender n) (counted_line office book sender k n) (line_has office book sender n k some within)
-
-pub verdicts_counted_in : (office : Office) (book : Book) (sender : List ℕ) (n k : ℕ) → is_one_of (numbers_to n) k ≡ true → length (verdicts_at (line_of office (transmissions_to book sender n)) k) ≡ length (transactions_sent book sender k)
-verdicts_counted_in office book sender n k is = verdicts_are_counted office book sender n k (one_of_first n k is) (one_of_within n k is)
+verdicts_counted_in office book sender n k is =
+    counted_behind [] k (length (transactions_sent book sender k)) (line_to office book sender n) (counted_over office book sender k (numbers_to book sender n)) (line_has_one office book sender n k is)
 
 -- one key more in a set of those that were named
 pub seen_more : (x i : List ℕ) (named : List (List ℕ)) (had : Bool) → had ≡ is_among x named → cond (eq_by_cmp bytes_cmp i x) true had ≡ is_among x (named ++ i ∷ [])

@@ -15,7 +15,7 @@ use Rattle.work_ids.specs.declared.fault.IdFault.{IdFault}
 use Rattle.works_core.specs.Line.{NumberedTransmission, line_of}
 use Rattle.works_core.specs.Versions.{work_at}
 use Rattle.society_core.specs.Answers.{answer, shown_answer}
-use Rattle.society_core.specs.Book.{Book, IsSound, body_at, front, is_applied, is_in_line, is_pool_entry, order_at, return_at, transmissions_to}
+use Rattle.society_core.specs.Book.{Book, IsSound, body_at, is_applied, is_in_line, is_pool_entry, order_at, numbers_to, return_at, sent_under, transmissions_to}
 use Rattle.society_core.specs.Entries as entries
 use Rattle.society_core.specs.Entries.{Entry, IsIn}
 use Rattle.society_core.specs.Orders.{Order}
@@ -27,11 +27,11 @@ use Rattle.society_core.specs.declared.inquiry.Inquiry.TheVariants as inquiries
 use Rattle.society_core.specs.Runs.{Run}
 use Rattle.society_core.specs.declared.return_key.ReturnKey.{ReturnKey}
 use Rattle.society_core.specs.declared.transmission_key.TransmissionKey.{TransmissionKey}
-use Rattle.society_core.proofs.Books.{some_body}
+use Rattle.society_core.proofs.Books.{AreFitting, grown_numbers, line_grows, order_fits, some_body, sound_order}
 use Rattle.society_core.proofs.Fronts.{first_holds, second_holds}
-use Rattle.society_core.proofs.Gaps.{transmissions_alike}
-use Rattle.society_core.proofs.HeadlineLemmas.{run_keeps}
-use Rattle.society_core.proofs.LineNumbers.{longer_line, one_of_within, there_in_line}
+use Rattle.society_core.proofs.Gaps.{alike_over}
+use Rattle.society_core.proofs.HeadlineLemmas.{run_fits, run_keeps}
+use Rattle.society_core.proofs.LineNumbers.{in_line_of_to, in_line_within, there_in_line}
 use Rattle.share_rules.specs.declared.kind.Kind.TheVariants.{Performing}
 
 filter_alike : {X : Type 0} (p q : X → Bool) (xs : List X) → ((x : X) → p x ≡ q x) → filter p xs ≡ filter q xs
@@ -73,12 +73,17 @@ pub record Keeps (a b : Book) : Type 0 where
   pub kept : (e : Entry) → IsIn a e → IsIn b e
 
 -- a book that keeps what another has pays alike
-pub kept_pays : (a b : Book) → Keeps a b → PaysAlike a b
-kept_pays a b keeps = record {
-  sent = λ s n is. transmissions_alike a b s n (λ k one.
-      let in_it = longer_line n (front a s) k (one_of_within (front a s) n is) one in
-      let found = some_body (body_at a s k) (there_in_line a s k in_it) in
-      found.1 ∙ sym (keeps.kept (entries.Transmission s k found.0) found.1));
+pub kept_pays : (a b : Book) → IsSound a → ((s : List ℕ) → AreFitting b s) → Keeps a b → PaysAlike a b
+kept_pays a b sound fits keeps = record {
+  sent = λ s n is.
+      let order = sound_order a sound s in
+      let grows = line_grows a b s order.right (fits s)
+      (λ k there. let found = some_body (body_at a s k) there in ap is_some (keeps.kept (entries.Transmission s k found.0) found.1))
+      (λ g e stated. keeps.kept (entries.End s g e) stated) in
+      alike_over a b s (numbers_to a s n) (λ k one.
+      let found = some_body (body_at a s k) (there_in_line a s k (in_line_of_to a s n k one)) in
+      found.1 ∙ sym (keeps.kept (entries.Transmission s k found.0) found.1))
+      ∙ ap (map (sent_under b s)) (sym (grown_numbers a b s grows n (in_line_within a s order.right n is)));
   returned = λ key is. let found = some_body (return_at a key) is in found.1 ∙ sym (keeps.kept (entries.Return key found.0) found.1);
 }
 
@@ -119,5 +124,5 @@ closed_pool_stays o before qs rs after run sound pool order closed =
     let keeps : Keeps before after = record { kept = λ e there. run_keeps o before qs rs after run e there } in
     let still : order_at after pool ≡ Some order = keeps.kept (entries.Pool pool order) closed in
     ap (credits_shown o after) still
-    ∙ ap (λ (cs : List Credit). Showed (Credited cs)) (sym (credits_same o before after pool order (kept_pays before after keeps) (sound.pools pool order closed)))
+    ∙ ap (λ (cs : List Credit). Showed (Credited cs)) (sym (credits_same o before after pool order (kept_pays before after sound (run_fits o before qs rs after run (λ s. order_fits before s (sound_order before sound s))) keeps) (sound.pools pool order closed)))
     ∙ sym (ap (credits_shown o before) closed)

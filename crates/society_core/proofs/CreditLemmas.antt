@@ -1,5 +1,5 @@
 -- A version of a work is a clean transaction, so that its weights can be paid.
-use Rattle.std.proofs.Common.{◌≡◌, ℕ, zero, suc, ◌+◌, ◌<◌, ◌≤◌, Bool, true, false, ◌&&◌, cond, List, [], ◌∷◌, length, map, get_or, Option, Some, None, refl, ap, sym, subst, ◌∙◌, arith}
+use Rattle.std.proofs.Common.{◌≡◌, ℕ, zero, suc, ◌+◌, ◌<◌, ◌≤◌, Bool, true, false, ◌&&◌, cond, List, [], ◌∷◌, length, map, nat_le, get_or, Option, Some, None, refl, ap, sym, subst, ◌∙◌, arith}
 use Rattle.std.proofs.Common.{◌==◌, All, is_some, Result, Ok, Err, is_none, option_map, slice_get, unwrap_or, flat_map}
 use Rattle.std.specs.Cmp.{unsigned_Decides}
 use Rattle.std.specs.List.{AllByRecursion, enumerate_from, filter, list_all}
@@ -20,8 +20,7 @@ use Rattle.work_ids.specs.Numbers.{is_pool_number, is_return_number}
 use Rattle.work_ids.specs.declared.fault.IdFault.{IdFault}
 use Rattle.works_core.specs.Line.{filled_number, judged, judged_by, judged_in}
 use Rattle.works_core.specs.Numbered.{JudgedTransmission}
-use Rattle.works_core.proofs.KeptLemmas.{placed_push}
-use Rattle.society_core.specs.Book.{Book, IsSound, body_at, is_applied, is_reporter, order_at, return_at}
+use Rattle.society_core.specs.Book.{Book, IsSound, body_at, is_applied, is_reporter, numbers_to, order_at, return_at}
 use Rattle.society_core.specs.Candidates.{HasReturns, ReachesCut, StandFor, transactions_sent}
 use Rattle.society_core.specs.Claims.{claims_among, is_candidate_for}
 use Rattle.society_core.specs.Orders.{Order}
@@ -30,14 +29,14 @@ use Rattle.society_core.specs.Pools.{claim_of, holders_of}
 use Rattle.society_core.specs.declared.claim_list.Candidate.{Candidate}
 use Rattle.society_core.specs.declared.return_key.ReturnKey.{ReturnKey}
 use Rattle.society_core.specs.declared.transmission_key.TransmissionKey.{TransmissionKey}
-use Rattle.society_core.proofs.Lines.{judged_under, line_push, line_to, line_up_to}
+use Rattle.society_core.proofs.Lines.{judged_under, line_over, line_to, over_up_to}
 use Rattle.std.proofs.lemmas.Bool.{false≢true}
 use Rattle.works_core.specs.Verdicts.{concerns, is_accepted}
-use Rattle.works_core.specs.Versions.{Placed, work_at, is_version, judged_of, last_version, placed_at, placed_behind, placed_line, version_of}
+use Rattle.works_core.specs.Versions.{Placed, work_at, is_version, judged_of, last_version, placed_at, placed_behind, placed_behind_all, placed_line, version_of}
 use Rattle.works_core.specs.declared.judged.Judged.{Judged}
 use Rattle.works_core.specs.declared.judged.Judged.TheVariants.{Clean, Faulty}
 use Rattle.works_core.specs.declared.version.WorkVersion.{WorkVersion}
-use Rattle.society_core.proofs.CandidateLemmas.{all_append, both, versions_to, versions_to_next}
+use Rattle.society_core.proofs.CandidateLemmas.{all_append, both, versions_over}
 use Rattle.share_rules.specs.declared.kind.Kind.{Kind}
 use Rattle.share_rules.specs.declared.kind.Kind.TheVariants.{Performing}
 
@@ -79,22 +78,22 @@ module _ (office : Office) (book : Book) (sender : List ℕ) where
           let same : version_of work past t ≡ v = cc in
           ap (λ (w : WorkVersion). concerns work (judged_there w.transmission w.place)) (sym same) ∙ ap (concerns work) all.0 ∙ (both (is_accepted (judged_of past) t.judged) (concerns work t.judged) is).1
 
-  -- each transaction of the line up to a number stands there
-  line_stands : (n : ℕ) → AllByRecursion Stands (placed_line (line_to office book sender n))
-  line_stands zero = tt
-  line_stands (suc n) =
-      let line = line_to office book sender n in
-      let next = judged_under office book sender (suc n) in
-      subst (AllByRecursion Stands) (sym (ap placed_line (line_push office book sender n) ∙ placed_push [] line next))
-      (stand_behind Stands (placed_line line) (suc n) 0 next.judged (line_stands n)
-      (λ k below. let place : 0 + k ≡ k = omega arith in ap (λ (i : ℕ). get_or next.judged i (Faulty 0)) place))
+  -- each transaction of the transmissions under some numbers stands there
+  over_stands : (past : List Placed) (ns : List ℕ) → AllByRecursion Stands past → AllByRecursion Stands (placed_behind_all past (line_over office book sender ns))
+  over_stands past [] all = all
+  over_stands past (n ∷ ns) all =
+      let first = judged_under office book sender n in
+      over_stands (placed_behind past n 0 first.judged) ns
+      (stand_behind Stands past n 0 first.judged all
+      (λ k below. let place : 0 + k ≡ k = omega arith in ap (λ (i : ℕ). get_or first.judged i (Faulty 0)) place))
 
   -- the version of a work at a cut is a clean transaction of the work where it stands
   pub version_at_concerns : (work : List ℕ) (cut : ℕ) (v : WorkVersion) → work_at (line_to office book sender cut) work cut ≡ Some v → concerns work (judged_there v.transmission v.place) ≡ true
   unfolding work_at
   version_at_concerns work cut v e =
-      version_concerns work (placed_line (line_to office book sender cut)) v (line_stands cut)
-      (ap (λ (l : List JudgedTransmission). last_version work (placed_line l)) (sym (line_up_to office book sender cut cut (omega arith))) ∙ e)
+      let ns = filter (λ m. nat_le m cut) (numbers_to book sender cut) in
+      version_concerns work (placed_line (line_over office book sender ns)) v (over_stands [] ns tt)
+      (ap (λ (l : List JudgedTransmission). last_version work (placed_line l)) (sym (over_up_to office book sender cut (numbers_to book sender cut))) ∙ e)
 
 clean_fault : (office : Office) (t : Transaction) → is_clean (judged office t) ≡ true → fault_of office t ≡ None
 clean_fault office t e = by_case (fault_of office t) e
@@ -171,18 +170,18 @@ placed_clean office book key number n (t ∷ ts) h =
     by_case false is more = more
     by_case true is more = let here : n + 0 ≡ n = omega arith in (h 0 t refl (ap (λ (i : ℕ). is_version_at office book key number i (number_of_work t)) here ∙ is), more)
 
-sender_clean : (office : Office) (book : Book) (key : TransmissionKey) (n : ℕ) → AllByRecursion (HasNoFault office) (versions_to office book key n)
-sender_clean office book key zero = tt
-sender_clean office book key (suc n) =
-    let sent = transactions_sent book key.sender (suc n) in
-    subst (AllByRecursion (HasNoFault office)) (sym (versions_to_next office book key n))
-    (all_append (HasNoFault office) (versions_to office book key n) (versions_of_transmission office book key (suc n) sent) (sender_clean office book key n)
-    (placed_clean office book key (suc n) 0 sent (λ k t there e. let same : 0 + k ≡ k = omega arith in version_has_no_fault office book key (suc n) k t there (ap (λ (i : ℕ). is_version_at office book key (suc n) i (number_of_work t)) (sym same) ∙ e))))
+sender_clean : (office : Office) (book : Book) (key : TransmissionKey) (ns : List ℕ) → AllByRecursion (HasNoFault office) (versions_over office book key ns)
+sender_clean office book key [] = tt
+sender_clean office book key (n ∷ ns) =
+    let sent = transactions_sent book key.sender n in
+    all_append (HasNoFault office) (versions_of_transmission office book key n sent) (versions_over office book key ns)
+    (placed_clean office book key n 0 sent (λ k t there e. let same : 0 + k ≡ k = omega arith in version_has_no_fault office book key n k t there (ap (λ (i : ℕ). is_version_at office book key n i (number_of_work t)) (sym same) ∙ e)))
+    (sender_clean office book key ns)
 
 -- the works of a cut have no fault
 pub works_clean : (office : Office) (book : Book) (keys : List TransmissionKey) → AllByRecursion (HasNoFault office) (flat_map (versions_at_cut office book) keys)
 works_clean office book [] = tt
-works_clean office book (key ∷ keys) = all_append (HasNoFault office) (versions_at_cut office book key) (flat_map (versions_at_cut office book) keys) (sender_clean office book key key.number) (works_clean office book keys)
+works_clean office book (key ∷ keys) = all_append (HasNoFault office) (versions_at_cut office book key) (flat_map (versions_at_cut office book) keys) (sender_clean office book key (numbers_to book key.sender key.number)) (works_clean office book keys)
 
 pub filter_all : {X : Type 0} (P : X → Type 0) (p : X → Bool) (xs : List X) → AllByRecursion P xs → AllByRecursion P (filter p xs)
 filter_all P p [] all = tt

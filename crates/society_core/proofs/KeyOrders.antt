@@ -5,7 +5,7 @@ use Rattle.std.specs.Cmp.{IsTotalOrder}
 use Rattle.std.specs.Cmp.Lexicographic.{slice_cmp}
 use Rattle.std.proofs.lemmas.Map.Lookups.{CmpEqualImpliesEq, exact_pairs, exact_unsigned, exact_bytes}
 use Rattle.std.proofs.lemmas.Cmp.{on_total, then_total, nat_cmp_total, nat_list_cmp_total}
-use Rattle.society_core.specs.Keys.{return_cmp, transmission_cmp}
+use Rattle.society_core.specs.Keys.{return_cmp, segment_cmp, transmission_cmp}
 
 -- keys of transmissions that compare alike are one
 pub exact_transmissions : CmpEqualImpliesEq transmission_cmp
@@ -13,6 +13,13 @@ exact_transmissions a b h = ap (λ (p : List ℕ × ℕ). record { sender = p.0;
 
 pub transmissions_total : IsTotalOrder transmission_cmp
 transmissions_total = then_total (on_total (λ s. s.sender) nat_list_cmp_total) (on_total (λ s. s.number) nat_cmp_total)
+
+-- keys of segments that compare alike are one
+pub exact_segments : CmpEqualImpliesEq segment_cmp
+exact_segments a b h = ap (λ (p : List ℕ × ℕ). record { sender = p.0; segment = p.1 }) (exact_pairs (slice_cmp nat_cmp) nat_cmp exact_bytes exact_unsigned (a.sender, a.segment) (b.sender, b.segment) h)
+
+pub segments_total : IsTotalOrder segment_cmp
+segments_total = then_total (on_total (λ s. s.sender) nat_list_cmp_total) (on_total (λ s. s.segment) nat_cmp_total)
 
 -- keys of returns that compare alike are one
 pub exact_returns : CmpEqualImpliesEq return_cmp

@@ -24,10 +24,14 @@ pub mod CandidateLemmas
 pub mod CreditLemmas
 pub mod PoolLemmas
 pub mod HeldLemmas
+pub mod NumbersThere
 pub mod SoundRuns
+pub mod Statements
 pub mod LineNumbers
 pub mod Lines
+pub mod LineKeys
 pub mod Numbers
 pub mod FedLemmas
 mod Worked
+mod WorkedBooks
 pub mod OwnerLemmas

@@ -9,7 +9,8 @@ use Rattle.std.proofs.lemmas.List.Sorted.{IsPermutation-map, length_permutation,
 use Rattle.std.proofs.lemmas.List.Sums.{sum_by-cons}
 use Rattle.std.proofs.lemmas.Map.Views.{tells_apart}
 use Rattle.std.proofs.lemmas.Slice.Eq.{bytes_eq-Decides}
-use Rattle.work_ids.specs.Numbers.{is_return_number, is_transmission_number}
+use Rattle.work_ids.specs.Numbers.{is_return_number}
+use Rattle.work_ids.specs.Segments.{is_transmission_number}
 use Rattle.society_core.specs.Keys.{ascending, return_cmp, return_key, transmission_cmp, transmission_key}
 use Rattle.society_core.specs.Orders.{has_repeat, is_out_of_range, is_too_long, names_twice, order_fault, return_pair, same_numbered, same_sender, sent_pair}
 use Rattle.society_core.specs.declared.order_fault.OrderFault.TheVariants.{OutOfRange, TooLong, NamedTwice}

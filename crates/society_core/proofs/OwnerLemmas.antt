@@ -1,11 +1,15 @@
 -- A work owns a recording exactly where it is the only one whose version at the cut names it.
-use Rattle.std.proofs.Common.{◌≡◌, ◌⊎◌, inl, inr, ℕ, zero, suc, ◌+◌, ◌<◌, ◌≤◌, ◌==◌, ◌&&◌, ◌||◌, Bool, true, false, cond, List, [], ◌∷◌, ◌++◌, map, flat_map, Option, Some, None, Result, Ok, Err, is_none, slice_get, unwrap_or, refl, ap, ap₂, sym, subst, ◌∙◌, arith}
+use Rattle.std.proofs.Common.{◌≡◌, ◌⊎◌, inl, inr, ℕ, zero, suc, ◌+◌, ◌≤◌, ◌==◌, ◌&&◌, ◌||◌, Bool, true, false, cond, List, [], ◌∷◌, ◌++◌, map, flat_map, Option, Some, None, Result, Ok, Err, is_none, slice_get, unwrap_or, refl, ap, ap₂, sym, subst, ◌∙◌, arith}
 use Rattle.std.specs.Prelude.{◌↔◌, Any, ⊤}
 use Rattle.std.specs.Cmp.{unsigned_Decides}
+use Rattle.std.specs.List.Sorted.{IsStrictlySortedBy}
+use Rattle.std.specs.Ordering.{nat_cmp}
+use Rattle.std.specs.declared.cmp.Ordering.TheVariants.{Less}
+use Rattle.std.proofs.lemmas.Bool.Decides.{nat_tests}
 use Rattle.std.specs.List.{AllByRecursion, enumerate_from, filter, list_any}
 use Rattle.std.specs.Result.{result_ok}
 use Rattle.std.specs.Str.{bytes_eq}
-use Rattle.std.proofs.lemmas.Bool.{cases_lt, false≢true}
+use Rattle.std.proofs.lemmas.Bool.{false≢true}
 use Rattle.std.proofs.lemmas.List.Folds.{list_any-append}
 use Rattle.std.proofs.lemmas.Slice.Eq.{bytes_eq-Decides}
 use Rattle.cwr_files.specs.Contents.{transmission_in}
@@ -18,17 +22,17 @@ use Rattle.works_core.specs.Line.{filled_number, judged, judged_by}
 use Rattle.works_core.specs.Verdicts.{concerns}
 use Rattle.works_core.specs.declared.version.WorkVersion.{WorkVersion}
 use Rattle.works_core.proofs.CleanLemmas.{clean_has_number, number_filled, number_there}
-use Rattle.society_core.specs.Book.{Book, body_at, transaction_at, version_in}
+use Rattle.society_core.specs.Book.{Book, body_at, is_one_of, numbers_to, transaction_at, version_in}
 use Rattle.society_core.specs.Candidates.{transactions_sent}
 use Rattle.society_core.specs.Orders.{IsOrder, Order, has_repeat, is_out_of_range, is_too_long, names_twice, return_pair, same_numbered, same_sender, sent_pair}
 use Rattle.society_core.specs.Owners.{CutWork, NamesAlone, NamesAt, NamesAtCut, Owns, cut_work, is_at, is_version_at, names_recording, sole, versions_at_cut, works_of_cut}
 use Rattle.society_core.specs.declared.order_fault.OrderFault.TheVariants.{NamedTwice, OutOfRange, TooLong}
 use Rattle.society_core.specs.declared.transmission_key.TransmissionKey.{TransmissionKey}
-use Rattle.society_core.proofs.CandidateLemmas.{all_append, both, versions_to, versions_to_next}
+use Rattle.society_core.proofs.CandidateLemmas.{all_append, both, versions_over}
 use Rattle.society_core.proofs.CreditLemmas.{filter_all, same_number, sent_clean, version_at_concerns}
 use Rattle.society_core.proofs.Fronts.{both_hold}
-use Rattle.society_core.proofs.Gaps.{version_within}
-use Rattle.society_core.proofs.Lines.{line_rises, line_to}
+use Rattle.society_core.proofs.Gaps.{version_in_line}
+use Rattle.society_core.proofs.LineNumbers.{is_first, is_later, numbers_to_ascend, one_of_all}
 use Rattle.society_core.proofs.OrderFaults.{neither_holds, told_none}
 
 -- ---- some element of a list
@@ -228,28 +232,35 @@ module _ (office : Office) (book : Book) (key : TransmissionKey) where
       let same : 0 + k ≡ k = omega arith in
       subst (λ (i : ℕ). slice_get (transactions_sent book key.sender number) i ≡ Some t) (sym same) there
 
-  -- the same of all transmissions up to a number
-  versions_up_to : (n : ℕ) → AllByRecursion (IsVersion (UpTo n)) (versions_to office book key n)
-  versions_up_to zero = tt
-  versions_up_to (suc n) =
-      let sent = transactions_sent book key.sender (suc n) in
-      subst (AllByRecursion (IsVersion (UpTo (suc n)))) (sym (versions_to_next office book key n))
-      (all_append (IsVersion (UpTo (suc n))) (versions_to office book key n) (works_from (suc n) 0 sent)
-      (all_as (IsVersion (UpTo n)) (IsVersion (UpTo (suc n))) (versions_to office book key n) (version_as (UpTo n) (UpTo (suc n)) (λ v is. omega (is, arith))) (versions_up_to n))
-      (all_as (IsVersion (From (suc n) 0)) (IsVersion (UpTo (suc n))) (works_from (suc n) 0 sent) (version_as (From (suc n) 0) (UpTo (suc n)) (λ v is. let h = is.0 in omega (h, arith))) (versions_from (suc n) 0 sent (all_sent (suc n)))))
+  -- a version is of a transmission under one of these numbers
+  abbrev OneOf : List ℕ → WorkVersion → Type 0
+  OneOf ns v = is_one_of ns v.transmission ≡ true
 
-  apart_up_to : (n : ℕ) → AreApart (versions_to office book key n)
-  apart_up_to zero = tt
-  apart_up_to (suc n) =
-      let sent = transactions_sent book key.sender (suc n) in
-      subst AreApart (sym (versions_to_next office book key n))
-      (apart_append (versions_to office book key n) (works_from (suc n) 0 sent) (apart_up_to n) (apart_from (suc n) 0 sent (all_sent (suc n)))
-      (all_as (IsVersion (UpTo n)) (λ a. AllByRecursion (Differs a) (works_from (suc n) 0 sent)) (versions_to office book key n)
-      (λ a before.
-      all_as (IsVersion (From (suc n) 0)) (Differs a) (works_from (suc n) 0 sent)
-      (λ b last. differ_by (UpTo n) (From (suc n) 0) (λ v low high. (let h = high.0 in absurd (omega (low, h, arith)))) a b before last)
-      (versions_from (suc n) 0 sent (all_sent (suc n))))
-      (versions_up_to n)))
+  -- the same of all transmissions under some numbers
+  versions_all : (ns : List ℕ) → AllByRecursion (IsVersion (OneOf ns)) (versions_over office book key ns)
+  versions_all [] = tt
+  versions_all (n ∷ ns) =
+      let sent = transactions_sent book key.sender n in
+      all_append (IsVersion (OneOf (n ∷ ns))) (works_from n 0 sent) (versions_over office book key ns)
+      (all_as (IsVersion (From n 0)) (IsVersion (OneOf (n ∷ ns))) (works_from n 0 sent) (version_as (From n 0) (OneOf (n ∷ ns)) (λ v is. ap (is_one_of (n ∷ ns)) is.0 ∙ is_first n ns)) (versions_from n 0 sent (all_sent n)))
+      (all_as (IsVersion (OneOf ns)) (IsVersion (OneOf (n ∷ ns))) (versions_over office book key ns) (version_as (OneOf ns) (OneOf (n ∷ ns)) (λ v is. is_later n v.transmission ns is)) (versions_all ns))
+
+  -- numbers that are sorted, each once, give works that stand apart
+  apart_all : (ns : List ℕ) → IsStrictlySortedBy nat_cmp ns → AreApart (versions_over office book key ns)
+  unfolding IsStrictlySortedBy
+  apart_all [] sorted = tt
+  apart_all (n ∷ ns) sorted =
+      let sent = transactions_sent book key.sender n in
+      apart_append (works_from n 0 sent) (versions_over office book key ns) (apart_from n 0 sent (all_sent n)) (apart_all ns sorted.1)
+      (all_as (IsVersion (From n 0)) (λ a. AllByRecursion (Differs a) (versions_over office book key ns)) (works_from n 0 sent)
+      (λ a first.
+      all_as (IsVersion (OneOf ns)) (Differs a) (versions_over office book key ns)
+      (λ b later. differ_by (From n 0) (OneOf ns) (λ v is one. behind v.transmission is.0 (one_of_all (λ m. nat_cmp n m ≡ Less) ns v.transmission sorted.0 one)) a b first later)
+      (versions_all ns))
+      (versions_from n 0 sent (all_sent n)))
+    where
+      behind : (m : ℕ) → m ≡ n → nat_cmp n m ≡ Less → ⊥
+      behind m same less = grind (arith, nat_tests, same, less)
 
   -- ---- each version that there is stands among them
 
@@ -296,25 +307,24 @@ module _ (office : Office) (book : Book) (key : TransmissionKey) where
       by_case true more = either_second (q (cut_work key.sender x)) (list_any q (works_from number (place + 1) ts)) more
       by_case false more = more
 
-  -- and among those of all transmissions up to a number
-  found_to : (q : CutWork → Bool) (n number place : ℕ) (t : Transaction) → 1 ≤ number → number ≤ n → slice_get (transactions_sent book key.sender number) place ≡ Some t → is_version_at office book key number place (number_of_work t) ≡ true → q (cut_work key.sender t) ≡ true → list_any q (versions_to office book key n) ≡ true
-  found_to q zero number place t some within there is passes = absurd (omega arith)
-  found_to q (suc n) number place t some within there is passes =
-      let sent = transactions_sent book key.sender (suc n) in
-      ap (list_any q) (versions_to_next office book key n)
-      ∙ list_any-append q (versions_to office book key n) (works_from (suc n) 0 sent)
-      ∙ by_case (cases_lt number (suc n)) (λ low. found_to q n number place t some low there is passes)
+  -- and among those of all transmissions under some numbers
+  found_over : (q : CutWork → Bool) (ns : List ℕ) (number place : ℕ) (t : Transaction) → is_one_of ns number ≡ true → slice_get (transactions_sent book key.sender number) place ≡ Some t → is_version_at office book key number place (number_of_work t) ≡ true → q (cut_work key.sender t) ≡ true → list_any q (versions_over office book key ns) ≡ true
+  found_over q [] number place t one there is passes = absurd (false≢true one)
+  found_over q (n ∷ ns) number place t one there is passes =
+      list_any-append q (works_from n 0 (transactions_sent book key.sender n)) (versions_over office book key ns) ∙ by_case (n == number) refl (λ one. found_over q ns number place t one there is passes)
     where
-      by_case : (number < suc n) ⊎ (suc n ≤ number) → (number ≤ n → list_any q (versions_to office book key n) ≡ true) → (list_any q (versions_to office book key n) || list_any q (works_from (suc n) 0 (transactions_sent book key.sender (suc n)))) ≡ true
-      by_case (inl below) before = either_first (list_any q (versions_to office book key n)) (list_any q (works_from (suc n) 0 (transactions_sent book key.sender (suc n)))) (before (omega arith))
-      by_case (inr above) before =
-          let same : number ≡ suc n = omega arith in
-          let here : 0 + place ≡ place = omega arith in
-          either_second (list_any q (versions_to office book key n)) (list_any q (works_from (suc n) 0 (transactions_sent book key.sender (suc n))))
-          (found_from q (suc n) 0 place t (transactions_sent book key.sender (suc n))
-          (subst (λ (m : ℕ). slice_get (transactions_sent book key.sender m) place ≡ Some t) same there)
-          (ap₂ (λ (m i : ℕ). is_version_at office book key m i (number_of_work t)) (sym same) here ∙ is)
+      by_case : (e : Bool) → (n == number) ≡ e → (is_one_of ns number ≡ true → list_any q (versions_over office book key ns) ≡ true) → (list_any q (works_from n 0 (transactions_sent book key.sender n)) || list_any q (versions_over office book key ns)) ≡ true
+      by_case true here later =
+          let same : n ≡ number = same_number n number here in
+          let first : 0 + place ≡ place = omega arith in
+          either_first (list_any q (works_from n 0 (transactions_sent book key.sender n))) (list_any q (versions_over office book key ns))
+          (found_from q n 0 place t (transactions_sent book key.sender n)
+          (subst (λ (m : ℕ). slice_get (transactions_sent book key.sender m) place ≡ Some t) (sym same) there)
+          (ap₂ (λ (m i : ℕ). is_version_at office book key m i (number_of_work t)) same first ∙ is)
           passes)
+      by_case false apart later =
+          either_second (list_any q (works_from n 0 (transactions_sent book key.sender n))) (list_any q (versions_over office book key ns))
+          (later (sym (ap (λ (r : Bool). r || is_one_of ns number) apart) ∙ one))
 
   same_itself : (n : ℕ) → (n == n) ≡ true
   same_itself n = (unsigned_Decides n n).1 refl
@@ -328,9 +338,9 @@ module _ (office : Office) (book : Book) (key : TransmissionKey) where
       let v = named.version in
       let t = named.transaction in
       let numbered : number_of_work t ≡ Ok work = version_numbered work v t named.its named.there in
-      let place = version_within (line_to office book key.sender key.number) work key.number v (line_rises office book key.sender key.number) named.its in
+      let one = version_in_line office book key.sender work key.number v named.its in
       let at : is_at v.transmission v.place (Some v) ≡ true = both_hold (v.transmission == v.transmission) (v.place == v.place) (same_itself v.transmission) (same_itself v.place) in
-      found_to (λ w. names_recording isrc w && (bytes_eq w.sender key.sender && bytes_eq (work_of w) work)) key.number v.transmission v.place t place.0 place.1 named.there
+      found_over (λ w. names_recording isrc w && (bytes_eq w.sender key.sender && bytes_eq (work_of w) work)) (numbers_to book key.sender key.number) v.transmission v.place t one named.there
       (ap (is_version_at office book key v.transmission v.place) numbered ∙ ap (is_at v.transmission v.place) named.its ∙ at)
       (both_hold (names_recording isrc (cut_work key.sender t)) (bytes_eq key.sender key.sender && bytes_eq (number_or_none (number_of_work t)) work) named.names
       (both_hold (bytes_eq key.sender key.sender) (bytes_eq (number_or_none (number_of_work t)) work) (bytes_itself key.sender)
@@ -345,8 +355,8 @@ module _ (office : Office) (book : Book) where
 
   versions_of : (key : TransmissionKey) → AllByRecursion (IsVersion office book key (λ _. ⊤)) (versions_at_cut office book key)
   versions_of key =
-      all_as (IsVersion office book key (UpTo office book key key.number)) (IsVersion office book key (λ _. ⊤)) (versions_at_cut office book key)
-      (version_as office book key (UpTo office book key key.number) (λ _. ⊤) (λ v is. tt)) (versions_up_to office book key key.number)
+      all_as (IsVersion office book key (OneOf office book key (numbers_to book key.sender key.number))) (IsVersion office book key (λ _. ⊤)) (versions_at_cut office book key)
+      (version_as office book key (OneOf office book key (numbers_to book key.sender key.number)) (λ _. ⊤) (λ v is. tt)) (versions_all office book key (numbers_to book key.sender key.number))
 
   all_of_cut : (keys : List TransmissionKey) → AllByRecursion (IsOfCut keys) (flat_map (versions_at_cut office book) keys)
   all_of_cut [] = tt
@@ -368,7 +378,7 @@ module _ (office : Office) (book : Book) where
   apart_of_cut [] once = tt
   apart_of_cut (key ∷ keys) once =
       let parts = neither_holds (list_any (same_sender (sent_pair key)) (map sent_pair keys)) (has_repeat same_sender (map sent_pair keys)) once in
-      apart_append (versions_at_cut office book key) (flat_map (versions_at_cut office book) keys) (apart_up_to office book key key.number) (apart_of_cut keys parts.1)
+      apart_append (versions_at_cut office book key) (flat_map (versions_at_cut office book) keys) (apart_all office book key (numbers_to book key.sender key.number) (numbers_to_ascend book key.sender key.number)) (apart_of_cut keys parts.1)
       (all_as (IsVersion office book key (λ _. ⊤)) (λ a. AllByRecursion (Differs a) (flat_map (versions_at_cut office book) keys)) (versions_at_cut office book key)
       (λ a its.
       all_as (IsOfCut keys) (Differs a) (flat_map (versions_at_cut office book) keys)

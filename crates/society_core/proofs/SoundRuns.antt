@@ -8,10 +8,11 @@ use Rattle.work_ids.specs.declared.account.Account.{Account}
 use Rattle.society_core.specs.Answers.{answer}
 use Rattle.cwr_files.specs.FileFault.{file_fault}
 use Rattle.perf_returns.specs.Returns.{return_fault}
-use Rattle.work_ids.specs.Numbers.{is_return_number, is_transmission_number}
+use Rattle.work_ids.specs.Numbers.{is_return_number}
+use Rattle.work_ids.specs.Segments.{is_transmission_number, segment_of, sequence_of}
 use Rattle.work_ids.specs.SenderKey.{is_sender_key}
-use Rattle.society_core.specs.Book.{Book, IsSound, is_reporter, order_at}
-use Rattle.society_core.specs.Entries.{Entry, Transmission, Return, Pool}
+use Rattle.society_core.specs.Book.{Book, IsSound, end_at, is_reporter, order_at}
+use Rattle.society_core.specs.Entries.{End, Entry, Transmission, Return, Pool}
 use Rattle.society_core.specs.Headline.{BringsEntry}
 use Rattle.society_core.specs.Headline.{AlikeToTheGaps, AllAskRightly, AsksRightly, HasRightKey}
 use Rattle.society_core.specs.Orders.{Order}
@@ -19,18 +20,22 @@ use Rattle.society_core.specs.Pools.{credits_of, units_to}
 use Rattle.society_core.specs.Requests.{Inquires, Credited, Owed, Query, Reply, Showed}
 use Rattle.society_core.specs.declared.inquiry.Inquiry.TheVariants as inquiries
 use Rattle.society_core.specs.Runs.{Run, Step}
-use Rattle.society_core.proofs.Books.{sound_with, sound_with_pool, sound_with_return}
+use Rattle.society_core.proofs.Books.{sound_with, sound_with_end, sound_with_pool, sound_with_return}
 use Rattle.society_core.proofs.Changes.{Adds, IsFree, IsUnrefused, Stays, step_changes, with_entry}
 use Rattle.society_core.proofs.Closes.{entry_of_close, no_payer}
 use Rattle.society_core.proofs.ClosedPools.{PaysAlike, credits_same, credits_shown}
 use Rattle.society_core.proofs.Fronts.{both_hold}
 use Rattle.society_core.proofs.Gaps.{alike_to}
+use Rattle.society_core.proofs.HeadlineLemmas.{is_not_ended, past_is_none}
 use Rattle.society_core.proofs.PoolLemmas.{IsPool, each_pool}
 
 sound_entry : (b : Book) (q : Query) (r : Reply) (e : Entry) → IsSound b → HasRightKey e → IsFree b e → IsUnrefused b e → BringsEntry q r e → IsSound (with_entry b e)
 sound_entry b q r (Transmission s n x) sound key free unrefused brings =
     sound_with b s n x sound free
     (both_hold (is_sender_key s && is_transmission_number n) (is_none (file_fault s x)) (both_hold (is_sender_key s) (is_transmission_number n) key.0 key.1) (ap is_none brings.1))
+    (λ e stated. is_not_ended (sequence_of n) (end_at b s (segment_of n)) unrefused e stated)
+sound_entry b q r (End s g x) sound key free unrefused brings =
+    sound_with_end b s g x sound free key (λ n there same. past_is_none b s g x.last n unrefused.1 there same)
 sound_entry b q r (Return key x) sound right free unrefused brings =
     sound_with_return b key x sound free
     (both_hold (is_reporter key.reporter && is_return_number key.number) (is_none (return_fault x)) (both_hold (is_reporter key.reporter) (is_return_number key.number) right.0 right.1) (ap is_none brings.1))
@@ -56,7 +61,7 @@ run_is_sound o before (q ∷ qs) (r ∷ rs) after run rightly sound =
 -- books that are alike to the gaps pay alike
 gaps_pay : (a b : Book) → AlikeToTheGaps a b → PaysAlike a b
 gaps_pay a b alike = record {
-  sent = λ s n is. alike_to a b s n (alike.sent s) is;
+  sent = λ s n is. alike_to a b s n (alike.sent s);
   returned = λ key there. ap (λ m. finite.get m key) alike.returns;
 }
 

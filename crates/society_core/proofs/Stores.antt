@@ -1,12 +1,16 @@
 -- A store in memory stays sound.
-use Rattle.std.proofs.Common.{◌≡◌, ◌∙◌, ◌≤◌, ◌&&◌, arith, nat_le, ℕ, true, List, Some, None, is_some, Result, Ok, Err, OnOk, OnErr, is_none, ap, refl, subst, sym}
+use Rattle.std.proofs.Common.{◌≡◌, ◌∙◌, ◌≤◌, ◌<◌, ◌&&◌, arith, nat_le, nat_lt, ℕ, Bool, true, List, Some, None, is_some, Result, Ok, Err, OnOk, OnErr, is_none, ap, refl, subst, sym}
 use Rattle.cwr_files.specs.FileFault.{file_fault}
 use Rattle.perf_returns.specs.Returns.{return_fault}
 use Rattle.society_core.specs.Answers.{close_refusal}
-use Rattle.society_core.specs.Book.{Book, IsSound, body_at, is_entry, is_read_as, is_reporter, is_return_entry, return_at, with_pool, with_return, with_transmission}
+use Rattle.society_core.specs.Book.{Book, IsSound, body_at, end_at, is_end_entry, is_entry, is_read_as, is_reporter, is_return_entry, return_at, with_end, with_pool, with_return, with_transmission}
 use Rattle.society_core.specs.Orders.{IsOrder, Order}
 use Rattle.society_core.specs.declared.return_key.ReturnKey.{ReturnKey}
-use Rattle.work_ids.specs.Numbers.{is_from_one_to, is_pool_number, is_return_number, is_transmission_number}
+use Rattle.work_ids.specs.Numbers.{is_from_one_to, is_pool_number, is_return_number}
+use Rattle.work_ids.specs.SegmentEnds.{StatedEnd}
+use Rattle.work_ids.specs.Segments.{is_transmission_number, most_in, segment_of, sequence_of}
+use Rattle.sender_segments.specs.Ways.{end_stated}
+use Rattle.society_core.specs.Ends.{ended_before, fault_stated, number_past, place_stated}
 use Rattle.work_ids.specs.Blanks.{without_trailing_blanks}
 use Rattle.work_ids.specs.Reporter.{reporter_of}
 use Rattle.work_ids.specs.SenderKey.{is_sender_key}
@@ -14,9 +18,11 @@ use Rattle.work_ids.specs.declared.fault.IdFault.{IdFault}
 use Rattle.std.proofs.lemmas.Bool.{false≢true}
 use Rattle.std.proofs.lemmas.Slice.Eq.{bytes_eq-Decides}
 use Rattle.std.proofs.lemmas.Bool.Decides.{nat_tests}
-use Rattle.society_core.proofs.Books.{some_body, sound_with, sound_with_pool, sound_with_return}
+use Rattle.society_core.proofs.Books.{some_body, sound_with, sound_with_end, sound_with_pool, sound_with_return}
+use Rattle.society_core.proofs.Changes.{stated_possible, stated_year}
 use Rattle.society_core.proofs.Closes.{entry_of_close, no_payer}
 use Rattle.society_core.proofs.Fronts.{both_hold, first_holds}
+use Rattle.society_core.proofs.HeadlineLemmas.{is_not_ended, past_is_none}
 
 -- a book that is the next one where an addition went well, and else the old one, is sound where both are
 pub sound_either : {T E : Type 0} (r : Result T E) (old new next : Book) → OnOk r (new ≡ next) → OnErr r (new ≡ old) → IsSound old → IsSound next → IsSound new
@@ -32,9 +38,40 @@ sound_after_pool r old new pool order ok err sound number is free =
     sound_either r old new (with_pool old pool order) ok err sound
     (sound_with_pool old pool order sound (entry_of_close old pool order number free) is (no_payer old order free))
 
-pub sound_after : {T E : Type 0} (r : Result T E) (old new : Book) (s : List ℕ) (n : ℕ) (body : List ℕ) → OnOk r (new ≡ with_transmission old s n body) → OnErr r (new ≡ old) → IsSound old → body_at old s n ≡ None → is_entry s n body ≡ true → IsSound new
-sound_after r old new s n body ok err sound free entry =
-    sound_either r old new (with_transmission old s n body) ok err sound (sound_with old s n body sound free entry)
+pub sound_after : {T E : Type 0} (r : Result T E) (old new : Book) (s : List ℕ) (n : ℕ) (body : List ℕ) → OnOk r (new ≡ with_transmission old s n body) → OnErr r (new ≡ old) → IsSound old → IsSound (with_transmission old s n body) → IsSound new
+sound_after r old new s n body ok err sound after = sound_either r old new (with_transmission old s n body) ok err sound after
+
+-- the book after a transmission that may be added is sound
+pub sound_taken : (b : Book) (s : List ℕ) (n : ℕ) (body : List ℕ) → IsSound b → body_at b s n ≡ None → is_entry s n body ≡ true → ended_before b s n ≡ None → IsSound (with_transmission b s n body)
+sound_taken b s n body sound free entry within =
+    sound_with b s n body sound free entry (λ e stated. is_not_ended (sequence_of n) (end_at b s (segment_of n)) within e stated)
+
+-- what is stated without a fault by a sender may stand in a book
+pub end_entry : (s : List ℕ) (stated : StatedEnd) → is_sender_key s ≡ true → fault_stated stated ≡ None → is_end_entry s (place_stated stated) (end_stated stated) ≡ true
+end_entry s stated key right =
+    let possible = stated_possible stated right in
+    let year = stated_year stated right in
+    let last = possible.last in
+    let later = possible.later in
+    five (is_sender_key s) (nat_le (place_stated stated) 100) (nat_le stated.last (most_in (place_stated stated))) (nat_lt (place_stated stated) (end_stated stated).next) (nat_le (end_stated stated).next 100)
+    key (le_holds (place_stated stated) 100 (omega (arith, later, year))) (le_holds stated.last (most_in (place_stated stated)) last) (lt_holds (place_stated stated) (end_stated stated).next later) (le_holds (end_stated stated).next 100 year)
+  where
+    five : (a b c d e : Bool) → a ≡ true → b ≡ true → c ≡ true → d ≡ true → e ≡ true → (a && b && c && d && e) ≡ true
+    five a b c d e one two three four last = cc
+
+    le_holds : (a b : ℕ) → a ≤ b → nat_le a b ≡ true
+    le_holds a b h = grind (arith, nat_tests)
+
+    lt_holds : (a b : ℕ) → a < b → nat_lt a b ≡ true
+    lt_holds a b h = grind (arith, nat_tests)
+
+-- the book after an end that may be added is sound
+pub sound_stated : (b : Book) (s : List ℕ) (stated : StatedEnd) → IsSound b → end_at b s (place_stated stated) ≡ None → is_sender_key s ≡ true → fault_stated stated ≡ None → number_past b s (place_stated stated) stated.last ≡ None → IsSound (with_end b s (place_stated stated) (end_stated stated))
+sound_stated b s stated sound free key right none =
+    sound_with_end b s (place_stated stated) (end_stated stated) sound free (end_entry s stated key right) (λ n there same. past_is_none b s (place_stated stated) stated.last n none there same)
+
+pub sound_after_end : {T E : Type 0} (r : Result T E) (old new : Book) (s : List ℕ) (stated : StatedEnd) → OnOk r (new ≡ with_end old s (place_stated stated) (end_stated stated)) → OnErr r (new ≡ old) → IsSound old → IsSound (with_end old s (place_stated stated) (end_stated stated)) → IsSound new
+sound_after_end r old new s stated ok err sound after = sound_either r old new (with_end old s (place_stated stated) (end_stated stated)) ok err sound after
 
 -- a number that is 1 to a limit passes
 pub from_one : (most n : ℕ) → 1 ≤ n → n ≤ most → is_from_one_to most n ≡ true
@@ -73,7 +110,7 @@ return_entry key bytes body is back low high right =
     (both_hold (is_reporter key.reporter) (is_return_number key.number) (reporter_reads bytes key.reporter is back) (from_one 999999 key.number low high)) (ap is_none right)
 
 -- a sender, a number and a fault that is none make a transmission's entry
-pub transmission_entry : (s : List ℕ) (n : ℕ) (body : List ℕ) → is_sender_key s ≡ true → 1 ≤ n → n ≤ 999999 → file_fault s body ≡ None → is_entry s n body ≡ true
-transmission_entry s n body key low high right =
+pub transmission_entry : (s : List ℕ) (n : ℕ) (body : List ℕ) → is_sender_key s ≡ true → is_transmission_number n ≡ true → file_fault s body ≡ None → is_entry s n body ≡ true
+transmission_entry s n body key number right =
     both_hold (is_sender_key s && is_transmission_number n) (is_none (file_fault s body))
-    (both_hold (is_sender_key s) (is_transmission_number n) key (from_one 999999 n low high)) (ap is_none right)
+    (both_hold (is_sender_key s) (is_transmission_number n) key number) (ap is_none right)

@@ -14,14 +14,19 @@ use Rattle.perf_returns.specs.declared.fault.ReturnFault.{ReturnFault}
 use Rattle.share_rules.specs.Weights.{weights_of}
 use Rattle.share_rules.specs.declared.kind.Kind.TheVariants.{Performing}
 use Rattle.share_rules.specs.declared.office.Office.{Office}
-use Rattle.society_core.specs.Book.{Book, ack, body_at, front, held, is_applied, is_one_of, numbers_to, order_at, return_at, shown_verdicts, transaction_at, version_in, with_pool, with_return, with_transmission}
+use Rattle.society_core.specs.Book.{Book, ack, body_at, front, held, is_applied, is_in_line, order_at, return_at, shown_verdicts, transaction_at, version_in, with_end, with_pool, with_return, with_transmission}
+use Rattle.sender_segments.specs.Ways.{End, end_stated}
+use Rattle.work_ids.specs.SegmentEnds.{StatedEnd}
+use Rattle.work_ids.specs.declared.segment_end.SegmentFault.{SegmentFault}
+use Rattle.society_core.specs.Ends.{end_known_as, ended_before, fault_stated, number_past, place_stated}
 use Rattle.society_core.specs.Orders.{Order, names_return, same_order}
 use Rattle.society_core.specs.Pools.{balance, credits_of}
-use Rattle.society_core.specs.Requests.{Query, Puts, PutsReturn, Closes, ClosesFaulty, Inquires, AsksElsewhere, Reply, Arrived, Stored, Closed, Showed, Refused, Showing, Acknowledged, Stands, Described, Judged, Credited, Owed, Shown}
+use Rattle.society_core.specs.Requests.{Query, Puts, States, StatesFaulty, PutsReturn, Closes, ClosesFaulty, Inquires, AsksElsewhere, Reply, Arrived, Ended, Stored, Closed, Showed, Refused, Showing, Acknowledged, Stands, Described, Judged, Credited, Owed, Shown}
 use Rattle.society_core.specs.declared.answers.Arrival.{Arrival}
 use Rattle.society_core.specs.declared.answers.Receipt.TheVariants.{New, Repeated}
 use Rattle.society_core.specs.declared.answers.Standing.{Standing}
 use Rattle.society_core.specs.declared.answers.Standing.TheVariants.{Applied, Held}
+use Rattle.society_core.specs.declared.end_fault.EndFault.TheVariants.{Numbers}
 use Rattle.society_core.specs.declared.inquiry.Inquiry.{Inquiry}
 use Rattle.society_core.specs.declared.inquiry.Inquiry.TheVariants as inquiries
 use Rattle.society_core.specs.declared.refusal.Refusal.{Refusal}
@@ -30,25 +35,36 @@ use Rattle.society_core.specs.declared.refusal.Refusal.TheVariants as refusals
 use Rattle.society_core.specs.declared.return_key.ReturnKey.{ReturnKey}
 use Rattle.society_core.specs.declared.store.Known.{Known}
 use Rattle.society_core.specs.declared.store.Known.TheVariants.{Absent, Same, Other}
+use Rattle.society_core.specs.declared.store.KnownEnd.{KnownEnd}
+use Rattle.society_core.specs.declared.store.KnownEnd.TheVariants as ends
 use Rattle.society_core.specs.declared.store.KnownTransmission.{KnownTransmission}
 use Rattle.society_core.specs.declared.store.KnownTransmission.TheVariants as transmissions
 use Rattle.society_core.specs.declared.store.Payment.{Payment}
+use Rattle.society_core.specs.declared.store.Place.{Place}
 use Rattle.society_core.specs.declared.store.Payment.TheVariants as payments
 use Rattle.society_core.specs.declared.transmission_key.TransmissionKey.{TransmissionKey}
 use Rattle.works_core.specs.Recordings.{isrcs_of, right_one}
 use Rattle.works_core.specs.declared.version.WorkVersion.{WorkVersion}
 
--- a transmission is applied where its number is in a line up to a front, else it is held (profile)
-abbrev pub standing_at : ℕ → ℕ → Standing
-standing_at number front = if is_one_of (numbers_to front) number then Applied else Held
+-- where a number stands: its sender's front, and whether it is in the sender's line
+abbrev pub place_of : ℕ → Bool → Place
+place_of front is_applied = record { front = front; is_applied = is_applied }
 
--- how a transmission stands under its sender's front, and whether it came again
-abbrev pub arrival_at : Bool → ℕ → ℕ → Arrival
-arrival_at known number front = record { known = known; front = front; standing = standing_at number front }
+-- where a number stands in a book
+abbrev pub place_in : Book → List ℕ → ℕ → Place
+place_in book sender number = place_of (front book sender) (is_in_line book sender number)
+
+-- a transmission is applied where its number is in its sender's line, else it is held (profile)
+abbrev pub standing_at : Bool → Standing
+standing_at is_applied = if is_applied then Applied else Held
+
+-- how a transmission stands at a place, and whether it came again
+abbrev pub arrival_at : Bool → Place → Arrival
+arrival_at known place = record { known = known; front = place.front; standing = standing_at place.is_applied }
 
 -- how a transmission stands in a book, and whether it came again
 abbrev pub arrival_in : Bool → Book → List ℕ → ℕ → Arrival
-arrival_in known book sender number = arrival_at known number (front book sender)
+arrival_in known book sender number = arrival_at known (place_in book sender number)
 
 -- whether what the book has under a number is this body
 abbrev pub known_by : List ℕ → Option (List ℕ) → Known
@@ -59,21 +75,41 @@ known_by body (Some kept) = if bytes_eq kept body then Same else Other
 abbrev pub known_as : Book → List ℕ → ℕ → List ℕ → Known
 known_as book sender number body = known_by body (body_at book sender number)
 
--- what the book has under a transmission's number, with the front where it is these bytes
-abbrev pub known_with_front : ℕ → Known → KnownTransmission
-known_with_front front Absent = transmissions.Absent
-known_with_front front Same = transmissions.Same front
-known_with_front front Other = transmissions.Other
+-- what is said of a number under which nothing is: the last number of its segment, where it is above that
+abbrev pub free_under : Option ℕ → KnownTransmission
+free_under None = transmissions.Absent
+free_under (Some last) = transmissions.Ended last
 
--- the answer to a put of what is not known: the file fault, or how it stands once it is added
+-- what the book has under a transmission's number, with its place where it is these bytes
+abbrev pub known_with : Place → Option ℕ → Known → KnownTransmission
+known_with place ended Absent = free_under ended
+known_with place ended Same = transmissions.Same place
+known_with place ended Other = transmissions.Other
+
+-- what a book has under a transmission's number, beside a body
+abbrev pub transmission_known : Book → List ℕ → ℕ → List ℕ → KnownTransmission
+transmission_known book sender number body =
+    known_with (place_in book sender number) (ended_before book sender number) (known_as book sender number body)
+
+-- the answer to a put of a transmission under a number that is free: that its segment ended before, or how it stands once it is added (profile)
+abbrev pub taken_answer : Book → List ℕ → ℕ → List ℕ → Option ℕ → Reply
+taken_answer book sender number body (Some last) = Refused (refusals.Ended last)
+taken_answer book sender number body None = Arrived (arrival_in false (with_transmission book sender number body) sender number)
+
+-- the book after a put of a transmission under a number that is free
+abbrev pub taken_book : Book → List ℕ → ℕ → List ℕ → Option ℕ → Book
+taken_book book sender number body (Some last) = book
+taken_book book sender number body None = with_transmission book sender number body
+
+-- the answer to a put of what is not known: the file fault first
 abbrev pub added_answer : Book → List ℕ → ℕ → List ℕ → Option FileFault → Reply
 added_answer book sender number body (Some fault) = Refused (File fault)
-added_answer book sender number body None = Arrived (arrival_in false (with_transmission book sender number body) sender number)
+added_answer book sender number body None = taken_answer book sender number body (ended_before book sender number)
 
 -- the book after a put of what is not known
 abbrev pub added_book : Book → List ℕ → ℕ → List ℕ → Option FileFault → Book
 added_book book sender number body (Some fault) = book
-added_book book sender number body None = with_transmission book sender number body
+added_book book sender number body None = taken_book book sender number body (ended_before book sender number)
 
 -- the answer to a put: a repeat, a reused number, or what is not known
 abbrev pub put_answer : Book → List ℕ → ℕ → List ℕ → Known → Reply
@@ -86,6 +122,56 @@ abbrev pub put_book : Book → List ℕ → ℕ → List ℕ → Known → Book
 put_book book sender number body Same = book
 put_book book sender number body Other = book
 put_book book sender number body Absent = added_book book sender number body (file_fault sender body)
+
+-- the answer to a statement of an end that is not known: the greatest number above it, or the front once it is added (profile)
+abbrev pub stated_answer : Book → List ℕ → ℕ → End → Option ℕ → Reply
+stated_answer book sender segment end (Some number) = Refused (refusals.Segment number)
+stated_answer book sender segment end None = Ended New (front (with_end book sender segment end) sender)
+
+-- the book after a statement of an end that was not known
+abbrev pub stated_book : Book → List ℕ → ℕ → End → Option ℕ → Book
+stated_book book sender segment end (Some number) = book
+stated_book book sender segment end None = with_end book sender segment end
+
+-- the answer to a statement without a fault: a repeat, another end of the segment, or what is not known
+abbrev pub end_answer : Book → List ℕ → ℕ → End → Known → Reply
+end_answer book sender segment end Same = Ended Repeated (front book sender)
+end_answer book sender segment end Other = Refused Reused
+end_answer book sender segment end Absent = stated_answer book sender segment end (number_past book sender segment end.last)
+
+-- the book after a statement without a fault
+abbrev pub end_book : Book → List ℕ → ℕ → End → Known → Book
+end_book book sender segment end Same = book
+end_book book sender segment end Other = book
+end_book book sender segment end Absent = stated_book book sender segment end (number_past book sender segment end.last)
+
+-- the answer to what was stated: its fault first (profile)
+abbrev pub stating_answer : Book → List ℕ → StatedEnd → Option SegmentFault → Reply
+stating_answer book sender stated (Some fault) = Refused (refusals.End (Numbers fault))
+stating_answer book sender stated None =
+    end_answer book sender (place_stated stated) (end_stated stated) (end_known_as book sender (place_stated stated) (end_stated stated))
+
+-- the book after what was stated
+abbrev pub stating_book : Book → List ℕ → StatedEnd → Option SegmentFault → Book
+stating_book book sender stated (Some fault) = book
+stating_book book sender stated None =
+    end_book book sender (place_stated stated) (end_stated stated) (end_known_as book sender (place_stated stated) (end_stated stated))
+
+-- what is said of an end that the book does not have: the greatest number above it, if there is one
+abbrev pub unstated_under : Option ℕ → KnownEnd
+unstated_under None = ends.Absent
+unstated_under (Some number) = ends.Passed number
+
+-- what the book has of a segment, with the front where it is this end
+abbrev pub end_known_with : ℕ → Option ℕ → Known → KnownEnd
+end_known_with front past Absent = unstated_under past
+end_known_with front past Same = ends.Same front
+end_known_with front past Other = ends.Other
+
+-- what a book has of a segment, beside an end
+abbrev pub end_known : Book → List ℕ → ℕ → End → KnownEnd
+end_known book sender segment end =
+    end_known_with (front book sender) (number_past book sender segment end.last) (end_known_as book sender segment end)
 
 -- what is shown of a version: the title without the blanks at its end, the ISWC where there is one, the ISRCs in order, and the holders with their weights in the performing right (profile)
 abbrev pub shown_by : Office → List ℕ → List ℕ → WorkVersion → Transaction → Shown
@@ -232,6 +318,8 @@ shown_answer None = Refused Unknown
 -- the answer to a request over a book (profile)
 abbrev pub answer : Office → Book → Query → Reply
 answer office book (Puts sender number body) = put_answer book sender number body (known_as book sender number body)
+answer office book (States sender stated) = stating_answer book sender stated (fault_stated stated)
+answer office book (StatesFaulty fault) = Refused (refusals.End fault)
 answer office book (PutsReturn key body) = return_answer body (return_known_as book key body)
 answer office book (Closes pool order) = close_answer book pool order (pool_known_as book pool order)
 answer office book (ClosesFaulty fault) = Refused (refusals.Order fault)
@@ -241,6 +329,8 @@ answer office book AsksElsewhere = Refused Unknown
 -- the book after a request: another one only for what is accepted, and then by that one entry (profile)
 abbrev pub next : Book → Query → Book
 next book (Puts sender number body) = put_book book sender number body (known_as book sender number body)
+next book (States sender stated) = stating_book book sender stated (fault_stated stated)
+next book (StatesFaulty fault) = book
 next book (PutsReturn key body) = return_book book key body (return_known_as book key body)
 next book (Closes pool order) = close_book book pool order (pool_known_as book pool order)
 next book (ClosesFaulty fault) = book

@@ -1,7 +1,7 @@
 -- The book: what has been accepted, as finite maps that know no order of arrival.
-use Rattle.std.specs.Prelude.{ℕ, zero, suc, Bool, true, false, List, [], ◌∷◌, ◌≡◌, ◌&&◌, ◌==◌, Option, Some, None, is_some, is_none, not, Result, Ok, Err, map, max, unwrap_or, if◌then◌else◌, bytes_eq}
+use Rattle.std.specs.Prelude.{ℕ, Bool, true, false, List, [], ◌∷◌, ◌≡◌, ◌&&◌, ◌==◌, Option, Some, None, is_some, is_none, not, Result, Ok, Err, map, max, nat_le, nat_lt, unwrap_or, if◌then◌else◌, bytes_eq}
 use Rattle.std.specs.FinMap as finite
-use Rattle.std.specs.List.{filter, list_all, list_any, range_with_len, slice_get}
+use Rattle.std.specs.List.{filter, list_all, list_any, slice_get}
 use Rattle.std.specs.Ordering.{nat_cmp}
 use Rattle.cwr_files.specs.Contents.{transmission_in, transactions_of}
 use Rattle.cwr_files.specs.FileFault.{file_fault}
@@ -9,7 +9,8 @@ use Rattle.cwr_files.specs.declared.transmission.Transaction.{Transaction}
 use Rattle.perf_returns.specs.Returns.{return_fault}
 use Rattle.share_rules.specs.declared.office.Office.{Office}
 use Rattle.work_ids.specs.Blanks.{without_trailing_blanks}
-use Rattle.work_ids.specs.Numbers.{is_pool_number, is_return_number, is_transmission_number}
+use Rattle.work_ids.specs.Numbers.{is_pool_number, is_return_number}
+use Rattle.work_ids.specs.Segments.{base_of, is_transmission_number, most_in}
 use Rattle.work_ids.specs.Reporter.{reporter_of}
 use Rattle.work_ids.specs.SenderKey.{is_sender_key}
 use Rattle.work_ids.specs.declared.fault.IdFault.{IdFault}
@@ -18,7 +19,8 @@ use Rattle.works_core.specs.Line.{NumberedTransmission, line_of, verdicts_at}
 use Rattle.works_core.specs.Versions.{work_at}
 use Rattle.works_core.specs.declared.version.WorkVersion.{WorkVersion}
 use Rattle.ack_files.specs.Acknowledgement.{acknowledgement}
-use Rattle.society_core.specs.Keys.{return_cmp, transmission_cmp, transmission_key}
+use Rattle.sender_segments.specs.Ways.{AreRight, End, IsWithinEnd, LeadToYears, StatedEnds, greatest_passing, is_reached, numbers_up_to}
+use Rattle.society_core.specs.Keys.{return_cmp, segment_cmp, segment_key, transmission_cmp, transmission_key}
 use Rattle.society_core.specs.Orders.{IsOrder, Order, names_return}
 use Rattle.society_core.specs.declared.return_key.ReturnKey.{ReturnKey}
 use Rattle.society_core.specs.declared.transmission_key.TransmissionKey.{TransmissionKey}
@@ -27,15 +29,20 @@ use Rattle.society_core.specs.declared.transmission_key.TransmissionKey.{Transmi
 abbrev pub Transmissions : Type 0
 Transmissions = finite.FinMap transmission_cmp (List ℕ)
 
--- what was accepted: of a sender and a number the body of a transmission, of a reporter and a number that of a return, of a pool its order
+-- ends of segments by sender and the place of the segment
+abbrev pub Ends : Type 0
+Ends = finite.FinMap segment_cmp End
+
+-- what was accepted: of a sender and a number the body of a transmission, of a sender and a segment its end, of a reporter and a number the body of a return, of a pool its order
 pub record Book : Type 0 where
   pub transmissions : Transmissions
+  pub ends : Ends
   pub returns : finite.FinMap return_cmp (List ℕ)
   pub pools : finite.FinMap nat_cmp Order
 
 -- the book of an office to which nothing has come
 abbrev pub empty_book : Book
-empty_book = record { transmissions = finite.empty; returns = finite.empty; pools = finite.empty }
+empty_book = record { transmissions = finite.empty; ends = finite.empty; returns = finite.empty; pools = finite.empty }
 
 -- the body of a sender's transmission, if it is there
 abbrev pub body_at : Book → List ℕ → ℕ → Option (List ℕ)
@@ -44,6 +51,14 @@ body_at book sender number = finite.get book.transmissions (transmission_key sen
 -- whether a sender's transmission is there
 abbrev pub is_there : Book → List ℕ → ℕ → Bool
 is_there book sender number = is_some (body_at book sender number)
+
+-- the end that a sender stated of a segment, if it did
+abbrev pub end_at : Book → List ℕ → ℕ → Option End
+end_at book sender segment = finite.get book.ends (segment_key sender segment)
+
+-- the ends that a sender stated, each by the place of its segment
+abbrev pub ends_of : Book → List ℕ → StatedEnds
+ends_of book sender = λ segment. end_at book sender segment
 
 -- the body of a return, if it is there
 abbrev pub return_at : Book → ReturnKey → Option (List ℕ)
@@ -58,6 +73,10 @@ abbrev pub with_transmission : Book → List ℕ → ℕ → List ℕ → Book
 with_transmission book sender number body =
     record book { transmissions = finite.insert book.transmissions (transmission_key sender number) body }
 
+-- the book with one end more
+abbrev pub with_end : Book → List ℕ → ℕ → End → Book
+with_end book sender segment end = record book { ends = finite.insert book.ends (segment_key sender segment) end }
+
 -- the book with one return more
 abbrev pub with_return : Book → ReturnKey → List ℕ → Book
 with_return book key body = record book { returns = finite.insert book.returns key body }
@@ -69,6 +88,11 @@ with_pool book pool order = record book { pools = finite.insert book.pools pool 
 -- whether a body may stand in the book: it has a sender and a number within the limits, and no file fault (profile)
 abbrev pub is_entry : List ℕ → ℕ → List ℕ → Bool
 is_entry sender number body = is_sender_key sender && is_transmission_number number && is_none (file_fault sender body)
+
+-- whether an end may stand in the book: it has a sender and a segment within the limits, and no segment fault (profile)
+abbrev pub is_end_entry : List ℕ → ℕ → End → Bool
+is_end_entry sender segment end =
+    is_sender_key sender && nat_le segment 100 && nat_le end.last (most_in segment) && nat_lt segment end.next && nat_le end.next 100
 
 -- whether bytes were read as these
 abbrev pub is_read_as : List ℕ → Result (List ℕ) IdFault → Bool
@@ -83,44 +107,52 @@ is_reporter bytes = is_read_as bytes (reporter_of (without_trailing_blanks bytes
 abbrev pub is_return_entry : ReturnKey → List ℕ → Bool
 is_return_entry key body = is_reporter key.reporter && is_return_number key.number && is_none (return_fault body)
 
--- whether a sender's transmissions 1 to n are all among some
-abbrev pub has_all_in : Transmissions → List ℕ → ℕ → Bool
-has_all_in bodies sender zero = true
-has_all_in bodies sender (suc n) = is_some (finite.get bodies (transmission_key sender (suc n))) && has_all_in bodies sender n
-
--- whether a sender's transmissions 1 to n are all there
-abbrev pub has_all : Book → List ℕ → ℕ → Bool
-has_all book sender n = has_all_in book.transmissions sender n
-
--- the greatest number up to a limit that passes, or 0
-abbrev pub greatest_to : ℕ → (ℕ → Bool) → ℕ
-greatest_to zero passes = 0
-greatest_to (suc n) passes = if passes (suc n) then suc n else greatest_to n passes
-
 -- the greatest number of some keys, 0 where there are none
 abbrev pub greatest_of : List TransmissionKey → ℕ
 greatest_of [] = 0
 greatest_of (key ∷ keys) = max key.number (greatest_of keys)
 
--- a sender's front among some transmissions: the greatest n such that 1 to n are all there, 0 where 1 is not
-unfoldable pub front_in : Transmissions → List ℕ → ℕ
-front_in bodies sender = greatest_to (greatest_of (finite.keys bodies)) (has_all_in bodies sender)
+-- the greatest rank from which some ends let a segment begin, 0 where there are none
+abbrev pub greatest_base : List End → ℕ
+greatest_base [] = 0
+greatest_base (end ∷ more) = max (base_of end.next) (greatest_base more)
 
--- a sender's front: the greatest n such that 1 to n are all there, 0 where 1 is not (profile)
+-- whether a sender's transmission is among some
+abbrev pub is_among : Transmissions → List ℕ → ℕ → Bool
+is_among bodies sender number = is_some (finite.get bodies (transmission_key sender number))
+
+-- the ends of a sender's segments among some, each by the place of its segment
+abbrev pub ends_among : Ends → List ℕ → StatedEnds
+ends_among ends sender = λ segment. finite.get ends (segment_key sender segment)
+
+-- a sender's front among some transmissions and ends: the greatest number that the ends lead to and up to which all are there, 0 where there is none
+unfoldable pub front_in : Transmissions → Ends → List ℕ → ℕ
+front_in bodies ends sender =
+    greatest_passing (max (greatest_of (finite.keys bodies)) (greatest_base (finite.values ends))) (is_reached (is_among bodies sender) (ends_among ends sender))
+
+-- a sender's front: the greatest number that its stated ends lead to and up to which all have come, 0 where there is none (profile)
 abbrev pub front : Book → List ℕ → ℕ
-front book sender = front_in book.transmissions sender
-
--- the numbers of a line up to one of them, in order
-abbrev pub numbers_to : ℕ → List ℕ
-numbers_to n = range_with_len 1 n
+front book sender = front_in book.transmissions book.ends sender
 
 -- whether a number is one of some
 abbrev pub is_one_of : List ℕ → ℕ → Bool
 is_one_of numbers n = list_any (λ m. m == n) numbers
 
--- the numbers of a sender's line, in order: those of its transmissions that are applied, up to its front (profile)
-abbrev pub line : Book → List ℕ → List ℕ
-line book sender = numbers_to (front book sender)
+-- the numbers of a sender's transmissions, ascending
+abbrev pub numbers_of : Book → List ℕ → List ℕ
+numbers_of book sender = map (λ key. key.number) (filter (λ key. bytes_eq key.sender sender) (finite.keys book.transmissions))
+
+-- the numbers that a sender's ends lead through up to its front, in order
+abbrev pub numbers_led_through : Book → List ℕ → List ℕ
+numbers_led_through book sender = numbers_up_to (ends_of book sender) (front book sender)
+
+-- the numbers of a sender's line, ascending: those of its transmissions that its ends lead through up to its front; these are applied (profile)
+unfoldable pub line : Book → List ℕ → List ℕ
+line book sender = filter (is_one_of (numbers_led_through book sender)) (numbers_of book sender)
+
+-- the numbers of a sender's line up to one of them, in order
+abbrev pub numbers_to : Book → List ℕ → ℕ → List ℕ
+numbers_to book sender n = filter (λ m. nat_le m n) (line book sender)
 
 -- whether a number is in a sender's line (profile)
 abbrev pub is_in_line : Book → List ℕ → ℕ → Bool
@@ -136,7 +168,7 @@ sent_under book sender n = (n, transmission_in (unwrap_or (body_at book sender n
 
 -- a sender's transmissions under their numbers up to one of its line, in order
 abbrev pub transmissions_to : Book → List ℕ → ℕ → List NumberedTransmission
-transmissions_to book sender n = map (sent_under book sender) (numbers_to n)
+transmissions_to book sender n = map (sent_under book sender) (numbers_to book sender n)
 
 -- the verdicts of a sender's transmission n, by its transmissions up to n alone
 abbrev pub verdicts_in : Office → Book → List ℕ → ℕ → List Verdict
@@ -150,10 +182,6 @@ shown_verdicts office book sender n = if is_in_line book sender n then Some (ver
 abbrev pub ack : Office → Book → List ℕ → ℕ → Option (List ℕ)
 ack office book sender n =
     if is_in_line book sender n then Some (acknowledgement office sender (transmission_in (unwrap_or (body_at book sender n) [])) (verdicts_in office book sender n)) else None
-
--- the numbers of a sender's transmissions, ascending
-abbrev pub numbers_of : Book → List ℕ → List ℕ
-numbers_of book sender = map (λ key. key.number) (filter (λ key. bytes_eq key.sender sender) (finite.keys book.transmissions))
 
 -- the numbers of a sender's held transmissions: those that are not in its line, ascending (profile)
 abbrev pub held : Book → List ℕ → List ℕ
@@ -172,10 +200,19 @@ abbrev pub is_pool_entry : Book → ℕ → Order → Bool
 is_pool_entry book pool order =
     is_pool_number pool && list_all (is_applied book) order.cut && list_all (λ key. is_some (return_at book key)) order.returns
 
--- each entry of the book may stand in it, and no return is named by two pools (profile)
+-- each entry of the book may stand in it, no number is above the stated end of its segment, and no return is named by two pools (profile)
 pub record IsSound (book : Book) : Type 0 where
   pub transmissions : (sender : List ℕ) (number : ℕ) (body : List ℕ) → body_at book sender number ≡ Some body → is_entry sender number body ≡ true
+  pub ends : (sender : List ℕ) (segment : ℕ) (end : End) → end_at book sender segment ≡ Some end → is_end_entry sender segment end ≡ true
+  pub within : (sender : List ℕ) (number : ℕ) → is_there book sender number ≡ true → IsWithinEnd (ends_of book sender) number
   pub returns : (key : ReturnKey) (body : List ℕ) → return_at book key ≡ Some body → is_return_entry key body ≡ true
   pub pools : (pool : ℕ) (order : Order) → order_at book pool ≡ Some order → is_pool_entry book pool order ≡ true
   pub orders : (pool : ℕ) (order : Order) → order_at book pool ≡ Some order → IsOrder order
   pub paid_once : (pool other : ℕ) (order another : Order) (key : ReturnKey) → order_at book pool ≡ Some order → order_at book other ≡ Some another → names_return key order ≡ true → names_return key another ≡ true → pool ≡ other
+
+-- what is kept of a sender is in order: its numbers and ends are within the limits, each end leads to a later year, and no number is above the end of its segment
+pub record AreOrderly (bodies : Transmissions) (ends : Ends) (sender : List ℕ) : Type 0 where
+  pub numbers : (n : ℕ) → is_among bodies sender n ≡ true → is_transmission_number n ≡ true
+  pub right : AreRight (ends_among ends sender)
+  pub years : LeadToYears (ends_among ends sender)
+  pub within : (n : ℕ) → is_among bodies sender n ≡ true → IsWithinEnd (ends_among ends sender) n

@@ -1,11 +1,18 @@
 -- The laws of every run of requests, and of books, fronts, pools and owners.
-use Rattle.std.specs.Prelude.{ℕ, ◌≡◌, ◌≢◌, ◌↔◌, ◌&&◌, List, Some, true, map, not, sum}
+use Rattle.std.specs.Prelude.{ℕ, ◌≡◌, ◌≢◌, ◌↔◌, ◌+◌, ◌<◌, ◌&&◌, List, None, Some, false, true, map, nat_le, not, sum}
+use Rattle.std.specs.List.{range_with_len}
 use Rattle.std.specs.FinMap.{values}
 use Rattle.share_rules.specs.declared.office.Office.{Office}
 use Rattle.work_ids.specs.declared.account.Account.{Account}
 use Rattle.society_core.specs.Answers.{AnswersAlike, answer}
-use Rattle.society_core.specs.Book.{Book, IsSound, body_at, held, is_in_line, is_one_of, is_there, order_at}
-use Rattle.society_core.specs.Entries.{BookOf, Entry, HoldsExactly, IsIn}
+use Rattle.society_core.specs.Book.{Book, IsSound, body_at, end_at, front, held, is_in_line, is_one_of, is_there, line, order_at, with_end}
+use Rattle.society_core.specs.Ends.{fault_stated, number_past, place_stated}
+use Rattle.society_core.specs.Growth.{GoesOn}
+use Rattle.sender_segments.specs.Ways.{end_stated}
+use Rattle.sender_segments.specs.Ways as ways
+use Rattle.work_ids.specs.SegmentEnds.{StatedEnd}
+use Rattle.work_ids.specs.SenderKey.{is_sender_key}
+use Rattle.society_core.specs.Entries.{BookOf, End, Entry, HoldsExactly, IsIn, Return, Transmission}
 use Rattle.society_core.specs.Headline.{AcceptedAlike, AlikeToTheGap, AlikeToTheGaps, AllAskRightly, BroughtAlike, Came, HoldsWhatCame, OneContent}
 use Rattle.society_core.specs.Keys.{ascending, return_cmp}
 use Rattle.society_core.specs.Orders.{IsOrder, Order, names_return}
@@ -36,6 +43,14 @@ BookIsWhatWasAccepted = OfEachRun (λ office before queries replies after. Holds
 -- where no number came with two contents, the book after a run holds exactly what came
 abbrev pub BookHoldsWhatCame : Type 0
 BookHoldsWhatCame = OfEachRun (λ office before queries replies after. OneContent before queries replies → HoldsWhatCame before queries replies after)
+
+-- where no end of a segment came, one content is asked of transmissions and returns alone
+abbrev pub UnstatedIsOneContent : Type 0
+UnstatedIsOneContent =
+    (book : Book) (queries : List Query) (replies : List Reply) → ((s : List ℕ) (g : ℕ) (e : ways.End) → Came book queries replies (End s g e) → ⊥)
+    → ((s : List ℕ) (n : ℕ) (x y : List ℕ) → Came book queries replies (Transmission s n x) → Came book queries replies (Transmission s n y) → x ≡ y)
+    → ((key : ReturnKey) (x y : List ℕ) → Came book queries replies (Return key x) → Came book queries replies (Return key y) → x ≡ y)
+    → OneContent book queries replies
 
 -- a run keeps each entry of its opening book
 abbrev pub EntriesStay : Type 0
@@ -76,6 +91,36 @@ AnswersToTheGaps {X} asked = (office : Office) (a b : Book) (x : X) → IsSound 
 abbrev pub ClosedPoolsStay : Type 0
 ClosedPoolsStay =
     OfEachRun (λ office before queries replies after. IsSound before → (pool : ℕ) (order : Order) → order_at before pool ≡ Some order → AnswersAlike office after before (Inquires (Credits pool)))
+
+-- a sender stated the end of no segment
+abbrev pub StatesNothing : Book → List ℕ → Type 0
+StatesNothing book sender = (segment : ℕ) → end_at book sender segment ≡ None
+
+-- of a sender that stated nothing the line is from 1 to the front
+abbrev pub PlainLinesCountFromOne : Type 0
+PlainLinesCountFromOne = (book : Book) (sender : List ℕ) → StatesNothing book sender → line book sender ≡ range_with_len 1 (front book sender)
+
+-- so a number is in it where it is 1 to the front
+abbrev pub NumbersOfPlainLines : Type 0
+NumbersOfPlainLines =
+    (book : Book) (sender : List ℕ) → StatesNothing book sender → (n : ℕ) → is_in_line book sender n ≡ (nat_le 1 n && nat_le n (front book sender))
+
+-- and where all its numbers are plain, the next one is not there
+abbrev pub PlainLinesEndAtGaps : Type 0
+PlainLinesEndAtGaps =
+    (book : Book) (sender : List ℕ) → StatesNothing book sender → ((n : ℕ) → is_there book sender n ≡ true → n < 1000000) → is_there book sender (front book sender + 1) ≡ false
+
+-- so where a sender stated nothing, one line with the same bodies in it is all that two books need to be alike to its gap
+abbrev pub PlainLinesAreAlike : Type 0
+PlainLinesAreAlike =
+    (a b : Book) (sender : List ℕ) → StatesNothing a sender → StatesNothing b sender → line a sender ≡ line b sender
+    → ((n : ℕ) → is_in_line a sender n ≡ true → body_at a sender n ≡ body_at b sender n) → AlikeToTheGap a b sender
+
+-- what a sender states of a segment without an end, above which nothing is, lets its line go on by some numbers
+abbrev pub StatementsLeadOn : Type 0
+StatementsLeadOn =
+    (book : Book) (sender : List ℕ) (stated : StatedEnd) → IsSound book → is_sender_key sender ≡ true → fault_stated stated ≡ None → end_at book sender (place_stated stated) ≡ None
+    → number_past book sender (place_stated stated) stated.last ≡ None → (more : List ℕ) × GoesOn book (with_end book sender (place_stated stated) (end_stated stated)) sender more
 
 -- the held numbers of a sender are those under which something is there that is not in its line
 abbrev pub HeldNumbersWait : Type 0

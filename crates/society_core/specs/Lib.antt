@@ -8,11 +8,13 @@ pub mod Pools
 pub mod Claims
 pub mod Candidates
 pub mod PlainMaps
+pub mod PlainLines
 pub mod Plain
 pub mod Requests
 pub mod Answers
 pub mod Runs
 pub mod State
+pub mod Ends
 pub mod Asked
 pub mod Entries
 pub mod Faults

@@ -3,7 +3,8 @@ use Rattle.std.specs.Prelude.{ℕ, Bool, true, false, not, List, [], ◌∷◌, 
 use Rattle.std.specs.Cmp.Lexicographic.{pointwise}
 use Rattle.std.specs.Coded.{Coded, code_by, coded×, coded_ℕ, coded_list}
 use Rattle.std.specs.List.{list_any, list_all}
-use Rattle.work_ids.specs.Numbers.{is_return_number, is_transmission_number}
+use Rattle.work_ids.specs.Numbers.{is_return_number}
+use Rattle.work_ids.specs.Segments.{is_transmission_number}
 use Rattle.work_ids.specs.SenderKey.{is_sender_key}
 use Rattle.society_core.specs.Keys.{ascending, coded_return_key, coded_transmission_key, return_cmp, return_key, transmission_cmp, transmission_key}
 use Rattle.society_core.specs.declared.order.OrderError.{OrderError}

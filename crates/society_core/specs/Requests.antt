@@ -2,6 +2,7 @@
 use Rattle.std.specs.Prelude.{ℕ, List, Option, Result, Ok, Err}
 use Rattle.pool_split.specs.declared.claim.Credit.{Credit}
 use Rattle.share_rules.specs.declared.holder.Holder.{Holder}
+use Rattle.work_ids.specs.SegmentEnds.{StatedEnd}
 use Rattle.work_ids.specs.declared.account.Account.{Account}
 use Rattle.society_core.specs.Orders.{Order}
 use Rattle.society_core.specs.declared.answers.Answer.{Answer}
@@ -10,6 +11,7 @@ use Rattle.society_core.specs.declared.answers.Arrival.{Arrival}
 use Rattle.society_core.specs.declared.answers.Receipt.{Receipt}
 use Rattle.society_core.specs.declared.answers.SenderStatus.{SenderStatus}
 use Rattle.society_core.specs.declared.answers.Work.{Work}
+use Rattle.society_core.specs.declared.end_fault.EndFault.{EndFault}
 use Rattle.society_core.specs.declared.inquiry.Inquiry.{Inquiry}
 use Rattle.society_core.specs.declared.inquiry.Showing as declared
 use Rattle.society_core.specs.declared.inquiry.Showing.TheVariants as showings
@@ -24,6 +26,8 @@ use Rattle.works_core.specs.declared.version.WorkVersion.{WorkVersion}
 -- what is asked
 pub data Query : Type 0 where
   Puts : List ℕ → ℕ → List ℕ → Query
+  States : List ℕ → StatedEnd → Query
+  StatesFaulty : EndFault → Query
   PutsReturn : ReturnKey → List ℕ → Query
   Closes : ℕ → Order → Query
   ClosesFaulty : OrderFault → Query
@@ -51,6 +55,7 @@ pub data Showing : Type 0 where
 -- what is answered
 pub data Reply : Type 0 where
   Arrived : Arrival → Reply
+  Ended : Receipt → ℕ → Reply
   Stored : Receipt → Reply
   Closed : Receipt → ℕ → Reply
   Showed : Showing → Reply
@@ -59,6 +64,8 @@ pub data Reply : Type 0 where
 -- what a request asks
 abbrev pub query_of : Request → Query
 query_of (requests.PutTransmission sender number body) = Puts sender number body.now
+query_of (requests.PutEnd sender end) = States sender end
+query_of (requests.FaultyEnd fault) = StatesFaulty fault
 query_of (requests.PutReturn key body) = PutsReturn key body.now
 query_of (requests.ClosePool pool order) = Closes pool order
 query_of (requests.FaultyOrder fault) = ClosesFaulty fault
@@ -92,6 +99,7 @@ showing_of (showings.Balance account units) = Owed account units
 -- what an answer says
 abbrev pub reply_of : Answer → Reply
 reply_of (answers.Arrived arrival) = Arrived arrival
+reply_of (answers.Ended receipt front) = Ended receipt front
 reply_of (answers.Stored receipt) = Stored receipt
 reply_of (answers.Closed receipt pool) = Closed receipt pool
 reply_of (answers.Showed showing) = Showed (showing_of showing)

@@ -2,7 +2,7 @@
 use Rattle.std.specs.Prelude.{List, [], ◌∷◌, ◌++◌, ◌≡◌, ◌⊎◌, map, length, IsTrue, Bool, true, false, Option, Some, None, Result, Ok, Err, ⊤}
 use Rattle.share_rules.specs.declared.office.Office.{Office}
 use Rattle.society_core.specs.Book.{Book}
-use Rattle.society_core.specs.Requests.{Query, ClosesFaulty, Inquires, AsksElsewhere, Reply, Refused, query_of, reply_of}
+use Rattle.society_core.specs.Requests.{Query, StatesFaulty, ClosesFaulty, Inquires, AsksElsewhere, Reply, Refused, query_of, reply_of}
 use Rattle.society_core.specs.Answers.{answer, next}
 use Rattle.society_core.specs.Headline.{TellsWhatCame}
 use Rattle.society_core.specs.State.{ChangesNothing, Goes, State}
@@ -22,8 +22,9 @@ pub record Proceeds (old new : State) (query : Query) (reply : Reply) : Type 0 w
   pub step : IsTrue new.is_clean → Step old.office old.book query reply new.book
   pub goes : Goes old new (λ book. book ≡ next old.book query)
 
--- whether a request asks the store: one for nothing that the office has does not, nor does an order at fault
+-- whether a request asks the store: one for nothing that the office has does not, nor does an end or an order at fault
 abbrev pub asks_store : Query → Bool
+asks_store (StatesFaulty fault) = false
 asks_store (ClosesFaulty fault) = false
 asks_store AsksElsewhere = false
 asks_store other = true

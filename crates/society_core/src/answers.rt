@@ -5,10 +5,10 @@ use share_rules::Holder;
 use work_ids::{Isrc, Iswc, PoolNumber, TransmissionNumber, WorkNumber};
 use works_core::WorkVersion;
 
-/// Whether a transmission counts: applied where its number is at most its sender's front, else held.
+/// Whether a transmission counts: applied where its number is in its sender's line, else held.
 #[derive(Clone, Copy, Debug, PartialEq, Eq)]
 pub enum Standing {
-    /// It counts: all numbers before it have come.
+    /// It counts: its sender's ends lead to it, and all numbers before it have come.
     Applied,
     /// It waits behind its sender's first gap.
     Held,
@@ -19,13 +19,13 @@ pub enum Standing {
 pub struct Arrival {
     /// Whether the same bytes had come before under this number.
     pub known: bool,
-    /// The sender's front: the greatest n such that 1 to n have come.
+    /// The sender's front, as a rank: the greatest number that its ends lead to and up to which all have come.
     pub front: u32,
-    /// Where its number stands against the front.
+    /// Whether its number is in the sender's line.
     pub standing: Standing,
 }
 
-/// Whether a return or an order is new to the book, or came again.
+/// Whether an end, a return or an order is new to the book, or came again.
 #[derive(Clone, Copy, Debug, PartialEq, Eq)]
 pub enum Receipt {
     /// It was added.
@@ -34,7 +34,7 @@ pub enum Receipt {
     Repeated,
 }
 
-/// How a sender stands: its front, and the numbers above it under which transmissions wait, ascending.
+/// How a sender stands: its front, as a rank, and the numbers under which transmissions wait, ascending.
 #[derive(Debug, Drop)]
 pub struct SenderStatus {
     pub front: u32,
@@ -58,6 +58,8 @@ pub struct Work {
 pub enum Answer {
     /// A put was taken: how the transmission stands.
     Arrived(Arrival),
+    /// The end of a segment is taken down: the sender's front, as a rank.
+    Ended(Receipt, u32),
     /// A return is stored.
     Stored(Receipt),
     /// A pool is closed.

@@ -11,7 +11,6 @@ ghost use Rattle.works_core.specs.Recordings.{isrcs_of};
 ghost use Rattle.works_core.specs.Versions.{work_at};
 
 use crate::claim_list::Candidate;
-use crate::line::numbers_up_to;
 use crate::order::PoolOrder;
 use crate::plain_book::PlainBook;
 use crate::plain_lines::{line_to, transmission_of};
@@ -161,7 +160,7 @@ fn add_versions(
 ) -> Result<(), AllocError>
     requires sound { IsSound book.now }
     requires line { line.now.transmissions ≡ line_of office.now (transmissions_to book.now key.now.sender key.now.number) }
-    requires within { is_one_of (numbers_to key.now.number) number ≡ true }
+    requires within { is_one_of (numbers_to book.now key.now.sender key.now.number) number ≡ true }
     requires there { is_there book.now key.now.sender number ≡ true }
     ensures { OnOk result (AddsSent kind office.now tally.now book.now key.now number candidates.old.items candidates.new.items) }
 {
@@ -204,7 +203,7 @@ fn add_sender(
     ensures { OnOk result (AddsSender kind office.now tally.now book.now key.now candidates.old.items candidates.new.items) }
 {
     let line = line_to(alloc, office, book, &key.sender, key.number.value())?;
-    let numbers = numbers_up_to(alloc, key.number.value())?;
+    let numbers = book.numbers_to(alloc, &key.sender, key.number.value())?;
     for number in &numbers {
         add_versions(
             alloc, kind, office, tally, book, key, &line, *number, candidates,

@@ -2,25 +2,25 @@
 ghost use Rattle.std.specs.Prelude.{◌≡◌, ℕ, List, IfOk, IsTrue};
 ghost use Rattle.cwr_files.specs.Fed.{WasFed};
 ghost use Rattle.society_core.specs.Answers.{arrival_at, cut_refusal, first_refusal, return_refusal};
-ghost use Rattle.society_core.specs.Requests.{Puts, PutsReturn, Closes, Arrived, Stored, Closed, Acknowledged, Described, Judged, Credited, Owed, shown_of, shown_to, showing_of, standing_of, told};
+ghost use Rattle.society_core.specs.Requests.{Puts, States, PutsReturn, Closes, Arrived, Ended, Stored, Closed, Acknowledged, Described, Judged, Credited, Owed, shown_of, shown_to, showing_of, standing_of, told};
 ghost use Rattle.society_core.specs.Runs.{LooksUp, Proceeds, RefusesBy};
 ghost use Rattle.society_core.specs.State.{ChangesNothing};
 ghost use Rattle.society_core.specs.declared.inquiry.Inquiry.TheVariants as inquiries;
 
 use crate::answers::{Arrival, Receipt, SenderStatus, Standing, Work};
 use crate::inquiry::{Inquiry, Showing};
-use crate::line::is_up_to;
 use crate::order::PoolOrder;
 use crate::refusal::Refusal;
 use crate::return_key::ReturnKey;
-use crate::store::{Known, KnownTransmission, Payment, Store};
+use crate::store::{Known, KnownEnd, KnownTransmission, Payment, Place, Store};
 use crate::transmission_key::TransmissionKey;
 use cwr_files::{FileReader, ReadFault};
 use perf_returns::read_return;
 use pool_split::Credit;
+use share_rules::Office;
 use std::alloc::{AllocError, Global};
 use std::marker::Model;
-use work_ids::{Account, PoolNumber, SenderKey, TransmissionNumber, WorkNumber};
+use work_ids::{Account, PoolNumber, SegmentEnd, SenderKey, TransmissionNumber, WorkNumber};
 use works_core::Verdict;
 
 /// The desk of the office: it answers requests over the book that a store keeps. Clauses see the store.
@@ -37,14 +37,14 @@ impl<S: Store> Model for Desk<S> {
     ghost view = { λ desk. desk.store };
 }
 
-// How a transmission stands under its sender's front, and whether it came again.
-fn arrival(known: bool, number: TransmissionNumber, front: u32) -> Arrival
-    ensures { result ≡ arrival_at known number front }
+// How a transmission stands at a place, and whether it came again.
+fn arrival(known: bool, place: Place) -> Arrival
+    ensures { result ≡ arrival_at known place }
 {
     Arrival {
         known,
-        front,
-        standing: if is_up_to(number, front) {
+        front: place.front,
+        standing: if place.is_applied {
             Standing::Applied
         } else {
             Standing::Held
@@ -79,9 +79,16 @@ impl<S: Store> Desk<S> {
         self.store
     }
 
+    /// The office whose book it is.
+    pub fn office(&self) -> &Office
+        ensures { result.now ≡ (S.state self.now).office }
+    {
+        self.store.office()
+    }
+
     /// Puts a sender's transmission under a number: a repeat, or added; `Reused` where the number has other
-    /// bytes, `File` where the body is no transmission of the sender, `Unavailable` for want of memory or where
-    /// the store refuses. A refusal leaves the book as it was.
+    /// bytes, `File` where the body is no transmission of the sender, `Ended` where the number is above the last that the
+    /// sender stated of its segment, `Unavailable` for want of memory or where the store refuses. A refusal leaves the book as it was.
     pub fn put_transmission(
         &mut self,
         alloc: Global,
@@ -123,14 +130,43 @@ impl<S: Store> Desk<S> {
         ensures { Proceeds (S.state self.old) (S.state self.new) (Puts sender.now number reader.body) (told Arrived result) }
     {
         match self.store.known(sender, number, reader.body())? {
-            KnownTransmission::Same(front) => Ok(arrival(true, number, front)),
+            KnownTransmission::Same(place) => Ok(arrival(true, place)),
             KnownTransmission::Other => Err(Refusal::Reused),
+            KnownTransmission::Ended(last) => match reader.fault() {
+                Some(fault) => Err(Refusal::File(fault)),
+                None => Err(Refusal::Ended { last }),
+            },
             KnownTransmission::Absent => {
                 if let Some(fault) = reader.fault() {
                     return Err(Refusal::File(fault));
                 }
-                let front = self.store.add_transmission(alloc, number, reader)?;
-                Ok(arrival(false, number, front))
+                let place = self.store.add_transmission(alloc, number, reader)?;
+                Ok(arrival(false, place))
+            }
+        }
+    }
+
+    /// Takes down where a sender says that a segment of its numbers ends, and tells the sender's front then, as a rank: a
+    /// repeat, or added; `Reused` where the sender stated another end of the segment, `Segment` with the greatest number of
+    /// its transmissions that is above the end, `Unavailable` for want of memory or where the store refuses. A refusal leaves
+    /// the book as it was.
+    pub fn put_end(
+        &mut self,
+        alloc: Global,
+        sender: &SenderKey,
+        end: &SegmentEnd,
+    ) -> Result<(Receipt, u32), Refusal>
+        ensures { Proceeds (S.state self.old) (S.state self.new) (States sender.now end.now) (told (λ kept. Ended kept.0 kept.1) result) }
+    {
+        // That an end has no fault is part of what it says of itself.
+        let _last = end.last();
+        match self.store.known_end(sender, end)? {
+            KnownEnd::Same(front) => Ok((Receipt::Repeated, front)),
+            KnownEnd::Other => Err(Refusal::Reused),
+            KnownEnd::Passed(number) => Err(Refusal::Segment { number }),
+            KnownEnd::Absent => {
+                let front = self.store.add_end(alloc, sender, end)?;
+                Ok((Receipt::New, front))
             }
         }
     }
@@ -162,11 +198,11 @@ impl<S: Store> Desk<S> {
         ensures refusal { IsTrue (S.state self.new).is_clean → RefusesBy (first_refusal (cut_refusal (S.state self.old).book) cut.now) result }
     {
         for key in cut {
-            let front = self.store.front(&key.sender)?;
-            if !is_up_to(key.number, front) {
+            let place = self.store.place(&key.sender, key.number)?;
+            if !place.is_applied {
                 return Err(Refusal::Cut {
                     sender: key.sender,
-                    front,
+                    front: place.front,
                 });
             }
         }

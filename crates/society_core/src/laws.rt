@@ -1,12 +1,13 @@
 //! Laws of every run of requests, whichever store is under the desk: each is the contract of a function that does nothing,
 //! over the same definitions that `run` and `answer` are proved to meet. specs/Laws.antt states them.
-ghost use Rattle.std.specs.Prelude.{◌≡◌, ◌≤◌, ◌+◌, ◌&&◌, ℕ, List, true, false, map, nat_le, sum};
+ghost use Rattle.std.specs.Prelude.{◌≡◌, ℕ, List, true, map, sum};
 ghost use Rattle.std.specs.List.Sorted.{IsStrictlySortedBy};
 ghost use Rattle.std.specs.Ordering.{nat_cmp};
 ghost use Rattle.pool_split.specs.Credits.{units_of};
 ghost use Rattle.share_rules.specs.declared.office.Office.{Office};
-ghost use Rattle.society_core.specs.Book.{Book, front, held, is_in_line, is_there};
-ghost use Rattle.society_core.specs.Laws.{AcceptedAlikeAnswersAlike, AcceptedAlikeIsOneBook, AnswersToTheGap, AnswersToTheGaps, BalancesAddUp, BookHoldsWhatCame, BookIsWhatWasAccepted, BroughtAlikeIsOneBook, ClosedPoolsStay, EntriesCame, EntriesStay, HeldNumbersWait, OtherBytesAreReused, OwnersAreAlone, ReturnsAreNamedOnce, ReturnsArePaidOnce, RunsKeepBooksSound};
+ghost use Rattle.society_core.specs.Book.{Book, IsSound, ends_of, front, held, is_in_line, is_there};
+ghost use Rattle.sender_segments.specs.Ways.{IsGap};
+ghost use Rattle.society_core.specs.Laws.{AcceptedAlikeAnswersAlike, AcceptedAlikeIsOneBook, AnswersToTheGap, AnswersToTheGaps, BalancesAddUp, BookHoldsWhatCame, BookIsWhatWasAccepted, BroughtAlikeIsOneBook, ClosedPoolsStay, EntriesCame, EntriesStay, HeldNumbersWait, NumbersOfPlainLines, OtherBytesAreReused, OwnersAreAlone, PlainLinesAreAlike, PlainLinesCountFromOne, PlainLinesEndAtGaps, ReturnsAreNamedOnce, ReturnsArePaidOnce, RunsKeepBooksSound, StatementsLeadOn, UnstatedIsOneContent};
 ghost use Rattle.society_core.specs.Orders.{Order};
 ghost use Rattle.society_core.specs.Pools.{credits_of};
 ghost use Rattle.society_core.specs.declared.inquiry.Inquiry.TheVariants.{Acknowledgement, Balance, Credits, Verdicts, Work};
@@ -16,9 +17,11 @@ pub fn book_is_what_was_accepted()
     ensures { BookIsWhatWasAccepted }
 {}
 
-/// Where no number came with two contents, the book after any list of requests holds exactly what came.
+/// Where no number came with two contents, the book after any list of requests holds exactly what came. Where nothing was stated
+/// of a segment, that is asked of the numbers of transmissions and returns alone.
 pub fn book_holds_what_came()
-    ensures { BookHoldsWhatCame }
+    ensures came { BookHoldsWhatCame }
+    ensures unstated { UnstatedIsOneContent }
 {}
 
 /// What was accepted stays, whatever contents came: a run keeps each entry of its opening book, so the first content of a
@@ -29,11 +32,20 @@ pub fn what_is_accepted_stays()
     ensures reused { OtherBytesAreReused }
 {}
 
-/// A sender's front is where its first gap begins: 1 to the front are there and are its line, and the next number is not.
+/// A sender's front is where its first gap begins: what is in its line is there, and behind the front of a sound book the next
+/// number is not there, and no stated end is reached. A sender that stated nothing counts from 1: its line is 1 to the front.
 pub fn front_is_the_first_gap()
-    ensures reached { (book : Book) (sender : List ℕ) (n : ℕ) → 1 ≤ n → n ≤ front book sender → is_there book sender n ≡ true }
-    ensures line { (book : Book) (sender : List ℕ) (n : ℕ) → is_in_line book sender n ≡ (nat_le 1 n && nat_le n (front book sender)) }
-    ensures gap { (book : Book) (sender : List ℕ) → is_there book sender (front book sender + 1) ≡ false }
+    ensures reached { (book : Book) (sender : List ℕ) (n : ℕ) → is_in_line book sender n ≡ true → is_there book sender n ≡ true }
+    ensures gap { (book : Book) (sender : List ℕ) → IsSound book → IsGap (is_there book sender) (ends_of book sender) (front book sender) }
+    ensures line { PlainLinesCountFromOne }
+    ensures numbers { NumbersOfPlainLines }
+    ensures plain_gap { PlainLinesEndAtGaps }
+{}
+
+/// What a sender states of a segment lets its line go on, and changes nothing else: what was in its line is still there in the
+/// same order, and the lines of others stay.
+pub fn statements_lead_on()
+    ensures { StatementsLeadOn }
 {}
 
 /// Two lists that were accepted with the same entries, whatever was refused, repeated, reordered or asked between, leave one
@@ -46,11 +58,13 @@ pub fn order_of_arrival_is_free()
 {}
 
 /// What waits behind a sender's first gap is unapplied: two books with the same transmissions of a sender up to the
-/// gap answer alike whatever is asked of its works, verdicts and acknowledgements.
+/// gap answer alike whatever is asked of its works, verdicts and acknowledgements. Where the sender stated nothing, these are the
+/// transmissions of its line.
 pub fn what_waits_is_unapplied()
     ensures works { AnswersToTheGap Work }
     ensures verdicts { AnswersToTheGap Verdicts }
     ensures acks { AnswersToTheGap Acknowledgement }
+    ensures plain { PlainLinesAreAlike }
 {}
 
 /// A closed pool is closed for good: whatever comes after, a revision too, its credits are answered as before; what

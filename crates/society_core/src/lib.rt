@@ -5,6 +5,7 @@ mod answers;
 mod candidates;
 mod claim_list;
 mod desk;
+mod end_fault;
 mod inquiry;
 mod laws;
 mod line;
@@ -19,6 +20,7 @@ mod refusal;
 mod request;
 mod return_key;
 mod runs;
+mod segment_key;
 mod store;
 mod transmission_key;
 mod work;
@@ -27,12 +29,13 @@ pub use answers::{Answer, Arrival, Receipt, SenderStatus, Standing, Work};
 pub use candidates::add_candidates;
 pub use claim_list::{Candidate, claims};
 pub use desk::Desk;
+pub use end_fault::EndFault;
 pub use inquiry::{Inquiry, Showing};
 pub use laws::{
     balances_add_up, book_holds_what_came, book_is_what_was_accepted, closed_pools_stay,
     front_is_the_first_gap, held_numbers_wait, order_of_arrival_is_free, owners_are_alone,
-    pools_are_whole, runs_keep_books_sound, what_is_accepted_stays, what_is_held_pays_nothing,
-    what_waits_is_unapplied,
+    pools_are_whole, runs_keep_books_sound, statements_lead_on, what_is_accepted_stays,
+    what_is_held_pays_nothing, what_waits_is_unapplied,
 };
 pub use order::{OrderError, PoolOrder, orders_are_sets};
 pub use order_fault::OrderFault;
@@ -42,6 +45,7 @@ pub use refusal::Refusal;
 pub use request::Request;
 pub use return_key::ReturnKey;
 pub use runs::{answer, run};
-pub use store::{Known, KnownTransmission, Payment, Store, StoreFault};
+pub use segment_key::SegmentKey;
+pub use store::{Known, KnownEnd, KnownTransmission, Payment, Place, Store, StoreFault};
 pub use transmission_key::TransmissionKey;
 pub use work::show;

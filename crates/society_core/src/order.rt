@@ -4,7 +4,8 @@ ghost use Rattle.std.specs.BTreeSet.{IsFromIterResult};
 ghost use Rattle.std.specs.List.{list_all, list_any};
 ghost use Rattle.society_core.specs.Keys.{ascending, return_cmp, return_key, transmission_cmp, transmission_key};
 ghost use Rattle.society_core.specs.Orders.{IsOrder, OrdersAs, OrdersAreSets, has_repeat, is_out_of_range, names_return, order_fault, same_numbered, same_order, same_sender};
-ghost use Rattle.work_ids.specs.Numbers.{is_return_number, is_transmission_number, number_where};
+ghost use Rattle.work_ids.specs.Numbers.{is_return_number, number_where};
+ghost use Rattle.work_ids.specs.Segments.{is_transmission_number};
 ghost use Rattle.work_ids.specs.SenderKey.{is_sender_key};
 
 use crate::order_fault::OrderFault;
@@ -74,7 +75,7 @@ impl Model for PoolOrder {
     ghost invariant = { λ o. IsOrder (record { amount = o.amount; cut = o.cut.items; returns = o.returns.items }) };
 }
 
-// The number of a transmission, where it is within its limits.
+// The number of a transmission with a rank, where one has it.
 fn transmission_number(number: u64) -> Option<TransmissionNumber>
     ensures { result ≡ number_where is_transmission_number number }
 {
@@ -271,8 +272,8 @@ fn ascending_returns(
 }
 
 impl PoolOrder {
-    /// The order that these numbers make; else the least fault of them all. Memory may run out only where they make an
-    /// order.
+    /// The order that these numbers make, those of the cut by their ranks (`TransmissionNumber`); else the least fault of them
+    /// all. Memory may run out only where they make an order.
     pub fn new(
         alloc: Global,
         amount: u64,

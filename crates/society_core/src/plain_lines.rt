@@ -1,21 +1,22 @@
 //! A sender's line as the book in memory has it: each transmission read anew.
-ghost use Rattle.std.specs.Prelude.{◌≡◌, ◌≤◌, [], IfOk, option_map, true, unwrap_or};
+ghost use Rattle.std.specs.Prelude.{◌≡◌, [], IfOk, option_map, true, unwrap_or};
 ghost use Rattle.cwr_files.specs.Contents.{transmission_in};
-ghost use Rattle.society_core.specs.Answers.{known_as, known_with_front, shown_in};
+ghost use Rattle.sender_segments.specs.Ways.{end_stated};
+ghost use Rattle.society_core.specs.Answers.{end_known, shown_in, transmission_known};
+ghost use Rattle.society_core.specs.Ends.{ended_before, place_stated, same_end};
 ghost use Rattle.society_core.specs.Requests.{shown_of};
-ghost use Rattle.society_core.specs.Book.{IsSound, ack, body_at, front, is_in_line, is_there, shown_verdicts, transmissions_to, version_in};
+ghost use Rattle.society_core.specs.Book.{IsSound, ack, body_at, front, is_there, shown_verdicts, transmissions_to, version_in};
 ghost use Rattle.works_core.specs.Line.{line_of};
 
 use crate::answers::Work;
-use crate::line::numbers_up_to;
 use crate::plain_book::PlainBook;
-use crate::store::KnownTransmission;
+use crate::store::{KnownEnd, KnownTransmission};
 use crate::work::show;
 use ack_files::write_ack;
 use cwr_files::{Transmission, known_transmission};
 use share_rules::Office;
 use std::alloc::{AllocError, Global};
-use work_ids::{SenderKey, TransmissionNumber, WorkNumber};
+use work_ids::{SegmentEnd, SegmentPlace, SenderKey, TransmissionNumber, WorkNumber};
 use works_core::{SenderLine, Verdict, WorkVersion};
 
 /// The transmission that stands under a sender's number.
@@ -35,21 +36,20 @@ pub(crate) fn transmission_of<'a>(
     known_transmission(alloc, body, sender)
 }
 
-/// A sender's line up to a number that is at most its front.
+/// A sender's line up to one of its numbers.
 pub(crate) fn line_to(
     alloc: Global,
     office: &Office,
     book: &PlainBook,
     sender: &SenderKey,
-    number: u32,
+    last: u32,
 ) -> Result<SenderLine, AllocError>
     requires sound { IsSound book.now }
-    requires reached { number ≤ front book.now sender.now }
     ensures office { IfOk result (λ line. line.office ≡ office.now) }
-    ensures line { IfOk result (λ line. line.transmissions ≡ line_of office.now (transmissions_to book.now sender.now number)) }
+    ensures line { IfOk result (λ line. line.transmissions ≡ line_of office.now (transmissions_to book.now sender.now last)) }
 {
     let mut line = SenderLine::new(alloc, office);
-    let numbers = numbers_up_to(alloc, number)?;
+    let numbers = book.numbers_to(alloc, sender, last)?;
     for next in &numbers {
         let transmission = transmission_of(alloc, book, sender, *next)?;
         line.apply(*next, &transmission)?;
@@ -57,22 +57,62 @@ pub(crate) fn line_to(
     Ok(line)
 }
 
-/// What the book has under a transmission's number, with the front where it is these bytes.
+// The last number of a number's segment, where the number is above it.
+fn ended_before(book: &PlainBook, sender: &SenderKey, number: TransmissionNumber) -> Option<u32>
+    ensures { result ≡ ended_before book.now sender.now number }
+{
+    match book.end(sender, SegmentPlace::of_rank(number.value())) {
+        Some(end) if end.last() < number.sequence() => Some(end.last()),
+        _ => None,
+    }
+}
+
+/// What the book has under a transmission's number, with its place where it is these bytes.
 pub(crate) fn known_in(
     book: &PlainBook,
     sender: &SenderKey,
     number: TransmissionNumber,
     body: &[u8],
 ) -> KnownTransmission
-    ensures { result ≡ known_with_front (front book.now sender.now) (known_as book.now sender.now number body.now) }
+    requires sound { IsSound book.now }
+    ensures { result ≡ transmission_known book.now sender.now number body.now }
 {
     match book.transmission(sender, number) {
-        None => KnownTransmission::Absent,
+        None => match ended_before(book, sender, number) {
+            Some(last) => KnownTransmission::Ended(last),
+            None => KnownTransmission::Absent,
+        },
         Some(kept) => {
             if kept.as_slice() == body {
-                KnownTransmission::Same(book.front(sender))
+                KnownTransmission::Same(book.place(sender, number))
             } else {
                 KnownTransmission::Other
+            }
+        }
+    }
+}
+
+// Whether two ends of one segment say the same.
+fn is_same_end(kept: &SegmentEnd, end: &SegmentEnd) -> bool
+    ensures { result ≡ same_end (end_stated kept.now) (end_stated end.now) }
+{
+    kept.last() == end.last() && kept.next() == end.next()
+}
+
+/// What the book has of the segment of an end.
+pub(crate) fn known_end_in(book: &PlainBook, sender: &SenderKey, end: &SegmentEnd) -> KnownEnd
+    ensures { result ≡ end_known book.now sender.now (place_stated end.now) (end_stated end.now) }
+{
+    match book.end(sender, end.place()) {
+        None => match book.number_past(sender, end) {
+            Some(number) => KnownEnd::Passed(number),
+            None => KnownEnd::Absent,
+        },
+        Some(kept) => {
+            if is_same_end(kept, end) {
+                KnownEnd::Same(book.front(sender))
+            } else {
+                KnownEnd::Other
             }
         }
     }
@@ -99,25 +139,6 @@ pub(crate) fn verdicts_of(
     }
 }
 
-// A sender's line up to a transmission of it, which is read already.
-fn line_with(
-    alloc: Global,
-    office: &Office,
-    book: &PlainBook,
-    sender: &SenderKey,
-    number: TransmissionNumber,
-    transmission: &Transmission<'_>,
-) -> Result<SenderLine, AllocError>
-    requires sound { IsSound book.now }
-    requires applied { is_in_line book.now sender.now number ≡ true }
-    requires read { transmission.now ≡ transmission_in (unwrap_or (body_at book.now sender.now number) []) }
-    ensures { IfOk result (λ line. line.transmissions ≡ line_of office.now (transmissions_to book.now sender.now number)) }
-{
-    let mut line = line_to(alloc, office, book, sender, number.value() - 1)?;
-    line.apply(number, transmission)?;
-    Ok(line)
-}
-
 /// The acknowledgement of a sender's transmission, none where its number is not in the line.
 pub(crate) fn ack_of(
     alloc: Global,
@@ -133,7 +154,7 @@ pub(crate) fn ack_of(
         return Ok(None);
     }
     let transmission = transmission_of(alloc, book, sender, number)?;
-    let line = line_with(alloc, office, book, sender, number, &transmission)?;
+    let line = line_to(alloc, office, book, sender, number.value())?;
     match line.verdicts(number) {
         Some(verdicts) => {
             let text = write_ack(alloc, office, sender, &transmission, verdicts)?;
@@ -154,11 +175,10 @@ fn version_of(
     requires sound { IsSound book.now }
     ensures { IfOk result (λ version. version ≡ version_in office.now book.now sender.now work.now (front book.now sender.now)) }
 {
-    let front = book.front(sender);
-    let Some(cut) = TransmissionNumber::from_u32(front) else {
+    let line = line_to(alloc, office, book, sender, book.front(sender))?;
+    let Some(cut) = TransmissionNumber::from_u32(line.front()) else {
         return Ok(None);
     };
-    let line = line_to(alloc, office, book, sender, front)?;
     Ok(line.work_at(work, cut))
 }
 

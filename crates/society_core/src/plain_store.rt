@@ -1,24 +1,24 @@
 //! A store in memory.
 ghost use Rattle.std.specs.Prelude.{◌≡◌, is_ok, true};
-ghost use Rattle.society_core.specs.Asked.{IsFrontOf, KnowsAs};
+ghost use Rattle.society_core.specs.Asked.{IsPlaceOf, KnowsAs};
 ghost use Rattle.society_core.specs.Book.{IsSound};
 ghost use Rattle.society_core.specs.Plain.{AsksPlain};
 
 use crate::answers::{SenderStatus, Work};
 use crate::order::PoolOrder;
 use crate::plain_book::PlainBook;
-use crate::plain_lines::{ack_of, known_in, verdicts_of, work_of};
+use crate::plain_lines::{ack_of, known_end_in, known_in, verdicts_of, work_of};
 use crate::plain_pools::{balance_of, credits_of_pool, known_pool_in, known_return_in, payment_of};
 use crate::return_key::ReturnKey;
-use crate::store::{Known, KnownTransmission, Payment, Store, StoreFault};
+use crate::store::{Known, KnownEnd, KnownTransmission, Payment, Place, Store, StoreFault};
 use cwr_files::FileReader;
 use pool_split::Credit;
 use share_rules::Office;
 use std::alloc::Global;
-use work_ids::{Account, PoolNumber, SenderKey, TransmissionNumber, WorkNumber};
+use work_ids::{Account, PoolNumber, SegmentEnd, SenderKey, TransmissionNumber, WorkNumber};
 use works_core::Verdict;
 
-/// A store in memory that keeps the three maps of the book and the senders' fronts, and computes every other answer from
+/// A store in memory that keeps the four maps of the book and the senders' fronts, and computes every other answer from
 /// them anew.
 #[derive(Drop)]
 pub struct PlainStore {
@@ -73,11 +73,15 @@ impl Store for PlainStore {
         Ok(ack_of(alloc, &self.office, &self.book, sender, number)?)
     }
 
-    fn front(&mut self, sender: &SenderKey) -> Result<u32, StoreFault>
-        ensures question { AsksPlain self.old.office self.old.book self.new.office self.new.book result (λ s. IsFrontOf s sender.now) }
+    fn place(&mut self, sender: &SenderKey, number: TransmissionNumber) -> Result<Place, StoreFault>
+        ensures question { AsksPlain self.old.office self.old.book self.new.office self.new.book result (λ s. IsPlaceOf s sender.now number) }
         ensures never { is_ok result ≡ true }
     {
-        Ok(self.book.front(sender))
+        Ok(self.book.place(sender, number))
+    }
+
+    fn known_end(&mut self, sender: &SenderKey, end: &SegmentEnd) -> Result<KnownEnd, StoreFault> {
+        Ok(known_end_in(&self.book, sender, end))
     }
 
     fn standing(&mut self, alloc: Global, sender: &SenderKey) -> Result<SenderStatus, StoreFault> {
@@ -135,12 +139,23 @@ impl Store for PlainStore {
         _alloc: Global,
         number: TransmissionNumber,
         reader: FileReader,
-    ) -> Result<u32, StoreFault> {
+    ) -> Result<Place, StoreFault> {
         let sender = *reader.sender();
         // What these two say of themselves is part of what a sound book says.
         let (_key, _number) = (sender.as_bytes(), number.value());
         let body = reader.into_body();
         Ok(self.book.insert_transmission(&sender, number, body)?)
+    }
+
+    fn add_end(
+        &mut self,
+        _alloc: Global,
+        sender: &SenderKey,
+        end: &SegmentEnd,
+    ) -> Result<u32, StoreFault> {
+        // What these two say of themselves is part of what a sound book says.
+        let (_key, _last) = (sender.as_bytes(), end.last());
+        Ok(self.book.insert_end(sender, end)?)
     }
 
     fn add_return(

@@ -1,4 +1,5 @@
 //! Why a request is refused.
+use crate::end_fault::EndFault;
 use crate::order_fault::OrderFault;
 use crate::return_key::ReturnKey;
 use crate::store::StoreFault;
@@ -6,7 +7,7 @@ use cwr_files::FileFault;
 use perf_returns::{ReturnError, ReturnFault};
 use std::alloc::AllocError;
 use thiserror::Error;
-use work_ids::{PoolNumber, SenderKey};
+use work_ids::{PoolNumber, SenderKey, TransmissionNumber};
 
 /// Why a request is refused. A refused request changes nothing.
 #[derive(Clone, Copy, Debug, PartialEq, Eq, Error)]
@@ -17,13 +18,22 @@ pub enum Refusal {
     /// The body is no transmission of this sender.
     #[error("file fault")]
     File(FileFault),
+    /// The sender stated that the segment of the number ends before it, with this number.
+    #[error("ended")]
+    Ended { last: u32 },
+    /// The sender has a transmission above the end, this one the last of them.
+    #[error("numbers above the end")]
+    Segment { number: TransmissionNumber },
+    /// What was sent is no end of a segment.
+    #[error("end fault")]
+    End(EndFault),
     /// The body is no performance return.
     #[error("return fault")]
     Csv(ReturnFault),
     /// The body is no order.
     #[error("order fault")]
     Order(OrderFault),
-    /// The cut of this sender is not in its line; its front is told.
+    /// The cut of this sender is not in its line; its front is told, as a rank.
     #[error("cut above the front")]
     Cut { sender: SenderKey, front: u32 },
     /// The order names a return that is not there.

@@ -1,9 +1,10 @@
 //! What is asked of the office.
+use crate::end_fault::EndFault;
 use crate::inquiry::Inquiry;
 use crate::order::PoolOrder;
 use crate::order_fault::OrderFault;
 use crate::return_key::ReturnKey;
-use work_ids::{PoolNumber, SenderKey, TransmissionNumber};
+use work_ids::{PoolNumber, SegmentEnd, SenderKey, TransmissionNumber};
 
 /// What is asked of the office.
 #[derive(Debug, Drop)]
@@ -13,6 +14,15 @@ pub enum Request<'a> {
         sender: SenderKey,
         number: TransmissionNumber,
         body: &'a [u8],
+    },
+    /// Take down where a sender says that a segment of its numbers ends.
+    PutEnd {
+        sender: SenderKey,
+        end: SegmentEnd,
+    },
+    /// Take down what is no end of a segment, for this fault.
+    FaultyEnd {
+        fault: EndFault,
     },
     /// Put a performance return.
     PutReturn {

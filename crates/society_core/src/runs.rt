@@ -25,6 +25,11 @@ pub fn answer<S: Store>(alloc: Global, desk: &mut Desk<S>, request: &Request<'_>
             Ok(arrival) => Answer::Arrived(arrival),
             Err(refusal) => Answer::Refused(refusal),
         },
+        Request::PutEnd { sender, end } => match desk.put_end(alloc, sender, end) {
+            Ok((receipt, front)) => Answer::Ended(receipt, front),
+            Err(refusal) => Answer::Refused(refusal),
+        },
+        Request::FaultyEnd { fault } => Answer::Refused(Refusal::End(*fault)),
         Request::PutReturn { key, body } => match desk.put_return(alloc, key, body) {
             Ok(receipt) => Answer::Stored(receipt),
             Err(refusal) => Answer::Refused(refusal),

@@ -3,8 +3,9 @@ ghost use Rattle.std.specs.Prelude.{◌≡◌, IsTrue, None, ⊤};
 ghost use Rattle.cwr_files.specs.FileFault.{file_fault};
 ghost use Rattle.perf_returns.specs.Returns.{return_fault};
 ghost use Rattle.society_core.specs.Answers.{close_refusal, payment_in, pool_known_as};
-ghost use Rattle.society_core.specs.Asked.{AddsArrival, AreCreditsOf, AreVerdictsOf, IsAckOf, IsBalanceOf, IsFrontOf, KnowsAs, IsReturnKnownAs, IsStandingOf, IsWorkOf};
-ghost use Rattle.society_core.specs.Book.{body_at, order_at, return_at, with_pool, with_return};
+ghost use Rattle.society_core.specs.Asked.{AddsArrival, AreCreditsOf, AreVerdictsOf, IsAckOf, IsBalanceOf, IsPlaceOf, KnowsAs, KnowsEndAs, AddsEnd, IsReturnKnownAs, IsStandingOf, IsWorkOf};
+ghost use Rattle.society_core.specs.Book.{body_at, end_at, order_at, return_at, with_pool, with_return};
+ghost use Rattle.society_core.specs.Ends.{ended_before, number_past, place_stated};
 ghost use Rattle.society_core.specs.State.{Addition, IsState, Question, State};
 
 use crate::answers::{SenderStatus, Work};
@@ -15,7 +16,7 @@ use pool_split::Credit;
 use share_rules::Office;
 use std::alloc::{AllocError, AllocFailed, Global};
 use thiserror::Error;
-use work_ids::{Account, PoolNumber, SenderKey, TransmissionNumber, WorkNumber};
+use work_ids::{Account, PoolNumber, SegmentEnd, SenderKey, TransmissionNumber, WorkNumber};
 use works_core::Verdict;
 
 /// What the book has under a number, beside a content that is asked for.
@@ -29,14 +30,38 @@ pub enum Known {
     Other,
 }
 
+/// Where a number of a sender stands.
+#[derive(Clone, Copy, Debug, PartialEq, Eq)]
+pub struct Place {
+    /// The sender's front, as a rank.
+    pub front: u32,
+    /// Whether the number is in the sender's line.
+    pub is_applied: bool,
+}
+
 /// What the book has under a transmission's number.
 #[derive(Clone, Copy, Debug, PartialEq, Eq)]
 pub enum KnownTransmission {
     /// Nothing.
     Absent,
-    /// The same bytes; the sender's front.
-    Same(u32),
+    /// Nothing, and the sender stated that the number's segment ends before it, with this number.
+    Ended(u32),
+    /// The same bytes; where the number stands.
+    Same(Place),
     /// Other bytes.
+    Other,
+}
+
+/// What the book has of a segment of a sender, beside an end that is asked for.
+#[derive(Clone, Copy, Debug, PartialEq, Eq)]
+pub enum KnownEnd {
+    /// No end, and no transmission above the one that is asked for.
+    Absent,
+    /// No end, and transmissions above the one that is asked for, this number the last of them.
+    Passed(TransmissionNumber),
+    /// The same end; the sender's front, as a rank.
+    Same(u32),
+    /// Another end.
     Other,
 }
 
@@ -92,7 +117,7 @@ pub trait Store {
     fn office(&self) -> &Office
         ensures { result.now ≡ (state self.now).office };
 
-    /// What the book has under a transmission's number, with the sender's front where it is these bytes.
+    /// What the book has under a transmission's number, with its place where it is these bytes.
     fn known(
         &mut self,
         sender: &SenderKey,
@@ -110,9 +135,13 @@ pub trait Store {
     ) -> Result<Option<Vec<u8>>, StoreFault>
         ensures { Question (state self.old) (state self.new) result (IsAckOf (state self.old) sender.now number) };
 
-    /// A sender's front.
-    fn front(&mut self, sender: &SenderKey) -> Result<u32, StoreFault>
-        ensures question { Question (state self.old) (state self.new) result (IsFrontOf (state self.old) sender.now) };
+    /// Where a number of a sender stands.
+    fn place(&mut self, sender: &SenderKey, number: TransmissionNumber) -> Result<Place, StoreFault>
+        ensures question { Question (state self.old) (state self.new) result (IsPlaceOf (state self.old) sender.now number) };
+
+    /// What the book has of the segment of an end.
+    fn known_end(&mut self, sender: &SenderKey, end: &SegmentEnd) -> Result<KnownEnd, StoreFault>
+        ensures { Question (state self.old) (state self.new) result (KnowsEndAs (state self.old) sender.now end.now) };
 
     /// How a sender stands: its front, and the numbers of its held transmissions, ascending.
     fn standing(&mut self, alloc: Global, sender: &SenderKey) -> Result<SenderStatus, StoreFault>
@@ -160,17 +189,31 @@ pub trait Store {
     fn balance(&mut self, alloc: Global, account: &Account) -> Result<u64, StoreFault>
         ensures { Question (state self.old) (state self.new) result (IsBalanceOf (state self.old) account.now) };
 
-    /// Adds what a reader was fed, a transmission of its sender, under a number that is free, and tells the sender's front
-    /// then. The store may keep the bytes as they lie. After an error the book is as before.
+    /// Adds what a reader was fed, a transmission of its sender, under a number that is free and not above the end of its
+    /// segment, and tells where the number stands then. The store may keep the bytes as they lie. After an error the book is
+    /// as before.
     fn add_transmission(
         &mut self,
         alloc: Global,
         number: TransmissionNumber,
         reader: FileReader,
-    ) -> Result<u32, StoreFault>
+    ) -> Result<Place, StoreFault>
         requires free { IsTrue (state self.old).is_clean → body_at (state self.old).book reader.sender number ≡ None }
+        requires within { IsTrue (state self.old).is_clean → ended_before (state self.old).book reader.sender number ≡ None }
         requires right { file_fault reader.sender reader.body ≡ None }
         ensures { AddsArrival (state self.old) (state self.new) reader.sender number reader.body result };
+
+    /// Adds an end that a sender stated of a segment without one, above which nothing is, and tells the sender's front then,
+    /// as a rank. After an error the book is as before.
+    fn add_end(
+        &mut self,
+        alloc: Global,
+        sender: &SenderKey,
+        end: &SegmentEnd,
+    ) -> Result<u32, StoreFault>
+        requires free { IsTrue (state self.old).is_clean → end_at (state self.old).book sender.now (place_stated end.now) ≡ None }
+        requires above { IsTrue (state self.old).is_clean → number_past (state self.old).book sender.now (place_stated end.now) end.now.last ≡ None }
+        ensures { AddsEnd (state self.old) (state self.new) sender.now end.now result };
 
     /// Adds a return under a key that is free. After an error the book is as before.
     fn add_return(&mut self, alloc: Global, key: &ReturnKey, body: &[u8]) -> Result<(), StoreFault>

@@ -6,5 +6,5 @@ pub mod EntrySenders
 pub mod AloneReads
 pub mod LineAudits
 pub mod SenderLists
-pub mod LineWrites
 pub mod Mixed
+pub mod NobodyLines

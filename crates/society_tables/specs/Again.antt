@@ -10,14 +10,20 @@ use Rattle.society_core.specs.Orders.{Order}
 use Rattle.society_book.specs.BookRows.{cut_rows, is_of_pool, paid_rows, pool_rows}
 use Rattle.society_book.specs.Columns.{HasRows, whole_number_at}
 use Rattle.society_tables.specs.InMemory.{memory_book}
-use Rattle.society_tables.specs.Rebuilding.{AllReported, AllSent, ClosedOn, ComesFrom, IsClosed, IsReported, IsSent, IsUpToPools, IsWithin, Passes, ReportedOn, SentOn, without_pools}
+use Rattle.society_tables.specs.Rebuilding.{AllReported, AllSent, AllStated, ClosedOn, ComesFrom, IsClosed, IsReported, IsSent, IsStated, IsUpToPools, IsWithin, Passes, ReportedOn, SentOn, StatedOn, without_pools}
 use Rattle.society_tables.specs.declared.audit_fault.AuditFault.{AuditFault}
 
 -- a transmission of the book passes
 abbrev pub PassesSent : Row → Book → Book → Result (Unit {0}) AuditFault → Type 0
 PassesSent row old new result =
-    (b : Book) → IsSound b → IsSent b row → IsWithin old.transmissions b.transmissions
+    (b : Book) → IsSound b → IsSent b row → IsWithin old.transmissions b.transmissions → IsWithin old.ends b.ends
     → Passes result (λ _. SentOn b old row new)
+
+-- an end of the book passes
+abbrev pub PassesStated : Row → Book → Book → Result (Unit {0}) AuditFault → Type 0
+PassesStated row old new result =
+    (b : Book) → IsSound b → IsStated b row → IsWithin old.transmissions b.transmissions → IsWithin old.ends b.ends
+    → Passes result (λ _. StatedOn b old row new)
 
 -- a return of the book passes
 abbrev pub PassesReported : Row → Book → Book → Result (Unit {0}) AuditFault → Type 0
@@ -49,8 +55,14 @@ PassesPool row cuts paid old new result =
 -- transmissions of the book pass
 abbrev pub PassesAllSent : List Row → Book → Book → Result (Unit {0}) AuditFault → Type 0
 PassesAllSent rows old new result =
-    (b : Book) → IsSound b → AllByRecursion (IsSent b) rows → IsWithin old.transmissions b.transmissions
+    (b : Book) → IsSound b → AllByRecursion (IsSent b) rows → IsWithin old.transmissions b.transmissions → IsWithin old.ends b.ends
     → Passes result (λ _. AllSent b old rows new)
+
+-- ends of the book pass
+abbrev pub PassesAllStated : List Row → Book → Book → Result (Unit {0}) AuditFault → Type 0
+PassesAllStated rows old new result =
+    (b : Book) → IsSound b → AllByRecursion (IsStated b) rows → IsWithin old.transmissions b.transmissions → IsWithin old.ends b.ends
+    → Passes result (λ _. AllStated b old rows new)
 
 -- returns of the book pass
 abbrev pub PassesAllReported : List Row → Book → Book → Result (Unit {0}) AuditFault → Type 0

@@ -1,13 +1,14 @@
 -- What an audit notes of rows whose bodies it does not keep.
-use Rattle.std.specs.Prelude.{None, is_some, nat_le, ℕ, ◌≡◌, ◌≢◌, ◌≤◌, ◌||◌, map, filter, Bool, true, false, ◌&&◌, ◌==◌, List, [], ◌∷◌, ◌++◌, IsPermutation, OnOk, Result, if◌then◌else◌, bytes_eq, length, pos}
+use Rattle.std.specs.Prelude.{if◌then◌else◌, None, is_some, ℕ, ◌≡◌, ◌≢◌, ◌≤◌, ◌||◌, map, filter, Bool, true, false, ◌&&◌, ◌==◌, List, [], ◌∷◌, ◌++◌, OnOk, Result, bytes_eq, length, pos, negsuc, zero}
 use Rattle.sqlite_value.specs.declared.value.Value.TheVariants.{Blob, Int, Text}
 use Rattle.sqlite_value.specs.declared.value.Value.{Value}
 use Rattle.sqlite_value.specs.Order.{Row, column}
-use Rattle.std.specs.List.{AllByRecursion, flat_map, list_all}
+use Rattle.std.specs.List.{AllByRecursion, list_all}
 use Rattle.share_rules.specs.declared.office.Office.{Office}
 use Rattle.sqlite_trees.specs.Tree.{Trees}
 use Rattle.society_core.specs.Answers.{payer}
-use Rattle.society_core.specs.Book.{Book, front, is_applied, is_entry, is_return_entry, order_at, return_at}
+use Rattle.society_core.specs.Book.{Book, is_applied, is_end_entry, is_entry, is_return_entry, order_at, return_at}
+use Rattle.society_core.specs.Ends.{number_past}
 use Rattle.society_core.specs.Orders.{Order}
 use Rattle.society_book.specs.Kept.{HoldsOwnBook}
 use Rattle.society_tables.specs.Opening.{Agree}
@@ -15,18 +16,18 @@ use Rattle.society_core.specs.Keys.{ascending, bytes_cmp}
 use Rattle.society_core.specs.declared.return_key.ReturnKey.{ReturnKey}
 use Rattle.society_rows.specs.Layout as layout
 use Rattle.society_rows.specs.Layout.{all_tables}
-use Rattle.society_rows.specs.Stored.{AreNumbered, HasLayout, put_over, rows_in}
+use Rattle.society_rows.specs.Stored.{AreNumbered, HasLayout, rows_in}
 use Rattle.society_rows.specs.declared.fault.RowFault.{RowFault}
 use Rattle.society_rows.specs.declared.tables.TableName.{TableName}
 use Rattle.society_rows.specs.declared.tables.TableName.TheVariants as name
 use Rattle.sqlite.specs.Effect.{Database}
 use Rattle.sqlite.specs.State.{HasCleanDisk, State}
-use Rattle.society_book.specs.BookRows.{is_return_row, is_transmission_row, return_key_of}
-use Rattle.society_book.specs.Columns.{HasRows, blob_at, whole_number_at, text_at}
-use Rattle.society_book.specs.DerivedRows.{front_rows, has_sent, is_named, tells_recordings, tells_verdict, tells_version, told_to_front}
-use Rattle.society_book.specs.Runs.{AreNoted, Notes, behind_run, is_among, settled_recordings, settled_run, settled_verdict, settled_version}
-use Rattle.works_core.specs.Verdicts.{works_in}
-use Rattle.works_core.specs.Versions.{judged_of}
+use Rattle.society_book.specs.Arriving.{SettlesRun}
+use Rattle.society_book.specs.BookRows.{end_of, is_end_row, is_return_row, is_transmission_row, return_key_of}
+use Rattle.society_book.specs.Columns.{HasRows, blob_at, segment_at, text_at, whole_number_at}
+use Rattle.society_book.specs.DerivedRows.{front_rows, is_named, knows_sender, tells_recordings, tells_verdict, tells_version, told_to_front}
+use Rattle.society_book.specs.Runs.{RunValue, is_among}
+use Rattle.society_book.specs.Sources.{HasTransmissions}
 use Rattle.work_ids.specs.Blanks.{fill, without_trailing_blanks}
 
 -- whether a value is a text
@@ -44,6 +45,12 @@ abbrev pub is_blob : Value → Bool
 is_blob (Blob bytes) = true
 is_blob _ = false
 
+-- whether a value is that of a segment's column: -1 of the plain one, the year of any other
+abbrev pub is_place : Value → Bool
+is_place (Int (pos year)) = true
+is_place (Int (negsuc zero)) = true
+is_place _ = false
+
 -- whether a row has a text, a whole number from 0 and bytes, and nothing else
 abbrev pub has_body : Row → Bool
 has_body row = length row == 3 && is_text (column row 0) && is_count (column row 1) && is_blob (column row 2)
@@ -51,6 +58,18 @@ has_body row = length row == 3 && is_text (column row 0) && is_count (column row
 -- whether a row is that of a transmission that may stand in a book
 abbrev pub is_right_sent : Row → Bool
 is_right_sent row = has_body row && is_entry (text_at 0 row) (whole_number_at 1 row) (blob_at 2 row)
+
+-- whether a row has a text, a segment, a whole number from 0 and a segment, and nothing else
+abbrev pub has_end : Row → Bool
+has_end row = length row == 4 && is_text (column row 0) && is_place (column row 1) && is_count (column row 2) && is_place (column row 3)
+
+-- whether a row is that of an end that may stand in a book
+abbrev pub is_right_stated : Row → Bool
+is_right_stated row = has_end row && is_end_entry (text_at 0 row) (segment_at 1 row) (end_of row)
+
+-- no transmission that a database has of a book is above the end that a row states
+abbrev pub IsAbove : Book → Row → Type 0
+IsAbove book row = number_past book (text_at 0 row) (segment_at 1 row) (whole_number_at 2 row) ≡ None
 
 -- whether a row is that of a return that may stand in a book, its reporter written without the blanks that fill it
 abbrev pub is_right_return : Row → Bool
@@ -72,16 +91,20 @@ pub record AreEntries {K : Type 0} (is_right : Row → Bool) (is_of : K → Row 
   pub right : AllByRecursion (λ row. is_right row ≡ true) rows
   pub once : (key : K) → length (filter (is_of key) rows) ≤ 1
 
--- the transmissions and the returns of a database may stand in a book, and these are the senders, ascending, each once
+-- each end of a database is above all transmissions of its segment
+abbrev pub AreEndsAbove : Trees → Type 0
+AreEndsAbove db = (book : Book) → HasTransmissions book db → AllByRecursion (IsAbove book) (rows_in layout.segment_ends db)
+
+-- the senders of the transmissions and of the ends of a database
+abbrev pub senders_in : Trees → List (List ℕ)
+senders_in db = map (text_at 0) (rows_in layout.transmissions db) ++ map (text_at 0) (rows_in layout.segment_ends db)
+
+-- the transmissions, the ends and the returns of a database may stand in a book, and these are the senders, ascending, each once
 pub record HoldsEntries (these : List (List ℕ)) (db : Trees) : Type 0 where
   pub transmissions : AreEntries is_right_sent is_transmission_row (rows_in layout.transmissions db)
+  pub ends : AreEntries is_right_stated is_end_row (rows_in layout.segment_ends db)
   pub returns : AreEntries is_right_return is_return_row (rows_in layout.returns db)
-  pub senders : these ≡ ascending bytes_cmp (map (text_at 0) (rows_in layout.transmissions db))
-
--- these are all of a sender's transmissions up to its front, as an office notes them
-pub record AreWhole (office : Office) (book : Book) (sender : List ℕ) (notes : List Notes) : Type 0 where
-  pub reaches : front book sender ≡ length notes
-  pub each : AreNoted office book sender 1 notes
+  pub senders : these ≡ ascending bytes_cmp (senders_in db)
 
 -- what some senders are to have, and others not
 abbrev pub where_of : (List ℕ → Bool) → (List ℕ → List Row) → List ℕ → List Row
@@ -95,29 +118,17 @@ pub record HasLines (office : Office) (book : Book) (of_these : List ℕ → Boo
   pub recordings : HasRows is_named (where_of of_these (told_to_front tells_recordings office book)) (rows_in layout.recordings db)
   pub numbered : AreNumbered layout.fronts db
 
--- every table but those of fronts, verdicts, versions and recordings is as it was
-abbrev pub KeepsUnlined : Trees → Trees → Type 0
-KeepsUnlined old new =
-    AllByRecursion (λ t. t.tree ≢ layout.fronts.tree → t.tree ≢ layout.verdicts.tree → t.tree ≢ layout.versions.tree → t.tree ≢ layout.recordings.tree → new t.tree ≡ old t.tree) all_tables
-
--- the tables have this row of a front in place of its sender's, and these rows of verdicts, of versions and of recordings more; the other tables are as they were
-pub record PutsLine (front : Row) (judged told named : List Row) (old new : Trees) : Type 0 where
-  pub put : AreNumbered layout.fronts old → IsPermutation (put_over front (rows_in layout.fronts old)) (rows_in layout.fronts new)
-  pub numbered : AreNumbered layout.fronts old → AreNumbered layout.fronts new
-  pub verdicts : IsPermutation (judged ++ rows_in layout.verdicts old) (rows_in layout.verdicts new)
-  pub versions : IsPermutation (told ++ rows_in layout.versions old) (rows_in layout.versions new)
-  pub recordings : IsPermutation (named ++ rows_in layout.recordings old) (rows_in layout.recordings new)
-  pub others : KeepsUnlined old new
-
 -- the tables have what the transmissions of a sender's whole line tell, as it is noted
-abbrev pub SettlesLine : List ℕ → List Notes → Trees → Trees → Type 0
-SettlesLine sender notes old new =
-    PutsLine (Text sender ∷ Int (pos (length notes)) ∷ Int (pos (works_in (judged_of (behind_run [] 1 notes)))) ∷ []) (map (settled_verdict sender) (settled_run [] 1 notes))
-    (flat_map (settled_version sender) (settled_run [] 1 notes)) (flat_map (settled_recordings sender) (settled_run [] 1 notes)) old new
+abbrev pub SettlesLine : List ℕ → RunValue → Trees → Trees → Type 0
+SettlesLine sender run = SettlesRun sender [] run
 
--- the transmissions and the returns of one database, and every other table of another
+-- whether a tree is that of what was sent, stated or reported
+abbrev pub is_of_entries : ℕ → Bool
+is_of_entries tree = tree == layout.transmissions.tree || (tree == layout.segment_ends.tree || tree == layout.returns.tree)
+
+-- the transmissions, the ends and the returns of one database, and every other table of another
 abbrev pub mixed : Trees → Trees → Trees
-mixed bodies others tree = if tree == layout.transmissions.tree || tree == layout.returns.tree then bodies tree else others tree
+mixed entries others tree = if is_of_entries tree then entries tree else others tree
 
 -- What a writing in a transaction of its own does to a connection that is in none: this change, where it is answered.
 pub record WritesAlone {X : Type 0} (Change : Database → Database → Type 0) (old new : State) (result : Result X RowFault) : Type 0 where
@@ -131,9 +142,9 @@ KeepsUnreferred old new = AllByRecursion (λ t. t.tree ≢ layout.transmissions.
 abbrev pub works_names : List TableName
 works_names = name.Versions ∷ name.Recordings ∷ []
 
--- every table but those of the office, of transmissions and of returns
+-- every table but those of the office, of transmissions, of ends and of returns
 abbrev pub money_names : List TableName
-money_names = name.Pools ∷ name.PoolCuts ∷ name.PoolReturns ∷ name.Fronts ∷ name.Verdicts ∷ name.Versions ∷ name.Recordings ∷ name.Credits ∷ name.Balances ∷ name.SegmentEnds ∷ name.MechanicalPools ∷ []
+money_names = name.Pools ∷ name.PoolCuts ∷ name.PoolReturns ∷ name.Fronts ∷ name.Verdicts ∷ name.Versions ∷ name.Recordings ∷ name.Credits ∷ name.Balances ∷ name.MechanicalPools ∷ []
 
 -- what an order names is open: the book has the return, and no pool pays it
 abbrev pub IsOpenReturn : Book → ReturnKey → Type 0
@@ -159,8 +170,8 @@ ClosesAside office bodies old new = HoldsAside office bodies old → HoldsAside 
 abbrev pub StaysAside : Office → Database → Database → Trees → Unit {0} → Type 0
 StaysAside office old new db done = ClosesAside office db old new
 
--- these are the senders of a book's transmissions, each once
+-- these are the senders of a book's transmissions and ends, each once
 pub record AreSenders (book : Book) (senders : List (List ℕ)) : Type 0 where
-  pub each : AllByRecursion (λ sender. has_sent book sender ≡ true) senders
+  pub each : AllByRecursion (λ sender. knows_sender book sender ≡ true) senders
   pub once : length (ascending bytes_cmp senders) ≡ length senders
-  pub all : (sender : List ℕ) → is_among senders sender ≡ has_sent book sender
+  pub all : (sender : List ℕ) → is_among senders sender ≡ knows_sender book sender

@@ -4,6 +4,7 @@ use Rattle.std.specs.Coded.{Coded-set, coded_list, coded_ℕ}
 use Rattle.std.proofs.Common.{ap, refl, subst, sym, ◌∙◌}
 use Rattle.std.proofs.lemmas.Bool.{false≢true}
 use Rattle.std.proofs.Math.Bool.{Bool-set}
+use Rattle.std.proofs.Math.Bridge.{le_prop}
 use Rattle.std.proofs.Math.Logic.{∥∥₁_elim}
 use Rattle.share_rules.specs.declared.office.Office.{Office}
 use Rattle.sqlite.specs.Effect.{Database}
@@ -42,6 +43,8 @@ order_alone order x y = λ i. record {
 sound_alone : (book : Book) (x y : IsSound book) → x ≡ y
 sound_alone book x y = λ i. record {
   transmissions = λ sender number body e. Bool-set _ _ (x.transmissions sender number body e) (y.transmissions sender number body e) i;
+  ends = λ sender segment end e. Bool-set _ _ (x.ends sender segment end e) (y.ends sender segment end e) i;
+  within = λ sender number there end e. le_prop (x.within sender number there end e) (y.within sender number there end e) i;
   returns = λ key body e. Bool-set _ _ (x.returns key body e) (y.returns key body e) i;
   pools = λ pool order e. Bool-set _ _ (x.pools pool order e) (y.pools pool order e) i;
   orders = λ pool order e. order_alone order (x.orders pool order e) (y.orders pool order e) i;

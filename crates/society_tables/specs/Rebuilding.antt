@@ -12,7 +12,7 @@ use Rattle.work_ids.specs.Blanks.{fill}
 use Rattle.work_ids.specs.Reporter.{reporter_of}
 use Rattle.work_ids.specs.SenderKey.{is_sender_key}
 use Rattle.society_rows.specs.Forms.{IsOfForms, pool_cut_forms, pool_return_forms}
-use Rattle.society_book.specs.BookRows.{AreOfBook, pool_row, return_key_of, return_row, transmission_key_of, transmission_row}
+use Rattle.society_book.specs.BookRows.{AreOfBook, segment_key_of, end_of, end_row, pool_row, return_key_of, return_row, transmission_key_of, transmission_row}
 use Rattle.share_rules.specs.declared.office.Office.{Office}
 use Rattle.society_book.specs.Kept.{HoldsBook}
 use Rattle.society_book.specs.Columns.{blob_at, whole_number_at, text_at}
@@ -49,6 +49,15 @@ pub record IsSent (book : Book) (row : Row) : Type 0 where
 abbrev pub HasSent : Book → Row → Type 0
 HasSent book row = finite.get book.transmissions (transmission_key_of row) ≡ Some (blob_at 2 row)
 
+-- the row is that of an end that the book has
+pub record IsStated (book : Book) (row : Row) : Type 0 where
+  pub form : row ≡ end_row (segment_key_of row) (end_of row)
+  pub there : finite.get book.ends (segment_key_of row) ≡ Some (end_of row)
+
+-- a book has the end of a row
+abbrev pub HasStated : Book → Row → Type 0
+HasStated book row = finite.get book.ends (segment_key_of row) ≡ Some (end_of row)
+
 -- the row is that of a return of the book
 pub record IsReported (book : Book) (row : Row) : Type 0 where
   pub form : row ≡ return_row (return_key_of row) (blob_at 2 row)
@@ -61,16 +70,32 @@ HasReported book row = finite.get book.returns (return_key_of row) ≡ Some (blo
 
 -- what the transmission of a row brings to a part of a book
 abbrev pub SentOn : Book → Book → Row → Book → Type 0
-SentOn b old row new = Brings b.transmissions old.transmissions new.transmissions (transmission_key_of row) (blob_at 2 row) × (new.returns ≡ old.returns) × (new.pools ≡ old.pools)
+SentOn b old row new =
+    Brings b.transmissions old.transmissions new.transmissions (transmission_key_of row) (blob_at 2 row) × (new.returns ≡ old.returns) × (new.pools ≡ old.pools) × (new.ends ≡ old.ends)
+
+-- what the end of a row brings to it
+abbrev pub StatedOn : Book → Book → Row → Book → Type 0
+StatedOn b old row new =
+    Brings b.ends old.ends new.ends (segment_key_of row) (end_of row) × (new.transmissions ≡ old.transmissions) × (new.returns ≡ old.returns) × (new.pools ≡ old.pools)
 
 -- what the return of a row brings to it
 abbrev pub ReportedOn : Book → Book → Row → Book → Type 0
-ReportedOn b old row new = Brings b.returns old.returns new.returns (return_key_of row) (blob_at 2 row) × (new.transmissions ≡ old.transmissions) × (new.pools ≡ old.pools)
+ReportedOn b old row new =
+    Brings b.returns old.returns new.returns (return_key_of row) (blob_at 2 row) × (new.transmissions ≡ old.transmissions) × (new.pools ≡ old.pools) × (new.ends ≡ old.ends)
 
 -- what the transmissions of rows bring to it
 pub record AllSent (b old : Book) (rows : List Row) (new : Book) : Type 0 where
   pub within : IsWithin new.transmissions b.transmissions
   pub here : AllByRecursion (HasSent new) rows
+  pub ends : new.ends ≡ old.ends
+  pub returns : new.returns ≡ old.returns
+  pub pools : new.pools ≡ old.pools
+
+-- what the ends of rows bring to it
+pub record AllStated (b old : Book) (rows : List Row) (new : Book) : Type 0 where
+  pub within : IsWithin new.ends b.ends
+  pub here : AllByRecursion (HasStated new) rows
+  pub transmissions : new.transmissions ≡ old.transmissions
   pub returns : new.returns ≡ old.returns
   pub pools : new.pools ≡ old.pools
 
@@ -79,15 +104,20 @@ pub record AllReported (b old : Book) (rows : List Row) (new : Book) : Type 0 wh
   pub within : IsWithin new.returns b.returns
   pub here : AllByRecursion (HasReported new) rows
   pub transmissions : new.transmissions ≡ old.transmissions
+  pub ends : new.ends ≡ old.ends
   pub pools : new.pools ≡ old.pools
 
 -- of a book the transmissions alone
 abbrev pub sent_alone : Book → Book
-sent_alone book = record { transmissions = book.transmissions; returns = finite.empty; pools = finite.empty }
+sent_alone book = record { transmissions = book.transmissions; ends = finite.empty; returns = finite.empty; pools = finite.empty }
 
--- of a book the transmissions and the returns
+-- of a book the transmissions and the ends
+abbrev pub lines_alone : Book → Book
+lines_alone book = record { transmissions = book.transmissions; ends = book.ends; returns = finite.empty; pools = finite.empty }
+
+-- of a book all but the pools
 abbrev pub without_pools : Book → Book
-without_pools book = record { transmissions = book.transmissions; returns = book.returns; pools = finite.empty }
+without_pools book = record { transmissions = book.transmissions; ends = book.ends; returns = book.returns; pools = finite.empty }
 
 -- what an open connection shows is a sound book
 pub record ComesFrom (book : Book) (s : connection.State) : Type 0 where
@@ -124,12 +154,14 @@ pub record IsClosed (book : Book) (row : Row) : Type 0 where
 abbrev pub HasClosed : Book → Book → Row → Type 0
 HasClosed b book row = order_at book (whole_number_at 0 row) ≡ order_at b (whole_number_at 0 row)
 
--- all the transmissions and returns of a book, and some of its pools
+-- all of a book but its pools, and some of those
 pub record IsUpToPools (b part : Book) : Type 0 where
   pub transmissions : part.transmissions ≡ b.transmissions
+  pub ends : part.ends ≡ b.ends
   pub returns : part.returns ≡ b.returns
   pub pools : IsWithin part.pools b.pools
 
 -- what the order of a pool brings to it
 abbrev pub ClosedOn : Book → Book → ℕ → Order → Book → Type 0
-ClosedOn b old pool order new = Brings b.pools old.pools new.pools pool order × (new.transmissions ≡ old.transmissions) × (new.returns ≡ old.returns)
+ClosedOn b old pool order new =
+    Brings b.pools old.pools new.pools pool order × (new.transmissions ≡ old.transmissions) × (new.returns ≡ old.returns) × (new.ends ≡ old.ends)

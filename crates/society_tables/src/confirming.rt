@@ -1,5 +1,8 @@
 //! An audit of a database with one body in memory at a time, which confirms what it can.
-ghost use Rattle.society_tables.specs.Auditing.{HoldsEntries};
+ghost use Rattle.std.specs.Prelude.{IsTrue};
+ghost use Rattle.society_book.specs.Sources.{HasTransmissions};
+ghost use Rattle.society_core.specs.Book.{Book};
+ghost use Rattle.society_tables.specs.Auditing.{AreEndsAbove, HoldsEntries, IsAbove};
 ghost use Rattle.society_tables.specs.Opening.{Inspects, HoldsNumbered};
 ghost use Rattle.society_rows.specs.Between.{between};
 ghost use Rattle.society_tables.specs.InMemory.{in_memory};
@@ -7,21 +10,22 @@ ghost use Rattle.society_tables.specs.LineSteps.{Confirms};
 
 use crate::Tables;
 use crate::audit_fault::AuditFault;
-use crate::comparing::named_agree;
+use crate::comparing::{named_agree, rows_of_table};
 use crate::entries::entries_in;
 use crate::lines::put_lines;
 use crate::money::close_all;
 use share_rules::Office;
-use society_rows::{Found, Idle, TableName, layout_found};
-use sqlite::{Alter, MemStore};
+use society_book::number_past_of;
+use society_rows::{Found, Idle, SegmentEndRow, TableName, layout_found};
+use sqlite::{Alter, MemStore, Row};
 use std::alloc::Global;
-use work_ids::SenderKey;
+use work_ids::{SegmentEnd, SenderKey};
 
 /// The tables whose rows a pool is paid by, but for the bodies.
 const WORKS_TABLES: [TableName; 2] = [TableName::Versions, TableName::Recordings];
 
-/// Every table but those of the office, of transmissions and of returns.
-const MONEY_TABLES: [TableName; 11] = [
+/// Every table but those of the office, of transmissions, of ends and of returns.
+const MONEY_TABLES: [TableName; 10] = [
     TableName::Pools,
     TableName::PoolCuts,
     TableName::PoolReturns,
@@ -31,7 +35,6 @@ const MONEY_TABLES: [TableName; 11] = [
     TableName::Recordings,
     TableName::Credits,
     TableName::Balances,
-    TableName::SegmentEnds,
     TableName::MechanicalPools,
 ];
 
@@ -51,6 +54,33 @@ fn lines_and_pools_agree<S: Alter>(
     named_agree(conn, memory, &MONEY_TABLES)
 }
 
+// Whether the end of a row is above all transmissions of its segment.
+fn is_end_above<S: Alter>(conn: &mut Idle<S>, row: &Row) -> Result<bool, AuditFault>
+    ensures above { between S.Store conn.old conn.new Inspects result (λ db above. IsTrue above → (book : Book) → HasTransmissions book db → IsAbove book row.now) }
+{
+    conn.see_last_commit();
+    let Ok(row) = SegmentEndRow::from_row(row) else {
+        return Err(AuditFault::Damaged);
+    };
+    let Ok(end) = SegmentEnd::new(row.segment, u64::from(row.last), u64::from(row.next)) else {
+        return Err(AuditFault::Damaged);
+    };
+    Ok(number_past_of(conn, row.sender, &end)?.is_none())
+}
+
+// That each end of a database is above all transmissions of its segment.
+fn ends_are_above<S: Alter>(conn: &mut Idle<S>) -> Result<(), AuditFault>
+    ensures above { between S.Store conn.old conn.new Inspects result (λ db _. AreEndsAbove db) }
+{
+    let rows = rows_of_table(conn, TableName::SegmentEnds)?;
+    for row in &rows {
+        if !is_end_above(conn, row)? {
+            return Err(AuditFault::Damaged);
+        }
+    }
+    Ok(())
+}
+
 // That a database whose transmissions are of these senders has what its book gives.
 fn agrees_aside<S: Alter>(
     alloc: Global,
@@ -58,7 +88,7 @@ fn agrees_aside<S: Alter>(
     office: &Office,
     senders: &[SenderKey],
 ) -> Result<(), AuditFault>
-    ensures confirmed { between S.Store conn.old conn.new Inspects result (λ db _. HoldsEntries senders.now db → HoldsNumbered office.now db) }
+    ensures confirmed { between S.Store conn.old conn.new Inspects result (λ db _. HoldsEntries senders.now db → AreEndsAbove db → HoldsNumbered office.now db) }
 {
     conn.see_last_commit();
     let tables = Tables::in_memory(alloc, office)?;
@@ -83,5 +113,6 @@ pub fn confirm<S: Alter>(
     let Some(senders) = entries_in(alloc, conn)? else {
         return Err(AuditFault::Damaged);
     };
+    ends_are_above(conn)?;
     agrees_aside(alloc, conn, office, senders.as_slice())
 }

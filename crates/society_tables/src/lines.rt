@@ -5,56 +5,36 @@ ghost use Rattle.society_rows.specs.Questions.{Asks};
 ghost use Rattle.society_rows.specs.Rows.{front_values};
 ghost use Rattle.society_tables.specs.Auditing.{SettlesLine, WritesAlone};
 ghost use Rattle.society_tables.specs.Opening.{Inspects};
-ghost use Rattle.society_book.specs.Outcomes.{settled};
+ghost use Rattle.society_book.specs.Arriving.{PutsOutcomes};
+ghost use Rattle.society_book.specs.Going.{IsWholeIn};
 ghost use Rattle.society_book.specs.Runs.{is_among};
-ghost use Rattle.society_book.specs.Steps.{Does, LooksOpen, Makes};
 ghost use Rattle.works_core.specs.Ends.{EndsAt};
-ghost use Rattle.society_rows.specs.Between.{between, within};
+ghost use Rattle.society_rows.specs.Between.{between};
 ghost use Rattle.society_tables.specs.InMemory.{in_memory};
-ghost use Rattle.society_tables.specs.LineSteps.{OfRows, AreWholeIn, PutsOutcomes, PutsSender, PutsSenders};
+ghost use Rattle.society_tables.specs.LineSteps.{OfRows, PutsSender, PutsSenders};
 
 use crate::audit_fault::AuditFault;
 use crate::comparing::table_agrees;
 use share_rules::Office;
-use society_book::{
-    Noted, Outcome, Run, add_told, ascending_works, column_of, recording_rows, settle_run,
-    verdict_rows, version_rows,
-};
-use society_rows::{FrontRow, Idle, Question, RowFault, TableName, answer, fold_run, put_front};
-use sqlite::{Alter, MemStore, Transaction};
+use society_book::{Outcome, Run, ascending_works, column_of, put_told, settle_run, whole_run};
+use society_rows::{FrontRow, Idle, RowFault, TableName};
+use sqlite::{Alter, MemStore};
 use std::alloc::{AllocError, Global};
 use work_ids::{SenderKey, WorkNumber};
 use works_core::LineEnd;
 
-// All of a sender's transmissions up to its front, as an office notes them.
-fn run_inside<S: Alter>(
-    alloc: Global,
-    tx: &mut Transaction<'_, S>,
-    office: &Office,
-    sender: &SenderKey,
-) -> Result<Run, RowFault>
-    ensures same_reference { tx.new.conn.ghost_name ≡ tx.old.conn.ghost_name }
-    ensures looks { within S.Store tx.old tx.new LooksOpen result (λ db run. AreWholeIn office.now sender.now db run.notes) }
-{
-    // An answer comes from an open connection alone.
-    answer(tx, Question::Front(sender.as_bytes()))?;
-    let mut run = Run::new(alloc, office, sender);
-    fold_run(tx, sender.as_bytes(), 1, &mut run)?;
-    Ok(run)
-}
-
-// All of a sender's transmissions up to its front, as an office notes them, read in a transaction that is rolled back.
+// The run of a sender's whole line, as an office notes it, read in a transaction that is rolled back.
 fn run_of<S: Alter>(
     alloc: Global,
     conn: &mut Idle<S>,
     office: &Office,
     sender: &SenderKey,
 ) -> Result<Run, RowFault>
-    ensures asked { between S.Store conn.old conn.new Asks result (λ db run. AreWholeIn office.now sender.now db run.notes) }
+    ensures asked { between S.Store conn.old conn.new Asks result (IsWholeIn office.now sender.now) }
 {
     conn.see_last_commit();
     let mut tx = conn.connection.transaction();
-    let run = run_inside(alloc, &mut tx, office, sender);
+    let run = whole_run(alloc, &mut tx, office, sender);
     tx.rollback();
     run
 }
@@ -68,28 +48,6 @@ fn end_of_none(alloc: Global, works: &[WorkNumber]) -> Result<LineEnd, AllocErro
         end.learn(*work, None)?;
     }
     Ok(end)
-}
-
-// Puts a sender's front, and adds what its transactions tell.
-fn put_told<S: Alter>(
-    alloc: Global,
-    tx: &mut Transaction<'_, S>,
-    front: &FrontRow<'_>,
-    outcomes: &[Outcome<'_>],
-) -> Result<(), RowFault>
-    ensures same_reference { tx.new.conn.ghost_name ≡ tx.old.conn.ghost_name }
-    ensures does { within S.Store tx.old tx.new Does result (Makes (PutsOutcomes (front_values front.now) front.now.sender.now outcomes.now)) }
-{
-    let verdicts = verdict_rows(alloc, front.sender, outcomes)?;
-    let versions = version_rows(alloc, front.sender, outcomes)?;
-    let recordings = recording_rows(alloc, front.sender, outcomes)?;
-    put_front(tx, front)?;
-    add_told(
-        tx,
-        verdicts.as_slice(),
-        versions.as_slice(),
-        recordings.as_slice(),
-    )
 }
 
 // Puts a sender's front, and adds what its transactions tell, in a transaction of its own.
@@ -112,19 +70,16 @@ fn settle_line<S: Alter>(
     alloc: Global,
     conn: &mut Idle<S>,
     sender: &SenderKey,
-    run: &[Noted],
+    run: &Run,
 ) -> Result<(), RowFault>
     ensures settled { between S.Store conn.old conn.new (WritesAlone (OfRows (SettlesLine sender.now run.now))) result }
 {
-    let works = ascending_works(alloc, run)?;
+    let works = ascending_works(alloc, run.noted())?;
     let mut end = end_of_none(alloc, works.as_slice())?;
-    let outcomes = settle_run(alloc, &mut end, 0, run)?;
-    let Ok(front) = u32::try_from(run.len()) else {
-        return Err(RowFault::Overflow);
-    };
+    let outcomes = settle_run(alloc, &mut end, run.noted())?;
     let row = FrontRow {
         sender: sender.as_bytes(),
-        front,
+        front: run.reached(),
         works: column_of(end.works())?,
     };
     write_line(alloc, conn, &row, outcomes.as_slice())
@@ -141,7 +96,7 @@ fn line_of<S: Alter>(
     ensures lined { between S.Store conn.old conn.new Inspects result (λ db _. PutsSender office.now sender.now (in_memory memory.old) (in_memory memory.new) db) }
 {
     let run = run_of(alloc, conn, office, sender)?;
-    settle_line(alloc, memory, sender, run.noted())?;
+    settle_line(alloc, memory, sender, &run)?;
     Ok(())
 }
 

@@ -2,7 +2,7 @@
 ghost use Rattle.std.specs.Prelude.{◌≡◌, None, true, false, IfOk};
 ghost use Rattle.std.specs.List.{AllByRecursion, list_all};
 ghost use Rattle.society_core.specs.Answers.{payer};
-ghost use Rattle.society_core.specs.Book.{is_applied, order_at};
+ghost use Rattle.society_core.specs.Book.{front, is_applied, order_at};
 ghost use Rattle.society_core.specs.Orders.{IsOrder};
 ghost use Rattle.society_rows.specs.Questions.{RowsAnswer, Asks};
 ghost use Rattle.society_rows.specs.Stored.{HasLayout};
@@ -11,7 +11,7 @@ ghost use Rattle.society_book.specs.Closings.{ClosesWith, PaysBy};
 ghost use Rattle.society_tables.specs.Opening.{Inspects};
 ghost use Rattle.society_book.specs.Steps.{LooksOpen};
 ghost use Rattle.society_rows.specs.Between.{between, within};
-ghost use Rattle.society_tables.specs.InMemory.{in_memory, TellsMixed, SaysMixed};
+ghost use Rattle.society_tables.specs.InMemory.{OfMixed, SaysMixed, TellsMixed, in_memory};
 
 use crate::audit_fault::AuditFault;
 use crate::comparing::rows_of_table;
@@ -19,12 +19,12 @@ use crate::rebuilding::pool_of_row;
 use crate::references::put_references;
 use pool_split::Credit;
 use share_rules::Office;
-use society_book::{credits_in, shown_front, write_pool};
+use society_book::{credits_in, ends_of, shown_front, write_pool};
 use society_core::{PoolOrder, ReturnKey, TransmissionKey};
 use society_rows::{Idle, Question, RowFault, TableName, answer, ask};
 use sqlite::{Alter, MemStore, Row, Transaction};
 use std::alloc::Global;
-use work_ids::PoolNumber;
+use work_ids::{PoolNumber, SenderKey};
 
 /// The rows of all cuts, and of all returns that are paid.
 #[derive(Drop)]
@@ -50,22 +50,42 @@ fn is_open_pool(memory: &mut Idle<MemStore>, pool: PoolNumber) -> Result<bool, R
     Ok(rows.as_slice().is_empty())
 }
 
-// Whether a number of a cut is in its sender's line in tables in memory.
-fn is_reached(memory: &mut Idle<MemStore>, key: &TransmissionKey) -> Result<bool, RowFault>
-    ensures reached { TellsMixed (in_memory memory.old) result (λ book. is_applied book key.now ≡ true) }
+// A sender's front in tables in memory.
+fn front_beside(memory: &mut Idle<MemStore>, sender: &SenderKey) -> Result<u32, RowFault>
+    ensures front { HasLayout (in_memory memory.old) → IfOk result (λ n. OfMixed (in_memory memory.old) (λ book. n ≡ front book sender.now)) }
     ensures same { in_memory memory.new ≡ in_memory memory.old }
 {
-    let rows = answered(memory, Question::Front(key.sender.as_bytes()))?;
-    Ok(key.number.value() <= shown_front(rows.as_slice())?)
+    let rows = answered(memory, Question::Front(sender.as_bytes()))?;
+    shown_front(rows.as_slice())
 }
 
-// Whether each number of a cut is in its sender's line in tables in memory.
-fn are_reached(memory: &mut Idle<MemStore>, cut: &[TransmissionKey]) -> Result<bool, RowFault>
-    ensures reached { TellsMixed (in_memory memory.old) result (λ book. list_all (is_applied book) cut.now ≡ true) }
+// Whether a number of a cut is in its sender's line: its front is that of tables in memory, its ends are those of the database.
+fn is_reached<S: Alter>(
+    conn: &mut Idle<S>,
+    memory: &mut Idle<MemStore>,
+    key: &TransmissionKey,
+) -> Result<bool, AuditFault>
+    ensures reached { between S.Store conn.old conn.new Inspects result (SaysMixed (in_memory memory.old) (λ book. is_applied book key.now ≡ true)) }
     ensures same { in_memory memory.new ≡ in_memory memory.old }
 {
+    let ends = ends_of(conn, key.sender.as_bytes())?;
+    let front = front_beside(memory, &key.sender)?;
+    Ok(ends.is_in_line(front, key.number))
+}
+
+// Whether each number of a cut is in its sender's line; asked of tables that are this office's.
+fn are_reached<S: Alter>(
+    conn: &mut Idle<S>,
+    memory: &mut Idle<MemStore>,
+    cut: &[TransmissionKey],
+) -> Result<bool, AuditFault>
+    ensures reached { between S.Store conn.old conn.new Inspects result (SaysMixed (in_memory memory.old) (λ book. list_all (is_applied book) cut.now ≡ true)) }
+    ensures same { in_memory memory.new ≡ in_memory memory.old }
+{
+    // An answer comes from an open connection alone.
+    ask(conn, Question::Office)?;
     for key in cut {
-        if !is_reached(memory, key)? {
+        if !is_reached(conn, memory, key)? {
             return Ok(false);
         }
     }
@@ -186,7 +206,7 @@ fn is_closable<S: Alter>(
     if !is_open_pool(memory, pool)? {
         return Ok(false);
     }
-    Ok(are_reached(memory, order.cut())?)
+    are_reached(conn, memory, order.cut())
 }
 
 // Closes a pool by an order in tables in memory, with what it pays by the tables; `Damaged` where it cannot be closed.

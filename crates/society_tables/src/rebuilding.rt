@@ -8,10 +8,10 @@ ghost use Rattle.society_core.specs.declared.refusal.Refusal.TheVariants.{Unavai
 ghost use Rattle.society_book.specs.BookRows.{is_of_pool};
 ghost use Rattle.society_tables.specs.Opening.{Inspects, TellsFailure};
 ghost use Rattle.society_tables.specs.declared.audit_fault.AuditFault.TheVariants.{Store};
-ghost use Rattle.society_tables.specs.Rebuilding.{ComesFrom, IsAside, IsCut, IsPaid, Passes, cut_pair, paid_pair, sent_alone, without_pools};
+ghost use Rattle.society_tables.specs.Rebuilding.{ComesFrom, IsAside, IsCut, IsPaid, Passes, cut_pair, lines_alone, paid_pair, sent_alone, without_pools};
 ghost use Rattle.society_rows.specs.Between.{between};
 ghost use Rattle.society_tables.specs.InMemory.{memory_book};
-ghost use Rattle.society_tables.specs.Again.{PassesSent, PassesReported, PassesClosed, PassesOrder, PassesPool, PassesAllSent, PassesAllReported, PassesPools, PassesFrom, whole_book, PassesRowsOfPools, PassesRowsOfCuts};
+ghost use Rattle.society_tables.specs.Again.{PassesSent, PassesStated, PassesReported, PassesClosed, PassesOrder, PassesPool, PassesAllSent, PassesAllStated, PassesAllReported, PassesPools, PassesFrom, whole_book, PassesRowsOfPools, PassesRowsOfCuts};
 
 use crate::Tables;
 use crate::audit_fault::AuditFault;
@@ -19,11 +19,11 @@ use crate::comparing::rows_of_table;
 use share_rules::Office;
 use society_core::{Desk, OrderError, PoolOrder, Refusal, ReturnKey, Store};
 use society_rows::{
-    Idle, PoolCutRow, PoolReturnRow, PoolRow, ReturnRow, TableName, TransmissionRow,
+    Idle, PoolCutRow, PoolReturnRow, PoolRow, ReturnRow, SegmentEndRow, TableName, TransmissionRow,
 };
 use sqlite::{Alter, MemStore, Row};
 use std::alloc::Global;
-use work_ids::{PoolNumber, Reporter, ReturnNumber, SenderKey, TransmissionNumber};
+use work_ids::{PoolNumber, Reporter, ReturnNumber, SegmentEnd, SenderKey, TransmissionNumber};
 
 /// A desk over tables in memory, to which the requests of a book come again.
 pub(crate) type Anew = Desk<Tables<MemStore>>;
@@ -55,6 +55,27 @@ fn put_transmission(alloc: Global, desk: &mut Anew, row: &Row) -> Result<(), Aud
         return Err(AuditFault::Damaged);
     };
     match desk.put_transmission(alloc, &sender, number, row.body) {
+        Ok(_) => Ok(()),
+        Err(refusal) => Err(fault_of_refusal(refusal)),
+    }
+}
+
+// States the end of a row.
+fn put_end(alloc: Global, desk: &mut Anew, row: &Row) -> Result<(), AuditFault>
+    ensures office { desk.new.office ≡ desk.old.office }
+    ensures passes { PassesStated row.now (memory_book desk.old.conn) (memory_book desk.new.conn) result }
+    ensures judged { IfErr result (λ e. e ≢ Store) }
+{
+    let Ok(row) = SegmentEndRow::from_row(row) else {
+        return Err(AuditFault::Damaged);
+    };
+    let Ok(sender) = SenderKey::from_bytes(row.sender) else {
+        return Err(AuditFault::Damaged);
+    };
+    let Ok(end) = SegmentEnd::new(row.segment, u64::from(row.last), u64::from(row.next)) else {
+        return Err(AuditFault::Damaged);
+    };
+    match desk.put_end(alloc, &sender, &end) {
         Ok(_) => Ok(()),
         Err(refusal) => Err(fault_of_refusal(refusal)),
     }
@@ -209,6 +230,18 @@ fn put_transmissions(alloc: Global, desk: &mut Anew, rows: &[Row]) -> Result<(),
     Ok(())
 }
 
+// States the ends of rows.
+fn put_ends(alloc: Global, desk: &mut Anew, rows: &[Row]) -> Result<(), AuditFault>
+    ensures office { desk.new.office ≡ desk.old.office }
+    ensures passes { PassesAllStated rows.now (memory_book desk.old.conn) (memory_book desk.new.conn) result }
+    ensures judged { IfErr result (λ e. e ≢ Store) }
+{
+    for row in rows {
+        put_end(alloc, desk, row)?;
+    }
+    Ok(())
+}
+
 // Puts the returns of rows.
 fn put_returns(alloc: Global, desk: &mut Anew, rows: &[Row]) -> Result<(), AuditFault>
     ensures office { desk.new.office ≡ desk.old.office }
@@ -254,6 +287,32 @@ fn transmissions_from<S: Alter>(
     put_transmissions(alloc, desk, rows.as_slice())
 }
 
+// States the ends of a database.
+fn ends_from<S: Alter>(alloc: Global, conn: &mut Idle<S>, desk: &mut Anew) -> Result<(), AuditFault>
+    ensures asked { between S.Store conn.old conn.new Inspects result (λ _ _. ⊤) }
+    ensures failed { between S.Store conn.old conn.new (TellsFailure Store) result }
+    ensures office { desk.new.office ≡ desk.old.office }
+    ensures passes { between S.Store conn.old conn.new (PassesFrom sent_alone lines_alone desk.old.conn desk.new.conn result) }
+{
+    let rows = rows_of_table(conn, TableName::SegmentEnds)?;
+    put_ends(alloc, desk, rows.as_slice())
+}
+
+// Puts the transmissions and states the ends of a database.
+fn lines_from<S: Alter>(
+    alloc: Global,
+    conn: &mut Idle<S>,
+    desk: &mut Anew,
+) -> Result<(), AuditFault>
+    ensures asked { between S.Store conn.old conn.new Inspects result (λ _ _. ⊤) }
+    ensures failed { between S.Store conn.old conn.new (TellsFailure Store) result }
+    ensures office { desk.new.office ≡ desk.old.office }
+    ensures passes { between S.Store conn.old conn.new (PassesFrom (λ _. empty_book) lines_alone desk.old.conn desk.new.conn result) }
+{
+    transmissions_from(alloc, conn, desk)?;
+    ends_from(alloc, conn, desk)
+}
+
 // Puts the returns of a database.
 fn returns_from<S: Alter>(
     alloc: Global,
@@ -263,7 +322,7 @@ fn returns_from<S: Alter>(
     ensures asked { between S.Store conn.old conn.new Inspects result (λ _ _. ⊤) }
     ensures failed { between S.Store conn.old conn.new (TellsFailure Store) result }
     ensures office { desk.new.office ≡ desk.old.office }
-    ensures passes { between S.Store conn.old conn.new (PassesFrom sent_alone without_pools desk.old.conn desk.new.conn result) }
+    ensures passes { between S.Store conn.old conn.new (PassesFrom lines_alone without_pools desk.old.conn desk.new.conn result) }
 {
     let rows = rows_of_table(conn, TableName::Returns)?;
     put_returns(alloc, desk, rows.as_slice())
@@ -326,7 +385,7 @@ fn money_from<S: Alter>(
     ensures asked { between S.Store conn.old conn.new Inspects result (λ _ _. ⊤) }
     ensures failed { between S.Store conn.old conn.new (TellsFailure Store) result }
     ensures office { desk.new.office ≡ desk.old.office }
-    ensures passes { between S.Store conn.old conn.new (PassesFrom sent_alone whole_book desk.old.conn desk.new.conn result) }
+    ensures passes { between S.Store conn.old conn.new (PassesFrom lines_alone whole_book desk.old.conn desk.new.conn result) }
 {
     returns_from(alloc, conn, desk)?;
     pools_from(alloc, conn, desk)
@@ -343,7 +402,7 @@ fn requests_from<S: Alter>(
     ensures office { desk.new.office ≡ desk.old.office }
     ensures passes { between S.Store conn.old conn.new (PassesFrom (λ _. empty_book) whole_book desk.old.conn desk.new.conn result) }
 {
-    transmissions_from(alloc, conn, desk)?;
+    lines_from(alloc, conn, desk)?;
     money_from(alloc, conn, desk)
 }
 

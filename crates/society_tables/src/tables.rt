@@ -11,17 +11,18 @@ use cwr_files::FileReader;
 use pool_split::Credit;
 use share_rules::Office;
 use society_book::{
-    ack_of, arrive, balance_of, close, front_of, known_of, known_pool_of, known_return_of,
-    payment_of, pool_credits, status_of, verdicts_of, work_of, write_return,
+    ack_of, arrive, balance_of, close, known_end_of, known_of, known_pool_of, known_return_of,
+    payment_of, place_of, pool_credits, state_end, status_of, verdicts_of, work_of, write_return,
 };
 use society_core::{
-    Known, KnownTransmission, Payment, PoolOrder, ReturnKey, SenderStatus, Store, StoreFault, Work,
+    Known, KnownEnd, KnownTransmission, Payment, Place, PoolOrder, ReturnKey, SenderStatus, Store,
+    StoreFault, Work,
 };
 use society_rows::{Idle, OfficeRow, ReturnRow, RowFault, create};
 use sqlite::{Alter, Connection, MemStore};
 use sqlite_schema::schema::Schema;
 use std::alloc::Global;
-use work_ids::{Account, PoolNumber, SenderKey, TransmissionNumber, WorkNumber};
+use work_ids::{Account, PoolNumber, SegmentEnd, SenderKey, TransmissionNumber, WorkNumber};
 use works_core::Verdict;
 
 /// Failures that a store has counted when it begins.
@@ -58,7 +59,7 @@ impl<S: Alter> Store for Tables<S> {
         if self.failures == u64::MAX {
             return Err(StoreFault::Refused);
         }
-        let answer = known_of(&mut self.conn, sender.as_bytes(), number.value(), body);
+        let answer = known_of(&mut self.conn, sender.as_bytes(), number, body);
         told(&mut self.failures, answer)
     }
 
@@ -71,15 +72,27 @@ impl<S: Alter> Store for Tables<S> {
         if self.failures == u64::MAX {
             return Err(StoreFault::Refused);
         }
-        let answer = ack_of(alloc, &mut self.conn, &self.office, sender, number.value());
+        let answer = ack_of(alloc, &mut self.conn, &self.office, sender, number);
         told(&mut self.failures, answer)
     }
 
-    fn front(&mut self, sender: &SenderKey) -> Result<u32, StoreFault> {
+    fn place(
+        &mut self,
+        sender: &SenderKey,
+        number: TransmissionNumber,
+    ) -> Result<Place, StoreFault> {
         if self.failures == u64::MAX {
             return Err(StoreFault::Refused);
         }
-        let answer = front_of(&mut self.conn, sender.as_bytes());
+        let answer = place_of(&mut self.conn, sender.as_bytes(), number);
+        told(&mut self.failures, answer)
+    }
+
+    fn known_end(&mut self, sender: &SenderKey, end: &SegmentEnd) -> Result<KnownEnd, StoreFault> {
+        if self.failures == u64::MAX {
+            return Err(StoreFault::Refused);
+        }
+        let answer = known_end_of(&mut self.conn, sender.as_bytes(), end);
         told(&mut self.failures, answer)
     }
 
@@ -113,7 +126,7 @@ impl<S: Alter> Store for Tables<S> {
         if self.failures == u64::MAX {
             return Err(StoreFault::Refused);
         }
-        let answer = verdicts_of(alloc, &mut self.conn, sender.as_bytes(), number.value());
+        let answer = verdicts_of(alloc, &mut self.conn, sender.as_bytes(), number);
         told(&mut self.failures, answer)
     }
 
@@ -166,7 +179,7 @@ impl<S: Alter> Store for Tables<S> {
         alloc: Global,
         number: TransmissionNumber,
         reader: FileReader,
-    ) -> Result<u32, StoreFault> {
+    ) -> Result<Place, StoreFault> {
         if self.failures == u64::MAX {
             return Err(StoreFault::Refused);
         }
@@ -178,6 +191,19 @@ impl<S: Alter> Store for Tables<S> {
             number,
             reader.body(),
         );
+        told(&mut self.failures, answer)
+    }
+
+    fn add_end(
+        &mut self,
+        alloc: Global,
+        sender: &SenderKey,
+        end: &SegmentEnd,
+    ) -> Result<u32, StoreFault> {
+        if self.failures == u64::MAX {
+            return Err(StoreFault::Refused);
+        }
+        let answer = state_end(alloc, &mut self.conn, &self.office, sender, end);
         told(&mut self.failures, answer)
     }
 

@@ -9,7 +9,7 @@ use std::test::Fail;
 use test_bodies::{EMPTY_ACK, message};
 
 /// A request line without its version, the body, and the answer's status, content type and body.
-type Row = (
+pub type Row = (
     &'static str,
     Body,
     &'static str,
@@ -17,33 +17,33 @@ type Row = (
     &'static [u8],
 );
 
-const JSON: &str = "application/json";
+pub const JSON: &str = "application/json";
 
 const CSV: &str = "text/csv";
 
-const OCTETS: &str = "application/octet-stream";
+pub const OCTETS: &str = "application/octet-stream";
 
-const DONE: &str = "200 OK";
+pub const DONE: &str = "200 OK";
 
-const CREATED: &str = "201 Created";
+pub const CREATED: &str = "201 Created";
 
-const ACCEPTED: &str = "202 Accepted";
+pub const ACCEPTED: &str = "202 Accepted";
 
-const NOT_FOUND: &str = "404 Not Found";
+pub const NOT_FOUND: &str = "404 Not Found";
 
-const CONFLICT: &str = "409 Conflict";
+pub const CONFLICT: &str = "409 Conflict";
 
-const UNPROCESSABLE: &str = "422 Unprocessable Entity";
+pub const UNPROCESSABLE: &str = "422 Unprocessable Entity";
 
-const NOTHING: Body = Body::Bytes(b"");
+pub const NOTHING: Body = Body::Bytes(b"");
 
-const UNKNOWN: &[u8] = b"{\"error\":\"unknown\"}";
+pub const UNKNOWN: &[u8] = b"{\"error\":\"unknown\"}";
 
-const REUSED: &[u8] = b"{\"error\":\"reused\"}";
+pub const REUSED: &[u8] = b"{\"error\":\"reused\"}";
 
 const HELD: &[u8] = b"{\"front\":0,\"state\":\"held\"}";
 
-const FRONT_1: &[u8] = b"{\"front\":1,\"state\":\"applied\"}";
+pub const FRONT_1: &[u8] = b"{\"front\":1,\"state\":\"applied\"}";
 
 const FRONT_2: &[u8] = b"{\"front\":2,\"state\":\"applied\"}";
 
@@ -59,13 +59,13 @@ const OVER_A_LIMIT: &[u8] = b"{\"error\":\"order\",\"fault\":2}";
 
 const TWICE: &[u8] = b"{\"error\":\"order\",\"fault\":4}";
 
-const PUT_1: &str = "PUT /v1/senders/PB000000012/transmissions/1";
+pub const PUT_1: &str = "PUT /v1/senders/PB000000012/transmissions/1";
 
-const PUT_2: &str = "PUT /v1/senders/PB000000012/transmissions/2";
+pub const PUT_2: &str = "PUT /v1/senders/PB000000012/transmissions/2";
 
 const PUT_3: &str = "PUT /v1/senders/PB000000012/transmissions/3";
 
-const SENDER: &str = "GET /v1/senders/PB000000012";
+pub const SENDER: &str = "GET /v1/senders/PB000000012";
 
 const RETURN_1: &str = "PUT /v1/returns/RADIO1/1";
 
@@ -657,7 +657,7 @@ fn compare(rt: &impl Abort, alloc: Global, input: &[u8], wanted: &[u8]) -> Resul
 }
 
 /// Sends the requests of a table.
-fn check(rt: &impl Abort, alloc: Global, rows: &[Row]) -> Result<(), Fail> {
+pub fn check(rt: &impl Abort, alloc: Global, rows: &[Row]) -> Result<(), Fail> {
     let mut input = Vec::new(alloc);
     let mut wanted = Vec::new(alloc);
     for (line, body, status, kind, text) in rows {

@@ -13,3 +13,5 @@ mod limit_tests;
 mod samples;
 #[cfg(test)]
 mod streams;
+#[cfg(test)]
+mod year_tests;

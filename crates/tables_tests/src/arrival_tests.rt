@@ -47,11 +47,11 @@ fn put(
     let Ok(KnownTransmission::Absent) = known else {
         return Err(Fail::new("a free number"));
     };
-    let front = tables
+    let place = tables
         .add_transmission(alloc, number, reader)
         .ok()
-        .ok_or("a front")?;
-    Ok(front)
+        .ok_or("a place")?;
+    Ok(place.front)
 }
 
 /// Puts a body into the store in memory, and tells the front.
@@ -65,11 +65,11 @@ fn put_plain(alloc: Global, plain: &mut PlainStore, number: u32, body: &[u8]) ->
     let Ok(KnownTransmission::Absent) = known else {
         return Err(Fail::new("a free number"));
     };
-    let front = plain
+    let place = plain
         .add_transmission(alloc, number, reader)
         .ok()
-        .ok_or("a front")?;
-    Ok(front)
+        .ok_or("a place")?;
+    Ok(place.front)
 }
 
 /// Whether both show the same of a transmission.

@@ -1,6 +1,6 @@
 //! The store over tables in memory, asked before anything has come.
 use crate::checks::{holds, told};
-use society_core::{Known, KnownTransmission, Payment, PoolOrder, ReturnKey, Store};
+use society_core::{Known, KnownTransmission, Payment, Place, PoolOrder, ReturnKey, Store};
 use society_tables::Tables;
 use sqlite::MemStore;
 use std::alloc::Global;
@@ -24,7 +24,16 @@ fn nothing_is_known_of_an_empty_book(rt: HostRuntime) -> Result<(), Fail> {
         .ok()
         .ok_or("a sender")?;
     let number = TransmissionNumber::from_u32(1).ok_or("a number")?;
-    told(&rt, "the front", &tables.front(&sender), &Ok(0));
+    let nowhere = Place {
+        front: 0,
+        is_applied: false,
+    };
+    told(
+        &rt,
+        "the place",
+        &tables.place(&sender, number),
+        &Ok(nowhere),
+    );
     let known = tables.known(&sender, number, b"");
     told(&rt, "a number", &known, &Ok(KnownTransmission::Absent));
     let verdicts = tables.verdicts(rt.alloc(), &sender, number);

@@ -1,4 +1,4 @@
-//! Tests of the office's tables: what arrives, cuts and pools, and databases that are opened, empty ones among them.
+//! Tests of the office's tables: what arrives, ends of segments, cuts and pools, and databases that are opened, empty ones among them.
 #![tactic(auto)]
 
 #[cfg(test)]
@@ -13,3 +13,5 @@ mod empty_tests;
 mod open_tests;
 #[cfg(test)]
 mod pool_tests;
+#[cfg(test)]
+mod year_tests;

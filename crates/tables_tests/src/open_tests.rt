@@ -68,6 +68,13 @@ fn filled(alloc: Global) -> Result<Connection<MemStore>, Fail>
     Ok(desk.into_store().into_connection())
 }
 
+/// The sender's front.
+fn front(tables: &mut Tables<MemStore>) -> Result<u32, Fail> {
+    let first = TransmissionNumber::from_u32(1).ok_or("a number")?;
+    let place = tables.place(&sender()?, first).ok().ok_or("a place")?;
+    Ok(place.front)
+}
+
 /// A statement that changes a database, and the fault with which it is opened then.
 fn fault_after(alloc: Global, change: &str, society: u16) -> Result<Option<OpenFault>, Fail> {
     let mut conn = filled(alloc)?;
@@ -95,7 +102,7 @@ fn a_database_opens_as_it_was_left(rt: HostRuntime) -> Result<(), Fail> {
     let Ok(mut tables) = Tables::open(rt.alloc(), filled(rt.alloc())?, &office(900)?) else {
         return Err(Fail::new("an opening"));
     };
-    told(&rt, "the front", &tables.front(&sender()?), &Ok(1));
+    told(&rt, "the front", &front(&mut tables)?, &1);
     let status = tables
         .standing(rt.alloc(), &sender()?)
         .ok()
@@ -137,7 +144,7 @@ fn an_empty_database_becomes_a_new_book(rt: HostRuntime) -> Result<(), Fail> {
     let Ok(mut tables) = Tables::open(rt.alloc(), conn, &office(900)?) else {
         return Err(Fail::new("an opening"));
     };
-    told(&rt, "the front", &tables.front(&sender()?), &Ok(0));
+    told(&rt, "the front", &front(&mut tables)?, &0);
     Ok(())
 }
 
@@ -162,7 +169,7 @@ fn tables_that_are_there_are_opened(rt: HostRuntime) -> Result<(), Fail> {
     let Ok(mut tables) = opened else {
         return Err(Fail::new("an opening"));
     };
-    told(&rt, "the front", &tables.front(&sender()?), &Ok(1));
+    told(&rt, "the front", &front(&mut tables)?, &1);
     Ok(())
 }
 
@@ -184,7 +191,7 @@ fn a_store_is_found_again_by_its_connection(rt: HostRuntime) -> Result<(), Fail>
     let Ok(mut again) = reopen(rt.alloc(), tables) else {
         return Err(Fail::new("a second opening"));
     };
-    told(&rt, "the front", &again.front(&sender()?), &Ok(1));
+    told(&rt, "the front", &front(&mut again)?, &1);
     Ok(())
 }
 
@@ -197,7 +204,7 @@ fn a_database_with_the_rows_of_a_store_is_that_store(rt: HostRuntime) -> Result<
     let Ok(mut found) = found else {
         return Err(Fail::new("a second opening"));
     };
-    told(&rt, "the front", &found.front(&sender()?), &Ok(1));
+    told(&rt, "the front", &front(&mut found)?, &1);
     Ok(())
 }
 
@@ -235,7 +242,7 @@ fn what_was_changed_is_damage(rt: HostRuntime) -> Result<(), Fail> {
         "UPDATE transmissions SET body = x'00' WHERE number = 3",
         "DELETE FROM credits WHERE line = 0",
         "INSERT INTO recordings (sender, work, revision, isrc) VALUES ('PB000000012', 'W9', 0, 'ATABC2600009')",
-        "INSERT INTO segment_ends (sender, segment, last, next) VALUES ('PB000000012', -1, 3, 26)",
+        "INSERT INTO segment_ends (sender, segment, last, next) VALUES ('PB000000012', -1, 2, 26)",
         "INSERT INTO mechanical_pools (pool) VALUES (7)",
     ];
     for change in changes {

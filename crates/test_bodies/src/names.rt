@@ -14,7 +14,7 @@ pub fn sender() -> Result<SenderKey, &'static str> {
         .ok_or("a sender key")
 }
 
-/// The number of a transmission, 1 to 999999.
+/// The number of a transmission, by its rank: a plain one, 1 to 999999, is its own.
 pub fn number(value: u32) -> Result<TransmissionNumber, &'static str> {
     TransmissionNumber::from_u32(value).ok_or("a number of a transmission")
 }

@@ -9,7 +9,7 @@ use Rattle.std.proofs.lemmas.Slice.Eq.{bytes_eq-Decides}
 use Rattle.work_ids.specs.Characters.{capital, is_capital_or_digit, is_digit}
 use Rattle.work_ids.specs.Digits.{last_digits}
 use Rattle.work_ids.specs.FileNames.{IsNameOf, file_name, is_file_name, is_name_end, is_sender_code, is_version_digit, name_end, number_in_name}
-use Rattle.work_ids.specs.Segments.{file_number_in, is_in_segment}
+use Rattle.work_ids.specs.Segments.{transmission_number_in, is_in_segment}
 use Rattle.work_ids.specs.declared.segment.Segment.TheVariants.{Year}
 use Rattle.work_ids.proofs.Joined.{first-true}
 use Rattle.work_ids.proofs.LastDigits.{are_last_digits, last_digits_of, value_of_last_digits}
@@ -160,7 +160,7 @@ name_is society name form =
     ∙ ap (λ (t : List ℕ). codes "CW" ++ last_digits 2 (digits_value 10 y) ++ last_digits 4 (digits_value 10 s) ++ sender ++ t) (end_is society end (end_long society name form) (end_form society end form.end))
 
 -- a name of that form names its number
-named : (society : ℕ) (name : List ℕ) → HasNameForm society (map capital name) → (number : ℕ) → file_number_in (Year (digits_value 10 (take 2 (drop 2 (map capital name))))) (digits_value 10 (take 4 (drop 4 (map capital name)))) ≡ Some number → IsNameOf society number name
+named : (society : ℕ) (name : List ℕ) → HasNameForm society (map capital name) → (number : ℕ) → transmission_number_in (Year (digits_value 10 (take 2 (drop 2 (map capital name))))) (digits_value 10 (take 4 (drop 4 (map capital name)))) ≡ Some number → IsNameOf society number name
 named society name form number is =
     let capitals = map capital name in
     record {
@@ -178,7 +178,7 @@ of_none : (society : ℕ) (name : List ℕ) → is_file_name society (map capita
 unfolding number_in_name
 of_none society name h = rw h refl
 
-of_some : (society : ℕ) (name : List ℕ) → is_file_name society (map capital name) ≡ true → file_number_in (Year (digits_value 10 (take 2 (drop 2 (map capital name))))) (digits_value 10 (take 4 (drop 4 (map capital name)))) ≡ number_in_name society name
+of_some : (society : ℕ) (name : List ℕ) → is_file_name society (map capital name) ≡ true → transmission_number_in (Year (digits_value 10 (take 2 (drop 2 (map capital name))))) (digits_value 10 (take 4 (drop 4 (map capital name)))) ≡ number_in_name society name
 unfolding number_in_name
 of_some society name h = rw h refl
 
@@ -187,9 +187,9 @@ read_as society name true formed number read =
     named society name (name_form society (map capital name) formed) number (of_some society name formed ∙ read)
 read_as society name false formed number read = let same = of_none society name formed ∙ read in absurd (cc)
 
-within : (year sequence number : ℕ) (inside : Bool) → is_in_segment (Year year) sequence ≡ inside → file_number_in (Year year) sequence ≡ Some number → (year ≤ 99) × (sequence ≤ 9999)
+within : (year sequence number : ℕ) (inside : Bool) → is_in_segment (Year year) sequence ≡ inside → transmission_number_in (Year year) sequence ≡ Some number → (year ≤ 99) × (sequence ≤ 9999)
 within year sequence number true inside is = (grind (arith, nat_tests), grind (arith, nat_tests))
-within year sequence number false inside is = let none : None ≡ file_number_in (Year year) sequence = rw inside refl in absurd (cc)
+within year sequence number false inside is = let none : None ≡ transmission_number_in (Year year) sequence = rw inside refl in absurd (cc)
 
 -- the characters of a name whose sender has a code of two
 made_short : (a b c d e f g h i p q v society : ℕ) → list_all is_digit (a ∷ b ∷ []) ≡ true → list_all is_digit (c ∷ d ∷ e ∷ f ∷ []) ≡ true → list_all is_capital_or_digit (p ∷ q ∷ []) ≡ true → bytes_eq (g ∷ h ∷ i ∷ []) (last_digits 3 society) ≡ true → is_version_digit v ≡ true → is_file_name society (67 ∷ 87 ∷ a ∷ b ∷ c ∷ d ∷ e ∷ f ∷ p ∷ q ∷ 95 ∷ g ∷ h ∷ i ∷ 46 ∷ 86 ∷ 50 ∷ v ∷ []) ≡ true
@@ -238,8 +238,8 @@ read_back society name number is =
     ∙ ap (λ (ns : List ℕ). digits_value 10 ns) (sequence_in is.year is.sequence is.sender (name_end society is.version))
     ∙ value_of_last_digits 4 is.sequence (omega (arith, in_range.1)) in
     sym (of_some society name formed)
-    ∙ ap (λ (n : ℕ). file_number_in (Year n) (digits_value 10 (take 4 (drop 4 capitals)))) year
-    ∙ ap (λ (n : ℕ). file_number_in (Year is.year) n) sequence
+    ∙ ap (λ (n : ℕ). transmission_number_in (Year n) (digits_value 10 (take 4 (drop 4 capitals)))) year
+    ∙ ap (λ (n : ℕ). transmission_number_in (Year is.year) n) sequence
     ∙ is.number_is
 
 -- a number is read in a name exactly where it is the name of the file with that number

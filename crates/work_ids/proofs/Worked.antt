@@ -9,13 +9,13 @@ use Rattle.work_ids.specs.FileNames.{is_file_name, is_name_end, number_in_name}
 use Rattle.work_ids.specs.IpiName.{ipi_field_of}
 use Rattle.work_ids.specs.Isrc.{has_isrc_form, has_isrc_marks, isrc_field_of, isrc_of, isrc_of_text, printed_isrc, without_isrc_marks}
 use Rattle.work_ids.specs.Iswc.{has_iswc_form, has_iswc_marks, has_right_check_digit, iswc_field_of, iswc_of, iswc_of_text, printed, without_iswc_marks}
-use Rattle.work_ids.specs.Numbers.{is_pool_number, is_return_number, is_transmission_number, number_in_text, number_where}
+use Rattle.work_ids.specs.Numbers.{is_plain_number, is_pool_number, is_return_number, number_in_text, number_where}
 use Rattle.work_ids.specs.PartyNumber.{party_number_of}
 use Rattle.work_ids.specs.Reporter.{reporter_of}
 use Rattle.work_ids.specs.SegmentEnds.{segment_fault, segment_fault_number, stated_end}
-use Rattle.work_ids.specs.Segments.{file_number_in, is_file_number, segment_of, sequence_of}
+use Rattle.work_ids.specs.Segments.{transmission_number_in, is_transmission_number, segment_of, sequence_of}
 use Rattle.work_ids.specs.SenderKey.{sender_key_of}
-use Rattle.work_ids.specs.SpelledNumber.{dated_in_text, dated_text, file_number_spelled, is_dated_text}
+use Rattle.work_ids.specs.SpelledNumber.{dated_in_text, dated_text, transmission_number_spelled, is_dated_text}
 use Rattle.work_ids.specs.WorkNumber.{work_number_of}
 use Rattle.work_ids.specs.declared.account.Account.TheVariants.{Ipi, Party, Unclaimed}
 use Rattle.work_ids.specs.declared.segment.Segment.TheVariants.{Plain, Year}
@@ -277,7 +277,7 @@ text_by_number : account_text (Party (codes "PB000000012") (codes "P1       ")) 
 text_by_number = refl
 
 -- the limits of the numbers of transmissions, returns and pools, and their neighbours
-transmission_limits : map (number_where is_transmission_number) (0 ∷ 1 ∷ 999999 ∷ 1000000 ∷ []) ≡ None ∷ Some 1 ∷ Some 999999 ∷ None ∷ []
+transmission_limits : map (number_where is_plain_number) (0 ∷ 1 ∷ 999999 ∷ 1000000 ∷ []) ≡ None ∷ Some 1 ∷ Some 999999 ∷ None ∷ []
 transmission_limits = refl
 
 return_limits : map (number_where is_return_number) (0 ∷ 1 ∷ 999999 ∷ 1000000 ∷ []) ≡ None ∷ Some 1 ∷ Some 999999 ∷ None ∷ []
@@ -287,7 +287,7 @@ pool_limits : map (number_where is_pool_number) (0 ∷ 1 ∷ 99999 ∷ 100000 �
 pool_limits = refl
 
 -- texts at the limits
-transmission_texts : map (number_in_text is_transmission_number) (codes "1" ∷ codes "999999" ∷ codes "1000000" ∷ []) ≡ Some 1 ∷ Some 999999 ∷ None ∷ []
+transmission_texts : map (number_in_text is_plain_number) (codes "1" ∷ codes "999999" ∷ codes "1000000" ∷ []) ≡ Some 1 ∷ Some 999999 ∷ None ∷ []
 transmission_texts = refl
 
 return_texts : map (number_in_text is_return_number) (codes "1" ∷ codes "999999" ∷ codes "1000000" ∷ []) ≡ Some 1 ∷ Some 999999 ∷ None ∷ []
@@ -310,17 +310,17 @@ unfolding last_digits
 cut_to_width = refl
 
 -- the limits of plain numbers and of those of a year, and their neighbours
-plain_limits : map (file_number_in Plain) (0 ∷ 1 ∷ 999999 ∷ 1000000 ∷ []) ≡ None ∷ Some 1 ∷ Some 999999 ∷ None ∷ []
+plain_limits : map (transmission_number_in Plain) (0 ∷ 1 ∷ 999999 ∷ 1000000 ∷ []) ≡ None ∷ Some 1 ∷ Some 999999 ∷ None ∷ []
 plain_limits = refl
 
-year_limits : map (file_number_in (Year 26)) (0 ∷ 1 ∷ 9999 ∷ 10000 ∷ []) ≡ None ∷ Some 1260001 ∷ Some 1269999 ∷ None ∷ []
+year_limits : map (transmission_number_in (Year 26)) (0 ∷ 1 ∷ 9999 ∷ 10000 ∷ []) ≡ None ∷ Some 1260001 ∷ Some 1269999 ∷ None ∷ []
 year_limits = refl
 
-last_year : map (λ year. file_number_in (Year year) 1) (0 ∷ 99 ∷ 100 ∷ []) ≡ Some 1000001 ∷ Some 1990001 ∷ None ∷ []
+last_year : map (λ year. transmission_number_in (Year year) 1) (0 ∷ 99 ∷ 100 ∷ []) ≡ Some 1000001 ∷ Some 1990001 ∷ None ∷ []
 last_year = refl
 
 -- ranks that no number has: 0, number 0 of a year, and one past the last year
-ranks : map is_file_number (0 ∷ 1 ∷ 1000000 ∷ 1260001 ∷ 1999999 ∷ 2000001 ∷ []) ≡ false ∷ true ∷ false ∷ true ∷ true ∷ false ∷ []
+ranks : map is_transmission_number (0 ∷ 1 ∷ 1000000 ∷ 1260001 ∷ 1999999 ∷ 2000001 ∷ []) ≡ false ∷ true ∷ false ∷ true ∷ true ∷ false ∷ []
 ranks = refl
 
 segment_places : map segment_of (999999 ∷ 1000000 ∷ 1260001 ∷ 1999999 ∷ []) ≡ 0 ∷ 1 ∷ 27 ∷ 100 ∷ []
@@ -348,7 +348,7 @@ unfolding dated_in_text is_dated_text
 no_dated_texts = refl
 
 -- a plain number over the limit is none, and so is number 0 of a year
-spelled_numbers : map file_number_spelled (PlainNumber 1 ∷ PlainNumber 1260001 ∷ Dated 26 1 ∷ Dated 26 0 ∷ []) ≡ Some 1 ∷ None ∷ Some 1260001 ∷ None ∷ []
+spelled_numbers : map transmission_number_spelled (PlainNumber 1 ∷ PlainNumber 1260001 ∷ Dated 26 1 ∷ Dated 26 0 ∷ []) ≡ Some 1 ∷ None ∷ Some 1260001 ∷ None ∷ []
 spelled_numbers = refl
 
 -- names of files sent to society 900

@@ -5,7 +5,7 @@ use Rattle.std.specs.Str.{bytes_eq}
 use Rattle.std.specs.Str.Parse.{digits_value}
 use Rattle.work_ids.specs.Characters.{capital, is_capital_or_digit, is_digit}
 use Rattle.work_ids.specs.Digits.{last_digits}
-use Rattle.work_ids.specs.Segments.{file_number_in}
+use Rattle.work_ids.specs.Segments.{transmission_number_in}
 use Rattle.work_ids.specs.declared.segment.Segment.TheVariants.{Year}
 
 -- the code of a sender: two or three of A-Z and 0-9 (profile)
@@ -30,7 +30,7 @@ pub record IsNameOf (society number : ℕ) (name : List ℕ) : Type 0 where
   pub sequence : ℕ
   pub sender : List ℕ
   pub version : ℕ
-  pub number_is : file_number_in (Year year) sequence ≡ Some number
+  pub number_is : transmission_number_in (Year year) sequence ≡ Some number
   pub sender_is : is_sender_code sender ≡ true
   pub version_is : is_version_digit version ≡ true
   pub name_is : map capital name ≡ file_name year sequence sender (name_end society version)
@@ -51,7 +51,7 @@ is_file_name society name =
 -- the number in a name in capitals, where it is a file name
 abbrev pub number_in_capitals : ℕ → List ℕ → Option ℕ
 number_in_capitals society name =
-    if is_file_name society name then file_number_in (Year (digits_value 10 (take 2 (drop 2 name)))) (digits_value 10 (take 4 (drop 4 name))) else None
+    if is_file_name society name then transmission_number_in (Year (digits_value 10 (take 2 (drop 2 name)))) (digits_value 10 (take 4 (drop 4 name))) else None
 
 -- the number in a name of a file sent to a society, none where it is no such name (profile)
 unfoldable pub number_in_name : ℕ → List ℕ → Option ℕ

@@ -7,9 +7,9 @@ use Rattle.work_ids.specs.Digits.{is_number}
 abbrev pub is_from_one_to : ℕ → ℕ → Bool
 is_from_one_to most number = nat_le 1 number && nat_le number most
 
--- the number of a transmission is 1 to 999,999 (profile)
-abbrev pub is_transmission_number : ℕ → Bool
-is_transmission_number number = is_from_one_to 999999 number
+-- a plain number of a transmission is 1 to 999,999 (profile)
+abbrev pub is_plain_number : ℕ → Bool
+is_plain_number number = is_from_one_to 999999 number
 
 -- the number of a performance return is 1 to 999,999 (profile)
 abbrev pub is_return_number : ℕ → Bool

@@ -41,9 +41,9 @@ abbrev pub rank_in : Segment → ℕ → ℕ
 rank_in segment sequence = base_of (index_of segment) + sequence
 
 -- the rank of a number of a segment, where it is one (profile)
-abbrev pub file_number_in : Segment → ℕ → Option ℕ
-file_number_in segment sequence = if is_in_segment segment sequence then Some (rank_in segment sequence) else None
+abbrev pub transmission_number_in : Segment → ℕ → Option ℕ
+transmission_number_in segment sequence = if is_in_segment segment sequence then Some (rank_in segment sequence) else None
 
 -- the rank of a number, plain or of a year (profile)
-abbrev pub is_file_number : ℕ → Bool
-is_file_number rank = nat_le 1 (sequence_of rank) && nat_le (segment_of rank) 100
+abbrev pub is_transmission_number : ℕ → Bool
+is_transmission_number rank = nat_le 1 (sequence_of rank) && nat_le (segment_of rank) 100

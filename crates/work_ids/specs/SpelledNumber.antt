@@ -4,7 +4,7 @@ use Rattle.std.specs.List.{list_all}
 use Rattle.std.specs.Str.Parse.{digits_value}
 use Rattle.work_ids.specs.Characters.{is_digit}
 use Rattle.work_ids.specs.Digits.{last_digits}
-use Rattle.work_ids.specs.Segments.{file_number_in}
+use Rattle.work_ids.specs.Segments.{transmission_number_in}
 use Rattle.work_ids.specs.declared.segment.Segment.TheVariants.{Plain as PlainSegment, Year}
 use Rattle.work_ids.specs.declared.spelled_number.SpelledNumber.{SpelledNumber}
 use Rattle.work_ids.specs.declared.spelled_number.SpelledNumber.TheVariants.{Plain, Dated}
@@ -30,6 +30,6 @@ pub record IsDatedText (year sequence : ℕ) (text : List ℕ) : Type 0 where
   pub text_is : text ≡ dated_text year sequence
 
 -- the number that is spelled, where it is within the limits (profile)
-abbrev pub file_number_spelled : SpelledNumber → Option ℕ
-file_number_spelled (Plain number) = file_number_in PlainSegment number
-file_number_spelled (Dated year sequence) = file_number_in (Year year) sequence
+abbrev pub transmission_number_spelled : SpelledNumber → Option ℕ
+transmission_number_spelled (Plain number) = transmission_number_in PlainSegment number
+transmission_number_spelled (Dated year sequence) = transmission_number_in (Year year) sequence

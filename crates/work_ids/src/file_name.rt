@@ -6,7 +6,7 @@ ghost use Rattle.work_ids.specs.FileNames.{IsNameOf, is_file_name, is_name_end, 
 
 use crate::characters::{are_capitals_or_digits, are_digits, make_capitals};
 use crate::digits::{last_digits, short_number};
-use crate::{FileNumber, Segment};
+use crate::{Segment, TransmissionNumber};
 
 /// The characters with which a name begins.
 const STANDARD: &[u8] = b"CW";
@@ -59,7 +59,7 @@ fn is_file_name(name: &[u8], society: u16) -> bool
 }
 
 // The number in a name that is in capitals.
-fn number_in_capitals(name: &[u8], society: u16) -> Option<FileNumber>
+fn number_in_capitals(name: &[u8], society: u16) -> Option<TransmissionNumber>
     ensures { result ≡ number_in_capitals society name.now }
 {
     if !is_file_name(name, society) {
@@ -67,13 +67,13 @@ fn number_in_capitals(name: &[u8], society: u16) -> Option<FileNumber>
     }
     let year = short_number(&name[2..4]) as u8;
     let sequence = short_number(&name[4..8]);
-    FileNumber::new(Segment::Year(year), u32::from(sequence))
+    TransmissionNumber::new(Segment::Year(year), u32::from(sequence))
 }
 
 /// The number in the name of a file that is sent to a society, as in `CW260001EXA_900.V22`: `CW`, the last two digits of the
 /// year, a number of 0001 to 9999, the sender's code of two or three of A-Z and 0-9, `_`, the society's three digits, and
 /// `.V21` or `.V22`, small letters read as capitals (profile). None for any other name.
-pub fn read_file_name(name: &[u8], society: u16) -> Option<FileNumber>
+pub fn read_file_name(name: &[u8], society: u16) -> Option<TransmissionNumber>
     ensures value { result ≡ number_in_name society name.now }
     ensures exact { (number : ℕ) → (result ≡ Some number) ↔ IsNameOf society number name.now }
 {

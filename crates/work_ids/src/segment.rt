@@ -3,7 +3,7 @@ ghost use Rattle.std.specs.Prelude.{◌≡◌};
 ghost use Rattle.work_ids.specs.Segments.{index_of, most_in};
 
 /// Greatest number of the plain segment (profile).
-const GREATEST_PLAIN: u32 = 999_999;
+pub(crate) const GREATEST_PLAIN: u32 = 999_999;
 
 /// Greatest number of a year's segment (profile).
 const GREATEST_OF_YEAR: u32 = 9_999;

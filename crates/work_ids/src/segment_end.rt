@@ -1,9 +1,10 @@
 //! Where a sender says that a segment of its numbers ends, and which year comes next.
 ghost use Rattle.std.specs.Prelude.{◌≡◌, None};
+ghost use Rattle.work_ids.specs.Segments.{index_of};
 ghost use Rattle.work_ids.specs.SegmentEnds.{is_next_not_later, segment_fault, segment_fault_number, stated_end};
 
-use crate::Segment;
-use crate::file_number::GREATEST_YEAR;
+use crate::transmission_number::GREATEST_YEAR;
+use crate::{Segment, SegmentPlace};
 use std::marker::Model;
 use thiserror::Error;
 
@@ -41,6 +42,7 @@ pub struct SegmentEnd {
 
 impl Model for SegmentEnd {
     ghost use Rattle.std.specs.Prelude.{◌≡◌, None};
+    ghost use Rattle.work_ids.specs.Segments.{index_of};
     ghost use Rattle.work_ids.specs.SegmentEnds.{StatedEnd, segment_fault};
 
     ghost Value = { StatedEnd };
@@ -85,6 +87,13 @@ impl SegmentEnd {
         ensures { result ≡ self.now.segment }
     {
         self.segment
+    }
+
+    /// The place of the segment that ends.
+    pub fn place(&self) -> SegmentPlace
+        ensures { result ≡ index_of self.now.segment }
+    {
+        SegmentPlace::of_end(self)
     }
 
     /// Its last number, 0 where it has none.

@@ -1,11 +1,11 @@
 //! Numbers as texts and orders spell them; they may be none.
 ghost use Rattle.std.specs.Prelude.{◌≡◌, ◌≤◌, Some};
-ghost use Rattle.work_ids.specs.SpelledNumber.{dated_in_text, dated_text, file_number_spelled, is_dated_text};
+ghost use Rattle.work_ids.specs.SpelledNumber.{dated_in_text, dated_text, transmission_number_spelled, is_dated_text};
 ghost use Rattle.work_ids.specs.declared.spelled_number.SpelledNumber.TheVariants.{Dated};
 
 use crate::characters::{are_digits, is_hyphen};
 use crate::digits::{last_digits, short_number};
-use crate::{FileNumber, Segment};
+use crate::{Segment, TransmissionNumber};
 
 /// Characters of the text of a number of a year, as in `26-0001`.
 const DATED_LENGTH: usize = 7;
@@ -70,15 +70,15 @@ impl SpelledNumber {
     }
 
     /// The number that is spelled, where it is within the limits.
-    pub fn number(self) -> Option<FileNumber>
-        ensures { result ≡ file_number_spelled self }
+    pub fn number(self) -> Option<TransmissionNumber>
+        ensures { result ≡ transmission_number_spelled self }
     {
         match self {
             SpelledNumber::Plain(number) => {
-                FileNumber::new(Segment::Plain, u32::try_from(number).ok()?)
+                TransmissionNumber::new(Segment::Plain, u32::try_from(number).ok()?)
             }
             SpelledNumber::Dated { year, sequence } => {
-                FileNumber::new(Segment::Year(year), u32::from(sequence))
+                TransmissionNumber::new(Segment::Year(year), u32::from(sequence))
             }
         }
     }

@@ -162,10 +162,10 @@ impl SenderLine {
         Ok(())
     }
 
-    /// The last number of the line, at most 999,999; 0 where no transmission is applied.
+    /// The last number of the line, as a rank; 0 where no transmission is applied.
     pub fn front(&self) -> u32
         ensures front { result ≡ last_number 0 self.now.transmissions }
-        ensures limit { result ≤ 999999 }
+        ensures limit { result ≤ 1999999 }
     {
         match self.kept.last() {
             Some(last) => last.number.value(),

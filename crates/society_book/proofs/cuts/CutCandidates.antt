@@ -1,5 +1,5 @@
 -- Candidates of the works that are chosen stand for the versions at a cut.
-use Rattle.std.proofs.Common.{◌≡◌, ◌∙◌, ◌≤◌, ◌+◌, ◌++◌, ℕ, suc, Bool, true, false, cond, List, [], ◌∷◌, Option, Some, None, Result, Ok, Err, length, refl, ap, ap₂, append_assoc, ◌==◌, sym, subst, arith, map, slice_get, IfOk, OnOk}
+use Rattle.std.proofs.Common.{◌≡◌, ◌∙◌, ◌+◌, ◌++◌, ℕ, suc, Bool, true, false, cond, List, [], ◌∷◌, Option, Some, None, Result, Ok, Err, length, refl, ap, ap₂, append_assoc, ◌==◌, sym, subst, arith, map, slice_get, IfOk, OnOk}
 use Rattle.std.proofs.lemmas.Bool.{false≢true}
 use Rattle.std.proofs.lemmas.List.{append-nil}
 use Rattle.std.proofs.lemmas.List.Elements.{filter-append}
@@ -11,7 +11,7 @@ use Rattle.cwr_files.specs.Transaction.{number_of_work}
 use Rattle.cwr_files.specs.declared.transmission.Transaction.{Transaction}
 use Rattle.share_rules.specs.declared.office.Office.{Office}
 use Rattle.society_core.proofs.CandidateLemmas.{both}
-use Rattle.society_core.specs.Book.{Book}
+use Rattle.society_core.specs.Book.{Book, is_one_of, numbers_to}
 use Rattle.society_core.specs.Candidates.{AddsCandidates, transactions_sent, work_where}
 use Rattle.society_core.specs.Owners.{CutWork, cut_work, is_at, is_version_at, names_recording, versions_of_transmission}
 use Rattle.society_core.specs.declared.claim_list.Candidate.{Candidate}
@@ -108,21 +108,21 @@ none_chosen chosen sender number ts covered absent = where_none sender (λ place
 
 module _ (office : Office) (book : Book) (key : TransmissionKey) (of_these : List ℕ → Bool) (chosen : Chosen) (right : ChoosesNaming office book key of_these chosen) where
   -- of a transmission's transactions that are chosen and of its versions at the cut the same ones name each of these recordings
-  chosen_names : (number : ℕ) → number ≤ key.number → (isrc : List ℕ) → of_these isrc ≡ true
+  chosen_names : (number : ℕ) → is_one_of (numbers_to book key.sender key.number) number ≡ true → (isrc : List ℕ) → of_these isrc ≡ true
       → filter (names_recording isrc) (works_chosen chosen key.sender number 0 (transactions_sent book key.sender number)) ≡ filter (names_recording isrc) (versions_of_transmission office book key number (transactions_sent book key.sender number))
   chosen_names number within isrc is =
       where_alike key.sender (λ place t. is_chosen chosen number place (number_of_work t)) (λ place t. is_version_at office book key number place (number_of_work t)) isrc 0 (transactions_sent book key.sender number)
       (λ i t there names. let here : i ≡ 0 + i = omega arith in subst (λ (n : ℕ). is_chosen chosen number n (number_of_work t) ≡ is_version_at office book key number n (number_of_work t)) here (right.right number i t isrc within there is names))
 
   -- what is chosen of a transmission is added as its versions at the cut
-  pub chosen_adds : (weigh : CutWork → List Holder) (number : ℕ) (old new : List Candidate) → number ≤ key.number → AddsCandidates weigh of_these (works_chosen chosen key.sender number 0 (transactions_sent book key.sender number)) old new → AddsCandidates weigh of_these (versions_of_transmission office book key number (transactions_sent book key.sender number)) old new
+  pub chosen_adds : (weigh : CutWork → List Holder) (number : ℕ) (old new : List Candidate) → is_one_of (numbers_to book key.sender key.number) number ≡ true → AddsCandidates weigh of_these (works_chosen chosen key.sender number 0 (transactions_sent book key.sender number)) old new → AddsCandidates weigh of_these (versions_of_transmission office book key number (transactions_sent book key.sender number)) old new
   chosen_adds weigh number old new within adds =
       adds_alike weigh of_these (works_chosen chosen key.sender number 0 (transactions_sent book key.sender number)) (versions_of_transmission office book key number (transactions_sent book key.sender number)) old new
       (chosen_names number within)
       adds
 
   -- none of its versions names one of them where none of its transactions is chosen
-  pub absent_names : (number : ℕ) → number ≤ key.number → contains nat_cmp chosen.transmissions number ≡ false → (isrc : List ℕ) → of_these isrc ≡ true → filter (names_recording isrc) (versions_of_transmission office book key number (transactions_sent book key.sender number)) ≡ []
+  pub absent_names : (number : ℕ) → is_one_of (numbers_to book key.sender key.number) number ≡ true → contains nat_cmp chosen.transmissions number ≡ false → (isrc : List ℕ) → of_these isrc ≡ true → filter (names_recording isrc) (versions_of_transmission office book key number (transactions_sent book key.sender number)) ≡ []
   absent_names number within absent isrc is =
       sym (chosen_names number within isrc is)
       ∙ ap (filter (names_recording isrc)) (none_chosen chosen key.sender number (transactions_sent book key.sender number) right.transmissions absent)

@@ -1,18 +1,16 @@
 -- Versions that are chosen: with one work more, and by another test of the same works.
-use Rattle.std.proofs.Common.{◌≡◌, ◌∙◌, ◌||◌, ◌==◌, ◌≤◌, arith, Bool, true, false, cond, ℕ, List, Option, Some, None, Result, Ok, Err, OnOk, refl, ap, sym, bytes_eq}
+use Rattle.std.proofs.Common.{◌≡◌, ◌∙◌, ◌||◌, ◌==◌, Bool, true, false, cond, ℕ, List, Option, Some, None, Result, Ok, Err, OnOk, refl, ap, sym, subst, bytes_eq}
 use Rattle.std.proofs.lemmas.Slice.Eq.{bytes_eq-Decides}
 use Rattle.std.specs.BTreeSet.{contains}
 use Rattle.std.specs.Ordering.{nat_cmp}
 use Rattle.share_rules.specs.declared.office.Office.{Office}
-use Rattle.society_core.proofs.Gaps.{version_within}
-use Rattle.society_core.proofs.Lines.{line_rises}
-use Rattle.society_core.specs.Book.{Book, transmissions_to, version_in}
+use Rattle.society_core.proofs.Gaps.{version_in_line}
+use Rattle.society_core.specs.Book.{Book, is_one_of, numbers_to, version_in}
 use Rattle.society_core.specs.declared.transmission_key.TransmissionKey.{TransmissionKey}
 use Rattle.society_book.specs.CutWorks.{Chooses, chosen_at}
 use Rattle.society_book.specs.declared.chosen.Chosen.{Chosen}
 use Rattle.society_book.proofs.rows_alike.KeyRows.{either_way}
 use Rattle.std.specs.Cmp.{unsigned_Decides}
-use Rattle.works_core.specs.Line.{line_of}
 use Rattle.works_core.specs.declared.version.WorkVersion.{WorkVersion}
 
 pub some_is : {X : Type 0} (x y : X) → ◌≡◌ {A = Option X} (Some x) (Some y) → x ≡ y
@@ -69,11 +67,10 @@ module _ (office : Office) (book : Book) (key : TransmissionKey) (known : List �
       by_number q v false is =
           covers v.transmission ∙ ap (λ (b : Bool). version.transmission == v.transmission || b) (chooses.transmissions q v is) ∙ or_true (version.transmission == v.transmission)
 
-      by_member : (n : ℕ) (c : Bool) → (version.transmission == n) ≡ c → (c || contains nat_cmp old.transmissions n) ≡ true → (1 ≤ n) × (n ≤ key.number)
+      by_member : (n : ℕ) (c : Bool) → (version.transmission == n) ≡ c → (c || contains nat_cmp old.transmissions n) ≡ true → is_one_of (numbers_to book key.sender key.number) n ≡ true
       by_member n true is there =
-          let same : version.transmission ≡ n = (unsigned_Decides version.transmission n).0 is in
-          let limits = version_within (line_of office (transmissions_to book key.sender key.number)) work key.number version (line_rises office book key.sender key.number) (sym some) in
-          (omega (arith, limits.0, same), omega (arith, limits.1, same))
+          subst (λ (k : ℕ). is_one_of (numbers_to book key.sender key.number) k ≡ true) ((unsigned_Decides version.transmission n).0 is)
+          (version_in_line office book key.sender work key.number version (sym some))
       by_member n false is there = chooses.within n there
 
   -- so it is once the version is kept

@@ -1,21 +1,25 @@
 -- A version at a cut that names a recording is told in the table of recordings, so its work is noted.
-use Rattle.std.proofs.Common.{◌≡◌, ◌∙◌, ◌⊎◌, inl, inr, ◌<◌, ◌≤◌, ◌+◌, ◌++◌, ◌==◌, ℕ, suc, zero, pos, Bool, true, false, cond, List, [], ◌∷◌, Option, Some, None, Result, Ok, Err, refl, ap, ◌||◌, sym, subst, arith, filter, map, bytes_eq, slice_get, ⊎_elim}
-use Rattle.std.proofs.lemmas.Bool.{cases_lt, false≢true}
+use Rattle.std.proofs.Common.{◌≡◌, ◌∙◌, ◌⊎◌, inl, inr, ◌<◌, ◌+◌, ◌++◌, ◌==◌, ℕ, suc, zero, pos, Bool, true, false, cond, List, [], ◌∷◌, Option, Some, None, Result, Ok, Err, refl, ap, ◌||◌, sym, subst, arith, filter, map, append-nil, append_assoc, bytes_eq, nat_le, slice_get}
+use Rattle.std.proofs.lemmas.Bool.{false≢true}
+use Rattle.std.proofs.lemmas.Bool.Decides.{nat_tests}
 use Rattle.std.specs.Cmp.{unsigned_Decides}
 use Rattle.std.proofs.lemmas.List.Sorted.{IsPermutation-sym}
 use Rattle.std.proofs.lemmas.Cmp.{nat_list_cmp_total}
 use Rattle.std.proofs.lemmas.Slice.Eq.{bytes_eq-Decides}
-use Rattle.std.specs.List.{AllByRecursion, flat_map, list_any, range_with_len}
+use Rattle.std.specs.List.{AllByRecursion, flat_map, list_any}
 use Rattle.cwr_files.specs.Contents.{transactions_of}
 use Rattle.cwr_files.specs.Transaction.{first_work, number_of_work, submitter_number}
 use Rattle.cwr_files.specs.declared.transmission.Transaction.{Transaction}
 use Rattle.share_rules.specs.declared.office.Office.{Office}
 use Rattle.society_core.proofs.Ascending.{ascending_has}
 use Rattle.society_core.proofs.CandidateLemmas.{both}
-use Rattle.society_core.proofs.Gaps.{version_within}
-use Rattle.society_core.proofs.LineNumbers.{one_of_within}
-use Rattle.society_core.proofs.Lines.{line_rises, line_to}
-use Rattle.society_core.specs.Book.{Book, front, is_in_line, verdicts_in, version_in}
+use Rattle.sender_segments.specs.Ascends.{Ascends}
+use Rattle.sender_segments.specs.Ways.{AreRight}
+use Rattle.society_core.proofs.Books.{sound_order}
+use Rattle.society_core.proofs.Gaps.{version_in_line}
+use Rattle.society_core.proofs.LineNumbers.{in_line_of_to, line_rises_to, none_up_to}
+use Rattle.society_core.proofs.Lines.{line_to}
+use Rattle.society_core.specs.Book.{Book, ends_of, front, is_in_line, is_one_of, line, numbers_to, verdicts_in, version_in}
 use Rattle.society_core.specs.Candidates.{transactions_sent}
 use Rattle.society_core.specs.Keys.{ascending, bytes_cmp}
 use Rattle.society_core.specs.Owners.{cut_work, is_at, is_version_at, names_recording}
@@ -31,7 +35,7 @@ use Rattle.society_book.specs.declared.named_works.NamedWorks.{NamedWorks}
 use Rattle.society_book.proofs.cuts.CutChoices.{some_is}
 use Rattle.society_book.proofs.cuts.CutNotes.{any_bytes}
 use Rattle.society_book.proofs.rows_alike.Equals.{texts_equal}
-use Rattle.society_book.proofs.lines.LineRows.{filled_of, cut_line, left_once, line_goes, number_back, sent, verdicts_go}
+use Rattle.society_book.proofs.lines.LineRows.{filled_of, cut_line, left_once, line_goes, number_back, placed_over, sent, verdicts_go}
 use Rattle.sqlite_trees.proofs.ListLemmas.{all-filter, all-permutation}
 use Rattle.sqlite_trees.specs.Tree.{Trees}
 use Rattle.sqlite_value.specs.Order.{Row}
@@ -109,25 +113,53 @@ module _ (o : Office) (w : List ℕ) (v : WorkVersion) where
         told = record { transaction = taken.told.transaction; ordinal = taken.told.ordinal; revision = taken.told.revision; there = taken.told.there; verdict = taken.told.verdict };
       })
 
-  module _ (b : Book) (s : List ℕ) where
+  module _ (b : Book) (s : List ℕ) (right : AreRight (ends_of b s)) where
+    abbrev Told : Type 0
+    Told = IsTold (transactions_sent b s v.transmission) (verdicts_in o b s v.transmission) v.place
+
     -- the last version of a line up to a transmission is an accepted transaction where it stands
-    last_told : (n : ℕ) → last_version w (placed_line (line_to o b s n)) ≡ Some v → IsTold (transactions_sent b s v.transmission) (verdicts_in o b s v.transmission) v.place
+    told_next : (before more : List ℕ) (n : ℕ) → line b s ≡ before ++ n ∷ more → (last_version w (placed_over o b s before) ≡ Some v → Told) → last_version w (placed_over o b s (before ++ n ∷ [])) ≡ Some v → Told
     unfolding judged_in
-    last_told zero e = absurd (none_is v e)
-    last_told (suc n) e = by_case (taken_in (suc n) 0 (placed_line (line_to o b s n)) (transactions_of (sent o b s (suc n))) (ap (last_version w) (sym (line_goes o b s n)) ∙ e)) (last_told n)
+    told_next before more n is earlier e = by_case (taken_in n 0 (placed_over o b s before) (transactions_of (sent o b s n)) (ap (last_version w) (sym (line_goes o b s before n)) ∙ e))
       where
-        by_case : (last_version w (placed_line (line_to o b s n)) ≡ Some v) ⊎ IsTakenFrom (suc n) 0 (transactions_of (sent o b s (suc n))) (verdicts_from (judged_of (placed_line (line_to o b s n))) (map (judged o) (transactions_of (sent o b s (suc n))))) v →
-            (last_version w (placed_line (line_to o b s n)) ≡ Some v → IsTold (transactions_sent b s v.transmission) (verdicts_in o b s v.transmission) v.place) → IsTold (transactions_sent b s v.transmission) (verdicts_in o b s v.transmission) v.place
-        by_case (inl before) earlier = earlier before
-        by_case (inr taken) earlier =
+        by_case : (last_version w (placed_over o b s before) ≡ Some v) ⊎ IsTakenFrom n 0 (transactions_of (sent o b s n)) (verdicts_from (judged_of (placed_over o b s before)) (map (judged o) (transactions_of (sent o b s n)))) v → Told
+        by_case (inl so) = earlier so
+        by_case (inr taken) =
             let place : taken.offset ≡ v.place = omega (arith, taken.place) in
             subst (λ (k : ℕ). IsTold (transactions_sent b s v.transmission) (verdicts_in o b s v.transmission) k) place
             (subst (λ (m : ℕ). IsTold (transactions_sent b s m) (verdicts_in o b s m) taken.offset) (sym taken.number)
-            (subst (λ (vs : List Verdict). IsTold (transactions_sent b s (suc n)) vs taken.offset) (sym (verdicts_go o b s n)) taken.told))
+            (subst (λ (vs : List Verdict). IsTold (transactions_sent b s n) vs taken.offset) (sym (verdicts_go o b s right before more n is)) taken.told))
+
+    told_on : (before more rest : List ℕ) → line b s ≡ (before ++ more) ++ rest → (last_version w (placed_over o b s before) ≡ Some v → Told) → last_version w (placed_over o b s (before ++ more)) ≡ Some v → Told
+    told_on before [] rest is earlier e = earlier (ap (λ (ns : List ℕ). last_version w (placed_over o b s ns)) (sym (append-nil before)) ∙ e)
+    told_on before (n ∷ more) rest is earlier e =
+        let again = append_assoc before (n ∷ []) more in
+        told_on (before ++ n ∷ []) more rest (is ∙ ap (λ (ns : List ℕ). ns ++ rest) (sym again))
+        (told_next before (more ++ rest) n (is ∙ append_assoc before (n ∷ more) rest) earlier)
+        (ap (λ (ns : List ℕ). last_version w (placed_over o b s ns)) again ∙ e)
+
+    -- the numbers up to a cut, and those behind it
+    cut_apart : (low high cut : ℕ) (ns : List ℕ) → Ascends low ns high → (rest : List ℕ) × (ns ≡ filter (λ m. nat_le m cut) ns ++ rest)
+    cut_apart low high cut [] rise = ([], refl)
+    cut_apart low high cut (n ∷ ns) rise = by_case (nat_le n cut) refl (cut_apart n high cut ns rise.1)
+      where
+        below_of : (a c : ℕ) → nat_le a c ≡ false → c < a
+        below_of a c h = grind (arith, nat_tests)
+
+        by_case : (c : Bool) → nat_le n cut ≡ c → (rest : List ℕ) × (ns ≡ filter (λ m. nat_le m cut) ns ++ rest) → (rest : List ℕ) × (n ∷ ns ≡ cond c (n ∷ filter (λ m. nat_le m cut) ns) (filter (λ m. nat_le m cut) ns) ++ rest)
+        by_case true le later = (later.0, ap (λ (l : List ℕ). n ∷ l) later.1)
+        by_case false le later =
+            let past = below_of n cut le in
+            (n ∷ ns, sym (ap (λ (l : List ℕ). l ++ n ∷ ns) (none_up_to n high cut ns rise.1 (omega (arith, past)))))
+
+    last_told : (cut : ℕ) → last_version w (placed_line (line_to o b s cut)) ≡ Some v → Told
+    last_told cut e =
+        let apart = cut_apart 0 (front b s) cut (line b s) (line_rises_to b s right) in
+        told_on [] (numbers_to b s cut) apart.0 apart.1 (λ none. absurd (none_is v none)) e
 
 -- the version at a cut is an accepted transaction where it stands
-pub version_told_at : (o : Office) (b : Book) (s w : List ℕ) (cut : ℕ) (v : WorkVersion) → version_in o b s w cut ≡ Some v → IsTold (transactions_sent b s v.transmission) (verdicts_in o b s v.transmission) v.place
-version_told_at o b s w cut v e = last_told o w v b s cut (cut_line o b s w cut ∙ e)
+pub version_told_at : (o : Office) (b : Book) (s w : List ℕ) (cut : ℕ) (v : WorkVersion) → AreRight (ends_of b s) → version_in o b s w cut ≡ Some v → IsTold (transactions_sent b s v.transmission) (verdicts_in o b s v.transmission) v.place
+version_told_at o b s w cut v right e = last_told o w v b s right cut (cut_line o b s w cut ∙ e)
 
 -- ---- what it tells of its recordings
 
@@ -141,16 +173,13 @@ all_second P [] ys h = h
 all_second P (x ∷ xs) ys h = all_second P xs ys h.1
 
 module _ (P : Row → Type 0) where
-  all_in_range : (f : ℕ → List Row) (from len n : ℕ) → AllByRecursion P (flat_map f (range_with_len from len)) → from ≤ n → n < from + len → AllByRecursion P (f n)
-  all_in_range f from zero n all low high = absurd (omega (arith, low, high))
-  all_in_range f from (suc len) n all low high = by_case (n == from) refl (all_in_range f (from + 1) len n (all_second P (f from) (flat_map f (range_with_len (from + 1) len)) all))
+  all_in_list : (f : ℕ → List Row) (ns : List ℕ) (n : ℕ) → AllByRecursion P (flat_map f ns) → is_one_of ns n ≡ true → AllByRecursion P (f n)
+  all_in_list f [] n all h = absurd (false≢true h)
+  all_in_list f (k ∷ ns) n all h = by_case (k == n) refl h (all_in_list f ns n (all_second P (f k) (flat_map f ns) all))
     where
-      by_case : (c : Bool) → (n == from) ≡ c → (from + 1 ≤ n → n < (from + 1) + len → AllByRecursion P (f n)) → AllByRecursion P (f n)
-      by_case true e later = subst (λ (k : ℕ). AllByRecursion P (f k)) (sym ((unsigned_Decides n from).0 e)) (all_first P (f from) (flat_map f (range_with_len (from + 1) len)) all)
-      by_case false e later =
-          let apart : n ≡ from → ⊥ = λ same. false≢true (sym e ∙ (unsigned_Decides n from).1 same) in
-          let above : from + 1 ≤ n = ⊎_elim (λ (h : from < n). omega (arith, h)) (λ (h : n ≤ from). absurd (apart (omega (arith, h, low)))) (cases_lt from n) in
-          later above (omega (arith, high))
+      by_case : (c : Bool) → (k == n) ≡ c → (c || is_one_of ns n) ≡ true → (is_one_of ns n ≡ true → AllByRecursion P (f n)) → AllByRecursion P (f n)
+      by_case true e one later = subst (λ (m : ℕ). AllByRecursion P (f m)) ((unsigned_Decides k n).0 e) (all_first P (f k) (flat_map f ns) all)
+      by_case false e one later = later one
 
   -- what holds of all that a transmission tells holds of what each transaction tells
   all_at_place : (s : List ℕ) (n p : ℕ) (xs : List Transaction) (vs : List Verdict) (k : ℕ) (t : Transaction) (ordinal revision : ℕ) → AllByRecursion P (told_from tells_recordings s n p xs vs) → slice_get xs k ≡ Some t → slice_get vs k ≡ Some (Accepted ordinal revision) →
@@ -196,11 +225,9 @@ module _ (o : Office) (b : Book) (db : Trees) (holds : HoldsWorks o b db) (s : L
           let parts = both (v.transmission == number) (v.place == place) h in
           let numbered : v.transmission ≡ number = (unsigned_Decides v.transmission number).0 parts.0 in
           let placed : v.place ≡ place = (unsigned_Decides v.place place).0 parts.1 in
-          let limits = version_within (line_to o b s cut) w cut v (line_rises o b s cut) is in
-          let told = version_told_at o b s w cut v is in
+          let told = version_told_at o b s w cut v (sound_order b holds.sound s).right is in
           let P : Row → Type 0 = λ row. has_at 3 (Text isrc) row ≡ true → IsNoted named row in
-          let up_to = one_of_within (front b s) cut within in
-          let all = all_in_range P (told_by tells_recordings o b s) 1 (front b s) v.transmission (all_told_front P notes) limits.0 (omega (arith, limits.1, up_to)) in
+          let all = all_in_list P (told_by tells_recordings o b s) (line b s) v.transmission (all_told_front P notes) (in_line_of_to b s cut v.transmission (version_in_line o b s w cut v is)) in
           let same : told.transaction ≡ t = some_is told.transaction t (sym told.there ∙ ap (λ (n : ℕ). slice_get (transactions_sent b s n) v.place) numbered ∙ ap (slice_get (transactions_sent b s number)) placed ∙ there) in
           let its = all_at_place P s v.transmission 0 (transactions_sent b s v.transmission) (verdicts_in o b s v.transmission) v.place told.transaction told.ordinal told.revision all told.there told.verdict in
           let of_t : AllByRecursion P (map (λ i. Text s ∷ Text (work_text t) ∷ Int (pos told.revision) ∷ Text i ∷ []) (ascending bytes_cmp (isrcs_of t))) = subst (λ (x : Transaction). AllByRecursion P (map (λ i. Text s ∷ Text (work_text x) ∷ Int (pos told.revision) ∷ Text i ∷ []) (ascending bytes_cmp (isrcs_of x)))) same its in

@@ -7,9 +7,11 @@ use Rattle.std.proofs.lemmas.List.Sorted.{IsPermutation-trans}
 use Rattle.std.proofs.lemmas.Slice.Eq.{bytes_eq-Decides}
 use Rattle.std.specs.List.{AllByRecursion}
 use Rattle.share_rules.specs.declared.office.Office.{Office}
-use Rattle.society_core.proofs.LineNumbers.{one_of_within}
-use Rattle.society_core.specs.Book.{Book, front, is_in_line, version_in}
-use Rattle.society_core.proofs.Lines.{line_rises, line_to, line_up_to}
+use Rattle.sender_segments.specs.Ways.{AreRight}
+use Rattle.society_core.proofs.Books.{sound_order}
+use Rattle.society_core.proofs.LineNumbers.{line_rises_to}
+use Rattle.society_core.specs.Book.{Book, ends_of, front, line, version_in}
+use Rattle.society_core.proofs.Lines.{line_over, over_rises, over_up_to}
 use Rattle.society_rows.specs.Layout as layout
 use Rattle.society_rows.specs.Reads.{Lists, has_key}
 use Rattle.society_rows.specs.Stored.{rows_in}
@@ -17,7 +19,7 @@ use Rattle.society_book.specs.Columns.{whole_number_at, text_at}
 use Rattle.society_book.specs.DerivedRows.{is_named, tells_version, told_to_front}
 use Rattle.society_book.specs.Sources.{HoldsWorks}
 use Rattle.society_book.specs.Shown.{version_shown}
-use Rattle.society_book.proofs.lines.LineRows.{HasBack, HasTexts, IsBack, all_tested, is_of_work, line_back, one_by, texts_told, told_line, version_row, version_rows, version_told}
+use Rattle.society_book.proofs.lines.LineRows.{HasBack, HasTexts, IsBack, all_tested, cut_line, is_of_work, line_back, one_by, placed_over, texts_told, told_line, version_row, version_rows, version_told}
 use Rattle.society_book.proofs.rows_alike.RowLemmas.{all_rows}
 use Rattle.society_book.proofs.rows_alike.SortedRows.{one_order, rises_third}
 use Rattle.society_book.proofs.shown.VerdictRows.{filter_both}
@@ -110,39 +112,39 @@ shown_back : (s w : List ℕ) (v : Option WorkVersion) → option_map version_sh
 shown_back s w None = refl
 shown_back s w (Some v) = refl
 
-module _ (o : Office) (b : Book) (s : List ℕ) where
-  -- the version at a cut is the last one up to it of the line up to the front
-  cut_version : (w : List ℕ) (cut : ℕ) → cut ≤ front b s → last_upto cut w (placed_line (line_to o b s (front b s))) ≡ version_in o b s w cut
+module _ (o : Office) (b : Book) (s : List ℕ) (right : AreRight (ends_of b s)) where
+  -- the version at a cut is the last one up to it of the whole line
+  cut_version : (w : List ℕ) (cut : ℕ) → last_upto cut w (placed_over o b s (line b s)) ≡ version_in o b s w cut
   unfolding work_at
-  cut_version w cut within =
-      let line = line_to o b s (front b s) in
-      sym (work_at_upto line w cut (line_rises o b s (front b s)))
-      ∙ ap (λ (l : List JudgedTransmission). last_version w (placed_line l)) (line_up_to o b s (front b s) cut within ∙ sym (line_up_to o b s cut cut (omega arith)))
+  cut_version w cut =
+      sym (work_at_upto (line_over o b s (line b s)) w cut (over_rises o b s 0 (front b s) (line b s) (line_rises_to b s right)))
+      ∙ ap (λ (l : List JudgedTransmission). last_version w (placed_line l)) (over_up_to o b s cut (line b s))
+      ∙ cut_line o b s w cut
 
 -- what is found of a work's versions are the rows of all of them, the first one first
 rows_found : (o : Office) (b : Book) (db : Trees) → HoldsWorks o b db → (s w : List ℕ) → IsBack w → (found : List Row) → Lists layout.versions (has_key (Text s ∷ Text (without_trailing_blanks w) ∷ [])) 3 db found →
-    found ≡ rising_rows s w (placed_line (line_to o b s (front b s)))
+    found ≡ rising_rows s w (placed_over o b s (line b s))
 rows_found o b db holds s w back found lists =
-    let line = placed_line (line_to o b s (front b s)) in
+    let whole = placed_over o b s (line b s) in
     let rows = rows_in layout.versions db in
     let passes = has_key (Text s ∷ Text (without_trailing_blanks w) ∷ []) in
-    let texts = all_rows is_named (text_at 0) (λ r. (bytes_eq-Decides (text_at 0 r) (text_at 0 r)).1 refl) HasTexts (told_to_front tells_version o b) rows holds.derived.versions (texts_told o b) in
+    let texts = all_rows is_named (text_at 0) (λ r. (bytes_eq-Decides (text_at 0 r) (text_at 0 r)).1 refl) HasTexts (told_to_front tells_version o b) rows holds.derived.versions (λ q. texts_told o b q (sound_order b holds.sound q).right) in
     let same : filter passes rows ≡ filter (is_of_work w) (filter (is_named s) rows) =
     filter_same passes (λ row. is_named s row && is_of_work w row) rows (all_tested s w rows texts) ∙ filter_both (is_named s) (is_of_work w) rows in
-    let told : filter (is_of_work w) (told_to_front tells_version o b s) ≡ rising_rows s w line = ap (filter (is_of_work w)) (told_line o b s (front b s)) ∙ rows_rising s w back line (line_back o b s (front b s)) in
+    let told : filter (is_of_work w) (told_to_front tells_version o b s) ≡ rising_rows s w whole = ap (filter (is_of_work w)) (told_line o b s (sound_order b holds.sound s).right) ∙ rows_rising s w back whole (line_back o b s (line b s)) in
     let these = IsPermutation-filter (is_of_work w) (told_to_front tells_version o b s) (filter (is_named s) rows) (holds.derived.versions s) in
-    one_order 3 (rising_rows s w line) found (work_rises s w line)
-    (IsPermutation-trans (rising_rows s w line) (filter (is_of_work w) (filter (is_named s) rows)) found
+    one_order 3 (rising_rows s w whole) found (work_rises s w whole)
+    (IsPermutation-trans (rising_rows s w whole) (filter (is_of_work w) (filter (is_named s) rows)) found
     (subst (λ l. IsPermutation l (filter (is_of_work w) (filter (is_named s) rows))) told these)
     (subst (λ l. IsPermutation l found) same lists.rows))
     lists.sorted
 
 -- the last of them up to a cut shows the version there
-pub version_found : (o : Office) (b : Book) (db : Trees) → HoldsWorks o b db → (s w : List ℕ) (cut : ℕ) → IsBack w → is_in_line b s cut ≡ true → (found : List Row) → Lists layout.versions (has_key (Text s ∷ Text (without_trailing_blanks w) ∷ [])) 3 db found →
+pub version_found : (o : Office) (b : Book) (db : Trees) → HoldsWorks o b db → (s w : List ℕ) (cut : ℕ) → IsBack w → (found : List Row) → Lists layout.versions (has_key (Text s ∷ Text (without_trailing_blanks w) ∷ [])) 3 db found →
     option_map version_shown (row_up_to cut found) ≡ version_in o b s w cut
-version_found o b db holds s w cut back within found lists =
-    let line = placed_line (line_to o b s (front b s)) in
+version_found o b db holds s w cut back found lists =
+    let whole = placed_over o b s (line b s) in
     ap (λ (rows : List Row). option_map version_shown (row_up_to cut rows)) (rows_found o b db holds s w back found lists)
-    ∙ ap (option_map version_shown) (row_last s w cut line)
-    ∙ shown_back s w (last_upto cut w line)
-    ∙ cut_version o b s w cut (one_of_within (front b s) cut within)
+    ∙ ap (option_map version_shown) (row_last s w cut whole)
+    ∙ shown_back s w (last_upto cut w whole)
+    ∙ cut_version o b s (sound_order b holds.sound s).right w cut

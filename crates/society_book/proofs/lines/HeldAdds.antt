@@ -1,23 +1,36 @@
--- A book to which a transmission has come, and the front of its sender where it is held.
-use Rattle.std.proofs.Common.{◌≡◌, ◌∙◌, ◌+◌, ◌||◌, ◌==◌, ℕ, Bool, true, false, cond, List, [], ◌∷◌, Some, None, is_some, refl, ap, ap₂, sym, subst, bytes_eq, ◌⊎◌, ⊎_elim, inl, inr}
+-- A book to which a transmission has come, or an end of a segment: where the run begins with which its sender's line goes on.
+use Rattle.std.proofs.Common.{◌≡◌, ◌∙◌, ◌<◌, ◌≤◌, ◌+◌, ◌==◌, ◌&&◌, ◌++◌, ℕ, Bool, true, false, cond, List, [], ◌∷◌, Option, Some, None, is_none, is_some, nat_le, nat_lt, append-nil, bytes_eq, refl, ap, ap₂, sym, subst, arith, unwrap_or}
 use Rattle.std.specs.FinMap as finite
-use Rattle.std.specs.List.{list_any}
-use Rattle.std.specs.Ordering.{eq_by_cmp}
 use Rattle.std.proofs.lemmas.Bool.{false≢true}
+use Rattle.std.proofs.lemmas.Bool.Decides.{Decides-eqb, nat_tests}
 use Rattle.std.proofs.lemmas.Slice.Eq.{bytes_eq-Decides}
-use Rattle.society_core.proofs.Books.{added_keeps, some_body}
-use Rattle.society_core.proofs.Fronts.{all_stay, all_there, front_gap, front_only}
-use Rattle.society_core.proofs.KeyOrders.{transmissions_total}
-use Rattle.society_core.proofs.Fronts.{first_holds, second_holds}
-use Rattle.std.proofs.lemmas.Bool.Decides.{Decides-eqb}
-use Rattle.society_core.specs.Book.{Book, body_at, front, is_there, with_transmission}
-use Rattle.society_core.specs.Keys.{transmission_cmp, transmission_key}
+use Rattle.cwr_files.specs.FileFault.{file_fault}
+use Rattle.share_rules.specs.declared.office.Office.{Office}
+use Rattle.sender_segments.specs.Ascends.{Ascends}
+use Rattle.sender_segments.specs.Ways.{AreRight, End, IsWithinEnd, is_reached, numbers_up_to}
+use Rattle.sender_segments.proofs.LedTo.{one_in_middle}
+use Rattle.sender_segments.proofs.Members.{stands}
+use Rattle.sender_segments.proofs.Ranks.{room_before}
+use Rattle.sender_segments.proofs.Reached.{leads_of, next_numbers, next_reached}
+use Rattle.society_core.specs.Book.{AreOrderly, Book, IsSound, body_at, end_at, ends_of, front, is_in_line, is_one_of, is_there, with_end, with_transmission}
+use Rattle.society_core.specs.Growth.{GoesOn}
+use Rattle.society_core.specs.Keys.{segment_key, transmission_key}
 use Rattle.society_core.specs.Orders.{same_transmission_key}
 use Rattle.society_core.specs.declared.transmission_key.TransmissionKey.{TransmissionKey}
-use Rattle.society_book.specs.DerivedRows.{has_sent}
+use Rattle.society_core.proofs.Books.{sound_order, taken_order}
+use Rattle.society_core.proofs.Fronts.{first_holds, front_gap, front_led, front_only, front_reaches, second_holds}
+use Rattle.society_core.proofs.GrowthLemmas.{comes_in}
+use Rattle.society_core.proofs.HeadlineLemmas.{is_not_ended}
+use Rattle.society_core.proofs.KeptFronts.{stated_reaches, taken_reaches}
+use Rattle.society_core.proofs.KeyOrders.{transmissions_total}
+use Rattle.society_core.proofs.LineNumbers.{ascends_within, in_line_is, there_in_line}
+use Rattle.society_book.specs.Arriving.{GoesOnTo, MayCome}
+use Rattle.society_book.specs.Going.{ComesTo, ComesToGap}
+use Rattle.society_book.specs.Runs.{RunValue, notes_in}
 use Rattle.society_book.proofs.rows_alike.BookLemmas.{transmissions_tie}
-use Rattle.society_book.proofs.shown.FrontRows.{none_so}
-use Rattle.society_book.proofs.rows_alike.KeyRows.{both_same, same_truth}
+use Rattle.society_book.proofs.rows_alike.KeyRows.{both_same}
+use Rattle.work_ids.specs.SenderKey.{is_sender_key}
+use Rattle.work_ids.specs.Segments.{is_transmission_number, most_in, segment_of, sequence_of}
 
 -- keys of transmissions that are the same are one
 pub same_key_is : (a b : TransmissionKey) → same_transmission_key a b ≡ true → a ≡ b
@@ -26,89 +39,133 @@ same_key_is a b h =
     let number : a.number ≡ b.number = (Decides-eqb a.number b.number).0 (second_holds (bytes_eq a.sender b.sender) (a.number == b.number) h) in
     ap₂ transmission_key name number
 
-pub is_or : (a b : Bool) → a ≡ true → (a || b) ≡ true
-is_or true b h = refl
-is_or false b h = absurd (false≢true h)
+-- what a book with a transmission more has under a key
+pub told_after : (b : Book) (s : List ℕ) (n : ℕ) (body t : List ℕ) (m : ℕ) → body_at (with_transmission b s n body) t m ≡ cond (same_transmission_key (transmission_key t m) (transmission_key s n)) (Some body) (body_at b t m)
+told_after b s n body t m =
+    finite.get-insert transmissions_total b.transmissions (transmission_key s n) body (transmission_key t m)
+    ∙ ap (λ x. cond x (Some body) (body_at b t m)) (transmissions_tie (transmission_key t m) (transmission_key s n))
 
-pub or_is : (a b : Bool) → b ≡ true → (a || b) ≡ true
-or_is true b h = refl
-or_is false b h = h
+-- under its own number the transmission itself
+pub told_own : (b : Book) (s : List ℕ) (n : ℕ) (body : List ℕ) → body_at (with_transmission b s n body) s n ≡ Some body
+told_own b s n body = told_after b s n body s n ∙ ap (λ x. cond x (Some body) (body_at b s n)) (both_same s n)
 
--- a sender that has sent has a number that is there
-number_sent : (s : List ℕ) (keys : List TransmissionKey) → list_any (λ key. bytes_eq key.sender s) keys ≡ true → (n : ℕ) × (list_any (eq_by_cmp transmission_cmp (transmission_key s n)) keys ≡ true)
-number_sent s [] h = absurd (false≢true h)
-number_sent s (key ∷ keys) h = by_case (bytes_eq key.sender s) refl h (number_sent s keys)
+-- under another number what was there
+pub told_other : (b : Book) (s : List ℕ) (n : ℕ) (body : List ℕ) (k : ℕ) → (k ≡ n → ⊥) → body_at (with_transmission b s n body) s k ≡ body_at b s k
+told_other b s n body k apart = told_after b s n body s k ∙ by_case (same_transmission_key (transmission_key s k) (transmission_key s n)) refl
   where
-    by_case : (t : Bool) → bytes_eq key.sender s ≡ t → (t || list_any (λ k. bytes_eq k.sender s) keys) ≡ true → (list_any (λ k. bytes_eq k.sender s) keys ≡ true → (n : ℕ) × (list_any (eq_by_cmp transmission_cmp (transmission_key s n)) keys ≡ true)) → (n : ℕ) × (list_any (eq_by_cmp transmission_cmp (transmission_key s n)) (key ∷ keys) ≡ true)
-    by_case true is some later =
-        let name : key.sender ≡ s = (bytes_eq-Decides key.sender s).0 is in (
-          key.number,
-          is_or (eq_by_cmp transmission_cmp (transmission_key s key.number) key) (list_any (eq_by_cmp transmission_cmp (transmission_key s key.number)) keys)
-              (transmissions_tie (transmission_key s key.number) key ∙ subst (λ (x : List ℕ). same_transmission_key (transmission_key x key.number) key ≡ true) name (both_same key.sender key.number)),
-        )
-    by_case false is some later =
-        let found = later some in
-        (found.0, or_is (eq_by_cmp transmission_cmp (transmission_key s found.0) key) (list_any (eq_by_cmp transmission_cmp (transmission_key s found.0)) keys) found.1)
+    by_case : (x : Bool) → same_transmission_key (transmission_key s k) (transmission_key s n) ≡ x → cond x (Some body) (body_at b s k) ≡ body_at b s k
+    by_case false is = refl
+    by_case true is = absurd (apart (ap (λ (key : TransmissionKey). key.number) (same_key_is (transmission_key s k) (transmission_key s n) is)))
 
--- a sender has sent where a number of it is there
-pub sent_there : (b : Book) (s : List ℕ) → has_sent b s ≡ true → (n : ℕ) × (is_there b s n ≡ true)
-sent_there b s h =
-    let found = number_sent s (finite.keys b.transmissions) h in
-    (found.0, finite.contains_key-keys b.transmissions (transmission_key s found.0) ∙ found.1)
+-- numbers above one that ascend up to it are none
+none_between : (f : ℕ) (more : List ℕ) → Ascends f more f → more ≡ []
+none_between f [] rise = refl
+none_between f (m ∷ more) rise = let first = rise.0 in let rest = ascends_within m f more rise.1 in absurd (omega (arith, first, rest))
 
-pub there_sent : (b : Book) (s : List ℕ) (n : ℕ) → is_there b s n ≡ true → has_sent b s ≡ true
-there_sent b s n h = by_case (has_sent b s) refl
-  where
-    by_case : (t : Bool) → has_sent b s ≡ t → t ≡ true
-    by_case true is = refl
-    by_case false is = sym (none_so s n (finite.keys b.transmissions) is) ∙ sym (finite.contains_key-keys b.transmissions (transmission_key s n)) ∙ h
+lt_holds : (a b : ℕ) → a < b → nat_lt a b ≡ true
+lt_holds a b h = grind (arith, nat_tests, h)
 
-module _ (b : Book) (s : List ℕ) (n : ℕ) (body : List ℕ) (free : body_at b s n ≡ None) where
-  abbrev after : Book
-  after = with_transmission b s n body
+lt_fails : (a : ℕ) → nat_lt a a ≡ false
+lt_fails a = grind (arith, nat_tests)
 
-  pub told_after : (t : List ℕ) (m : ℕ) → body_at after t m ≡ cond (same_transmission_key (transmission_key t m) (transmission_key s n)) (Some body) (body_at b t m)
-  told_after t m =
-      finite.get-insert transmissions_total b.transmissions (transmission_key s n) body (transmission_key t m)
-      ∙ ap (λ x. cond x (Some body) (body_at b t m)) (transmissions_tie (transmission_key t m) (transmission_key s n))
+le_says : (a b : ℕ) → nat_le a b ≡ true → a ≤ b
+le_says a b h = grind (arith, nat_tests)
 
-  -- what is there is what came, or was there
-  pub there_from : (t : List ℕ) (m : ℕ) → is_there after t m ≡ true → (transmission_key t m ≡ transmission_key s n) ⊎ (is_there b t m ≡ true)
-  there_from t m h = by_case (same_transmission_key (transmission_key t m) (transmission_key s n)) refl
+-- no run, at a front
+abbrev pub no_run : Office → ℕ → RunValue
+no_run o f = record { office = o; reached = f; notes = [] }
+
+-- the run of one transmission
+abbrev pub first_run : Office → ℕ → List ℕ → RunValue
+first_run o n body = record { office = o; reached = n; notes = notes_in o n body ∷ [] }
+
+module _ (b : Book) (s : List ℕ) (n : ℕ) (body : List ℕ) (sound : IsSound b) (may : MayCome b s n body) where
+  abbrev pub next : Book
+  next = with_transmission b s n body
+
+  -- its number is within the end of its segment
+  pub fits : IsWithinEnd (ends_of b s) n
+  fits = is_not_ended (sequence_of n) (end_at b s (segment_of n)) may.within
+
+  pub next_order : (t : List ℕ) → AreOrderly next.transmissions next.ends t
+  next_order = taken_order b s n body sound may.free may.entry fits
+
+  -- the line of its sender goes on, which may be by none
+  pub next_goes : (more : List ℕ) × GoesOn b next s more
+  next_goes = comes_in b s n body sound may.free may.entry fits
+
+  right : AreRight (ends_of b s)
+  right = (sound_order b sound s).right
+
+  still : is_reached (is_there next s) (ends_of b s) (front b s) ≡ true
+  still = taken_reaches b.transmissions b.ends (transmission_key s n) body may.free
+
+  some : 1 ≤ sequence_of n
+  some =
+      le_says 1 (sequence_of n)
+      (first_holds (nat_le 1 (sequence_of n)) (nat_le (segment_of n) 100)
+      (second_holds (is_sender_key s) (is_transmission_number n) (first_holds (is_sender_key s && is_transmission_number n) (is_none (file_fault s body)) may.entry)))
+
+  -- where it is not the next one, its sender's front stays
+  held_front : (n ≡ front b s + 1 → ⊥) → front next s ≡ front b s
+  held_front apart =
+      let gap = front_gap b.transmissions b.ends s (sound_order b sound s) in
+      sym (front_only next.transmissions next.ends s right (front b s) still
+      (record { missing = ap is_some (told_other b s n body (front b s + 1) (λ is. apart (sym is))) ∙ gap.missing; before_end = gap.before_end }))
+
+  -- and its number is not in the line
+  pub held_goes : (o : Office) → (n ≡ front b s + 1 → ⊥) → GoesOnTo o b next s (no_run o (front b s)) × (is_in_line next s n ≡ nat_lt (front b s) (front b s))
+  held_goes o apart =
+      let stays = held_front apart in
+      let none = none_between (front b s) next_goes.0 (subst (λ (f : ℕ). Ascends (front b s) next_goes.0 f) stays next_goes.1.rises) in
+      let goes = subst (λ (more : List ℕ). GoesOn b next s more) none next_goes.1 in (
+        record { goes = record { goes = goes; each = tt }; reached = sym stays },
+        ap (λ (ns : List ℕ). is_one_of ns n) (goes.grown ∙ append-nil _) ∙ outside ∙ sym (lt_fails (front b s)),
+      )
     where
-      by_case : (x : Bool) → same_transmission_key (transmission_key t m) (transmission_key s n) ≡ x → (transmission_key t m ≡ transmission_key s n) ⊎ (is_there b t m ≡ true)
-      by_case true is = inl (same_key_is (transmission_key t m) (transmission_key s n) is)
-      by_case false is = inr (sym (ap is_some (told_after t m ∙ ap (λ x. cond x (Some body) (body_at b t m)) is)) ∙ h)
+      outside : is_in_line b s n ≡ false
+      outside = by_case (is_in_line b s n) refl
+        where
+          by_case : (x : Bool) → is_in_line b s n ≡ x → x ≡ false
+          by_case false is = refl
+          by_case true is = absurd (false≢true (sym (ap is_some may.free) ∙ there_in_line b s n is))
 
-  pub still_there : (t : List ℕ) (m : ℕ) → is_there b t m ≡ true → is_there after t m ≡ true
-  still_there t m h = let found = some_body (body_at b t m) h in ap is_some (added_keeps b s n body free t m found.0 found.1)
+  module _ (is : n ≡ front b s + 1) where
+    room : sequence_of (front b s) < most_in (segment_of (front b s))
+    room = room_before (front b s) (subst (λ (k : ℕ). 1 ≤ sequence_of k) is some)
 
-  pub came : is_there after s n ≡ true
-  came = ap is_some (told_after s n ∙ ap (λ x. cond x (Some body) (body_at b s n)) (both_same s n))
+    reaches : is_reached (is_there next s) (ends_of b s) n ≡ true
+    reaches =
+        subst (λ (k : ℕ). is_reached (is_there next s) (ends_of b s) k ≡ true) (sym is)
+        (next_reached (ends_of b s) right (is_there next s) (front b s) room still (subst (λ (k : ℕ). is_there next s k ≡ true) is (ap is_some (told_own b s n body))))
 
-  pub sent_after : (t : List ℕ) → has_sent after t ≡ (bytes_eq s t || has_sent b t)
-  sent_after t =
-      same_truth (has_sent after t) (bytes_eq s t || has_sent b t)
-      (λ h.
-      let found = sent_there after t h in
-      ⊎_elim
-      (λ (same : transmission_key t found.0 ≡ transmission_key s n). is_or (bytes_eq s t) (has_sent b t) ((bytes_eq-Decides s t).1 (sym (ap (λ (key : TransmissionKey). key.sender) same))))
-      (λ (before : is_there b t found.0 ≡ true). or_is (bytes_eq s t) (has_sent b t) (there_sent b t found.0 before))
-      (there_from t found.0 found.1))
-      (λ h. by_case (bytes_eq s t) refl h)
-    where
-      by_case : (x : Bool) → bytes_eq s t ≡ x → (x || has_sent b t) ≡ true → has_sent after t ≡ true
-      by_case true is h = subst (λ (q : List ℕ). has_sent after q ≡ true) ((bytes_eq-Decides s t).0 is) (there_sent after s n came)
-      by_case false is h = let found = sent_there b t h in there_sent after t found.0 (still_there t found.0 found.1)
+    -- with the next one a run begins with it
+    pub next_comes : (o : Office) → ComesTo o next s (front b s) (first_run o n body)
+    next_comes o = record {
+      its = refl;
+      reached = reaches;
+      numbers = subst (λ (k : ℕ). numbers_up_to (ends_of b s) k ≡ numbers_up_to (ends_of b s) (front b s) ++ k ∷ []) (sym is) (next_numbers (ends_of b s) right (front b s) room);
+      each = (ap (λ (kept : Option (List ℕ)). notes_in o n (unwrap_or kept [])) (sym (told_own b s n body)), tt);
+    }
 
-  -- where it is not the next one, its sender's front does not go on
-  pub front_after : (n ≡ front b s + 1 → ⊥) → front after s ≡ front b s
-  front_after apart = sym (front_only after s (front b s) (all_stay b after s (front b s) (λ k there. still_there s k there) (all_there b s)) (gap (is_there after s (front b s + 1)) refl))
-    where
-      gap : (x : Bool) → is_there after s (front b s + 1) ≡ x → is_there after s (front b s + 1) ≡ false
-      gap false is = is
-      gap true is =
-          absurd (⊎_elim
-          (λ (same : transmission_key s (front b s + 1) ≡ transmission_key s n). apart (sym (ap (λ (key : TransmissionKey). key.number) same)))
-          (λ (before : is_there b s (front b s + 1) ≡ true). false≢true (sym (front_gap b s) ∙ before))
-          (there_from s (front b s + 1) is))
+    -- and it is in the line, whose front goes on
+    pub next_applied : (reached : ℕ) → reached ≡ front next s → is_in_line next s n ≡ nat_lt (front b s) reached
+    next_applied reached at =
+        let to = front_reaches next.transmissions next.ends s right n reaches in
+        let stand = stands (ends_of b s) right (front next s) n (front_led next.transmissions next.ends s) (record { leads = leads_of (ends_of b s) right (is_there next s) n reaches; some = some }) to fits in
+        in_line_is next s n
+        ∙ ap (λ (ns : List ℕ). is_one_of ns n) stand.2
+        ∙ one_in_middle stand.0 stand.1 n
+        ∙ sym (lt_holds (front b s) reached (omega (arith, to, is, at)))
+
+-- with an end that comes a run begins at the front
+pub stated_comes : (o : Office) (b : Book) (s : List ℕ) (g : ℕ) (end : End) → IsSound b → end_at b s g ≡ None → ComesToGap o (with_end b s g end) s (front b s) (no_run o (front b s))
+stated_comes o b s g end sound free = record {
+  comes = record {
+    its = refl;
+    reached = stated_reaches b.transmissions b.ends (segment_key s g) end free;
+    numbers = sym (append-nil (numbers_up_to (ends_of (with_end b s g end) s) (front b s)));
+    each = tt;
+  };
+  missing = (front_gap b.transmissions b.ends s (sound_order b sound s)).missing;
+}

@@ -1,6 +1,6 @@
 -- A sender's line, one transmission after another, and the rows of its versions.
-use Rattle.std.proofs.Common.{◌≡◌, ◌∙◌, ◌<◌, ◌≤◌, ◌+◌, ◌-◌, ◌&&◌, ◌++◌, ℕ, suc, zero, pos, Bool, true, false, cond, List, [], ◌∷◌, Option, Some, None, length, refl, ap, ap₂, sym, subst, arith, map, filter, take, get_or, IsPermutation, unwrap_or, Less, Equal, bytes_eq, replicate}
-use Rattle.std.specs.List.{AllByRecursion, flat_map, range_with_len}
+use Rattle.std.proofs.Common.{◌≡◌, ◌∙◌, ◌<◌, ◌≤◌, ◌+◌, ◌-◌, ◌&&◌, ◌++◌, ℕ, pos, Bool, true, false, cond, List, [], ◌∷◌, Option, Some, None, length, refl, ap, ap₂, sym, subst, arith, map, filter, take, get_or, IsPermutation, unwrap_or, Less, Equal, bytes_eq, replicate}
+use Rattle.std.specs.List.{AllByRecursion, flat_map}
 use Rattle.std.specs.Ordering.{ordering_then}
 use Rattle.std.proofs.lemmas.Cmp.{tied_itself}
 use Rattle.sqlite_sql.specs.Query.{key_cmp}
@@ -20,7 +20,7 @@ use Rattle.std.proofs.Common.{Result, Ok, Err, nat_le}
 use Rattle.std.specs.List.{list_all}
 use Rattle.society_book.specs.BookRows.{row_of_some}
 use Rattle.society_book.specs.Columns.{text_at}
-use Rattle.sqlite_keyed.proofs.ListLemmas.{IsPermutation-filter}
+use Rattle.sqlite_keyed.proofs.ListLemmas.{IsPermutation-filter, filter-filter}
 use Rattle.sqlite_keyed.proofs.SortLemmas.{sorted_unique}
 use Rattle.sqlite_schema.specs.Rules.{equal}
 use Rattle.sqlite_sql.proofs.QueryLemmas.{key_cmp_total}
@@ -41,7 +41,6 @@ use Rattle.cwr_files.specs.Transaction.{first_work, submitter_number}
 use Rattle.cwr_records.specs.declared.work.TransactionKind.{TransactionKind}
 use Rattle.work_ids.proofs.Refilled.{left_last}
 use Rattle.std.proofs.Common.{append_assoc}
-use Rattle.std.proofs.lemmas.Grind.{flat_map-append}
 use Rattle.std.proofs.lemmas.List.Elements.{filter-append}
 use Rattle.std.proofs.lemmas.List.Sorted.{IsPermutation-append_comm, IsPermutation-append_right, IsPermutation-refl, IsPermutation-trans}
 use Rattle.std.proofs.lemmas.Slice.Eq.{bytes_eq-Decides}
@@ -50,13 +49,16 @@ use Rattle.cwr_files.specs.declared.transmission.Transaction.{Transaction}
 use Rattle.cwr_files.specs.declared.transmission.Transmission.{Transmission}
 use Rattle.share_rules.specs.Fault.{fault_of}
 use Rattle.share_rules.specs.declared.office.Office.{Office}
-use Rattle.society_core.specs.Book.{Book, body_at, front, verdicts_in, version_in}
-use Rattle.society_core.proofs.Lines.{judged_under, line_ends, line_push, line_rises, line_to, line_up_to}
+use Rattle.sender_segments.specs.Ascends.{Ascends}
+use Rattle.sender_segments.specs.Ways.{AreRight}
+use Rattle.society_core.specs.Book.{Book, body_at, ends_of, front, line, numbers_to, verdicts_in, version_in}
+use Rattle.society_core.proofs.Books.{sound_order}
+use Rattle.society_core.proofs.LineNumbers.{all_up_to, line_rises_to, none_up_to, whole_line}
+use Rattle.society_core.proofs.Lines.{judged_under, line_over, line_to, over_below, over_push, over_rises, over_up_to}
 use Rattle.sqlite_value.specs.declared.value.Value.TheVariants.{Int, Text}
 use Rattle.sqlite_value.specs.Order.{Row, column}
 use Rattle.society_book.specs.DerivedRows.{is_named, tells_version, told_by, told_from, told_to_front}
-use Rattle.society_book.proofs.lines.Growth.{told_of}
-use Rattle.society_core.proofs.LineNumbers.{range_split}
+use Rattle.society_book.specs.Runs.{line_at_front}
 use Rattle.work_ids.specs.Blanks.{fill, is_blank_byte, without_trailing_blanks}
 use Rattle.works_core.proofs.EndLemmas.{IsTaken, refused, taken}
 use Rattle.works_core.proofs.KeptLemmas.{placed_push}
@@ -84,25 +86,48 @@ abbrev pub version_rows : List ℕ → List Placed → List Row
 version_rows s [] = []
 version_rows s (t ∷ past) = version_rows s past ++ version_told s t (verdict_of (judged_of past) t.judged)
 
+-- numbers that ascend, cut before one of them
+rises_before : (low high : ℕ) (before more : List ℕ) (n : ℕ) → Ascends low (before ++ n ∷ more) high → Ascends low before n
+rises_before low high [] more n rise = let first = rise.0 in omega (arith, first)
+rises_before low high (m ∷ before) more n rise = (rise.0, rises_before m high before more n rise.1)
+
+rises_with : (low high : ℕ) (before more : List ℕ) (n : ℕ) → Ascends low (before ++ n ∷ more) high → Ascends low (before ++ n ∷ []) n × Ascends n more high
+rises_with low high [] more n rise = ((rise.0, omega arith), rise.1)
+rises_with low high (m ∷ before) more n rise = let later = rises_with m high before more n rise.1 in ((rise.0, later.0), later.1)
+
 module _ (o : Office) (b : Book) (s : List ℕ) where
   -- a transmission of the sender
   abbrev pub sent : ℕ → Transmission
   sent n = transmission_in (unwrap_or (body_at b s n) [])
 
-  -- the line up to a number
-  abbrev its_line : ℕ → List JudgedTransmission
-  its_line n = line_to o b s n
+  -- the transactions of the sender's transmissions under some numbers, at their places
+  abbrev pub placed_over : List ℕ → List Placed
+  placed_over ns = placed_line (line_over o b s ns)
 
-  -- the line goes on with the next transmission
-  pub line_goes : (n : ℕ) → placed_line (its_line (suc n)) ≡ placed_behind (placed_line (its_line n)) (suc n) 0 (judged_in o (sent (suc n)))
-  line_goes n = ap placed_line (line_push o b s n) ∙ placed_push [] (its_line n) (judged_under o b s (suc n))
+  -- a line goes on with the next transmission
+  pub line_goes : (ns : List ℕ) (n : ℕ) → placed_over (ns ++ n ∷ []) ≡ placed_behind (placed_over ns) n 0 (judged_in o (sent n))
+  line_goes ns n = ap placed_line (over_push o b s ns n) ∙ placed_push [] (line_over o b s ns) (judged_under o b s n)
 
-  -- and its verdicts are those behind the line
-  pub verdicts_go : (n : ℕ) → verdicts_in o b s (suc n) ≡ verdicts_from (judged_of (placed_line (its_line n))) (judged_in o (sent (suc n)))
-  verdicts_go n =
-      let ends = line_ends o b s n in
-      ap (λ (line : List JudgedTransmission). verdicts_at line (suc n)) (line_push o b s n)
-      ∙ verdicts_last (its_line n) (judged_under o b s (suc n)) (line_rises o b s n) (omega (arith, ends))
+  module _ (right : AreRight (ends_of b s)) where
+    module _ (before more : List ℕ) (n : ℕ) (is : line b s ≡ before ++ n ∷ more) where
+      rising : Ascends 0 (before ++ n ∷ more) (front b s)
+      rising = subst (λ (ns : List ℕ). Ascends 0 ns (front b s)) is (line_rises_to b s right)
+
+      -- up to one of its numbers the line is what stands before it, and it
+      numbers_at : numbers_to b s n ≡ before ++ n ∷ []
+      numbers_at =
+          let parts = rises_with 0 (front b s) before more n rising in
+          ap (filter (λ m. nat_le m n)) (is ∙ sym (append_assoc before (n ∷ []) more))
+          ∙ filter-append (λ m. nat_le m n) (before ++ n ∷ []) more
+          ∙ ap₂ ◌++◌ (all_up_to 0 n n (before ++ n ∷ []) parts.0 (omega arith)) (none_up_to n (front b s) n more parts.1 (omega arith))
+          ∙ append-nil (before ++ n ∷ [])
+
+      -- its verdicts are those behind what stands before it
+      pub verdicts_go : verdicts_in o b s n ≡ verdicts_from (judged_of (placed_over before)) (judged_in o (sent n))
+      verdicts_go =
+          ap (λ (ns : List ℕ). verdicts_at (line_over o b s ns) n) numbers_at
+          ∙ ap (λ (line : List JudgedTransmission). verdicts_at line n) (over_push o b s before n)
+          ∙ verdicts_last (line_over o b s before) (judged_under o b s n) (over_rises o b s 0 n before (rises_before 0 (front b s) before more n rising)) (over_below o b s 0 (front b s) before more n rising)
 
   by_verdict : (x : Transaction) (n p : ℕ) (v : Verdict) → tells_version s n p x v ≡ version_told s (placed_at n p (Clean x.kind (filled_number x))) v
   by_verdict x n p (Accepted ordinal revision) = refl
@@ -124,25 +149,31 @@ module _ (o : Office) (b : Book) (s : List ℕ) where
       ∙ append_assoc (version_rows s past) (version_told s t v) more
       ∙ ap (λ (rows : List Row). version_rows s past ++ (rows ++ more)) (sym (by_fault x n p (judged_of past) (fault_of o x)))
 
-  told_next : (n : ℕ) → version_rows s (placed_line (its_line (suc n))) ≡ version_rows s (placed_line (its_line n)) ++ told_by tells_version o b s (suc n)
-  unfolding judged_in
-  told_next n =
-      let xs = transactions_of (sent (suc n)) in
-      ap (version_rows s) (line_goes n)
-      ∙ behind_rows (suc n) 0 (placed_line (its_line n)) xs
-      ∙ ap (λ (vs : List Verdict). version_rows s (placed_line (its_line n)) ++ told_from tells_version s (suc n) 0 xs vs) (sym (verdicts_go n))
+  module _ (right : AreRight (ends_of b s)) where
+    told_next : (before more : List ℕ) (n : ℕ) → line b s ≡ before ++ n ∷ more → version_rows s (placed_over (before ++ n ∷ [])) ≡ version_rows s (placed_over before) ++ told_by tells_version o b s n
+    unfolding judged_in
+    told_next before more n is =
+        let xs = transactions_of (sent n) in
+        ap (version_rows s) (line_goes before n)
+        ∙ behind_rows n 0 (placed_over before) xs
+        ∙ ap (λ (vs : List Verdict). version_rows s (placed_over before) ++ told_from tells_version s n 0 xs vs) (sym (verdicts_go right before more n is))
 
-  -- what the transmissions up to one tell of versions are the versions of the line
-  pub told_line : (n : ℕ) → told_of tells_version o b s 1 n ≡ version_rows s (placed_line (its_line n))
-  told_line zero = refl
-  told_line (suc n) =
-      let next : suc n ≡ n + 1 = omega arith in
-      let last : 1 + n ≡ suc n = omega arith in
-      ap (λ (k : ℕ). told_of tells_version o b s 1 k) next
-      ∙ ap (flat_map (told_by tells_version o b s)) (range_split 1 n 1)
-      ∙ flat_map-append (told_by tells_version o b s) (range_with_len 1 n) (range_with_len (1 + n) 1)
-      ∙ ap₂ ◌++◌ (told_line n) (ap (λ (k : ℕ). told_of tells_version o b s k 1) last ∙ append-nil (told_by tells_version o b s (suc n)))
-      ∙ sym (told_next n)
+    told_on : (before more : List ℕ) → line b s ≡ before ++ more → version_rows s (placed_over (before ++ more)) ≡ version_rows s (placed_over before) ++ flat_map (told_by tells_version o b s) more
+    told_on before [] is = ap (λ (ns : List ℕ). version_rows s (placed_over ns)) (append-nil before) ∙ sym (append-nil (version_rows s (placed_over before)))
+    told_on before (n ∷ more) is =
+        let again = append_assoc before (n ∷ []) more in
+        ap (λ (ns : List ℕ). version_rows s (placed_over ns)) (sym again)
+        ∙ told_on (before ++ n ∷ []) more (is ∙ sym again)
+        ∙ ap (λ (rows : List Row). rows ++ flat_map (told_by tells_version o b s) more) (told_next before more n is)
+        ∙ append_assoc (version_rows s (placed_over before)) (told_by tells_version o b s n) (flat_map (told_by tells_version o b s) more)
+
+    -- what the transmissions of the line tell of versions are the versions of the line
+    pub told_line : told_to_front tells_version o b s ≡ version_rows s (placed_over (line b s))
+    told_line = sym (told_on [] (line b s) refl)
+
+    -- the line up to the front is the whole one
+    pub at_front : line_at_front o b s ≡ placed_over (line b s)
+    at_front = ap placed_over (whole_line b s right)
 
 -- ---- the versions of one work
 
@@ -302,13 +333,17 @@ all_back : (o : Office) (n p : ℕ) (past : List Placed) (xs : List Transaction)
 all_back o n p past [] all = all
 all_back o n p past (x ∷ xs) all = all_back o n (p + 1) (placed_at n p (judged o x) ∷ past) xs (judged_back x.kind (filled_number x) (fault_of o x) (number_back x), all)
 
--- so are those of a line
-pub line_back : (o : Office) (b : Book) (s : List ℕ) (n : ℕ) → AllByRecursion (λ t. HasBack t.judged) (placed_line (line_to o b s n))
+over_back : (o : Office) (b : Book) (s : List ℕ) (before more : List ℕ) → AllByRecursion (λ t. HasBack t.judged) (placed_over o b s before) → AllByRecursion (λ t. HasBack t.judged) (placed_over o b s (before ++ more))
 unfolding judged_in
-line_back o b s zero = tt
-line_back o b s (suc n) =
-    subst (AllByRecursion (λ t. HasBack t.judged)) (sym (line_goes o b s n))
-    (all_back o (suc n) 0 (placed_line (line_to o b s n)) (transactions_of (sent o b s (suc n))) (line_back o b s n))
+over_back o b s before [] all = subst (λ (ns : List ℕ). AllByRecursion (λ t. HasBack t.judged) (placed_over o b s ns)) (sym (append-nil before)) all
+over_back o b s before (n ∷ more) all =
+    subst (λ (ns : List ℕ). AllByRecursion (λ t. HasBack t.judged) (placed_over o b s ns)) (append_assoc before (n ∷ []) more)
+    (over_back o b s (before ++ n ∷ []) more
+    (subst (AllByRecursion (λ t. HasBack t.judged)) (sym (line_goes o b s before n)) (all_back o n 0 (placed_over o b s before) (transactions_of (sent o b s n)) all)))
+
+-- so are those of a line
+pub line_back : (o : Office) (b : Book) (s : List ℕ) (ns : List ℕ) → AllByRecursion (λ t. HasBack t.judged) (placed_over o b s ns)
+line_back o b s ns = over_back o b s [] ns tt
 
 -- ---- what is found of a work's last version
 
@@ -344,40 +379,39 @@ all_tested s w [] h = tt
 all_tested s w (row ∷ rows) h = (tested s w row h.0, all_tested s w rows h.1)
 
 -- what a sender's transmissions tell of versions begins with two texts
-pub texts_told : (o : Office) (b : Book) (q : List ℕ) → AllByRecursion HasTexts (told_to_front tells_version o b q)
-texts_told o b q = subst (AllByRecursion HasTexts) (sym (told_line o b q (front b q))) (rows_texts q (placed_line (line_to o b q (front b q))))
+pub texts_told : (o : Office) (b : Book) (q : List ℕ) → AreRight (ends_of b q) → AllByRecursion HasTexts (told_to_front tells_version o b q)
+texts_told o b q right = subst (AllByRecursion HasTexts) (sym (told_line o b q right)) (rows_texts q (placed_over o b q (line b q)))
 
 module _ (o : Office) (b : Book) (db : Trees) (holds : HoldsBook o b db) (s w : List ℕ) where
-  -- the sender's line up to its front
-  abbrev pub line_at_front : List Placed
-  line_at_front = placed_line (line_to o b s (front b s))
-
   -- what is found is the row of the last version of the work at the front
   pub last_found : IsBack w → (found : List Row) → IsFirstOf layout.versions (has_key (Text s ∷ Text (without_trailing_blanks w) ∷ [])) 3 db found →
-      found ≡ row_of_some (version_row s w) (last_version w line_at_front)
+      found ≡ row_of_some (version_row s w) (last_version w (line_at_front o b s))
   last_found back found is =
-      let all = line_back o b s (front b s) in
+      let right = (sound_order b holds.sound s).right in
+      let whole = placed_over o b s (line b s) in
       let rows = rows_in layout.versions db in
-      let texts = all_rows is_named (text_at 0) (λ r. (bytes_eq-Decides (text_at 0 r) (text_at 0 r)).1 refl) HasTexts (told_to_front tells_version o b) rows holds.derived.versions (texts_told o b) in
+      let texts = all_rows is_named (text_at 0) (λ r. (bytes_eq-Decides (text_at 0 r) (text_at 0 r)).1 refl) HasTexts (told_to_front tells_version o b) rows holds.derived.versions (λ q. texts_told o b q (sound_order b holds.sound q).right) in
       let same : filter (has_key (Text s ∷ Text (without_trailing_blanks w) ∷ [])) rows ≡ filter (is_of_work w) (filter (is_named s) rows) =
       filter_same (has_key (Text s ∷ Text (without_trailing_blanks w) ∷ [])) (λ row. is_named s row && is_of_work w row) rows (all_tested s w rows texts) ∙ filter_both (is_named s) (is_of_work w) rows in
-      let told : told_to_front tells_version o b s ≡ version_rows s line_at_front = told_line o b s (front b s) in
-      let there = IsPermutation-trans (work_rows s w line_at_front) (filter (is_of_work w) (version_rows s line_at_front)) (filter (is_of_work w) (filter (is_named s) rows))
-      (rows_of_work s w back line_at_front all)
+      let told : told_to_front tells_version o b s ≡ version_rows s whole = told_line o b s right in
+      let there = IsPermutation-trans (work_rows s w whole) (filter (is_of_work w) (version_rows s whole)) (filter (is_of_work w) (filter (is_named s) rows))
+      (rows_of_work s w back whole (line_back o b s (line b s)))
       (subst (λ l. IsPermutation (filter (is_of_work w) l) (filter (is_of_work w) (filter (is_named s) rows))) told
       (IsPermutation-filter (is_of_work w) (told_to_front tells_version o b s) (filter (is_named s) rows) (holds.derived.versions s))) in
-      let ordered : is.all ≡ work_rows s w line_at_front =
-      sorted_unique (key_cmp 0 (falling 3)) (key_cmp_total (falling 3) 0) (work_rows s w line_at_front) is.all (work_falls s w back line_at_front)
-      (IsPermutation-trans (work_rows s w line_at_front) (filter (is_of_work w) (filter (is_named s) rows)) is.all there (subst (λ l. IsPermutation l is.all) same is.rows))
+      let ordered : is.all ≡ work_rows s w whole =
+      sorted_unique (key_cmp 0 (falling 3)) (key_cmp_total (falling 3) 0) (work_rows s w whole) is.all (work_falls s w back whole)
+      (IsPermutation-trans (work_rows s w whole) (filter (is_of_work w) (filter (is_named s) rows)) is.all there (subst (λ l. IsPermutation l is.all) same is.rows))
       is.sorted in
-      is.first ∙ ap (take 1) ordered ∙ first_row s w line_at_front
+      is.first ∙ ap (take 1) ordered ∙ first_row s w whole ∙ ap (λ (past : List Placed). row_of_some (version_row s w) (last_version w past)) (sym (at_front o b s right))
 
 -- ---- the version at the front
 
 -- the last version of the line up to a cut is the version at the cut
 pub cut_line : (o : Office) (b : Book) (s w : List ℕ) (cut : ℕ) → last_version w (placed_line (line_to o b s cut)) ≡ version_in o b s w cut
 unfolding work_at
-cut_line o b s w cut = ap (λ (line : List JudgedTransmission). last_version w (placed_line line)) (sym (line_up_to o b s cut cut (omega arith)))
+cut_line o b s w cut =
+    ap (λ (line : List JudgedTransmission). last_version w (placed_line line))
+    (sym (over_up_to o b s cut (numbers_to b s cut) ∙ ap (line_over o b s) (filter-filter (λ m. nat_le m cut) (λ m. nat_le m cut) (λ m h. h) (line b s))))
 
 -- so is that up to the front
 pub front_version : (o : Office) (b : Book) (s w : List ℕ) → last_version w (placed_line (line_to o b s (front b s))) ≡ version_in o b s w (front b s)
@@ -390,7 +424,7 @@ shows s w (Some v) = (s, without_trailing_blanks w, refl)
 -- what is found of a work's last version shows it
 pub version_shows : (o : Office) (b : Book) (db : Trees) → HoldsBook o b db → (s w : List ℕ) → IsBack w → (found : List Row) → IsFirstOf layout.versions (has_key (Text s ∷ Text (without_trailing_blanks w) ∷ [])) 3 db found → ShowVersion (version_in o b s w (front b s)) found
 version_shows o b db holds s w back found is =
-    let line = placed_line (line_to o b s (front b s)) in
+    let line = line_at_front o b s in
     subst (λ v. ShowVersion v found) (front_version o b s w)
     (subst (ShowVersion (last_version w line)) (sym (last_found o b db holds s w back found is)) (shows s w (last_version w line)))
 

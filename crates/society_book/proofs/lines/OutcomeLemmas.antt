@@ -23,10 +23,11 @@ settled_end n p js is vs none = ap (settled_from n p js is) none ∙ by_case js 
     by_case (x ∷ a) (y ∷ b) = refl
 
 -- the next transaction comes to those so far
-pub settled_at : (n at : ℕ) (notes : Notes) (all : List Verdict) (v : Verdict) (begun old new : List Settled) → at < length all → v ≡ get_or all at v → AddsAt n notes at v old new
-    → old ++ settled_from n at (drop at notes.judged) (drop at notes.isrcs) (drop at all) ≡ begun ++ settled_from n 0 notes.judged notes.isrcs all
-    → new ++ settled_from n (at + 1) (drop (at + 1) notes.judged) (drop (at + 1) notes.isrcs) (drop (at + 1) all) ≡ begun ++ settled_from n 0 notes.judged notes.isrcs all
-settled_at n at notes all v begun old new here is adds so_far =
+pub settled_at : (at : ℕ) (notes : Notes) (all : List Verdict) (v : Verdict) (begun old new : List Settled) → at < length all → v ≡ get_or all at v → AddsAt notes at v old new
+    → old ++ settled_from notes.number at (drop at notes.judged) (drop at notes.isrcs) (drop at all) ≡ begun ++ settled_from notes.number 0 notes.judged notes.isrcs all
+    → new ++ settled_from notes.number (at + 1) (drop (at + 1) notes.judged) (drop (at + 1) notes.isrcs) (drop (at + 1) all) ≡ begun ++ settled_from notes.number 0 notes.judged notes.isrcs all
+settled_at at notes all v begun old new here is adds so_far =
+    let n = notes.number in
     let one : Settled = record { number = n; place = at; work = clean_work_number adds.judged; isrcs = adds.isrcs; verdict = v } in
     let left = settled_from n (at + 1) (drop (at + 1) notes.judged) (drop (at + 1) notes.isrcs) (drop (at + 1) all) in
     let parts : settled_from n at (drop at notes.judged) (drop at notes.isrcs) (drop at all) ≡ one ∷ left =

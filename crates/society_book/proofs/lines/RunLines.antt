@@ -1,5 +1,5 @@
 -- What the transactions of a run tell, by the line behind which they stand.
-use Rattle.std.proofs.Common.{◌≡◌, ◌∙◌, ◌+◌, ◌++◌, ◌||◌, ℕ, suc, Bool, true, false, List, [], ◌∷◌, Option, Some, None, IsTrue, length, refl, ap, ap₂, sym, subst, arith, map, bytes_eq, flat_map, unwrap_or}
+use Rattle.std.proofs.Common.{◌≡◌, ◌∙◌, ◌+◌, ◌++◌, ◌||◌, ℕ, Bool, true, false, List, [], ◌∷◌, Option, Some, None, IsTrue, refl, ap, ap₂, sym, subst, map, append-nil, append_assoc, bytes_eq, flat_map, unwrap_or}
 use Rattle.std.specs.List.{list_any}
 use Rattle.std.specs.Ordering.{eq_by_cmp}
 use Rattle.std.proofs.lemmas.Cmp.{nat_list_cmp_total}
@@ -12,19 +12,18 @@ use Rattle.share_rules.specs.Fault.{fault_of}
 use Rattle.share_rules.specs.declared.office.Office.{Office}
 use Rattle.sqlite_value.specs.Order.{Row}
 use Rattle.society_core.proofs.Ascending.{ascending_has}
-use Rattle.society_core.specs.Book.{Book, body_at}
+use Rattle.sender_segments.specs.Ways.{AreRight}
+use Rattle.society_core.specs.Book.{Book, body_at, ends_of, line}
 use Rattle.society_core.specs.Keys.{ascending, bytes_cmp}
 use Rattle.society_book.specs.DerivedRows.{Telling, tells_recordings, tells_verdict, tells_version, told_by, told_from}
-use Rattle.society_book.specs.Runs.{AreNoted, KnowsRun, Notes, Settled, behind_run, clean_works, is_among, notes_in, settled_from, settled_recordings, settled_run, settled_verdict, settled_version, clean_work_number}
-use Rattle.society_book.proofs.lines.Growth.{told_of}
+use Rattle.society_book.specs.Runs.{AreNoted, KnowsRun, Notes, Settled, behind_run, clean_works, is_among, notes_in, numbers_in, settled_from, settled_recordings, settled_run, settled_verdict, settled_version, clean_work_number}
 use Rattle.society_book.proofs.rows_alike.KeyRows.{either_way}
-use Rattle.society_book.proofs.lines.LineRows.{line_goes, sent, verdicts_go}
-use Rattle.society_core.proofs.Lines.{line_to}
+use Rattle.society_book.proofs.lines.LineRows.{line_goes, placed_over, sent, verdicts_go}
 use Rattle.works_core.specs.Ends.{EndsAt, KnowsWorks}
 use Rattle.works_core.specs.Line.{filled_number, judged, judged_by, judged_in}
 use Rattle.works_core.specs.Recordings.{isrcs_of}
 use Rattle.works_core.specs.Verdicts.{verdict_of, verdicts_from}
-use Rattle.works_core.specs.Versions.{Placed, judged_of, placed_behind, placed_line}
+use Rattle.works_core.specs.Versions.{Placed, judged_of, placed_behind}
 use Rattle.works_core.specs.declared.judged.Judged.{Judged}
 use Rattle.works_core.specs.declared.judged.Judged.TheVariants.{Clean, Faulty}
 use Rattle.works_core.specs.declared.verdict.Verdict.{Verdict}
@@ -71,6 +70,23 @@ recordings_by_fault s n p past x None = recordings_by_verdict s n p x (verdict_o
 pub sees_recordings : (o : Office) → IsSeen o tells_recordings settled_recordings
 sees_recordings o s n p past x = recordings_by_fault s n p past x (fault_of o x)
 
+-- a sender's transmission is noted under its number
+abbrev IsNoted : Office → Book → List ℕ → Notes → Type 0
+IsNoted o b s x = x ≡ notes_in o x.number (unwrap_or (body_at b s x.number) [])
+
+module _ (o : Office) (b : Book) (s : List ℕ) where
+  -- behind a transmission that is noted stands the line with it
+  one_behind : (before : List ℕ) (x : Notes) → IsNoted o b s x → placed_behind (placed_over o b s before) x.number 0 x.judged ≡ placed_over o b s (before ++ x.number ∷ [])
+  one_behind before x noted = ap (λ (y : Notes). placed_behind (placed_over o b s before) x.number 0 y.judged) noted ∙ sym (line_goes o b s before x.number)
+
+  -- behind a run stands the line with it
+  pub run_behind : (before : List ℕ) (notes : List Notes) → AreNoted o b s notes → behind_run (placed_over o b s before) notes ≡ placed_over o b s (before ++ numbers_in notes)
+  run_behind before [] are = ap (placed_over o b s) (sym (append-nil before))
+  run_behind before (x ∷ xs) are =
+      ap (λ (p : List Placed). behind_run p xs) (one_behind before x are.0)
+      ∙ run_behind (before ++ x.number ∷ []) xs are.1
+      ∙ ap (placed_over o b s) (append_assoc before (x.number ∷ []) (numbers_in xs))
+
 module _ (o : Office) (tells : Telling) (tell : List ℕ → Settled → List Row) (seen : IsSeen o tells tell) (s : List ℕ) where
   -- what a transmission tells is told of its settled transactions
   from_settled : (n p : ℕ) (past : List Judged) (xs : List Transaction) →
@@ -78,48 +94,29 @@ module _ (o : Office) (tells : Telling) (tell : List ℕ → Settled → List Ro
   from_settled n p past [] = refl
   from_settled n p past (x ∷ xs) = ap₂ ◌++◌ (seen s n p past x) (from_settled n (p + 1) (judged o x ∷ past) xs)
 
-  module _ (b : Book) where
+  module _ (b : Book) (right : AreRight (ends_of b s)) where
     -- so with one that is noted
-    one_settled : (n : ℕ) (x : Notes) → x ≡ notes_in o (unwrap_or (body_at b s (suc n)) []) →
-        told_by tells o b s (suc n) ≡ flat_map (tell s) (settled_from (suc n) 0 x.judged x.isrcs (verdicts_from (judged_of (placed_line (line_to o b s n))) x.judged))
+    one_settled : (before more : List ℕ) (x : Notes) → line b s ≡ before ++ x.number ∷ more → IsNoted o b s x →
+        told_by tells o b s x.number ≡ flat_map (tell s) (settled_from x.number 0 x.judged x.isrcs (verdicts_from (judged_of (placed_over o b s before)) x.judged))
     unfolding judged_in
-    one_settled n x is =
-        let past = judged_of (placed_line (line_to o b s n)) in
-        let xs = transactions_of (sent o b s (suc n)) in
-        ap (told_from tells s (suc n) 0 xs) (verdicts_go o b s n)
-        ∙ from_settled (suc n) 0 past xs
-        ∙ sym (ap (λ (y : Notes). flat_map (tell s) (settled_from (suc n) 0 y.judged y.isrcs (verdicts_from past y.judged))) is)
-
-    -- and behind it the line goes on
-    one_behind : (n : ℕ) (x : Notes) → x ≡ notes_in o (unwrap_or (body_at b s (suc n)) []) → placed_behind (placed_line (line_to o b s n)) (suc n) 0 x.judged ≡ placed_line (line_to o b s (suc n))
-    one_behind n x is = ap (λ (y : Notes). placed_behind (placed_line (line_to o b s n)) (suc n) 0 y.judged) is ∙ sym (line_goes o b s n)
+    one_settled before more x is noted =
+        let past = judged_of (placed_over o b s before) in
+        let xs = transactions_of (sent o b s x.number) in
+        ap (told_from tells s x.number 0 xs) (verdicts_go o b s right before more x.number is)
+        ∙ from_settled x.number 0 past xs
+        ∙ sym (ap (λ (y : Notes). flat_map (tell s) (settled_from x.number 0 y.judged y.isrcs (verdicts_from past y.judged))) noted)
 
     -- what a run tells is told of its settled transactions
-    pub run_settled : (n : ℕ) (notes : List Notes) → AreNoted o b s (n + 1) notes → told_of tells o b s (n + 1) (length notes) ≡ flat_map (tell s) (settled_run (placed_line (line_to o b s n)) (n + 1) notes)
-    run_settled n [] are = refl
-    run_settled n (x ∷ xs) are =
-        let next : n + 1 ≡ suc n = omega arith in
-        let is : x ≡ notes_in o (unwrap_or (body_at b s (suc n)) []) = subst (λ (k : ℕ). x ≡ notes_in o (unwrap_or (body_at b s k) [])) next are.0 in
-        let line = placed_line (line_to o b s n) in
-        let here = λ (k : ℕ). flat_map (tell s) (settled_from k 0 x.judged x.isrcs (verdicts_from (judged_of line) x.judged)) in
-        let behind = λ (k : ℕ). placed_behind line k 0 x.judged in
-        let later : told_of tells o b s ((n + 1) + 1) (length xs) ≡ flat_map (tell s) (settled_run (behind (n + 1)) ((n + 1) + 1) xs) =
-        run_settled (n + 1) xs are.1
-        ∙ ap (λ (p : List Placed). flat_map (tell s) (settled_run p ((n + 1) + 1) xs)) (ap (λ (k : ℕ). placed_line (line_to o b s k)) next ∙ sym (one_behind n x is) ∙ ap behind (sym next)) in
-        ap₂ ◌++◌ (ap (told_by tells o b s) next ∙ one_settled n x is ∙ ap here (sym next)) later
-        ∙ sym (flat_map-append (tell s) (settled_from (n + 1) 0 x.judged x.isrcs (verdicts_from (judged_of line) x.judged)) (settled_run (behind (n + 1)) ((n + 1) + 1) xs))
-
-module _ (o : Office) (b : Book) (s : List ℕ) where
-  -- behind a run stands the line with it
-  pub run_behind : (n : ℕ) (notes : List Notes) → AreNoted o b s (n + 1) notes → behind_run (placed_line (line_to o b s n)) (n + 1) notes ≡ placed_line (line_to o b s (n + length notes))
-  run_behind n [] are = ap (λ (k : ℕ). placed_line (line_to o b s k)) (let e : n ≡ n + 0 = omega arith in e)
-  run_behind n (x ∷ xs) are =
-      let next : n + 1 ≡ suc n = omega arith in
-      let is : x ≡ notes_in o (unwrap_or (body_at b s (suc n)) []) = subst (λ (k : ℕ). x ≡ notes_in o (unwrap_or (body_at b s k) [])) next are.0 in
-      let line = placed_line (line_to o b s n) in
-      ap (λ (p : List Placed). behind_run p ((n + 1) + 1) xs) (ap (λ (k : ℕ). placed_behind line k 0 x.judged) next ∙ one_behind o tells_verdict (λ s x. settled_verdict s x ∷ []) (sees_verdict o) s b n x is ∙ ap (λ (k : ℕ). placed_line (line_to o b s k)) (sym next))
-      ∙ run_behind (n + 1) xs are.1
-      ∙ ap (λ (k : ℕ). placed_line (line_to o b s k)) (let e : (n + 1) + length xs ≡ n + suc (length xs) = omega arith in e)
+    pub run_settled : (before : List ℕ) (notes : List Notes) → line b s ≡ before ++ numbers_in notes → AreNoted o b s notes → flat_map (told_by tells o b s) (numbers_in notes) ≡ flat_map (tell s) (settled_run (placed_over o b s before) notes)
+    run_settled before [] is are = refl
+    run_settled before (x ∷ xs) is are =
+        let past = placed_over o b s before in
+        let behind = placed_behind past x.number 0 x.judged in
+        let later : flat_map (told_by tells o b s) (numbers_in xs) ≡ flat_map (tell s) (settled_run behind xs) =
+        run_settled (before ++ x.number ∷ []) xs (is ∙ sym (append_assoc before (x.number ∷ []) (numbers_in xs))) are.1
+        ∙ ap (λ (p : List Placed). flat_map (tell s) (settled_run p xs)) (sym (one_behind o b s before x are.0)) in
+        ap₂ ◌++◌ (one_settled before (numbers_in xs) x is are.0) later
+        ∙ sym (flat_map-append (tell s) (settled_from x.number 0 x.judged x.isrcs (verdicts_from (judged_of past) x.judged)) (settled_run behind xs))
 
 -- ---- the works of a run are known
 

@@ -17,7 +17,7 @@ use Rattle.sqlite_value.specs.Order.{Row}
 use Rattle.society_core.proofs.Books.{sound_with_pool}
 use Rattle.society_core.proofs.ClosedPools.{PaysAlike, credits_same}
 use Rattle.society_core.proofs.PoolLemmas.{each_pool}
-use Rattle.society_core.specs.Book.{Book, IsSound, is_pool_entry, order_at, with_pool}
+use Rattle.society_core.specs.Book.{Book, IsSound, is_pool_entry, line, order_at, with_pool}
 use Rattle.society_core.specs.Orders.{IsOrder, Order, names_return}
 use Rattle.society_core.specs.Pools.{all_credits, credits_of}
 use Rattle.society_core.specs.declared.return_key.ReturnKey.{ReturnKey}
@@ -133,6 +133,7 @@ module _ (o : Office) (b : Book) (pool : ℕ) (order : Order) (free : order_at b
           ∙ sym (ap (λ l. l ++ had q (order_at b q)) (of_one at pool more its q ∙ ap (λ x. cond x more []) is))
 
   pays_closed : PaysAlike b closed
+  unfolding line
   pays_closed = record { sent = λ s n within. refl; returned = λ key there. refl }
 
   module _ (entry : is_pool_entry b pool order ≡ true) where
@@ -157,6 +158,7 @@ module _ (o : Office) (b : Book) (pool : ℕ) (order : Order) (free : order_at b
 
     -- with the rows of this pool and of what it pays more, the tables hold the book with it
     pub pool_added : (old new : Trees) → HoldsBook o b old → IsOrder order → ((other : ℕ) (another : Order) (key : ReturnKey) → order_at b other ≡ Some another → names_return key order ≡ true → names_return key another ≡ true → ⊥) → AddsPool pool order (credits_of o b order) old new → HasRows is_named (rows_by (all_credits o b ++ credits_of o b order)) (rows_in layout.balances new) → AreNumbered layout.balances new → HoldsBook o closed new
+    unfolding line
     pool_added old new holds is unpaid closes balances numbered =
         let keeps = kept_lines old new closes.others in
         let grown = λ (at : ℕ) (F : ℕ → Option Order → List Row) (more : List Row) (its : AreAt at pool more) (none : F pool None ≡ []) (here : F pool (Some order) ≡ more) (q : ℕ). same_permutation (pool_more at F F more its none here (λ p. refl) q) in
@@ -169,7 +171,7 @@ module _ (o : Office) (b : Book) (pool : ℕ) (order : Order) (free : order_at b
             pools = more_rows (is_of_pool 0) (λ q. row_of_some (pool_row q) (order_at b q)) (λ q. row_of_some (pool_row q) (order_at closed q)) (pool_row pool order ∷ []) (rows_in layout.pools old) (rows_in layout.pools new) holds.kept.pools (grown 0 (λ q. row_of_some (pool_row q)) (pool_row pool order ∷ []) (refl, tt) refl refl) closes.pools;
             cuts = more_rows (is_of_pool 0) (λ q. rows_of_order (cut_row q) (λ r. r.cut) (order_at b q)) (λ q. rows_of_order (cut_row q) (λ r. r.cut) (order_at closed q)) (map (cut_row pool) order.cut) (rows_in layout.pool_cuts old) (rows_in layout.pool_cuts new) holds.kept.cuts (grown 0 (λ q. rows_of_order (cut_row q) (λ r. r.cut)) (map (cut_row pool) order.cut) (cuts_at pool order.cut) refl refl) closes.cuts;
             paid = more_rows (is_of_pool 2) (λ q. rows_of_order (paid_row q) (λ r. r.returns) (order_at b q)) (λ q. rows_of_order (paid_row q) (λ r. r.returns) (order_at closed q)) (map (paid_row pool) order.returns) (rows_in layout.pool_returns old) (rows_in layout.pool_returns new) holds.kept.paid (grown 2 (λ q. rows_of_order (paid_row q) (λ r. r.returns)) (map (paid_row pool) order.returns) (paid_at pool order.returns) refl refl) closes.paid;
-            ends = rows_kept layout.segment_ends old new keeps.ends ∙ holds.kept.ends;
+            ends = subst (HasRows _ _) (sym (rows_kept layout.segment_ends old new keeps.ends)) holds.kept.ends;
             mechanical = rows_kept layout.mechanical_pools old new keeps.mechanical ∙ holds.kept.mechanical;
           };
           derived = record {

@@ -1,5 +1,5 @@
 -- Tables that have the rows of a book stand for that book.
-use Rattle.std.proofs.Common.{◌≡◌, ℕ, Bool, true, false, cond, ◌&&◌, ◌||◌, ◌==◌, List, [], ◌∷◌, Option, Some, None, refl, ap, ap₂, subst, sym, ◌∙◌, map, filter, is_some, IsPermutation, arith}
+use Rattle.std.proofs.Common.{◌≡◌, ℕ, zero, suc, Bool, true, false, cond, ◌&&◌, ◌||◌, ◌==◌, List, [], ◌∷◌, Option, Some, None, refl, ap, ap₂, subst, sym, ◌∙◌, map, filter, is_some, IsPermutation, arith}
 use Rattle.std.specs.FinMap.{find, from_entries, get-from_entries, same_map}
 use Rattle.std.specs.FinMap as finite
 use Rattle.std.specs.Cmp.{IsTotalOrder}
@@ -16,18 +16,22 @@ use Rattle.std.proofs.lemmas.Bool.Decides.{nat_tests}
 use Rattle.std.proofs.lemmas.Cmp.{nat_cmp_total}
 use Rattle.std.proofs.lemmas.List.Sorted.{IsPermutation-map, list_any-IsPermutation}
 use Rattle.std.proofs.lemmas.Map.Text.{is_eq-slice_cmp}
+use Rattle.sender_segments.specs.Ways.{End}
 use Rattle.sqlite_trees.specs.Tree.{Trees}
+use Rattle.sqlite_value.specs.declared.value.Value.TheVariants.{Int}
 use Rattle.sqlite_value.specs.Order.{Row}
 use Rattle.society_core.specs.Book.{Book, IsSound, is_applied, return_at, order_at}
-use Rattle.society_core.specs.Keys.{ascending, bytes_cmp, return_cmp, transmission_cmp}
+use Rattle.society_core.specs.Keys.{ascending, bytes_cmp, return_cmp, segment_cmp, segment_key, transmission_cmp}
 use Rattle.society_core.specs.Orders.{IsOrder, Order, same_return_key, same_transmission_key}
 use Rattle.society_core.specs.declared.return_key.ReturnKey.{ReturnKey}
+use Rattle.society_core.specs.declared.segment_key.SegmentKey.{SegmentKey}
 use Rattle.society_core.specs.declared.transmission_key.TransmissionKey.{TransmissionKey}
-use Rattle.society_core.proofs.KeyOrders.{exact_numbers, exact_returns, exact_transmissions, returns_total, transmissions_total}
+use Rattle.society_core.proofs.KeyOrders.{exact_numbers, exact_returns, exact_segments, exact_transmissions, returns_total, segments_total, transmissions_total}
 use Rattle.society_rows.specs.Layout as layout
+use Rattle.society_rows.specs.SegmentColumns.{segment_column}
 use Rattle.society_rows.specs.Stored.{rows_in}
-use Rattle.society_book.specs.BookRows.{AreOfBook, book_of, cut_key_of, cut_row, is_of_pool, is_return_row, is_transmission_row, order_in, paid_row, pool_entry, pool_row, return_entry, return_key_of, return_row, return_rows, row_of_some, rows_of_order, transmission_entry, transmission_key_of, transmission_row}
-use Rattle.society_book.specs.Columns.{HasRows, whole_number_at}
+use Rattle.society_book.specs.BookRows.{AreOfBook, book_of, cut_key_of, cut_row, end_entry, end_of, end_row, is_end_row, is_of_pool, is_return_row, is_transmission_row, order_in, paid_row, pool_entry, pool_row, return_entry, return_key_of, return_row, return_rows, row_of_some, rows_of_order, same_segment_key, segment_key_of, transmission_entry, transmission_key_of, transmission_row}
+use Rattle.society_book.specs.Columns.{HasRows, segment_of_value, whole_number_at}
 use Rattle.society_book.proofs.rows_alike.RowLemmas.{map_of_rows, only}
 
 -- two orders in turn tie where both do
@@ -42,6 +46,23 @@ numbers_tie n m = grind (arith, nat_tests)
 pub transmissions_tie : (a b : TransmissionKey) → eq_by_cmp transmission_cmp a b ≡ same_transmission_key a b
 transmissions_tie a b =
     both_tie (bytes_cmp a.sender b.sender) (nat_cmp a.number b.number) ∙ ap₂ (λ x y. x && y) (is_eq-slice_cmp a.sender b.sender) (numbers_tie a.number b.number)
+
+pub segments_tie : (a b : SegmentKey) → eq_by_cmp segment_cmp a b ≡ same_segment_key a b
+segments_tie a b =
+    both_tie (bytes_cmp a.sender b.sender) (nat_cmp a.segment b.segment) ∙ ap₂ (λ x y. x && y) (is_eq-slice_cmp a.sender b.sender) (numbers_tie a.segment b.segment)
+
+-- the place of a segment is read back from its column
+column_back : (g : ℕ) → segment_of_value (Int (segment_column g)) ≡ g
+column_back zero = refl
+column_back (suc year) = refl
+
+-- an end is read back from its row
+pub end_back : (key : SegmentKey) (end : End) → end_of (end_row key end) ≡ end
+end_back key end = ap (λ (g : ℕ). record { last = end.last; next = g }) (column_back end.next)
+
+-- and so is its key
+pub end_key_back : (key : SegmentKey) (end : End) → segment_key_of (end_row key end) ≡ key
+end_key_back key end = ap (segment_key key.sender) (column_back key.segment)
 
 pub returns_tie : (a b : ReturnKey) → eq_by_cmp return_cmp a b ≡ same_return_key a b
 returns_tie a b =
@@ -128,7 +149,8 @@ the_book book db sound rows =
     let pools =
     map_of_rows nat_cmp_total exact_numbers (is_of_pool 0) (pool_entry (rows_in layout.pool_cuts db) (rows_in layout.pool_returns db)) (λ q r. numbers_tie q (whole_number_at 0 r)) book.pools pool_row
     (λ q x there. order_back q x (order_at book q) there (sound.orders q x there) (named q x there) (rows_in layout.pool_cuts db) (rows_in layout.pool_returns db) (rows.cuts q) (rows.paid q)) (rows_in layout.pools db) rows.pools in
-    λ i. record { transmissions = transmissions i; returns = returns i; pools = pools i }
+    let ends = map_of_rows segments_total exact_segments is_end_row end_entry (λ q r. segments_tie q (segment_key_of r)) book.ends end_row (λ q x there. end_back q x) (rows_in layout.segment_ends db) rows.ends in
+    λ i. record { transmissions = transmissions i; ends = ends i; returns = returns i; pools = pools i }
   where
     named : (q : ℕ) (x : Order) → order_at book q ≡ Some x → AllByRecursion IsRefilled x.returns
     named q x there = all_refilled book (rows_in layout.returns db) rows.returns x.returns (third_holds (is_pool_number q) (list_all (is_applied book) x.cut) (list_all (λ key. is_some (return_at book key)) x.returns) (sound.pools q x there))

@@ -1,8 +1,8 @@
 -- Rows that ascend by their keys, and what is read back of them.
-use Rattle.std.proofs.Common.{◌≡◌, ◌∙◌, ◌<◌, ◌≤◌, ◌+◌, ℕ, pos, suc, zero, Bool, true, false, cond, List, [], ◌∷◌, ◌++◌, ◌==◌, Option, Some, refl, ap, ap₂, sym, arith, map, filter, IsPermutation, Less, Equal, int_cmp, IsSorted, ⊎_elim, eqb-true}
-use Rattle.std.specs.List.{AllByRecursion, enumerate_from, flat_map, range_with_len}
+use Rattle.std.proofs.Common.{◌≡◌, ◌∙◌, ◌<◌, ◌+◌, ℕ, pos, Bool, true, false, cond, List, [], ◌∷◌, ◌++◌, ◌==◌, ◌||◌, Option, Some, refl, ap, ap₂, sym, subst, arith, map, filter, IsPermutation, Less, Equal, int_cmp, IsSorted, eqb-true}
+use Rattle.std.specs.List.{AllByRecursion, enumerate_from, flat_map}
 use Rattle.std.specs.Ordering.{ordering_then}
-use Rattle.std.proofs.lemmas.Bool.{cases_lt, false≢true}
+use Rattle.std.proofs.lemmas.Bool.{false≢true}
 use Rattle.std.proofs.lemmas.Bool.Decides.{nat_tests}
 use Rattle.std.proofs.lemmas.List.{append-nil}
 use Rattle.std.proofs.lemmas.Cmp.{tied_itself}
@@ -18,6 +18,9 @@ use Rattle.sqlite_value.specs.Order.{Row, column}
 use Rattle.sqlite_value.specs.declared.keys.Collation.TheVariants.{Binary}
 use Rattle.sqlite_value.specs.declared.value.Value.{Value}
 use Rattle.sqlite_value.specs.declared.value.Value.TheVariants.{Int}
+use Rattle.sender_segments.specs.Ascends.{Ascends}
+use Rattle.society_core.specs.Book.{is_one_of}
+use Rattle.society_core.proofs.LineNumbers.{ascends_bounds, is_first}
 use Rattle.society_book.specs.Columns.{whole_number_at}
 
 tie : (v : Value) → by_key (ascending Binary) v v ≡ Equal
@@ -106,29 +109,31 @@ module _ (f : ℕ → List Row) (own : (k : ℕ) → AllByRecursion (λ row. who
       ∙ none_kept k apart rows all.1
 
   -- no row of a number that is not among some
-  pub none_below : (from len : ℕ) → n < from → filter (is_numbered n) (flat_map f (range_with_len from len)) ≡ []
-  none_below from zero below = refl
-  none_below from (suc len) below =
-      filter-append (is_numbered n) (f from) (flat_map f (range_with_len (from + 1) len))
-      ∙ ap₂ ◌++◌ (none_kept from (λ e. omega (arith, e, below)) (f from) (own from)) (none_below (from + 1) len (omega arith))
-
-  pub none_past : (from len : ℕ) → from + len ≤ n → filter (is_numbered n) (flat_map f (range_with_len from len)) ≡ []
-  none_past from zero above = refl
-  none_past from (suc len) above =
-      filter-append (is_numbered n) (f from) (flat_map f (range_with_len (from + 1) len))
-      ∙ ap₂ ◌++◌ (none_kept from (λ e. omega (arith, e, above)) (f from) (own from)) (none_past (from + 1) len (omega arith))
-
-  -- and those of one that is
-  pub those_of : (from len : ℕ) → from ≤ n → n < from + len → filter (is_numbered n) (flat_map f (range_with_len from len)) ≡ f n
-  those_of from zero low high = absurd (omega arith)
-  those_of from (suc len) low high = filter-append (is_numbered n) (f from) (flat_map f (range_with_len (from + 1) len)) ∙ by_case (n == from) refl (those_of (from + 1) len)
+  pub none_among : (ns : List ℕ) → is_one_of ns n ≡ false → filter (is_numbered n) (flat_map f ns) ≡ []
+  none_among [] h = refl
+  none_among (k ∷ ns) h =
+      filter-append (is_numbered n) (f k) (flat_map f ns)
+      ∙ ap₂ ◌++◌ (none_kept k (λ e. false≢true (sym h ∙ subst (λ (m : ℕ). is_one_of (k ∷ ns) m ≡ true) (sym e) (is_first k ns))) (f k) (own k)) (none_among ns (later (k == n) (is_one_of ns n) h))
     where
-      by_case : (b : Bool) → (n == from) ≡ b → (from + 1 ≤ n → n < (from + 1) + len → filter (is_numbered n) (flat_map f (range_with_len (from + 1) len)) ≡ f n) → filter (is_numbered n) (f from) ++ filter (is_numbered n) (flat_map f (range_with_len (from + 1) len)) ≡ f n
-      by_case true e later =
-          let here : n ≡ from = eqb-true n from e in
-          ap₂ ◌++◌ (all_kept from here (f from) (own from)) (none_below (from + 1) len (omega (arith, here)))
-          ∙ append-nil (f from) ∙ ap f (sym here)
-      by_case false e later =
-          let apart : n ≡ from → ⊥ = λ same. false≢true (sym e ∙ same_numbers n from same) in
-          let above : from + 1 ≤ n = ⊎_elim (λ (h : from < n). omega (arith, h)) (λ (h : n ≤ from). absurd (apart (omega (arith, h, low)))) (cases_lt from n) in
-          ap₂ ◌++◌ (none_kept from apart (f from) (own from)) (later above (omega (arith, high)))
+      later : (a b : Bool) → (a || b) ≡ false → b ≡ false
+      later false b h = h
+      later true b h = absurd (false≢true (sym h))
+
+  -- and those of one that is, where they ascend
+  pub those_of : (low high : ℕ) (ns : List ℕ) → Ascends low ns high → is_one_of ns n ≡ true → filter (is_numbered n) (flat_map f ns) ≡ f n
+  those_of low high [] rise h = absurd (false≢true h)
+  those_of low high (k ∷ ns) rise h = filter-append (is_numbered n) (f k) (flat_map f ns) ∙ by_case (k == n) refl h (those_of k high ns rise.1)
+    where
+      behind : k ≡ n → is_one_of ns n ≡ false
+      behind same = by_one (is_one_of ns n) refl
+        where
+          by_one : (x : Bool) → is_one_of ns n ≡ x → x ≡ false
+          by_one false is = refl
+          by_one true is = let above = (ascends_bounds k high ns n rise.1 is).0 in absurd (omega (arith, above, same))
+
+      by_case : (x : Bool) → (k == n) ≡ x → (x || is_one_of ns n) ≡ true → (is_one_of ns n ≡ true → filter (is_numbered n) (flat_map f ns) ≡ f n) → filter (is_numbered n) (f k) ++ filter (is_numbered n) (flat_map f ns) ≡ f n
+      by_case true e one later =
+          let here : k ≡ n = eqb-true k n e in
+          ap₂ ◌++◌ (all_kept k (sym here) (f k) (own k)) (none_among ns (behind here))
+          ∙ append-nil (f k) ∙ ap f here
+      by_case false e one later = ap₂ ◌++◌ (none_kept k (λ same. false≢true (sym e ∙ same_numbers k n (sym same))) (f k) (own k)) (later one)

@@ -17,13 +17,13 @@ use Rattle.share_rules.specs.Weights.{account_by, holder_of, numbered_account, u
 use Rattle.share_rules.specs.declared.holder.Holder.{Holder}
 use Rattle.share_rules.specs.declared.office.Office.{Office}
 use Rattle.sqlite_trees.proofs.ListLemmas.{filter_same}
-use Rattle.society_core.proofs.Books.{some_body, there_to_front}
+use Rattle.society_core.proofs.Books.{some_body}
 use Rattle.society_core.proofs.CreditLemmas.{order_reaches_cut}
-use Rattle.society_core.proofs.LineNumbers.{one_of_first, one_of_within}
+use Rattle.society_core.proofs.LineNumbers.{there_in_line}
 use Rattle.society_core.proofs.Fronts.{first_holds, second_holds}
 use Rattle.society_core.proofs.PoolLemmas.{IsPool, each_pool}
 use Rattle.society_core.specs.Accounts.{same_account}
-use Rattle.society_core.specs.Book.{Book, IsSound, body_at, front, is_applied, order_at, transmissions_to}
+use Rattle.society_core.specs.Book.{Book, IsSound, body_at, is_applied, is_in_line, order_at, transmissions_to}
 use Rattle.society_core.specs.Orders.{Order}
 use Rattle.society_core.specs.Owners.{CutWork, cut_work, is_version_at, names_recording, sole, versions_at_cut, versions_of_transmission, works_of_cut}
 use Rattle.society_core.specs.Points.{points_by_recording, rows_named}
@@ -38,7 +38,7 @@ use Rattle.work_ids.specs.Account.{account_text}
 use Rattle.work_ids.specs.Blanks.{fill, is_blank_byte, trimmed, without_trailing_blanks}
 use Rattle.work_ids.specs.Characters.{is_capital_or_digit, is_printable}
 use Rattle.work_ids.specs.IpiName.{ipi_field_of}
-use Rattle.work_ids.specs.Numbers.{is_transmission_number}
+use Rattle.work_ids.specs.Segments.{is_transmission_number}
 use Rattle.work_ids.specs.PartyNumber.{is_party_number, party_number_of}
 use Rattle.std.proofs.Common.{◌||◌, get_or, not}
 use Rattle.work_ids.specs.SenderKey.{is_sender_key}
@@ -178,18 +178,15 @@ sent_by o b key long =
     (all_of (λ (_ : ℕ × Transaction). Unit {0}) (λ _. tt) _))
     (transmissions_to b key.sender key.number) (all_of (λ (_ : NumberedTransmission). Unit {0}) (λ _. tt) _)
 
-front_has_key : (b : Book) → IsSound b → (s : List ℕ) → 1 ≤ front b s → length s ≡ 11
-front_has_key b sound s some =
-    let found = some_body (body_at b s 1) (there_to_front b s 1 (omega arith) some) in
-    let entry = sound.transmissions s 1 found.0 found.1 in
-    let key : is_sender_key s ≡ true = first_holds (is_sender_key s) (is_transmission_number 1) (first_holds (is_sender_key s && is_transmission_number 1) (is_none (file_fault s found.0)) entry) in
+sender_has_key : (b : Book) → IsSound b → (s : List ℕ) (n : ℕ) → is_in_line b s n ≡ true → length s ≡ 11
+sender_has_key b sound s n applied =
+    let found = some_body (body_at b s n) (there_in_line b s n applied) in
+    let entry = sound.transmissions s n found.0 found.1 in
+    let key : is_sender_key s ≡ true = first_holds (is_sender_key s) (is_transmission_number n) (first_holds (is_sender_key s && is_transmission_number n) (is_none (file_fault s found.0)) entry) in
     eqb-true (length s) 11 (first_holds (eqb (length s) 11) (list_all is_capital_or_digit s) key)
 
 reached : (o : Office) (b : Book) → IsSound b → (key : TransmissionKey) → is_applied b key ≡ true → AllByRecursion HasSender (versions_at_cut o b key)
-reached o b sound key applied =
-    let first = one_of_first (front b key.sender) key.number applied in
-    let within = one_of_within (front b key.sender) key.number applied in
-    sent_by o b key (front_has_key b sound key.sender (omega (arith, first, within)))
+reached o b sound key applied = sent_by o b key (sender_has_key b sound key.sender key.number applied)
 
 cut_sent : (o : Office) (b : Book) → IsSound b → (keys : List TransmissionKey) → list_all (is_applied b) keys ≡ true → AllByRecursion HasSender (flat_map (versions_at_cut o b) keys)
 cut_sent o b sound [] h = tt

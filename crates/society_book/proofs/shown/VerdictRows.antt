@@ -1,11 +1,9 @@
 -- What the rows of a transmission's verdicts show.
-use Rattle.std.proofs.Common.{◌≡◌, ◌∙◌, ◌<◌, ◌≤◌, ◌+◌, ◌&&◌, ◌==◌, ◌++◌, ℕ, suc, zero, pos, Bool, true, false, cond, List, [], ◌∷◌, Option, Some, None, length, refl, ap, ap₂, sym, subst, arith, map, filter, nat_le, IsPermutation, unwrap_or, Less, ne_eqb}
+use Rattle.std.proofs.Common.{◌≡◌, ◌∙◌, ◌+◌, ◌&&◌, ◌==◌, ◌++◌, ℕ, suc, zero, pos, Bool, true, false, cond, List, [], ◌∷◌, Option, Some, None, length, refl, ap, sym, subst, arith, map, filter, IsPermutation, unwrap_or, Less, ne_eqb}
 use Rattle.std.proofs.Common.{IfOk, Ok, Err, Result, option_map, Vec}
 use Rattle.std.specs.declared.alloc.Global.{Global}
 use Rattle.society_rows.specs.declared.fault.RowFault.{RowFault}
-use Rattle.std.specs.List.{AllByRecursion, enumerate_from, flat_map, range_with_len}
-use Rattle.std.proofs.lemmas.Bool.{false≢true}
-use Rattle.std.proofs.lemmas.Bool.Decides.{nat_tests}
+use Rattle.std.specs.List.{AllByRecursion, enumerate_from, flat_map}
 use Rattle.std.proofs.lemmas.List.Sorted.{IsPermutation-trans}
 use Rattle.std.proofs.lemmas.Slice.Eq.{bytes_eq-Decides}
 use Rattle.cwr_files.specs.Contents.{transactions_of, transmission_in}
@@ -18,9 +16,10 @@ use Rattle.sqlite_trees.specs.Tree.{IsAscending, Trees}
 use Rattle.sqlite_value.specs.Keys.{rising}
 use Rattle.sqlite_value.specs.declared.value.Value.TheVariants.{Int, Text}
 use Rattle.sqlite_value.specs.Order.{Row, column}
-use Rattle.society_core.proofs.CandidateLemmas.{verdicts_are_counted}
-use Rattle.society_core.proofs.LineNumbers.{in_line_is}
-use Rattle.society_core.specs.Book.{Book, body_at, front, is_in_line, is_one_of, numbers_to, shown_verdicts, verdicts_in}
+use Rattle.society_core.proofs.Books.{sound_order}
+use Rattle.society_core.proofs.CandidateLemmas.{verdicts_counted_in}
+use Rattle.society_core.proofs.LineNumbers.{line_rises_to, one_of_own}
+use Rattle.society_core.specs.Book.{Book, body_at, front, is_in_line, line, shown_verdicts, verdicts_in}
 use Rattle.society_rows.specs.Layout as layout
 use Rattle.society_rows.specs.Reads.{Lists, has_key}
 use Rattle.society_rows.specs.Stored.{rows_in}
@@ -30,7 +29,7 @@ use Rattle.society_book.specs.Kept.{HoldsBook}
 use Rattle.society_book.specs.Shown.{ShowVerdicts, verdict_in}
 use Rattle.society_book.proofs.rows_alike.KeyRows.{HasKeyForm, either_way, keyed}
 use Rattle.society_book.proofs.rows_alike.RowLemmas.{all_rows, none_else}
-use Rattle.society_book.proofs.rows_alike.SortedRows.{is_numbered, lines_back, lines_rise, none_below, none_past, one_order, rises_third, those_of}
+use Rattle.society_book.proofs.rows_alike.SortedRows.{is_numbered, lines_back, lines_rise, none_among, one_order, rises_third, those_of}
 use Rattle.works_core.specs.declared.verdict.Verdict.{Verdict}
 use Rattle.works_core.specs.declared.verdict.Verdict.TheVariants.{Accepted, Rejected}
 
@@ -91,12 +90,12 @@ module _ (o : Office) (b : Book) (db : Trees) (holds : HoldsBook o b db) (s : Li
   all_append P [] ys x y = y
   all_append P (r ∷ xs) ys x y = (x.0, all_append P xs ys x.1 y)
 
-  formed_from : (q : List ℕ) (from len : ℕ) → AllByRecursion HasKeyForm (flat_map (told_by tells_verdict o b q) (range_with_len from len))
-  formed_from q from zero = tt
-  formed_from q from (suc len) =
-      all_append HasKeyForm (told_by tells_verdict o b q from) (flat_map (told_by tells_verdict o b q) (range_with_len (from + 1) len))
-      (all_told HasKeyForm q from (formed_so q from) 0 (transactions_of (transmission_in (unwrap_or (body_at b q from) []))) (verdicts_in o b q from))
-      (formed_from q (from + 1) len)
+  formed_over : (q ns : List ℕ) → AllByRecursion HasKeyForm (flat_map (told_by tells_verdict o b q) ns)
+  formed_over q [] = tt
+  formed_over q (k ∷ ns) =
+      all_append HasKeyForm (told_by tells_verdict o b q k) (flat_map (told_by tells_verdict o b q) ns)
+      (all_told HasKeyForm q k (formed_so q k) 0 (transactions_of (transmission_in (unwrap_or (body_at b q k) []))) (verdicts_in o b q k))
+      (formed_over q ns)
 
   keyed_so : (rows : List Row) → AllByRecursion HasKeyForm rows → AllByRecursion (λ row. has_key (Text s ∷ Int (pos n) ∷ []) row ≡ (is_named s row && is_numbered n row)) rows
   keyed_so [] all = tt
@@ -106,40 +105,23 @@ module _ (o : Office) (b : Book) (db : Trees) (holds : HoldsBook o b db) (s : Li
   found_numbered : (found : List Row) → Lists layout.verdicts (has_key (Text s ∷ Int (pos n) ∷ [])) 3 db found → IsPermutation (filter (is_numbered n) (told_to_front tells_verdict o b s)) found
   found_numbered found lists =
       let rows = rows_in layout.verdicts db in
-      let formed = all_rows is_named (text_at 0) (λ r. (bytes_eq-Decides (text_at 0 r) (text_at 0 r)).1 refl) HasKeyForm (told_to_front tells_verdict o b) rows holds.derived.verdicts (λ q. formed_from q 1 (front b q)) in
+      let formed = all_rows is_named (text_at 0) (λ r. (bytes_eq-Decides (text_at 0 r) (text_at 0 r)).1 refl) HasKeyForm (told_to_front tells_verdict o b) rows holds.derived.verdicts (λ q. formed_over q (line b q)) in
       let same : filter (has_key (Text s ∷ Int (pos n) ∷ [])) rows ≡ filter (is_numbered n) (filter (is_named s) rows) =
       filter_same (has_key (Text s ∷ Int (pos n) ∷ [])) (λ row. is_named s row && is_numbered n row) rows (keyed_so rows formed) ∙ filter_both (is_named s) (is_numbered n) rows in
       IsPermutation-trans (filter (is_numbered n) (told_to_front tells_verdict o b s)) (filter (is_numbered n) (filter (is_named s) rows)) found
       (IsPermutation-filter (is_numbered n) (told_to_front tells_verdict o b s) (filter (is_named s) rows) (holds.derived.verdicts s))
       (subst (λ l. IsPermutation l found) same lists.rows)
 
-  at_least_one : nat_le 1 n ≡ true → 1 ≤ n
-  at_least_one h = grind (arith, nat_tests)
-
-  within : nat_le n (front b s) ≡ true → n ≤ front b s
-  within h = grind (arith, nat_tests)
-
-  not_within : nat_le n (front b s) ≡ false → front b s < n
-  not_within h = grind (arith, nat_tests)
-
   -- what is found of a transmission's verdicts shows them
   pub verdicts_found : (found : List Row) → Lists layout.verdicts (has_key (Text s ∷ Int (pos n) ∷ [])) 3 db found → ShowVerdicts (cond (is_in_line b s n) (verdicts_in o b s n) []) found
-  verdicts_found found lists = by_case (nat_le 1 n) refl (nat_le n (front b s)) refl
+  verdicts_found found lists = by_case (is_in_line b s n) refl
     where
-      none : (x : Bool) → x ≡ false → filter (is_numbered n) (told_to_front tells_verdict o b s) ≡ [] → ShowVerdicts (cond x (verdicts_in o b s n) []) found
-      none true e empty = absurd (false≢true (sym e))
-      none false e empty = (s, n, none_else found (subst (λ l. IsPermutation l found) empty (found_numbered found lists)))
-
-      by_case : (x : Bool) → nat_le 1 n ≡ x → (y : Bool) → nat_le n (front b s) ≡ y → ShowVerdicts (cond (is_in_line b s n) (verdicts_in o b s n) []) found
-      by_case false low y high = none (is_in_line b s n) (in_line_is b s n ∙ ap (λ t. t && nat_le n (front b s)) low) (none_below (told_by tells_verdict o b s) told_numbered n 1 (front b s) (grind (arith, nat_tests)))
-      by_case true low false high = none (is_in_line b s n) (in_line_is b s n ∙ ap₂ (λ t u. t && u) low high) (none_past (told_by tells_verdict o b s) told_numbered n 1 (front b s) (omega (arith, not_within high)))
-      by_case true low true high =
-          let some = at_least_one low in
-          let low_enough = within high in
+      by_case : (x : Bool) → is_in_line b s n ≡ x → ShowVerdicts (cond x (verdicts_in o b s n) []) found
+      by_case false out = (s, n, none_else found (subst (λ l. IsPermutation l found) (none_among (told_by tells_verdict o b s) told_numbered n (line b s) out) (found_numbered found lists)))
+      by_case true one =
           let rows : filter (is_numbered n) (told_to_front tells_verdict o b s) ≡ map (λ l. verdict_row s n l.0 l.1) (enumerate_from 0 (verdicts_in o b s n)) =
-          those_of (told_by tells_verdict o b s) told_numbered n 1 (front b s) some (omega (arith, low_enough))
-          ∙ told_lines s n 0 (transactions_of (transmission_in (unwrap_or (body_at b s n) []))) (verdicts_in o b s n) (verdicts_are_counted o b s n n some (omega arith)) in
-          subst (λ t. ShowVerdicts (cond t (verdicts_in o b s n) []) found) (sym (in_line_is b s n ∙ ap₂ (λ t u. t && u) low high))
+          those_of (told_by tells_verdict o b s) told_numbered n 0 (front b s) (line b s) (line_rises_to b s (sound_order b holds.sound s).right) one
+          ∙ told_lines s n 0 (transactions_of (transmission_in (unwrap_or (body_at b s n) []))) (verdicts_in o b s n) (verdicts_counted_in o b s n n (one_of_own b s n one)) in
           (s, n, one_order 3 (map (λ l. verdict_row s n l.0 l.1) (enumerate_from 0 (verdicts_in o b s n))) found (verdicts_rise s n 0 (verdicts_in o b s n)) (subst (λ l. IsPermutation l found) rows (found_numbered found lists)) lists.sorted)
 
 one_or_more : (n : ℕ) → (suc n == 0) ≡ false
@@ -170,8 +152,8 @@ shown_once : (x : Bool) (vs : List Verdict) → cond x (Some (cond x vs [])) Non
 shown_once true vs = refl
 shown_once false vs = refl
 
--- what is shown up to the front is shown
-pub shown_up_to : (o : Office) (b : Book) (s : List ℕ) (n reached : ℕ) (r : Result (Option (Vec Verdict Global)) RowFault) → IfOk r (λ shown. option_map (λ list. list.items) shown ≡ cond (is_one_of (numbers_to reached) n) (Some (cond (is_in_line b s n) (verdicts_in o b s n) [])) None) → IfOk r (λ shown. reached ≡ front b s → option_map (λ list. list.items) shown ≡ shown_verdicts o b s n)
-shown_up_to o b s n reached (Err fault) h = tt
-shown_up_to o b s n reached (Ok shown) h =
-    λ at. h ∙ ap (λ (k : ℕ). cond (is_one_of (numbers_to k) n) (Some (cond (is_in_line b s n) (verdicts_in o b s n) [])) None) at ∙ shown_once (is_in_line b s n) (verdicts_in o b s n)
+-- what is shown where a number is in the line is shown
+pub shown_applied : (o : Office) (b : Book) (s : List ℕ) (n : ℕ) (is_applied : Bool) (r : Result (Option (Vec Verdict Global)) RowFault) → IfOk r (λ shown. option_map (λ list. list.items) shown ≡ cond is_applied (Some (cond (is_in_line b s n) (verdicts_in o b s n) [])) None) → IfOk r (λ shown. is_applied ≡ is_in_line b s n → option_map (λ list. list.items) shown ≡ shown_verdicts o b s n)
+shown_applied o b s n is_applied (Err fault) h = tt
+shown_applied o b s n is_applied (Ok shown) h =
+    λ at. h ∙ ap (λ (x : Bool). cond x (Some (cond (is_in_line b s n) (verdicts_in o b s n) [])) None) at ∙ shown_once (is_in_line b s n) (verdicts_in o b s n)

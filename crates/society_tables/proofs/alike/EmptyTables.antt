@@ -1,7 +1,7 @@
 -- Tables with nothing but the office hold the book to which nothing has come.
-use Rattle.std.proofs.Common.{◌≡◌, ◌≢◌, ◌∙◌, ℕ, Bool, List, [], ◌∷◌, refl, ap, subst, sym, map, filter, length, false, true, cond, bytes_eq, pos, IsPermutation, arith}
+use Rattle.std.proofs.Common.{◌≡◌, ◌≢◌, ◌∙◌, ℕ, Bool, List, [], ◌∷◌, refl, ap, ap₂, ◌||◌, subst, sym, map, filter, length, false, true, cond, bytes_eq, pos, IsPermutation, arith}
 use Rattle.std.specs.FinMap as finite
-use Rattle.std.specs.List.{AllByRecursion, flat_map, list_any, range_with_len}
+use Rattle.std.specs.List.{AllByRecursion, flat_map, list_any}
 use Rattle.std.specs.Ordering.{nat_cmp}
 use Rattle.std.specs.declared.cmp.Ordering.{Ordering}
 use Rattle.std.proofs.lemmas.List.Sorted.{IsPermutation-refl}
@@ -12,10 +12,13 @@ use Rattle.sqlite_trees.specs.View.{is_int}
 use Rattle.sqlite_value.specs.Order.{Row}
 use Rattle.sqlite_value.specs.declared.value.Value.TheVariants.{Int, Text}
 use Rattle.society_core.specs.Book.{empty_book, front}
-use Rattle.society_core.specs.Keys.{return_cmp, transmission_cmp}
+use Rattle.society_core.specs.Keys.{return_cmp, segment_cmp, transmission_cmp}
+use Rattle.sender_segments.specs.Ways.{End}
+use Rattle.society_core.specs.declared.segment_key.SegmentKey.{SegmentKey}
+use Rattle.society_tables.proofs.audit.NobodyLines.{line_of_nobody}
 use Rattle.society_core.specs.Orders.{Order}
 use Rattle.society_core.specs.declared.transmission_key.TransmissionKey.{TransmissionKey}
-use Rattle.society_core.proofs.Books.{empty_book_sound, no_front}
+use Rattle.society_core.proofs.Books.{empty_book_sound}
 use Rattle.society_core.specs.Pools.{credits_of}
 use Rattle.society_rows.specs.Layout as layout
 use Rattle.society_rows.specs.Layout.{all_tables, written_out}
@@ -25,9 +28,9 @@ use Rattle.sqlite.specs.State.{State}
 use Rattle.society_book.specs.BookRows.{book_of}
 use Rattle.society_tables.proofs.store.AddLemmas.{holds_own, stands}
 use Rattle.society_rows.specs.Stored.{rows_in, values_of}
-use Rattle.society_book.specs.BookRows.{cut_row, paid_row, pool_row, return_row, row_of_some, rows_of_order, transmission_row}
+use Rattle.society_book.specs.BookRows.{cut_row, end_row, paid_row, pool_row, return_row, row_of_some, rows_of_order, transmission_row}
 use Rattle.society_book.specs.Columns.{HasRows}
-use Rattle.society_book.specs.DerivedRows.{Telling, balance_rows, balance_rows_by, credit_rows_by, front_rows, has_sent, tells_recordings, tells_verdict, tells_version, told_by, told_to_front, works_to}
+use Rattle.society_book.specs.DerivedRows.{Telling, balance_rows, balance_rows_by, credit_rows_by, front_rows, knows_sender, tells_recordings, tells_verdict, tells_version, told_by, told_to_front, works_to}
 use Rattle.society_book.specs.Kept.{HoldsBook, IsAtRest, office_row}
 use Rattle.work_ids.specs.Account.{account_text}
 
@@ -43,11 +46,14 @@ no_entries R X = none_left (finite.entries (finite.empty {X = X} {R = R})) (sym 
 no_rows : {K : Type 0} (is_of : K → Row → Bool) (expected : K → List Row) (rows : List Row) → rows ≡ [] → ((q : K) → expected q ≡ []) → HasRows is_of expected rows
 no_rows is_of expected rows none nothing q = subst (λ l. IsPermutation l (filter (is_of q) rows)) (sym (nothing q)) (subst (λ l. IsPermutation [] (filter (is_of q) l)) (sym none) (IsPermutation-refl []))
 
-pub told_nothing : (tells : Telling) (o : Office) (s : List ℕ) → told_to_front tells o empty_book s ≡ []
-told_nothing tells o s = ap (λ n. flat_map (told_by tells o empty_book s) (range_with_len 1 n)) (sym (no_front s))
+-- the empty book has nothing of a sender
+pub nothing_known : (s : List ℕ) → knows_sender empty_book s ≡ false
+nothing_known s =
+    ap₂ (λ x y. x || y) (ap (λ (es : List (TransmissionKey × List ℕ)). list_any (λ (key : TransmissionKey). bytes_eq key.sender s) (map (λ e. e.0) es)) (no_entries transmission_cmp (List ℕ)))
+    (ap (λ (es : List (SegmentKey × End)). list_any (λ (key : SegmentKey). bytes_eq key.sender s) (map (λ e. e.0) es)) (no_entries segment_cmp End))
 
-pub nothing_sent : (s : List ℕ) → has_sent empty_book s ≡ false
-nothing_sent s = ap (λ (es : List (TransmissionKey × List ℕ)). list_any (λ (key : TransmissionKey). bytes_eq key.sender s) (map (λ e. e.0) es)) (no_entries transmission_cmp (List ℕ))
+pub told_nothing : (tells : Telling) (o : Office) (s : List ℕ) → told_to_front tells o empty_book s ≡ []
+told_nothing tells o s = ap (flat_map (told_by tells o empty_book s)) (line_of_nobody empty_book s (nothing_known s))
 
 record AreBare (db : Trees) : Type 0 where
   transmissions : db layout.transmissions.tree ≡ []
@@ -98,11 +104,11 @@ begins_empty o row db is new =
         pools = no_rows _ _ _ (bare_rows layout.pools db bare.pools) (λ q. ap (row_of_some (pool_row q)) (finite.get-empty nat_cmp q));
         cuts = no_rows _ _ _ (bare_rows layout.pool_cuts db bare.pool_cuts) (λ q. ap (rows_of_order (cut_row q) (λ order. order.cut)) (finite.get-empty nat_cmp q));
         paid = no_rows _ _ _ (bare_rows layout.pool_returns db bare.pool_returns) (λ q. ap (rows_of_order (paid_row q) (λ order. order.returns)) (finite.get-empty nat_cmp q));
-        ends = bare_rows layout.segment_ends db bare.ends;
+        ends = no_rows _ _ _ (bare_rows layout.segment_ends db bare.ends) (λ q. ap (row_of_some (end_row q)) (finite.get-empty segment_cmp q));
         mechanical = bare_rows layout.mechanical_pools db bare.mechanical;
       };
       derived = record {
-        fronts = no_rows _ (front_rows o empty_book) _ (bare_rows layout.fronts db bare.fronts) (λ q. ap (λ b. cond b ((Text q ∷ Int (pos (front empty_book q)) ∷ Int (pos (works_to o empty_book q)) ∷ []) ∷ []) []) (nothing_sent q));
+        fronts = no_rows _ (front_rows o empty_book) _ (bare_rows layout.fronts db bare.fronts) (λ q. ap (λ b. cond b ((Text q ∷ Int (pos (front empty_book q)) ∷ Int (pos (works_to o empty_book q)) ∷ []) ∷ []) []) (nothing_known q));
         verdicts = no_rows _ _ _ (bare_rows layout.verdicts db bare.verdicts) (told_nothing tells_verdict o);
         versions = no_rows _ _ _ (bare_rows layout.versions db bare.versions) (told_nothing tells_version o);
         recordings = no_rows _ _ _ (bare_rows layout.recordings db bare.recordings) (told_nothing tells_recordings o);

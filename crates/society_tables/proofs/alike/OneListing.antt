@@ -1,6 +1,6 @@
 -- Tables that hold one book are listed alike.
-use Rattle.std.proofs.Common.{◌≡◌, ◌∙◌, ◌==◌, ◌+◌, ℕ, pos, Bool, true, false, cond, List, [], ◌∷◌, Option, Some, None, is_some, filter, length, refl, sym, ap, subst, arith, bytes_eq, IsPermutation}
-use Rattle.std.specs.List.{AllByRecursion, enumerate_from, range_with_len}
+use Rattle.std.proofs.Common.{◌≡◌, ◌∙◌, ◌==◌, ◌+◌, ℕ, zero, suc, pos, Bool, true, false, cond, List, [], ◌∷◌, Option, Some, None, is_some, filter, length, refl, sym, ap, subst, arith, bytes_eq, IsPermutation}
+use Rattle.std.specs.List.{AllByRecursion, enumerate_from}
 use Rattle.std.proofs.lemmas.Bool.Decides.{nat_tests}
 use Rattle.std.proofs.lemmas.List.Sorted.{IsPermutation-trans}
 use Rattle.std.proofs.lemmas.Slice.Eq.{bytes_eq-Decides}
@@ -15,26 +15,29 @@ use Rattle.sqlite_trees.specs.Tree.{Trees}
 use Rattle.sqlite_value.specs.Keys.{rising}
 use Rattle.sqlite_value.specs.Order.{Row}
 use Rattle.sqlite_value.specs.declared.value.Value.TheVariants.{Int, Text}
-use Rattle.society_core.specs.Book.{Book, body_at, front, order_at, return_at}
+use Rattle.sender_segments.specs.Ways.{End}
+use Rattle.society_core.specs.Book.{Book, body_at, end_at, front, line, order_at, return_at}
 use Rattle.society_core.specs.Keys.{ascending, bytes_cmp}
 use Rattle.society_core.specs.Orders.{Order}
 use Rattle.society_core.specs.Pools.{credits_of}
 use Rattle.society_core.specs.declared.return_key.ReturnKey.{ReturnKey}
+use Rattle.society_core.specs.declared.segment_key.SegmentKey.{SegmentKey}
 use Rattle.society_core.specs.declared.transmission_key.TransmissionKey.{TransmissionKey}
 use Rattle.society_rows.specs.Layout as layout
 use Rattle.society_rows.specs.Reads.{Lists}
+use Rattle.society_rows.specs.SegmentColumns.{segment_column}
 use Rattle.society_rows.specs.Stored.{rows_in}
 use Rattle.society_rows.specs.TableNames.{listing_width, table_called}
 use Rattle.society_rows.specs.declared.tables.TableName.{TableName}
 use Rattle.society_rows.specs.declared.tables.TableName.TheVariants as name
-use Rattle.society_book.specs.BookRows.{cut_row, cut_rows, is_of_pool, is_return_row, is_transmission_row, paid_row, paid_rows, pool_row, pool_rows, return_key_of, return_row, return_rows, row_of_some, rows_of_order, transmission_key_of, transmission_row, transmission_rows}
-use Rattle.society_book.specs.Columns.{HasRows, whole_number_at, text_at}
-use Rattle.society_book.specs.DerivedRows.{Telling, balance_rows, balance_rows_by, credit_row, credit_rows, credit_rows_by, credits_to, front_rows, has_sent, is_named, tells_recordings, tells_verdict, tells_version, told_by, told_from, told_to_front, work_text, works_to}
+use Rattle.society_book.specs.BookRows.{cut_row, cut_rows, end_row, end_rows, is_end_row, is_of_pool, is_return_row, is_transmission_row, paid_row, paid_rows, pool_row, pool_rows, return_key_of, return_row, return_rows, row_of_some, rows_of_order, segment_key_of, transmission_key_of, transmission_row, transmission_rows}
+use Rattle.society_book.specs.Columns.{HasRows, segment_at, segment_of_value, text_at, whole_number_at}
+use Rattle.society_book.specs.DerivedRows.{Telling, balance_rows, balance_rows_by, credit_row, credit_rows, credit_rows_by, credits_to, front_rows, is_named, knows_sender, tells_recordings, tells_verdict, tells_version, told_by, told_from, told_to_front, work_text, works_to}
 use Rattle.society_book.specs.Kept.{HoldsBook, office_row}
 use Rattle.society_book.proofs.rows_alike.BookLemmas.{IsRefilled, refilled}
 use Rattle.society_book.proofs.rows_alike.KeyRows.{both_same}
 use Rattle.society_book.proofs.rows_alike.RowLemmas.{all_rows, none_else, one_else}
-use Rattle.society_tables.proofs.alike.RowTies.{IsTold, Kind, Number, Words, one_row}
+use Rattle.society_tables.proofs.alike.RowTies.{IsTold, Kind, Number, Segment, Words, one_row}
 use Rattle.society_tables.proofs.alike.SameTables.{all_pass}
 use Rattle.society_tables.proofs.alike.SortedOnce.{as_many, sorted_once}
 use Rattle.works_core.specs.declared.verdict.Verdict.{Verdict}
@@ -80,6 +83,14 @@ same_name name = (bytes_eq-Decides name name).1 refl
 abbrev key_kinds : List Kind
 key_kinds = Words ∷ Number ∷ []
 
+abbrev end_kinds : List Kind
+end_kinds = Words ∷ Segment ∷ Number ∷ Segment ∷ []
+
+-- the column of a segment is of its kind
+segment_is : (place : ℕ) → Int (segment_column place) ≡ Int (segment_column (segment_of_value (Int (segment_column place))))
+segment_is zero = refl
+segment_is (suc year) = refl
+
 module _ (b : Book) where
   abbrev sent : Row → List Row
   sent row = transmission_rows b (transmission_key_of row)
@@ -96,6 +107,10 @@ module _ (b : Book) where
   returned_told q (Some body) is whole =
       let back : return_key_of (return_row q body) ≡ q = λ i. record { reporter = whole refl i; number = q.number } in
       (((refl, (refl, tt)), ap (return_rows b) back ∙ ap (row_of_some (return_row q)) is), tt)
+
+  ended_told : (q : SegmentKey) (x : Option End) → AllByRecursion (IsTold end_kinds alone) (row_of_some (end_row q) x)
+  ended_told q None = tt
+  ended_told q (Some end) = (((refl, (segment_is q.segment, (refl, (segment_is end.next, tt)))), refl), tt)
 
   abbrev closed : Row → List Row
   closed row = pool_rows b (whole_number_at 0 row)
@@ -122,8 +137,8 @@ module _ (kinds : List Kind) (tells : Telling) (each : (sender : List ℕ) (numb
 
   line_told : (o : Office) (b : Book) (sender : List ℕ) → AllByRecursion (IsTold kinds alone) (told_to_front tells o b sender)
   line_told o b sender =
-      all-flat_map (IsTold kinds alone) (told_by tells o b sender) (range_with_len 1 (front b sender))
-      (all_of (λ number. AllByRecursion (IsTold kinds alone) (told_by tells o b sender number)) (λ number. from_place sender number 0 _ _) (range_with_len 1 (front b sender)))
+      all-flat_map (IsTold kinds alone) (told_by tells o b sender) (line b sender)
+      (all_of (λ number. AllByRecursion (IsTold kinds alone) (told_by tells o b sender number)) (λ number. from_place sender number 0 _ _) (line b sender))
 
 abbrev verdict_kinds : List Kind
 verdict_kinds = Words ∷ Number ∷ Number ∷ Number ∷ Number ∷ Number ∷ []
@@ -159,9 +174,9 @@ module _ (o : Office) (b : Book) where
   reached row = front_rows o b (text_at 0 row)
 
   reached_told : (q : List ℕ) → AllByRecursion (IsTold (Words ∷ []) reached) (front_rows o b q)
-  reached_told q = by_case (has_sent b q) refl
+  reached_told q = by_case (knows_sender b q) refl
     where
-      by_case : (x : Bool) → has_sent b q ≡ x → AllByRecursion (IsTold (Words ∷ []) reached) (cond x ((Text q ∷ Int (pos (front b q)) ∷ Int (pos (works_to o b q)) ∷ []) ∷ []) [])
+      by_case : (x : Bool) → knows_sender b q ≡ x → AllByRecursion (IsTold (Words ∷ []) reached) (cond x ((Text q ∷ Int (pos (front b q)) ∷ Int (pos (works_to o b q)) ∷ []) ∷ []) [])
       by_case true is = (((refl, tt), ap (λ x. cond x ((Text q ∷ Int (pos (front b q)) ∷ Int (pos (works_to o b q)) ∷ []) ∷ []) []) is), tt)
       by_case false is = tt
 
@@ -212,5 +227,7 @@ listed_alike o b one two holds also name.Credits xs ys lists others =
 listed_alike o b one two holds also name.Balances xs ys lists others =
     listed_once is_named (text_at 0) (λ r. same_name (text_at 0 r)) (balance_rows o b) (Words ∷ []) (owed o b) (λ q. owed_told o b q (credits_to o b q) refl)
     layout.balances one two xs ys holds.derived.balances also.derived.balances lists others
-listed_alike o b one two holds also name.SegmentEnds xs ys lists others = none_listed layout.segment_ends 4 one xs holds.kept.ends lists ∙ sym (none_listed layout.segment_ends 4 two ys also.kept.ends others)
+listed_alike o b one two holds also name.SegmentEnds xs ys lists others =
+    listed_once is_end_row segment_key_of (λ r. both_same (text_at 0 r) (segment_at 1 r)) (end_rows b) end_kinds alone (λ q. ended_told b q (end_at b q.sender q.segment))
+    layout.segment_ends one two xs ys holds.kept.ends also.kept.ends lists others
 listed_alike o b one two holds also name.MechanicalPools xs ys lists others = none_listed layout.mechanical_pools 1 one xs holds.kept.mechanical lists ∙ sym (none_listed layout.mechanical_pools 1 two ys also.kept.mechanical others)

@@ -38,7 +38,7 @@ holds_as o b one two holds agree numbered = record {
     pools = has_rows _ _ _ _ holds.kept.pools agree.1.1.1.0;
     cuts = has_rows _ _ _ _ holds.kept.cuts agree.1.1.1.1.0;
     paid = has_rows _ _ _ _ holds.kept.paid agree.1.1.1.1.1.0;
-    ends = still_none layout.segment_ends one two holds.kept.ends agree.1.1.1.1.1.1.1.1.1.1.1.1.0;
+    ends = has_rows _ _ _ _ holds.kept.ends agree.1.1.1.1.1.1.1.1.1.1.1.1.0;
     mechanical = still_none layout.mechanical_pools one two holds.kept.mechanical agree.1.1.1.1.1.1.1.1.1.1.1.1.1.0;
   };
   derived = record {

@@ -1,5 +1,5 @@
 -- The requests of a database come again while its rows are those of a book.
-use Rattle.std.proofs.Common.{◌≡◌, ◌∙◌, ℕ, Bool, true, List, Result, Ok, Err, IfErr, IsTrue, filter, IsPermutation, arith, refl, subst, sym}
+use Rattle.std.proofs.Common.{◌≡◌, ◌∙◌, ℕ, Bool, true, List, Result, Ok, Err, IfErr, filter, IsPermutation, arith, refl, subst, sym}
 use Rattle.std.specs.Result.{IsErrAnd}
 use Rattle.std.proofs.lemmas.List.Sorted.{IsPermutation-trans}
 use Rattle.sqlite.specs.Effect.{Database}
@@ -9,21 +9,22 @@ use Rattle.sqlite_schema.specs.declared.schema.Table.{Table}
 use Rattle.sqlite_trees.specs.Tree.{Trees}
 use Rattle.sqlite_value.specs.Order.{Row}
 use Rattle.society_core.specs.Book.{Book, empty_book}
-use Rattle.society_core.proofs.KeyOrders.{exact_returns, exact_transmissions, returns_total, transmissions_total}
+use Rattle.society_core.proofs.KeyOrders.{exact_returns, exact_segments, exact_transmissions, returns_total, segments_total, transmissions_total}
 use Rattle.society_rows.specs.Reads.{Lists}
 use Rattle.society_rows.specs.Stored.{HasLayout, rows_in}
 use Rattle.society_rows.specs.declared.fault.RowFault.{RowFault}
 use Rattle.society_rows.specs.declared.fault.RowFault.TheVariants as row
-use Rattle.society_book.specs.BookRows.{AreOfBook, is_return_row, is_transmission_row, return_rows, transmission_rows}
+use Rattle.society_book.specs.BookRows.{AreOfBook, end_rows, is_end_row, is_return_row, is_transmission_row, return_rows, transmission_rows}
 use Rattle.society_book.specs.Columns.{HasRows}
 use Rattle.share_rules.specs.declared.office.Office.{Office}
 use Rattle.society_book.specs.Kept.{HoldsBook}
 use Rattle.society_tables.specs.Opening.{Inspects, audit_fault_by}
-use Rattle.society_tables.specs.Rebuilding.{AllReported, AllSent, ComesFrom, IsAside, IsWithin, Passes, ShowsBook, sent_alone, without_pools}
+use Rattle.society_tables.specs.Rebuilding.{AllReported, AllSent, AllStated, ComesFrom, IsAside, IsWithin, Passes, ShowsBook, lines_alone, sent_alone, without_pools}
 use Rattle.society_tables.specs.declared.audit_fault.AuditFault.{AuditFault}
 use Rattle.std.specs.Prelude.{⊤}
 use Rattle.society_tables.specs.declared.audit_fault.AuditFault.TheVariants as audit
 use Rattle.society_tables.proofs.anew.MapsWithin.{none_within}
+use Rattle.society_tables.proofs.anew.EndsAgain.{all_stated_alone}
 use Rattle.society_tables.proofs.anew.RowsAgain.{all_sent_alone, without_pools_whole}
 use Rattle.society_tables.proofs.alike.SameTables.{all_pass}
 
@@ -64,15 +65,28 @@ comes_still b old mid x Found first clean comes = record {
 pub empty_within : (b old : Book) → old ≡ empty_book → IsWithin old.transmissions b.transmissions
 empty_within b old is = subst (λ (x : Book). IsWithin x.transmissions b.transmissions) (sym is) (none_within transmissions_total exact_transmissions b.transmissions)
 
-pub no_returns_within : (b old : Book) → old ≡ sent_alone b → IsWithin old.returns b.returns
+pub no_ends_within : (b old : Book) → old ≡ empty_book → IsWithin old.ends b.ends
+no_ends_within b old is = subst (λ (x : Book). IsWithin x.ends b.ends) (sym is) (none_within segments_total exact_segments b.ends)
+
+pub ends_within : (b old : Book) → old ≡ sent_alone b → IsWithin old.ends b.ends
+ends_within b old is = subst (λ (x : Book). IsWithin x.ends b.ends) (sym is) (none_within segments_total exact_segments b.ends)
+
+pub sent_within : (b old : Book) → old ≡ sent_alone b → IsWithin old.transmissions b.transmissions
+sent_within b old is = subst (λ (x : Book). IsWithin x.transmissions b.transmissions) (sym is) (λ key value h. h)
+
+pub no_returns_within : (b old : Book) → old ≡ lines_alone b → IsWithin old.returns b.returns
 no_returns_within b old is = subst (λ (x : Book). IsWithin x.returns b.returns) (sym is) (none_within returns_total exact_returns b.returns)
 
 -- the transmissions have come
 pub sent_end : (b old new : Book) (rows : List Row) (r : Result (Unit {0}) AuditFault) → HasRows is_transmission_row (transmission_rows b) rows → old ≡ empty_book → Passes r (λ _. AllSent b old rows new) → Passes r (λ _. new ≡ sent_alone b)
-sent_end b old new rows r has is = passes_so _ _ r (λ x all. all_sent_alone b old new rows has all (λ i. (is i).returns) (λ i. (is i).pools))
+sent_end b old new rows r has is = passes_so _ _ r (λ x all. all_sent_alone b old new rows has all (λ i. (is i).ends) (λ i. (is i).returns) (λ i. (is i).pools))
+
+-- the ends have come
+pub stated_end : (b old new : Book) (rows : List Row) (r : Result (Unit {0}) AuditFault) → HasRows is_end_row (end_rows b) rows → old ≡ sent_alone b → Passes r (λ _. AllStated b old rows new) → Passes r (λ _. new ≡ lines_alone b)
+stated_end b old new rows r has is = passes_so _ _ r (λ x all. all_stated_alone b old new rows has all is)
 
 -- the returns have come
-pub reported_end : (b old new : Book) (rows : List Row) (r : Result (Unit {0}) AuditFault) → HasRows is_return_row (return_rows b) rows → old ≡ sent_alone b → Passes r (λ _. AllReported b old rows new) → Passes r (λ _. new ≡ without_pools b)
+pub reported_end : (b old new : Book) (rows : List Row) (r : Result (Unit {0}) AuditFault) → HasRows is_return_row (return_rows b) rows → old ≡ lines_alone b → Passes r (λ _. AllReported b old rows new) → Passes r (λ _. new ≡ without_pools b)
 reported_end b old new rows r has is = passes_so _ _ r (λ x all. without_pools_whole b old new rows has all is)
 
 -- a disk that is clean at the end was clean before

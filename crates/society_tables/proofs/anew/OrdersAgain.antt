@@ -10,13 +10,13 @@ use Rattle.sqlite_keyed.proofs.ListLemmas.{all_both, all_from_test, all_map, all
 use Rattle.sqlite_value.specs.Order.{Row, column}
 use Rattle.sqlite_value.specs.declared.value.Value.{Value}
 use Rattle.sqlite_value.specs.declared.value.Value.TheVariants.{Int}
-use Rattle.society_core.specs.Book.{Book, IsSound, front, is_applied, is_pool_entry, is_reporter, order_at, return_at}
-use Rattle.society_core.proofs.LineNumbers.{one_of_within}
+use Rattle.society_core.specs.Book.{Book, IsSound, is_applied, is_pool_entry, is_reporter, order_at, return_at}
+use Rattle.society_core.proofs.LineNumbers.{in_line_within}
 use Rattle.society_core.specs.Keys.{ascending, return_cmp, return_key, transmission_cmp, transmission_key}
 use Rattle.society_core.specs.Orders.{Order, order_fault, order_of, return_pair, sent_pair}
 use Rattle.society_core.specs.declared.return_key.ReturnKey.{ReturnKey}
 use Rattle.society_core.specs.declared.transmission_key.TransmissionKey.{TransmissionKey}
-use Rattle.society_core.proofs.Books.{front_within, some_body}
+use Rattle.society_core.proofs.Books.{some_body, sound_front, sound_order}
 use Rattle.society_core.proofs.Fronts.{first_holds, second_holds}
 use Rattle.society_core.proofs.OrderFaults.{fault_permutes}
 use Rattle.society_core.proofs.Stores.{there_reporter}
@@ -139,9 +139,10 @@ module _ (b : Book) (sound : IsSound b) where
         all_map IsCut (cut_row pool) order.cut
         (all_both (λ (key : TransmissionKey). is_applied b key ≡ true) (λ key. is_sender_key key.sender ≡ true) (λ key. IsCut (cut_row pool key))
         (λ key within sender.
-        let low = one_of_within (front b key.sender) key.number within in
-        let high = front_within b key.sender sound in
-        ((refl, ((pool, refl, small_pool), ((key.sender, refl), ((key.number, refl, small key.number (omega arith)), tt)))), sender))
+        let low = in_line_within b key.sender (sound_order b sound key.sender).right key.number within in
+        let high = sound_front b key.sender sound in
+        let fits : key.number < 2 ^ 32 = omega (low, high, arith) in
+        ((refl, ((pool, refl, small_pool), ((key.sender, refl), ((key.number, refl, fits), tt)))), sender))
         order.cut below (all_from_test (λ (key : TransmissionKey). is_sender_key key.sender) order.cut (sound.orders pool order there).sender_keys))
 
     -- and the rows of its returns

@@ -1,5 +1,5 @@
 -- A pool of a book is closed when its order comes again to a desk that has a part of that book.
-use Rattle.std.proofs.Common.{◌≡◌, ◌∙◌, ◌&&◌, ◌||◌, ◌==◌, inl, inr, ℕ, Bool, true, false, cond, List, [], ◌∷◌, Option, Some, None, is_some, nat_le, Result, Ok, Err, if◌then◌else◌, bytes_eq, ap, refl, sym, subst, arith}
+use Rattle.std.proofs.Common.{◌≡◌, ◌∙◌, ◌&&◌, ◌||◌, ◌==◌, inl, inr, ℕ, Bool, true, false, cond, List, [], ◌∷◌, Option, Some, None, is_some, Result, Ok, Err, if◌then◌else◌, bytes_eq, ap, ap₂, refl, sym, subst, arith}
 use Rattle.std.proofs.lemmas.Bool.{false≢true}
 use Rattle.std.proofs.lemmas.Bool.Decides.{nat_tests}
 use Rattle.std.proofs.lemmas.Cmp.{nat_cmp_total}
@@ -10,7 +10,7 @@ use Rattle.std.specs.List.{AllByRecursion, find, list_all, list_any}
 use Rattle.share_rules.specs.declared.office.Office.{Office}
 use Rattle.sqlite_keyed.proofs.ListLemmas.{all_both, all_from_test, all_weaker}
 use Rattle.society_core.specs.Answers.{close_answer, close_book, close_refusal, closed_answer, closed_book, cut_refusal, refusal_or_later, first_refusal, payer, payment_by, payment_refusal, pool_known_by, pool_of, return_refusal}
-use Rattle.society_core.specs.Book.{Book, IsSound, front_in, is_applied, is_one_of, is_pool_entry, numbers_to, order_at, return_at}
+use Rattle.society_core.specs.Book.{Book, Ends, IsSound, Transmissions, is_applied, is_pool_entry, line, order_at, return_at}
 use Rattle.society_core.specs.Orders.{Order, names_return, same_order, same_return_key, same_transmission_key}
 use Rattle.society_core.specs.Requests.{Closed, Closes, Refused, Reply, told}
 use Rattle.society_core.specs.Runs.{Step}
@@ -114,8 +114,14 @@ module _ (o : Office) (b old : Book) (pool : ℕ) (order : Order) (sound : IsSou
   kept : list_all (λ key. is_some (return_at b key)) order.returns ≡ true
   kept = third_holds (is_pool_number pool) (list_all (is_applied b) order.cut) (list_all (λ key. is_some (return_at b key)) order.returns) entry
 
+  -- a line rests on transmissions and ends alone
+  same_line : (key : TransmissionKey) → is_applied old key ≡ is_applied b key
+  unfolding line
+  same_line key =
+      ap₂ (λ (m : Transmissions) (e : Ends). is_applied (record { transmissions = m; ends = e; returns = finite.empty; pools = finite.empty }) key) part.transmissions part.ends
+
   cut_is_free : (key : TransmissionKey) → is_applied b key ≡ true → cut_refusal old key ≡ None
-  cut_is_free key h = cut_free old key (ap (λ m. is_one_of (numbers_to (front_in m key.sender)) key.number) part.transmissions ∙ h)
+  cut_is_free key h = cut_free old key (same_line key ∙ h)
 
   unnamed : (key : ReturnKey) → names_return key order ≡ true → order_at old pool ≡ None → (e : ℕ × Order) → IsPool old e → names_return key e.1 ≡ false
   unnamed key names free e is = by_case (names_return key e.1) refl
@@ -156,12 +162,12 @@ module _ (o : Office) (b old : Book) (pool : ℕ) (order : Order) (sound : IsSou
     New,
     ap (closed_answer pool) (unrefused has),
     subst (λ (r : Option Refusal). ClosedOn b old pool order (closed_book old pool order r)) (sym (unrefused has))
-        (brings_new nat_cmp_total exact_numbers b.pools old.pools pool order part.pools there has, refl, refl),
+        (brings_new nat_cmp_total exact_numbers b.pools old.pools pool order part.pools there has, refl, refl, refl),
   )
   knows (Some other) has =
       let same : other ≡ order = the_one other order (sym (part.pools pool other has) ∙ there) in
       subst Knows (sym (known_order order other same))
-      (Repeated, refl, (brings_again nat_cmp_total exact_numbers b.pools old.pools pool order part.pools (has ∙ ap Some same), refl, refl))
+      (Repeated, refl, (brings_again nat_cmp_total exact_numbers b.pools old.pools pool order part.pools (has ∙ ap Some same), refl, refl, refl))
 
   -- the pool of the book
   pub closed_again : (new : Book) (r : Result Receipt Refusal) → Step o old (Closes pool order) (told (λ receipt. Closed receipt pool) r) new → IsTaken r (ClosedOn b old pool order new)

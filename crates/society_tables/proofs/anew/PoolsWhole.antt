@@ -43,7 +43,7 @@ pub record AllClosed (b : Book) (rows : List Row) (new : Book) : Type 0 where
 -- at first none
 pub none_closed : (b new : Book) → new ≡ without_pools b → AllClosed b [] new
 none_closed b new is = subst (AllClosed b []) (sym is) (record {
-  part = record { transmissions = refl; returns = refl; pools = no_pools b };
+  part = record { transmissions = refl; ends = refl; returns = refl; pools = no_pools b };
   here = tt;
 })
 
@@ -58,6 +58,7 @@ more_closed b old new rows i row within is before closed on =
     record {
       part = record {
         transmissions = on.1 ∙ before.part.transmissions;
+        ends = on.3 ∙ before.part.ends;
         returns = on.2 ∙ before.part.returns;
         pools = on.0.within;
       };
@@ -82,8 +83,9 @@ pub whole_book : (b new : Book) (rows : List Row) → HasRows (is_of_pool 0) (po
 whole_book b new rows has i past so_far =
     let pools = within_both nat_cmp_total exact_numbers new.pools b.pools all.part.pools back in
     let transmissions = all.part.transmissions in
+    let ends = all.part.ends in
     let returns = all.part.returns in
-    λ j. record { transmissions = transmissions j; returns = returns j; pools = pools j }
+    λ j. record { transmissions = transmissions j; ends = ends j; returns = returns j; pools = pools j }
   where
     all : AllClosed b rows new
     all = subst (λ (l : List Row). AllClosed b l new) (take_all i rows past) so_far

@@ -7,14 +7,14 @@ use Rattle.std.specs.List.{AllByRecursion}
 use Rattle.std.proofs.lemmas.List.{take_more}
 use Rattle.sqlite_keyed.proofs.ListLemmas.{all-append, all-filter, all_weaker}
 use Rattle.sqlite_value.specs.Order.{Row}
-use Rattle.society_core.specs.Book.{Book, IsSound, body_at, return_at}
+use Rattle.society_core.specs.Book.{Book, Ends, IsSound, Transmissions, body_at, return_at}
 use Rattle.society_core.specs.declared.return_key.ReturnKey.{ReturnKey}
 use Rattle.society_core.specs.declared.transmission_key.TransmissionKey.{TransmissionKey}
 use Rattle.society_core.proofs.Stores.{sound_reporter}
 use Rattle.society_core.proofs.KeyOrders.{exact_returns, exact_transmissions, returns_total, transmissions_total}
 use Rattle.society_book.specs.BookRows.{is_return_row, is_transmission_row, return_key_of, return_row, return_rows, row_of_some, transmission_key_of, transmission_row, transmission_rows}
 use Rattle.society_book.specs.Columns.{HasRows, blob_at, whole_number_at, text_at}
-use Rattle.society_tables.specs.Rebuilding.{AllReported, AllSent, HasReported, HasSent, IsAside, IsReported, IsSent, IsWithin, Passes, ReportedOn, SentOn, sent_alone, without_pools}
+use Rattle.society_tables.specs.Rebuilding.{AllReported, AllSent, HasReported, HasSent, IsAside, IsReported, IsSent, IsWithin, Passes, ReportedOn, SentOn, lines_alone, sent_alone, without_pools}
 use Rattle.work_ids.specs.Blanks.{fill, without_trailing_blanks}
 use Rattle.society_tables.specs.declared.audit_fault.AuditFault.{AuditFault}
 use Rattle.society_book.proofs.rows_alike.BookLemmas.{refilled}
@@ -38,12 +38,21 @@ pub passes_err : {X : Type 0} (Found : X → Type 0) (r : Result X AuditFault) �
 passes_err Found (Ok x) never aside = absurd (false≢true never)
 passes_err Found (Err e) is aside = aside
 
+-- ends that are as they were are within those of a book as before
+pub ends_before : (b : Book) (first old : Ends) → old ≡ first → IsWithin first b.ends → IsWithin old b.ends
+ends_before b first old same within = subst (λ m. IsWithin m b.ends) (sym same) within
+
+-- so are transmissions
+pub sent_before : (b : Book) (first old : Transmissions) → old ≡ first → IsWithin first b.transmissions → IsWithin old b.transmissions
+sent_before b first old same within = subst (λ m. IsWithin m b.transmissions) (sym same) within
+
 -- one row more has come
 pub sent_more : (b first old new : Book) (rows : List Row) (i : ℕ) (d : Row) → i < length rows → AllSent b first (take i rows) old → SentOn b old (get_or rows i d) new → AllSent b first (take (i + 1) rows) new
 sent_more b first old new rows i d within before on = record {
   within = on.0.within;
   here = subst (AllByRecursion (HasSent new)) (sym (take_more rows i d within))
       (all-append (HasSent new) (take i rows) (get_or rows i d ∷ []) (all_weaker (HasSent old) (HasSent new) (λ r h. on.0.kept (transmission_key_of r) (blob_at 2 r) h) (take i rows) before.here) (on.0.here, tt));
+  ends = on.3 ∙ before.ends;
   returns = on.1 ∙ before.returns;
   pools = on.2 ∙ before.pools;
 }
@@ -54,6 +63,7 @@ reported_more b first old new rows i d within before on = record {
   here = subst (AllByRecursion (HasReported new)) (sym (take_more rows i d within))
       (all-append (HasReported new) (take i rows) (get_or rows i d ∷ []) (all_weaker (HasReported old) (HasReported new) (λ r h. on.0.kept (return_key_of r) (blob_at 2 r) h) (take i rows) before.here) (on.0.here, tt));
   transmissions = on.1 ∙ before.transmissions;
+  ends = on.3 ∙ before.ends;
   pools = on.2 ∙ before.pools;
 }
 
@@ -74,9 +84,10 @@ sent_whole b new rows has here within = within_both transmissions_total exact_tr
         let one : filter (is_transmission_row q) rows ≡ transmission_row q body ∷ [] = one_else (transmission_row q body) (filter (is_transmission_row q) rows) (subst (λ o. IsPermutation (row_of_some (transmission_row q) o) (filter (is_transmission_row q) rows)) is (has q)) in
         (subst (AllByRecursion (HasSent new)) one (all-filter (HasSent new) (is_transmission_row q) rows here)).0
 
-pub all_sent_alone : (b old new : Book) (rows : List Row) → HasRows is_transmission_row (transmission_rows b) rows → AllSent b old rows new → old.returns ≡ finite.empty → old.pools ≡ finite.empty → new ≡ sent_alone b
-all_sent_alone b old new rows has all returns pools = λ i. record {
+pub all_sent_alone : (b old new : Book) (rows : List Row) → HasRows is_transmission_row (transmission_rows b) rows → AllSent b old rows new → old.ends ≡ finite.empty → old.returns ≡ finite.empty → old.pools ≡ finite.empty → new ≡ sent_alone b
+all_sent_alone b old new rows has all ends returns pools = λ i. record {
   transmissions = sent_whole b new rows has all.here all.within i;
+  ends = (all.ends ∙ ends) i;
   returns = (all.returns ∙ returns) i;
   pools = (all.pools ∙ pools) i;
 }
@@ -110,9 +121,10 @@ reported_whole b new rows has here within = within_both returns_total exact_retu
         let there = (subst (AllByRecursion (HasReported new)) one (all-filter (HasReported new) (is_return_row q) rows here)).0 in
         subst (λ (r : List ℕ). finite.get new.returns (record { reporter = r; number = q.number }) ≡ Some body) filled there
 
-pub without_pools_whole : (b old new : Book) (rows : List Row) → HasRows is_return_row (return_rows b) rows → AllReported b old rows new → old ≡ sent_alone b → new ≡ without_pools b
+pub without_pools_whole : (b old new : Book) (rows : List Row) → HasRows is_return_row (return_rows b) rows → AllReported b old rows new → old ≡ lines_alone b → new ≡ without_pools b
 without_pools_whole b old new rows has all is = λ i. record {
   transmissions = (all.transmissions ∙ ap (λ (x : Book). x.transmissions) is) i;
+  ends = (all.ends ∙ ap (λ (x : Book). x.ends) is) i;
   returns = reported_whole b new rows has all.here all.within i;
   pools = (all.pools ∙ ap (λ (x : Book). x.pools) is) i;
 }

@@ -1,5 +1,5 @@
 -- Rows that were gone over, each of which may stand in a book and has a key of its own, are those of the book that they stand for.
-use Rattle.std.proofs.Common.{◌≡◌, ◌∙◌, ◌≤◌, ◌+◌, ◌&&◌, ◌||◌, ◌==◌, ℕ, suc, Bool, true, false, cond, List, [], ◌∷◌, ◌++◌, Some, refl, ap, sym, subst, arith, map, length, filter, fold, append_assoc, IsPermutation, Ordering, pos, negsuc, ap₂}
+use Rattle.std.proofs.Common.{◌≡◌, ◌∙◌, ◌≤◌, ◌+◌, ◌&&◌, ◌||◌, ◌==◌, ℕ, suc, zero, Bool, true, false, cond, List, [], ◌∷◌, ◌++◌, Some, refl, ap, sym, subst, arith, map, length, filter, fold, append_assoc, IsPermutation, Ordering, pos, negsuc, ap₂}
 use Rattle.std.specs.Cmp.{IsTotalOrder}
 use Rattle.std.specs.FinMap as finite
 use Rattle.std.specs.List.{AllByRecursion, list_any}
@@ -11,14 +11,9 @@ use Rattle.sqlite_value.specs.Order.{Row}
 use Rattle.std.specs.Ordering.{is_eq}
 use Rattle.std.specs.declared.cmp.Ordering.TheVariants.{Less, Equal, Greater}
 use Rattle.std.proofs.lemmas.List.Sorted.{IsPermutation-map, IsPermutation-sym, length_permutation}
-use Rattle.std.proofs.lemmas.Cmp.{nat_list_cmp_total}
-use Rattle.std.proofs.lemmas.Map.Lookups.{CmpEqualImpliesEq, exact_bytes}
+use Rattle.std.proofs.lemmas.Map.Lookups.{CmpEqualImpliesEq}
 use Rattle.sqlite_keyed.proofs.ListLemmas.{map-map}
-use Rattle.society_core.specs.Keys.{bytes_cmp}
-use Rattle.society_core.specs.declared.transmission_key.TransmissionKey.{TransmissionKey}
-use Rattle.society_rows.specs.Layout as layout
-use Rattle.society_book.specs.BookRows.{transmission_key_of}
-use Rattle.society_book.proofs.rows_alike.BookLemmas.{one_ascent}
+use Rattle.society_rows.specs.SegmentColumns.{segment_column}
 use Rattle.sqlite_keyed.proofs.ListLemmas.{IsPermutation-filter, all-filter}
 use Rattle.sqlite_schema.specs.declared.schema.Table.{Table}
 use Rattle.sqlite_trees.proofs.ListLemmas.{all-permutation}
@@ -30,13 +25,14 @@ use Rattle.sqlite_value.specs.declared.value.Value.{Value}
 use Rattle.sqlite_value.specs.declared.value.Value.TheVariants.{Blob, Int, Null, Real, Text}
 use Rattle.society_core.proofs.Ascending.{ascending_has, ascending_length}
 use Rattle.society_core.specs.Keys.{ascending}
-use Rattle.society_tables.specs.Auditing.{AreEntries, GoneOver, has_body, is_blob, is_count, is_text, take_over}
-use Rattle.society_book.specs.BookRows.{row_of_some}
-use Rattle.society_book.specs.Columns.{HasRows, blob_at, blob_of, whole_number_at, whole_number_of, text_at, text_of}
+use Rattle.society_tables.specs.Auditing.{AreEntries, GoneOver, has_body, has_end, is_blob, is_count, is_place, is_text, take_over}
+use Rattle.society_book.specs.BookRows.{end_of, end_row, row_of_some, segment_key_of}
+use Rattle.society_book.specs.Columns.{HasRows, blob_at, blob_of, segment_of_value, whole_number_at, whole_number_of, text_at, text_of}
 use Rattle.society_book.proofs.shown.AskLemmas.{first_true, second_true}
 use Rattle.society_book.proofs.rows_alike.BookLemmas.{filter_true}
 use Rattle.society_book.proofs.rows_alike.RowLemmas.{first_value, found_first}
 use Rattle.society_book.proofs.lines.RunTables.{same_permutation}
+use Rattle.society_tables.proofs.audit.NobodyLines.{none_kept}
 
 module _ {K : Type 0} (is_right : Row → Bool) (key_of : Row → K) where
   -- rows that were gone over, where each of them is right
@@ -60,14 +56,6 @@ tied : (r : Ordering) → is_eq r ≡ true → r ≡ Equal
 tied Less h = absurd (false≢true h)
 tied Equal h = refl
 tied Greater h = absurd (false≢true h)
-
-none_kept : {X : Type 0} (p : X → Bool) (xs : List X) → list_any p xs ≡ false → filter p xs ≡ []
-none_kept p [] h = refl
-none_kept p (x ∷ xs) h = by_case (p x) refl h (none_kept p xs)
-  where
-    by_case : (b : Bool) → p x ≡ b → (b || list_any p xs) ≡ false → (list_any p xs ≡ false → filter p xs ≡ []) → cond b (x ∷ filter p xs) (filter p xs) ≡ []
-    by_case true is h later = absurd (false≢true (sym h))
-    by_case false is h later = later h
 
 module _ {K : Type 0} {R : K → K → Ordering} (total : IsTotalOrder R) (exact : CmpEqualImpliesEq R) where
   abbrev marks : List K → finite.FinMap R Bool
@@ -150,9 +138,9 @@ module _ {K : Type 0} {R : K → K → Ordering} (total : IsTotalOrder R) (exact
       )
 
   -- each once
-  module _ (row : K → List ℕ → Row) (IsRight : Row → Type 0) (form : (r : Row) → IsRight r → r ≡ row (key_of r) (blob_at 2 r)) where
-    abbrev pub entry : Row → K × List ℕ
-    entry r = (key_of r, blob_at 2 r)
+  module _ {X : Type 0} (value_of : Row → X) (row : K → X → Row) (IsRight : Row → Type 0) (form : (r : Row) → IsRight r → r ≡ row (key_of r) (value_of r)) where
+    abbrev pub entry : Row → K × X
+    entry r = (key_of r, value_of r)
 
     -- right rows, each alone under its key, are those of the map that they make
     pub kept_once : (rows : List Row) → AllByRecursion IsRight rows → ((q : K) → length (filter (is_of q) rows) ≤ 1) → HasRows is_of (λ q. row_of_some (row q) (finite.get (finite.from_entries {R = R} (map entry rows)) q)) rows
@@ -163,27 +151,30 @@ module _ {K : Type 0} {R : K → K → Ordering} (total : IsTotalOrder R) (exact
       where
         alone : (l : List Row) → AllByRecursion IsRight l → AllByRecursion (λ r. is_of q r ≡ true) l → length l ≤ 1 → row_of_some (row q) (first_value entry l) ≡ l
         alone [] right of few = refl
-        alone (r ∷ []) right of few = ap (λ (x : Row). x ∷ []) (ap (λ (k : K). row k (blob_at 2 r)) (key_is q r of.0) ∙ sym (form r right.0))
+        alone (r ∷ []) right of few = ap (λ (x : Row). x ∷ []) (ap (λ (k : K). row k (value_of r)) (key_is q r of.0) ∙ sym (form r right.0))
         alone (r ∷ s ∷ l) right of few = absurd (omega (arith, few))
 
     -- what that map has is what one of them has
-    pub had_by : (rows : List Row) → AllByRecursion IsRight rows → (q : K) (body : List ℕ) → finite.get (finite.from_entries {R = R} (map entry rows)) q ≡ Some body → (r : Row) × IsRight r × (q ≡ key_of r) × (blob_at 2 r ≡ body) × (list_any (is_of q) rows ≡ true)
+    pub had_by : (rows : List Row) → AllByRecursion IsRight rows → (q : K) (body : X) → finite.get (finite.from_entries {R = R} (map entry rows)) q ≡ Some body → (r : Row) × IsRight r × (q ≡ key_of r) × (value_of r ≡ body) × (list_any (is_of q) rows ≡ true)
     had_by rows all q body has =
         first (filter (is_of q) rows) refl (all-filter IsRight (is_of q) rows all) (filter_true (is_of q) rows)
         (sym (finite.get-from_entries total (map entry rows) q ∙ found_first total exact is_of entry agrees q rows) ∙ has)
       where
-        first : (l : List Row) → filter (is_of q) rows ≡ l → AllByRecursion IsRight l → AllByRecursion (λ r. is_of q r ≡ true) l → first_value entry l ≡ Some body → (r : Row) × IsRight r × (q ≡ key_of r) × (blob_at 2 r ≡ body) × (list_any (is_of q) rows ≡ true)
+        first : (l : List Row) → filter (is_of q) rows ≡ l → AllByRecursion IsRight l → AllByRecursion (λ r. is_of q r ≡ true) l → first_value entry l ≡ Some body → (r : Row) × IsRight r × (q ≡ key_of r) × (value_of r ≡ body) × (list_any (is_of q) rows ≡ true)
         first [] are right of e = absurd (cc)
         first (r ∷ l) are right of e = (r, right.0, key_is q r of.0, (let same = e in cc), some_kept (is_of q) rows r l are)
 
--- the senders of the keys of all transmissions, in order
-pub senders_taken : (db : Trees) (rows : List Row) (keys : List TransmissionKey) → Lists layout.transmissions (λ _. true) 2 db rows → keys ≡ map transmission_key_of rows
-    → ascending bytes_cmp (map (λ (key : TransmissionKey). key.sender) keys) ≡ ascending bytes_cmp (map (text_at 0) (rows_in layout.transmissions db))
-senders_taken db rows keys lists are =
-    ap (λ (ks : List TransmissionKey). ascending bytes_cmp (map (λ (key : TransmissionKey). key.sender) ks)) are
-    ∙ ap (ascending bytes_cmp) (map-map (λ (key : TransmissionKey). key.sender) transmission_key_of rows)
-    ∙ one_ascent nat_list_cmp_total exact_bytes (map (text_at 0) (rows_in layout.transmissions db)) (map (text_at 0) rows)
-    (IsPermutation-map (text_at 0) (rows_in layout.transmissions db) rows (subst (λ l. IsPermutation l rows) (all_pass (rows_in layout.transmissions db)) lists.rows))
+-- the senders of the keys of all rows of a table, in any order
+pub senders_taken : {K : Type 0} (sender_of : K → List ℕ) (key_of : Row → K) (table : Table) (width : ℕ) (db : Trees) (rows : List Row) (keys : List K) → ((r : Row) → sender_of (key_of r) ≡ text_at 0 r)
+    → Lists table (λ _. true) width db rows → keys ≡ map key_of rows → IsPermutation (map sender_of keys) (map (text_at 0) (rows_in table db))
+senders_taken sender_of key_of table width db rows keys its lists are =
+    let these : IsPermutation (rows_in table db) rows = subst (λ l. IsPermutation l rows) (all_pass (rows_in table db)) lists.rows in
+    subst (λ (l : List (List ℕ)). IsPermutation l (map (text_at 0) (rows_in table db))) (sym (ap (map sender_of) are ∙ map-map sender_of key_of rows ∙ named rows))
+    (IsPermutation-sym (map (text_at 0) (rows_in table db)) (map (text_at 0) rows) (IsPermutation-map (text_at 0) (rows_in table db) rows these))
+  where
+    named : (rs : List Row) → map (λ r. sender_of (key_of r)) rs ≡ map (text_at 0) rs
+    named [] = refl
+    named (r ∷ rs) = ap₂ ◌∷◌ (its r) (named rs)
 
 -- ---- what a right row is
 
@@ -222,3 +213,33 @@ body_form (a ∷ b ∷ c ∷ []) h =
 body_form (a ∷ b ∷ c ∷ d ∷ r) h =
     let three : (length (a ∷ b ∷ c ∷ d ∷ r) == 3) ≡ true = first_true (length (a ∷ b ∷ c ∷ d ∷ r) == 3) (is_text a) (first_true (length (a ∷ b ∷ c ∷ d ∷ r) == 3 && is_text a) (is_count b) (first_true (length (a ∷ b ∷ c ∷ d ∷ r) == 3 && is_text a && is_count b) (is_blob c) h)) in
     absurd (let same = (Decides-eqb (length (a ∷ b ∷ c ∷ d ∷ r)) 3).0 three in omega (same, arith))
+
+place_is : (v : Value) → is_place v ≡ true → v ≡ Int (segment_column (segment_of_value v))
+place_is (Int (pos year)) h = refl
+place_is (Int (negsuc zero)) h = refl
+place_is (Int (negsuc (suc n))) h = absurd (false≢true h)
+place_is Null h = absurd (false≢true h)
+place_is (Real x) h = absurd (false≢true h)
+place_is (Text bytes) h = absurd (false≢true h)
+place_is (Blob bytes) h = absurd (false≢true h)
+
+-- the columns of a row of an end
+pub end_form : (r : Row) → has_end r ≡ true → r ≡ end_row (segment_key_of r) (end_of r)
+end_form [] h = absurd (false≢true h)
+end_form (a ∷ []) h = absurd (false≢true h)
+end_form (a ∷ b ∷ []) h = absurd (false≢true h)
+end_form (a ∷ b ∷ c ∷ []) h = absurd (false≢true h)
+end_form (a ∷ b ∷ c ∷ d ∷ []) h =
+    let next = second_true (is_text a && is_place b && is_count c) (is_place d) h in
+    let three = first_true (is_text a && is_place b && is_count c) (is_place d) h in
+    let last = second_true (is_text a && is_place b) (is_count c) three in
+    let both = first_true (is_text a && is_place b) (is_count c) three in
+    ap₂ (λ x y. x ∷ y ∷ c ∷ d ∷ []) (text_is a (first_true (is_text a) (is_place b) both)) (place_is b (second_true (is_text a) (is_place b) both))
+    ∙ ap₂ (λ x y. Text (text_of a) ∷ Int (segment_column (segment_of_value b)) ∷ x ∷ y ∷ []) (count_is c last) (place_is d next)
+end_form (a ∷ b ∷ c ∷ d ∷ e ∷ r) h =
+    let four : (length (a ∷ b ∷ c ∷ d ∷ e ∷ r) == 4) ≡ true =
+    first_true (length (a ∷ b ∷ c ∷ d ∷ e ∷ r) == 4) (is_text a)
+    (first_true (length (a ∷ b ∷ c ∷ d ∷ e ∷ r) == 4 && is_text a) (is_place b)
+    (first_true (length (a ∷ b ∷ c ∷ d ∷ e ∷ r) == 4 && is_text a && is_place b) (is_count c)
+    (first_true (length (a ∷ b ∷ c ∷ d ∷ e ∷ r) == 4 && is_text a && is_place b && is_count c) (is_place d) h))) in
+    absurd (let same = (Decides-eqb (length (a ∷ b ∷ c ∷ d ∷ e ∷ r)) 4).0 four in omega (same, arith))

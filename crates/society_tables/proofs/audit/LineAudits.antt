@@ -1,7 +1,7 @@
 -- What is derived of a sender's whole line, as it is put into tables that had nothing of it.
-use Rattle.std.proofs.Common.{◌≡◌, ◌≢◌, ◌∙◌, ◌+◌, ◌++◌, ◌||◌, ℕ, suc, pos, Bool, true, false, cond, List, [], ◌∷◌, Option, Some, None, is_some, length, refl, ap, ap₂, sym, subst, arith, map, flat_map, filter, bytes_eq, unwrap_or, IsPermutation}
+use Rattle.std.proofs.Common.{◌≡◌, ◌≢◌, ◌∙◌, ◌++◌, ◌||◌, ℕ, pos, Bool, true, false, cond, List, [], ◌∷◌, refl, ap, ap₂, sym, subst, flat_map, filter, bytes_eq, IsPermutation}
 use Rattle.std.specs.List.{AllByRecursion}
-use Rattle.std.proofs.lemmas.List.{append-nil, length-map}
+use Rattle.std.proofs.lemmas.List.{append-nil}
 use Rattle.std.proofs.lemmas.List.Concat.{flat_map_single}
 use Rattle.std.proofs.lemmas.List.Sorted.{IsPermutation-trans}
 use Rattle.std.proofs.lemmas.Slice.Eq.{bytes_eq-Decides}
@@ -10,83 +10,29 @@ use Rattle.sqlite_keyed.proofs.ListLemmas.{IsPermutation-filter}
 use Rattle.sqlite_trees.specs.Tree.{Trees}
 use Rattle.sqlite_value.specs.declared.value.Value.TheVariants.{Int, Text}
 use Rattle.sqlite_value.specs.Order.{Row}
-use Rattle.society_core.proofs.Fronts.{all_to_next, front_only}
-use Rattle.society_core.specs.Book.{Book, body_at, front, has_all, is_there}
-use Rattle.society_core.specs.Keys.{transmission_key}
-use Rattle.society_rows.specs.Folds.{AreFrom, IsRun}
+use Rattle.sender_segments.specs.Ways.{AreRight}
+use Rattle.society_core.specs.Book.{Book, ends_of, front, line}
 use Rattle.society_rows.specs.Layout as layout
-use Rattle.society_rows.specs.Reads.{Lists, has_key}
 use Rattle.society_rows.specs.Stored.{put_over, rows_in}
 use Rattle.sqlite.specs.Effect.{Database}
 use Rattle.sqlite_schema.specs.declared.schema.Table.{Table}
 use Rattle.society_rows.specs.Layout.{all_tables}
 use Rattle.society_book.proofs.lines.RunWrites.{both_of}
-use Rattle.society_tables.specs.Auditing.{AreWhole, HasLines, KeepsUnlined, SettlesLine, where_of}
-use Rattle.society_book.specs.Sources.{HasTransmissions}
-use Rattle.society_book.specs.BookRows.{row_of_some, transmission_row}
-use Rattle.society_book.specs.Columns.{HasRows, blob_at, text_at}
-use Rattle.society_book.specs.DerivedRows.{Telling, front_rows, has_sent, is_named, tells_recordings, tells_verdict, tells_version, told_to_front, works_to}
-use Rattle.society_book.specs.Runs.{AreNoted, Notes, Settled, behind_run, notes_in, settled_recordings, settled_run, settled_verdict, settled_version}
-use Rattle.society_book.proofs.shown.FrontRows.{front_of_nobody, fronts_named}
-use Rattle.society_book.proofs.lines.Growth.{told_of}
-use Rattle.society_book.proofs.rows_alike.KeyRows.{transmission_listed}
-use Rattle.society_core.proofs.Lines.{line_to}
+use Rattle.society_tables.specs.Auditing.{HasLines, SettlesLine, where_of}
+use Rattle.society_book.specs.Columns.{HasRows, text_at}
+use Rattle.society_book.specs.Shown.{KeepsUnlined}
+use Rattle.society_book.specs.DerivedRows.{Telling, front_rows, knows_sender, is_named, tells_recordings, tells_verdict, tells_version, told_by, told_to_front, works_to}
+use Rattle.society_book.specs.Runs.{IsWhole, RunValue, Settled, behind_run, settled_recordings, settled_run, settled_verdict, settled_version}
+use Rattle.society_book.proofs.shown.FrontRows.{fronts_named}
+use Rattle.society_book.proofs.lines.LineRows.{at_front, placed_over}
+use Rattle.society_tables.proofs.audit.NobodyLines.{line_of_nobody}
 use Rattle.society_book.proofs.rows_alike.NamedRows.{HasName}
 use Rattle.society_book.proofs.rows_alike.PutRows.{others_left}
 use Rattle.society_book.proofs.rows_alike.RowLemmas.{all_rows, more_rows}
 use Rattle.society_book.proofs.lines.RunLines.{IsSeen, run_behind, run_settled, sees_recordings, sees_verdict, sees_version}
 use Rattle.society_book.proofs.lines.RunTables.{Names, names_recordings, names_verdict, names_version, of_one, same_permutation, told_named}
 use Rattle.works_core.specs.Verdicts.{works_in}
-use Rattle.works_core.specs.Versions.{Placed, judged_of, placed_line}
-use Rattle.std.specs.List.{range_with_len}
-
-module _ (o : Office) (b : Book) (s : List ℕ) (db : Trees) (has : HasTransmissions b db) where
-  -- a row that is found under a number has the body there
-  found_body : (k : ℕ) (row : Row) → Lists layout.transmissions (has_key (Text s ∷ Int (pos k) ∷ [])) 2 db (row ∷ []) → body_at b s k ≡ Some (blob_at 2 row)
-  found_body k row lists = by_kind (body_at b s k) (transmission_listed b db has (transmission_key s k) (row ∷ []) lists)
-    where
-      by_kind : (x : Option (List ℕ)) → row ∷ [] ≡ row_of_some (transmission_row (transmission_key s k)) x → x ≡ Some (blob_at 2 row)
-      by_kind None e = absurd (cc)
-      by_kind (Some body) e = ap (λ (l : List Row). Some (first l)) (sym e)
-        where
-          first : List Row → List ℕ
-          first [] = []
-          first (r ∷ rs) = blob_at 2 r
-
-  found_none : (k : ℕ) → Lists layout.transmissions (has_key (Text s ∷ Int (pos k) ∷ [])) 2 db [] → body_at b s k ≡ None
-  found_none k lists = by_kind (body_at b s k) (transmission_listed b db has (transmission_key s k) [] lists)
-    where
-      by_kind : (x : Option (List ℕ)) → ◌≡◌ {A = List Row} [] (row_of_some (transmission_row (transmission_key s k)) x) → x ≡ None
-      by_kind None e = refl
-      by_kind (Some body) e = absurd (cc)
-
-  rows_noted : (from : ℕ) (rows : List Row) → AreFrom s from db rows → AreNoted o b s from (map (λ row. notes_in o (blob_at 2 row)) rows)
-  rows_noted from [] are = tt
-  rows_noted from (row ∷ rows) are = (
-    ap (λ (x : Option (List ℕ)). notes_in o (unwrap_or x [])) (sym (found_body from row are.0)),
-    rows_noted (from + 1) rows (subst (λ (k : ℕ). AreFrom s k db rows) (let e : suc from ≡ from + 1 = omega arith in e) are.1),
-  )
-
-  all_from : (k : ℕ) (rows : List Row) → has_all b s k ≡ true → AreFrom s (k + 1) db rows → has_all b s (k + length rows) ≡ true
-  all_from k [] all are = subst (λ (m : ℕ). has_all b s m ≡ true) (let e : k ≡ k + 0 = omega arith in e) all
-  all_from k (row ∷ rows) all are =
-      let there : is_there b s (k + 1) ≡ true = ap is_some (found_body (k + 1) row are.0) in
-      let later = subst (λ (m : ℕ). AreFrom s m db rows) (let e : suc (k + 1) ≡ (k + 1) + 1 = omega arith in e) are.1 in
-      subst (λ (m : ℕ). has_all b s m ≡ true) (let e : (k + 1) + length rows ≡ k + suc (length rows) = omega arith in e)
-      (all_from (k + 1) rows (all_to_next b s k all there) later)
-
-  -- the run from a sender's first transmission on is all up to its front
-  pub whole_run : (rows : List Row) → IsRun s 1 db rows → AreWhole o b s (map (λ row. notes_in o (blob_at 2 row)) rows)
-  whole_run rows run = record {
-    reaches = sym (front_only b s (length rows) all gap) ∙ sym (length-map rows (λ row. notes_in o (blob_at 2 row)));
-    each = rows_noted 1 rows run.each;
-  }
-    where
-      all : has_all b s (length rows) ≡ true
-      all = subst (λ (m : ℕ). has_all b s m ≡ true) (let e : 0 + length rows ≡ length rows = omega arith in e) (all_from 0 rows refl run.each)
-
-      gap : is_there b s (length rows + 1) ≡ false
-      gap = ap is_some (found_none (length rows + 1) run.gap)
+use Rattle.works_core.specs.Versions.{Placed, judged_of}
 
 last_or : (x : Bool) → (x || false) ≡ x
 last_or true = refl
@@ -96,14 +42,14 @@ or_last : (x : Bool) → (x || true) ≡ true
 or_last true = refl
 or_last false = refl
 
-module _ (o : Office) (b : Book) (s : List ℕ) (notes : List Notes) (whole : AreWhole o b s notes) where
-  told_is : (tells : Telling) (tell : List ℕ → Settled → List Row) → IsSeen o tells tell → flat_map (tell s) (settled_run [] 1 notes) ≡ told_to_front tells o b s
-  told_is tells tell seen = sym (ap (λ (k : ℕ). told_of tells o b s 1 k) whole.reaches ∙ run_settled o tells tell seen s b 0 notes whole.each)
+module _ (o : Office) (b : Book) (s : List ℕ) (run : RunValue) (whole : IsWhole o b s run) (right : AreRight (ends_of b s)) where
+  told_is : (tells : Telling) (tell : List ℕ → Settled → List Row) → IsSeen o tells tell → flat_map (tell s) (settled_run [] run.notes) ≡ told_to_front tells o b s
+  told_is tells tell seen =
+      sym (run_settled o tells tell seen s b right [] run.notes (sym whole.numbers) whole.each) ∙ ap (flat_map (told_by tells o b s)) whole.numbers
 
-  works_are : works_in (judged_of (behind_run [] 1 notes)) ≡ works_to o b s
+  works_are : works_in (judged_of (behind_run [] run.notes)) ≡ works_to o b s
   works_are =
-      ap (λ (p : List Placed). works_in (judged_of p)) (run_behind o b s 0 notes whole.each)
-      ∙ ap (λ (k : ℕ). works_in (judged_of (placed_line (line_to o b s k)))) (let e : 0 + length notes ≡ front b s = (let is = whole.reaches in omega (arith, is)) in e)
+      ap (λ (p : List Placed). works_in (judged_of p)) (run_behind o b s [] run.notes whole.each ∙ ap (placed_over o b s) whole.numbers ∙ sym (at_front o b s right))
 
   module _ (of_these : List ℕ → Bool) (apart : of_these s ≡ false) where
     abbrev then : List ℕ → Bool
@@ -121,7 +67,7 @@ module _ (o : Office) (b : Book) (s : List ℕ) (notes : List Notes) (whole : Ar
         more_rows is_named (where_of of_these (told_to_front tells o b)) (where_of then (told_to_front tells o b)) (told_to_front tells o b s) old new has grows came
       where
         grows : (t : List ℕ) → IsPermutation (where_of then (told_to_front tells o b) t) (filter (is_named t) (told_to_front tells o b s) ++ where_of of_these (told_to_front tells o b) t)
-        grows t = by_case (bytes_eq s t) refl (of_one s (told_to_front tells o b s) (told_named tells names o b s (range_with_len 1 (front b s))) t)
+        grows t = by_case (bytes_eq s t) refl (of_one s (told_to_front tells o b s) (told_named tells names o b s (line b s)) t)
           where
             by_case : (x : Bool) → bytes_eq s t ≡ x → filter (is_named t) (told_to_front tells o b s) ≡ cond (bytes_eq s t) (told_to_front tells o b s) [] → IsPermutation (where_of then (told_to_front tells o b) t) (filter (is_named t) (told_to_front tells o b s) ++ where_of of_these (told_to_front tells o b) t)
             by_case true is left =
@@ -133,16 +79,16 @@ module _ (o : Office) (b : Book) (s : List ℕ) (notes : List Notes) (whole : Ar
             by_case false is left =
                 same_permutation (others (told_to_front tells o b) t is ∙ sym (ap (λ l. l ++ where_of of_these (told_to_front tells o b) t) (left ∙ ap (λ x. cond x (told_to_front tells o b s) []) is)))
 
-    front_line : has_sent b s ≡ true → (old new : List Row) → HasRows is_named (where_of of_these (front_rows o b)) old
-        → IsPermutation (put_over (Text s ∷ Int (pos (length notes)) ∷ Int (pos (works_in (judged_of (behind_run [] 1 notes)))) ∷ []) old) new → HasRows is_named (where_of then (front_rows o b)) new
+    front_line : knows_sender b s ≡ true → (old new : List Row) → HasRows is_named (where_of of_these (front_rows o b)) old
+        → IsPermutation (put_over (Text s ∷ Int (pos run.reached) ∷ Int (pos (works_in (judged_of (behind_run [] run.notes)))) ∷ []) old) new → HasRows is_named (where_of then (front_rows o b)) new
     front_line sent old new has put t =
         let named = all_rows is_named (text_at 0) (λ r. (bytes_eq-Decides (text_at 0 r) (text_at 0 r)).1 refl) HasName (where_of of_these (front_rows o b)) old has named_where in
         IsPermutation-trans (where_of then (front_rows o b) t) (filter (is_named t) (put_over row old)) (filter (is_named t) new)
-        (by_case (bytes_eq s t) refl (others_left s (Int (pos (length notes)) ∷ Int (pos (works_in (judged_of (behind_run [] 1 notes)))) ∷ []) old named t))
+        (by_case (bytes_eq s t) refl (others_left s (Int (pos run.reached) ∷ Int (pos (works_in (judged_of (behind_run [] run.notes)))) ∷ []) old named t))
         (IsPermutation-filter (is_named t) (put_over row old) new put)
       where
         row : Row
-        row = Text s ∷ Int (pos (length notes)) ∷ Int (pos (works_in (judged_of (behind_run [] 1 notes)))) ∷ []
+        row = Text s ∷ Int (pos run.reached) ∷ Int (pos (works_in (judged_of (behind_run [] run.notes)))) ∷ []
 
         named_where : (q : List ℕ) → AllByRecursion HasName (where_of of_these (front_rows o b) q)
         named_where q = elim (of_these q) as (λ x. AllByRecursion HasName (cond x (front_rows o b q) [])) [ true ↦ fronts_named o b q | false ↦ tt ]
@@ -150,7 +96,7 @@ module _ (o : Office) (b : Book) (s : List ℕ) (notes : List Notes) (whole : Ar
         its_row : front_rows o b s ≡ row ∷ []
         its_row =
             ap (λ x. cond x ((Text s ∷ Int (pos (front b s)) ∷ Int (pos (works_to o b s)) ∷ []) ∷ []) []) sent
-            ∙ ap₂ (λ (f w : ℕ). (Text s ∷ Int (pos f) ∷ Int (pos w) ∷ []) ∷ []) whole.reaches (sym works_are)
+            ∙ ap₂ (λ (f w : ℕ). (Text s ∷ Int (pos f) ∷ Int (pos w) ∷ []) ∷ []) (sym whole.reached) (sym works_are)
 
         by_case : (x : Bool) → bytes_eq s t ≡ x → filter (is_named t) (put_over row old) ≡ cond (bytes_eq s t) (row ∷ []) (filter (is_named t) old) → IsPermutation (where_of then (front_rows o b) t) (filter (is_named t) (put_over row old))
         by_case true is left =
@@ -162,12 +108,12 @@ module _ (o : Office) (b : Book) (s : List ℕ) (notes : List Notes) (whole : Ar
             (same_permutation (sym (left ∙ ap (λ x. cond x (row ∷ []) (filter (is_named t) old)) is))))
 
     -- with what a sender's whole line tells, tables have what is derived of it too
-    pub line_more : has_sent b s ≡ true → (old new : Trees) → SettlesLine s notes old new → HasLines o b of_these old → HasLines o b then new
+    pub line_more : knows_sender b s ≡ true → (old new : Trees) → SettlesLine s run old new → HasLines o b of_these old → HasLines o b then new
     line_more sent old new settles lines = record {
       fronts = front_line sent (rows_in layout.fronts old) (rows_in layout.fronts new) lines.fronts (settles.put lines.numbered);
       verdicts =
           told_line tells_verdict names_verdict (rows_in layout.verdicts old) (rows_in layout.verdicts new) lines.verdicts
-          (subst (λ (l : List Row). IsPermutation (l ++ rows_in layout.verdicts old) (rows_in layout.verdicts new)) (sym (flat_map_single (settled_verdict s) (settled_run [] 1 notes)) ∙ told_is tells_verdict (λ q x. settled_verdict q x ∷ []) (sees_verdict o)) settles.verdicts);
+          (subst (λ (l : List Row). IsPermutation (l ++ rows_in layout.verdicts old) (rows_in layout.verdicts new)) (sym (flat_map_single (settled_verdict s) (settled_run [] run.notes)) ∙ told_is tells_verdict (λ q x. settled_verdict q x ∷ []) (sees_verdict o)) settles.verdicts);
       versions =
           told_line tells_version names_version (rows_in layout.versions old) (rows_in layout.versions new) lines.versions
           (subst (λ (l : List Row). IsPermutation (l ++ rows_in layout.versions old) (rows_in layout.versions new)) (told_is tells_version settled_version (sees_version o)) settles.versions);
@@ -177,28 +123,28 @@ module _ (o : Office) (b : Book) (s : List ℕ) (notes : List Notes) (whole : Ar
       numbered = settles.numbered lines.numbered;
     }
 
--- a sender that has sent nothing tells nothing
-nothing_told : (tells : Telling) (o : Office) (b : Book) (s : List ℕ) → has_sent b s ≡ false → told_to_front tells o b s ≡ []
-nothing_told tells o b s none = ap (λ (k : ℕ). told_of tells o b s 1 k) (front_of_nobody b s none)
+-- a sender of whom a book has nothing tells nothing
+pub nothing_told : (tells : Telling) (o : Office) (b : Book) (s : List ℕ) → knows_sender b s ≡ false → told_to_front tells o b s ≡ []
+nothing_told tells o b s none = ap (flat_map (told_by tells o b s)) (line_of_nobody b s none)
 
--- of all who have sent something, they have what is derived of all
-module _ (o : Office) (b : Book) (of_these : List ℕ → Bool) (are : (s : List ℕ) → of_these s ≡ has_sent b s) (db : Trees) (lines : HasLines o b of_these db) where
+-- of all of whom the book has something, they have what is derived of all
+module _ (o : Office) (b : Book) (of_these : List ℕ → Bool) (are : (s : List ℕ) → of_these s ≡ knows_sender b s) (db : Trees) (lines : HasLines o b of_these db) where
   told_all : (tells : Telling) (s : List ℕ) → where_of of_these (told_to_front tells o b) s ≡ told_to_front tells o b s
-  told_all tells s = by_case (has_sent b s) refl (are s)
+  told_all tells s = by_case (knows_sender b s) refl (are s)
     where
-      by_case : (x : Bool) → has_sent b s ≡ x → of_these s ≡ has_sent b s → where_of of_these (told_to_front tells o b) s ≡ told_to_front tells o b s
+      by_case : (x : Bool) → knows_sender b s ≡ x → of_these s ≡ knows_sender b s → where_of of_these (told_to_front tells o b) s ≡ told_to_front tells o b s
       by_case true is same = ap (λ x. cond x (told_to_front tells o b s) []) (same ∙ is)
       by_case false is same = ap (λ x. cond x (told_to_front tells o b s) []) (same ∙ is) ∙ sym (nothing_told tells o b s is)
 
   fronts_all : (s : List ℕ) → where_of of_these (front_rows o b) s ≡ front_rows o b s
-  fronts_all s = by_case (has_sent b s) refl (are s)
+  fronts_all s = by_case (knows_sender b s) refl (are s)
     where
       row : Row
       row = Text s ∷ Int (pos (front b s)) ∷ Int (pos (works_to o b s)) ∷ []
 
-      by_case : (x : Bool) → has_sent b s ≡ x → of_these s ≡ has_sent b s → cond (of_these s) (cond (has_sent b s) (row ∷ []) []) [] ≡ cond (has_sent b s) (row ∷ []) []
-      by_case true is same = ap (λ x. cond x (cond (has_sent b s) (row ∷ []) []) []) (same ∙ is)
-      by_case false is same = ap (λ x. cond x (cond (has_sent b s) (row ∷ []) []) []) (same ∙ is) ∙ sym (ap (λ x. cond x (row ∷ []) []) is)
+      by_case : (x : Bool) → knows_sender b s ≡ x → of_these s ≡ knows_sender b s → cond (of_these s) (cond (knows_sender b s) (row ∷ []) []) [] ≡ cond (knows_sender b s) (row ∷ []) []
+      by_case true is same = ap (λ x. cond x (cond (knows_sender b s) (row ∷ []) []) []) (same ∙ is)
+      by_case false is same = ap (λ x. cond x (cond (knows_sender b s) (row ∷ []) []) []) (same ∙ is) ∙ sym (ap (λ x. cond x (row ∷ []) []) is)
 
   as_all : (wanted expected : List ℕ → List Row) (rows : List Row) → ((s : List ℕ) → wanted s ≡ expected s) → HasRows is_named wanted rows → HasRows is_named expected rows
   as_all wanted expected rows same has s = subst (λ (l : List Row). IsPermutation l (filter (is_named s) rows)) (same s) (has s)

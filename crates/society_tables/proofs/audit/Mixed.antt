@@ -1,5 +1,5 @@
 -- Tables whose bodies lie in one database and all else in another.
-use Rattle.std.proofs.Common.{◌≡◌, ◌≢◌, ◌∙◌, ◌∷◌, ◌||◌, ◌==◌, ◌<◌, ◌+◌, get_or, length, take, ℕ, ℤ, pos, Bool, true, cond, List, [], Some, None, refl, inl, inr, ap, arith, nat_cmp, sym, subst, map, filter, bytes_eq, flat_map, IsPermutation}
+use Rattle.std.proofs.Common.{◌≡◌, ◌≢◌, ◌∙◌, ◌∷◌, ◌||◌, ◌==◌, ◌<◌, ◌+◌, get_or, length, take, ℕ, ℤ, pos, Bool, true, cond, List, [], Some, None, refl, inl, inr, ap, ap₂, arith, nat_cmp, sym, subst, map, filter, bytes_eq, flat_map, IsPermutation}
 use Rattle.std.proofs.lemmas.Bool.Decides.{Decides-eqb}
 use Rattle.std.proofs.lemmas.List.{nil_from_length, take_more}
 use Rattle.std.specs.FinMap as finite
@@ -12,25 +12,32 @@ use Rattle.sqlite_keyed.proofs.ListLemmas.{all-append, all_weaker}
 use Rattle.sqlite_schema.specs.declared.schema.Table.{Table}
 use Rattle.sqlite_trees.specs.Tree.{Trees}
 use Rattle.sqlite_value.specs.Order.{Row}
-use Rattle.society_core.specs.Book.{Book, IsSound, empty_book}
+use Rattle.society_core.specs.Book.{Book, IsSound, empty_book, line}
 use Rattle.society_core.specs.Orders.{Order}
 use Rattle.society_core.specs.Pools.{credits_of}
 use Rattle.society_rows.specs.Balances.{AddsUnits}
 use Rattle.society_rows.specs.Layout as layout
 use Rattle.society_rows.specs.Layout.{all_tables, written_out}
 use Rattle.society_rows.specs.Stored.{AreNumbered, HasLayout, rows_in}
-use Rattle.society_tables.specs.Auditing.{ClosesAside, IsClosable, IsOpenReturn, KeepsUnlined, KeepsUnreferred, mixed}
-use Rattle.society_book.specs.Sources.{HoldsWorks, KeepsBodies}
+use Rattle.society_tables.specs.Auditing.{ClosesAside, IsClosable, IsOpenReturn, KeepsUnreferred, is_of_entries, mixed}
+use Rattle.society_book.specs.Sources.{HasEnds, HoldsWorks, KeepsBodies}
 use Rattle.society_book.specs.Closings.{ClosesWith}
 use Rattle.society_book.specs.Columns.{HasRows, whole_number_at}
 use Rattle.society_book.specs.DerivedRows.{balance_rows, balance_rows_by, credit_rows, credit_rows_by, front_rows, is_named, tells_recordings, tells_verdict, tells_version, told_to_front}
 use Rattle.society_book.specs.Kept.{HoldsOwnBook, HoldsBook}
 use Rattle.society_tables.specs.Opening.{Agree, every_name}
 use Rattle.society_tables.specs.Rebuilding.{without_pools}
-use Rattle.society_book.specs.Shown.{AddsEach, ShowFront, ShowPayer, ShowPool}
+use Rattle.society_book.specs.Shown.{AddsEach, KeepsUnlined, ShowFront, ShowPayer, ShowPool}
 use Rattle.sqlite_value.specs.declared.value.Value.TheVariants.{Int, Text}
+use Rattle.sender_segments.specs.Ways.{IsWithinEnd, StatedEnds, leads_to, numbers_up_to}
+use Rattle.society_core.proofs.Books.{front_fits, order_fits, sound_order}
+use Rattle.society_core.proofs.LineNumbers.{in_line_is}
 use Rattle.society_core.specs.Answers.{payer}
-use Rattle.society_core.specs.Book.{front, order_at}
+use Rattle.society_core.specs.Book.{ends_of, front, is_one_of, order_at}
+use Rattle.society_core.specs.declared.transmission_key.TransmissionKey.{TransmissionKey}
+use Rattle.society_book.specs.EndLists.{end_listed}
+use Rattle.society_book.specs.Going.{ReadsEnds}
+use Rattle.work_ids.specs.SegmentEnds.{StatedEnd}
 use Rattle.society_core.specs.declared.return_key.ReturnKey.{ReturnKey}
 use Rattle.society_rows.specs.Reads.{Lists, has_key}
 use Rattle.society_book.proofs.rows_alike.BookLemmas.{IsRefilled}
@@ -40,9 +47,9 @@ use Rattle.society_book.proofs.shown.PaidRows.{payer_found}
 use Rattle.work_ids.specs.Blanks.{without_trailing_blanks}
 use Rattle.society_tables.proofs.alike.EmptyTables.{no_entries}
 use Rattle.std.specs.List.{list_all, list_any}
-use Rattle.std.specs.Prelude.{◌&&◌, nat_le, is_some, false}
+use Rattle.std.specs.Prelude.{◌&&◌, is_some, false}
 use Rattle.std.proofs.lemmas.Bool.{false≢true}
-use Rattle.society_core.proofs.Fronts.{both_hold}
+use Rattle.society_core.proofs.Fronts.{both_hold, front_led}
 use Rattle.society_core.proofs.SameOrders.{same_return_is}
 use Rattle.society_core.specs.Book.{is_applied, is_pool_entry, return_at, with_pool}
 use Rattle.society_core.specs.Orders.{IsOrder, same_return_key}
@@ -68,7 +75,7 @@ mix bodies db = record { schema = db.schema; trees = mixed bodies db.trees }
 
 -- a tree that is the same is the same in it
 still : (bodies old new : Trees) (tree : ℕ) → new tree ≡ old tree → mixed bodies new tree ≡ mixed bodies old tree
-still bodies old new tree same = ap (λ (rows : List Row). cond (tree == layout.transmissions.tree || tree == layout.returns.tree) (bodies tree) rows) same
+still bodies old new tree same = ap (λ (rows : List Row). cond (is_of_entries tree) (bodies tree) rows) same
 
 units_mixed : (bodies : Trees) (account : List ℕ) (units : ℤ) (old new : Database) → AddsUnits account units old new → AddsUnits account units (mix bodies old) (mix bodies new)
 unfolding written_out
@@ -118,7 +125,6 @@ record KeepUnlined (old new : Trees) : Type 0 where
   pool_returns : new layout.pool_returns.tree ≡ old layout.pool_returns.tree
   credits : new layout.credits_table.tree ≡ old layout.credits_table.tree
   balances : new layout.balances.tree ≡ old layout.balances.tree
-  ends : new layout.segment_ends.tree ≡ old layout.segment_ends.tree
   mechanical : new layout.mechanical_pools.tree ≡ old layout.mechanical_pools.tree
 
 kept_unlined : (old new : Trees) → KeepsUnlined old new → KeepUnlined old new
@@ -130,7 +136,6 @@ kept_unlined old new keeps = record {
   pool_returns = keeps.1.1.1.1.1.0 (λ e. omega (arith, e)) (λ e. omega (arith, e)) (λ e. omega (arith, e)) (λ e. omega (arith, e));
   credits = keeps.1.1.1.1.1.1.1.1.1.1.0 (λ e. omega (arith, e)) (λ e. omega (arith, e)) (λ e. omega (arith, e)) (λ e. omega (arith, e));
   balances = keeps.1.1.1.1.1.1.1.1.1.1.1.0 (λ e. omega (arith, e)) (λ e. omega (arith, e)) (λ e. omega (arith, e)) (λ e. omega (arith, e));
-  ends = keeps.1.1.1.1.1.1.1.1.1.1.1.1.0 (λ e. omega (arith, e)) (λ e. omega (arith, e)) (λ e. omega (arith, e)) (λ e. omega (arith, e));
   mechanical = keeps.1.1.1.1.1.1.1.1.1.1.1.1.1.0 (λ e. omega (arith, e)) (λ e. omega (arith, e)) (λ e. omega (arith, e)) (λ e. omega (arith, e));
 }
 
@@ -153,11 +158,11 @@ balances_none : (o : Office) (b : Book) (rows : List Row) → HasRows is_named (
 balances_none o b rows had q = subst (λ (l : List Row). IsPermutation l (filter (is_named q) rows)) (no_pool_pays o empty_book q ∙ sym (no_pool_pays o b q)) (had q)
 
 -- tables of a new book that then have the lines of a book, beside its bodies, hold that book without its pools
-pub begun_mixed : (o : Office) (b : Book) (bodies first then : Trees) → IsSound (without_pools b) → KeepsBodies b bodies → HoldsBook o empty_book first → KeepsUnlined first then
+pub begun_mixed : (o : Office) (b : Book) (bodies first then : Trees) → IsSound (without_pools b) → KeepsBodies b bodies → HasEnds b bodies → HoldsBook o empty_book first → KeepsUnlined first then
     → HasRows is_named (front_rows o b) (rows_in layout.fronts then) → HasRows is_named (told_to_front tells_verdict o b) (rows_in layout.verdicts then) → HasRows is_named (told_to_front tells_version o b) (rows_in layout.versions then)
     → HasRows is_named (told_to_front tells_recordings o b) (rows_in layout.recordings then) → AreNumbered layout.fronts then → HoldsBook o (without_pools b) (mixed bodies then)
-unfolding written_out
-begun_mixed o b bodies first then sound kept empty keeps fronts verdicts versions recordings numbered =
+unfolding line written_out
+begun_mixed o b bodies first then sound kept stated empty keeps fronts verdicts versions recordings numbered =
     let same = kept_unlined first then keeps in
     record {
       registered = rows_kept layout.office first then same.office ∙ empty.registered;
@@ -168,7 +173,7 @@ begun_mixed o b bodies first then sound kept empty keeps fronts verdicts version
         pools = subst (HasRows _ _) (sym (rows_kept layout.pools first then same.pools)) empty.kept.pools;
         cuts = subst (HasRows _ _) (sym (rows_kept layout.pool_cuts first then same.pool_cuts)) empty.kept.cuts;
         paid = subst (HasRows _ _) (sym (rows_kept layout.pool_returns first then same.pool_returns)) empty.kept.paid;
-        ends = rows_kept layout.segment_ends first then same.ends ∙ empty.kept.ends;
+        ends = stated;
         mechanical = rows_kept layout.mechanical_pools first then same.mechanical ∙ empty.kept.mechanical;
       };
       derived = record {
@@ -220,6 +225,26 @@ pool_open o b bodies others holds pool found lists none = pool_free o b bodies o
 pub front_shown : (o : Office) (b : Book) (bodies others : Trees) → HoldsBook o b (mixed bodies others) → (s : List ℕ) (found : List Row) → Lists layout.fronts (has_key (Text s ∷ [])) 1 others found → ShowFront (front b s) found
 unfolding written_out
 front_shown o b bodies others holds s found lists = front_found o b (mixed bodies others) holds s found (record { rows = lists.rows; sorted = lists.sorted })
+
+-- the ends are those of the database of the bodies
+ends_beside : (o : Office) (b : Book) (bodies others : Trees) → HoldsBook o b (mixed bodies others) → HasEnds b bodies
+unfolding written_out
+ends_beside o b bodies others holds = holds.kept.ends
+
+-- so a number that the ends lead through up to the front is in its sender's line
+pub in_line_beside : (o : Office) (b : Book) (bodies others : Trees) → HoldsBook o b (mixed bodies others) → (key : TransmissionKey) (ends : List StatedEnd) (n : ℕ) (t : Bool) → ReadsEnds key.sender bodies ends → n ≡ front b key.sender
+    → (leads_to (end_listed ends) n ≡ true → IsWithinEnd (end_listed ends) n → t ≡ is_one_of (numbers_up_to (end_listed ends) n) key.number) → t ≡ true → is_applied b key ≡ true
+in_line_beside o b bodies others holds key ends n t reads is says told =
+    let s = key.sender in
+    let listed : end_listed ends ≡ ends_of b s = reads b (ends_beside o b bodies others holds) in
+    let order = sound_order b holds.sound s in
+    let led : leads_to (end_listed ends) n ≡ true = ap₂ leads_to listed is ∙ front_led b.transmissions b.ends s in
+    let within : IsWithinEnd (end_listed ends) n =
+    subst (λ (es : StatedEnds). IsWithinEnd es n) (sym listed)
+    (subst (λ (k : ℕ). IsWithinEnd (ends_of b s) k) (sym is) (front_fits b b s order.right (order_fits b s order) (λ k there. there))) in
+    in_line_is b s key.number
+    ∙ ap₂ (λ (es : StatedEnds) (k : ℕ). is_one_of (numbers_up_to es k) key.number) (sym listed) (sym is)
+    ∙ sym (says led within) ∙ told
 
 payer_shown : (o : Office) (b : Book) (bodies others : Trees) → HoldsBook o b (mixed bodies others) → (key : ReturnKey) → IsRefilled key → (found : List Row)
     → Lists layout.pool_returns (has_key (Text (without_trailing_blanks key.reporter) ∷ Int (pos key.number) ∷ [])) 2 others found → ShowPayer (payer b key) found
@@ -296,7 +321,7 @@ pub whole_mixed : (o : Office) (bodies others : Trees) → HoldsOwnBook o (mixed
 unfolding written_out
 whole_mixed o bodies others holds agree numbered =
     holds_likewise o (mixed bodies others) bodies holds
-    (agree.0, (IsPermutation-refl (rows_in layout.transmissions bodies), (IsPermutation-refl (rows_in layout.returns bodies), agree.1)))
+    (agree.0, (IsPermutation-refl (rows_in layout.transmissions bodies), (IsPermutation-refl (rows_in layout.returns bodies), (agree.1.0, (agree.1.1.0, (agree.1.1.1.0, (agree.1.1.1.1.0, (agree.1.1.1.1.1.0, (agree.1.1.1.1.1.1.0, (agree.1.1.1.1.1.1.1.0, (agree.1.1.1.1.1.1.1.1.0, (agree.1.1.1.1.1.1.1.1.1.0, (IsPermutation-refl (rows_in layout.segment_ends bodies), (agree.1.1.1.1.1.1.1.1.1.1.0, tt))))))))))))))
     numbered
 
 -- one more of a list has it too
@@ -332,7 +357,6 @@ record KeepUnreferred (old new : Trees) : Type 0 where
   recordings : new layout.recordings.tree ≡ old layout.recordings.tree
   credits : new layout.credits_table.tree ≡ old layout.credits_table.tree
   balances : new layout.balances.tree ≡ old layout.balances.tree
-  ends : new layout.segment_ends.tree ≡ old layout.segment_ends.tree
   mechanical : new layout.mechanical_pools.tree ≡ old layout.mechanical_pools.tree
 
 kept_unreferred : (old new : Trees) → KeepsUnreferred old new → KeepUnreferred old new
@@ -348,7 +372,6 @@ kept_unreferred old new keeps = record {
   recordings = keeps.1.1.1.1.1.1.1.1.1.0 (λ e. omega (arith, e)) (λ e. omega (arith, e));
   credits = keeps.1.1.1.1.1.1.1.1.1.1.0 (λ e. omega (arith, e)) (λ e. omega (arith, e));
   balances = keeps.1.1.1.1.1.1.1.1.1.1.1.0 (λ e. omega (arith, e)) (λ e. omega (arith, e));
-  ends = keeps.1.1.1.1.1.1.1.1.1.1.1.1.0 (λ e. omega (arith, e)) (λ e. omega (arith, e));
   mechanical = keeps.1.1.1.1.1.1.1.1.1.1.1.1.1.0 (λ e. omega (arith, e)) (λ e. omega (arith, e));
 }
 
@@ -380,7 +403,7 @@ same_mixed bodies old new same = (
                     alike layout.recordings old new same.recordings,
                     (
                       alike layout.credits_table old new same.credits,
-                      (alike layout.balances old new same.balances, (alike layout.segment_ends old new same.ends, (alike layout.mechanical_pools old new same.mechanical, tt))),
+                      (alike layout.balances old new same.balances, (IsPermutation-refl (rows_in layout.segment_ends bodies), (alike layout.mechanical_pools old new same.mechanical, tt))),
                     ),
                   ),
                 ),

@@ -9,7 +9,7 @@ use Rattle.std.proofs.lemmas.Map.Text.{is_eq-slice_cmp}
 use Rattle.society_core.specs.Keys.{ascending, bytes_cmp}
 use Rattle.society_book.specs.Runs.{is_among}
 use Rattle.society_tables.proofs.audit.EntryRows.{none_again}
-use Rattle.society_book.proofs.lines.HeldAdds.{is_or, or_is}
+use Rattle.society_book.proofs.lines.KnownSenders.{is_or, or_is}
 
 -- what is at a place of a list is in it
 any_at : {X : Type 0} (p : X → Bool) (xs : List X) (i : ℕ) (d : X) → i < length xs → p (get_or xs i d) ≡ true → list_any p xs ≡ true

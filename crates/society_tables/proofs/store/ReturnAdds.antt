@@ -6,7 +6,7 @@ use Rattle.std.proofs.lemmas.List.Sorted.{IsPermutation-refl}
 use Rattle.share_rules.specs.declared.office.Office.{Office}
 use Rattle.sqlite_trees.specs.Tree.{Trees}
 use Rattle.sqlite_schema.specs.declared.schema.Table.{Table}
-use Rattle.society_core.specs.Book.{Book, is_return_entry, return_at, with_return}
+use Rattle.society_core.specs.Book.{Book, is_return_entry, line, return_at, with_return}
 use Rattle.society_core.specs.Orders.{same_return_key}
 use Rattle.society_core.specs.declared.return_key.ReturnKey.{ReturnKey}
 use Rattle.society_core.proofs.Books.{sound_with_return}
@@ -93,6 +93,7 @@ return_more b key body free whole q = by_case (same_return_key q key) refl
         ∙ sym (ap (λ x. cond x (return_row key body ∷ []) [] ++ return_rows b q) (passes ∙ is))
 
 pays_on : (b : Book) (key : ReturnKey) (body : List ℕ) → return_at b key ≡ None → PaysAlike b (with_return b key body)
+unfolding line
 pays_on b key body free = record {
   sent = λ s n within. refl;
   returned = λ q there. still q (return_at b q) refl there;
@@ -104,6 +105,7 @@ pays_on b key body free = record {
 
 -- one row more in the table of returns, and the tables hold the book with that return
 pub return_added : (o : Office) (b : Book) (key : ReturnKey) (body : List ℕ) (old new : Trees) → HoldsBook o b old → return_at b key ≡ None → is_return_entry key body ≡ true → IsRefilled key → IsPermutation ((return_row key body ∷ []) ++ rows_in layout.returns old) (rows_in layout.returns new) → KeepsOthers layout.returns old new → HoldsBook o (with_return b key body) new
+unfolding line
 return_added o b key body old new holds free entry whole came others =
     let keeps = kept_all old new others in
     let pays = pays_on b key body free in
@@ -116,7 +118,7 @@ return_added o b key body old new holds free entry whole came others =
         pools = subst (HasRows _ _) (sym (rows_kept layout.pools old new keeps.pools)) holds.kept.pools;
         cuts = subst (HasRows _ _) (sym (rows_kept layout.pool_cuts old new keeps.pool_cuts)) holds.kept.cuts;
         paid = subst (HasRows _ _) (sym (rows_kept layout.pool_returns old new keeps.pool_returns)) holds.kept.paid;
-        ends = rows_kept layout.segment_ends old new keeps.ends ∙ holds.kept.ends;
+        ends = subst (HasRows _ _) (sym (rows_kept layout.segment_ends old new keeps.ends)) holds.kept.ends;
         mechanical = rows_kept layout.mechanical_pools old new keeps.mechanical ∙ holds.kept.mechanical;
       };
       derived = record {

@@ -6,7 +6,7 @@ use Rattle.std.proofs.Math.Logic.{∥∥₁_elim, ∥∥₁_map}
 use Rattle.std.proofs.lemmas.Bool.{cases_lt}
 use Rattle.share_rules.specs.declared.office.Office.{Office}
 use Rattle.society_core.specs.Book.{Book}
-use Rattle.society_core.specs.Keys.{coded_return_key, coded_transmission_key}
+use Rattle.society_core.specs.Keys.{coded_end, coded_return_key, coded_segment_key, coded_transmission_key}
 use Rattle.society_core.specs.Orders.{coded_order}
 use Rattle.society_core.specs.Requests.{Shown}
 use Rattle.share_rules.specs.contracts.holder.Holder as holder
@@ -20,11 +20,15 @@ use Rattle.works_core.specs.declared.verdict.Verdict.{Verdict}
 use Rattle.std.specs.Coded.{coded_option}
 use Rattle.std.proofs.Common.{List, Option}
 use Rattle.society_core.specs.contracts.store.Known as known
+use Rattle.society_core.specs.contracts.store.KnownEnd as known_end
 use Rattle.society_core.specs.contracts.store.KnownTransmission as known_transmission
 use Rattle.society_core.specs.contracts.store.Payment as payment
+use Rattle.society_core.specs.contracts.store.Place as place
 use Rattle.society_core.specs.declared.store.Known.{Known}
+use Rattle.society_core.specs.declared.store.KnownEnd.{KnownEnd}
 use Rattle.society_core.specs.declared.store.KnownTransmission.{KnownTransmission}
 use Rattle.society_core.specs.declared.store.Payment.{Payment}
+use Rattle.society_core.specs.declared.store.Place.{Place}
 use Rattle.society_core.specs.declared.store.StoreFault.{StoreFault}
 use Rattle.society_rows.specs.declared.fault.RowFault.{RowFault}
 use Rattle.society_rows.specs.declared.fault.RowFault.TheVariants.{Memory, Overflow, Refused, Schema, Unread}
@@ -39,8 +43,9 @@ use Rattle.sqlite.specs.State.{State}
 
 pub coded_book : Coded Book
 coded_book =
-    code_by (_ × (_ × _)) (coded× (finite.code coded_transmission_key (coded_list coded_ℕ)) (coded× (finite.code coded_return_key (coded_list coded_ℕ)) (finite.code coded_ℕ coded_order)))
-    (λ b. (b.transmissions, (b.returns, b.pools))) (λ p. record { transmissions = p.0; returns = p.1.0; pools = p.1.1 }) (λ _. refl)
+    code_by (_ × (_ × (_ × _)))
+    (coded× (finite.code coded_transmission_key (coded_list coded_ℕ)) (coded× (finite.code coded_segment_key coded_end) (coded× (finite.code coded_return_key (coded_list coded_ℕ)) (finite.code coded_ℕ coded_order))))
+    (λ b. (b.transmissions, (b.ends, (b.returns, b.pools)))) (λ p. record { transmissions = p.0; ends = p.1.0; returns = p.1.1.0; pools = p.1.1.1 }) (λ _. refl)
 
 abbrev pub IsAlone : Type 0 → Type 0
 IsAlone P = (x y : P) → x ≡ y
@@ -125,6 +130,12 @@ one_known x y = Coded-set known.the_row.coded x y
 
 pub one_known_transmission : (x y : KnownTransmission) → IsAlone (x ≡ y)
 one_known_transmission x y = Coded-set known_transmission.the_row.coded x y
+
+pub one_place : (x y : Place) → IsAlone (x ≡ y)
+one_place x y = Coded-set place.the_row.coded x y
+
+pub one_known_end : (x y : KnownEnd) → IsAlone (x ≡ y)
+one_known_end x y = Coded-set known_end.the_row.coded x y
 
 pub one_number : (n m : ℕ) → IsAlone (n ≡ m)
 one_number n m = Coded-set coded_ℕ n m

@@ -25,7 +25,7 @@ returns-in-Ok-Refused-clause-comes g c =
       reads = f.so_far.read_on;
       comes = (
         fed_refused (unread c.args.room.now.input) _ _ _ c.args.head.now (unread c.feed_request.new.input) _ _ _ c.feed_request.new.sink f.left f.so_far c.requires.head f.ends
-            (c.args.key.sender, c.args.key.number, λ body. sym (c.requires.asks c.requires.head body)),
+            ((g.S.Store.state c.args.desk.now).office.society, c.args.key.sender, c.args.key.number, λ body. sym (c.requires.asks c.requires.head body)),
         refl,
       );
     }

@@ -13,5 +13,5 @@ returns-clause-step g c =
 
 pub answer_front-answer-requires-clause-asks : goal.answer_front-answer-requires-clause-asks
 answer_front-answer-requires-clause-asks g c =
-    let P : List ℕ → Type 0 = λ v. PartAsks v c.args.head.now (Whole c.args.wanted) in
+    let P : List ℕ → Type 0 = λ v. PartAsks (g.S.Store.state c.args.desk.now).office.society v c.args.head.now (Whole c.args.wanted) in
     subst P (sym c.unread-bytes.ensures) c.requires.asks

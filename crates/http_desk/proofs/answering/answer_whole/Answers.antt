@@ -21,4 +21,4 @@ returns-in-Ok-Request-clause-comes g c =
 pub answer_next-told-requires-clause-asks : goal.answer_next-told-requires-clause-asks
 answer_next-told-requires-clause-asks g c =
     let reads = c.whole_request.ensures.reads in
-    part_asks (unread c.args.room.now.input) _ reads.more c.args.head c.in-Ok-Request.whole (Whole c.args.wanted) c.requires.head reads.grown c.requires.asks
+    part_asks (g.S.Store.state c.args.desk.now).office.society (unread c.args.room.now.input) _ reads.more c.args.head c.in-Ok-Request.whole (Whole c.args.wanted) c.requires.head reads.grown c.requires.asks

@@ -3,12 +3,18 @@ use Rattle.std.specs.Prelude.{OnErr}
 use Rattle.society_core.specs.Requests.{AsksElsewhere}
 use Rattle.http_desk.specs.Wanted.{asked_whole}
 use Rattle.http_desk.specs.declared.requests.WithBody.{WithBody}
+use Rattle.http_desk.proofs.EndLemmas.{state_some}
 use Rattle.http_desk.proofs.OrderLemmas.{close_some}
 use Rattle.http_desk.proofs.requests.request_with.Goals as goal
 
 always : {T E : Type 0} (result : Result T E) (P : Type 0) → P → OnErr result P
 always (Ok x) P holds = tt
 always (Err fault) P holds = holds
+
+pub returns-in-Segment-clause-refused : goal.returns-in-Segment-clause-refused
+returns-in-Segment-clause-refused c =
+    let P : WithBody → Type 0 = λ w. asked_whole w c.args.body.now ≢ AsksElsewhere in
+    always c.state_by.result _ (subst P (sym c.in-Segment.is) (state_some c.in-Segment.sender c.in-Segment.segment c.args.body.now))
 
 pub returns-in-Pool-clause-refused : goal.returns-in-Pool-clause-refused
 returns-in-Pool-clause-refused c =

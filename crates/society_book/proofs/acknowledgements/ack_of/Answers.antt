@@ -1,4 +1,4 @@
-use Rattle.std.proofs.Common.{List, Option, Some, None, Ok, Vec, Global, refl, ap, sym, ◌∙◌, option_map, [], unwrap_or}
+use Rattle.std.proofs.Common.{List, Option, Some, None, Ok, Vec, Global, ap, sym, ◌∙◌, option_map, [], unwrap_or}
 use Rattle.ack_files.specs.Acknowledgement.{acknowledgement}
 use Rattle.cwr_files.specs.Contents.{transmission_in}
 use Rattle.society_core.specs.Book.{body_at}
@@ -19,7 +19,7 @@ returns g c =
           let s = c.args.sender.now in
           let n = c.args.number in
           asked_then _ _ _ _ c.written_of.result _ _ _
-          (rw c.as_bytes.ensures.bytes at c.in_ok-verdicts.ensures.asked) c.written_of.ensures.asked
+          (rw c.as_bytes.ensures.bytes at c.in_ok-verdicts.ensures.asked) (rw c.value.ensures.value at c.written_of.ensures.asked)
           (λ y judged text b holds.
           acknowledged o b s n c.in-Some.verdicts.items _ (sym (ap items_of c.in-Some.is) ∙ judged o b holds)
           (text o b holds ∙ ap (λ (vs : List Verdict). Some (acknowledgement o s (transmission_in (unwrap_or (body_at b s n) [])) vs)) c.as_slice.ensures.value));

@@ -17,5 +17,5 @@ returns-clause-looks g c =
     let back = back_by w c.as_bytes-2.result.now c.as_bytes-2.ensures.bytes c.as_bytes-2.ensures.back in
     looks_as old new _ c.last_up_to.result _ _ (looks_of old new (Ok _) _ (rw (c.as_bytes.ensures.bytes, c.as_bytes-2.ensures.bytes) at c.in_ok-rows.ensures.read))
     (λ lists. more c.last_up_to.result
-    (λ version is o b holds within. is ∙ ap (λ (rows : List Row). option_map version_shown (row_up_to cut rows)) c.as_slice.ensures.value ∙ version_found o b _ holds s w cut back within _ lists)
+    (λ version is o b holds within. is ∙ ap (λ (rows : List Row). option_map version_shown (row_up_to cut rows)) c.as_slice.ensures.value ∙ version_found o b _ holds s w cut back _ lists)
     c.last_up_to.ensures)

@@ -1,4 +1,4 @@
-use Rattle.std.proofs.Common.{◌≡◌, ◌≤◌, ◌∙◌, ◌+◌, ◌++◌, ◌∷◌, [], List, ℕ, Ok, ap, subst, sym, take}
+use Rattle.std.proofs.Common.{◌≡◌, ◌∙◌, ◌+◌, ◌++◌, ◌∷◌, [], List, ℕ, Ok, ap, subst, sym, take}
 use Rattle.std.proofs.lemmas.List.{append-nil, take_all, take_more}
 use Rattle.std.proofs.lemmas.Grind.{flat_map-append}
 use Rattle.sqlite.specs.Held.{state}
@@ -28,7 +28,7 @@ loop-number-preserved g c =
       looks = looks_then (state g.S.Store c.args.tx.now.conn.now) (state g.S.Store c.loop-number.tx.conn.now) (state g.S.Store c.add_transmission.new.tx.conn.now) tt (Ok tt) _ _ _ c.loop-number.invariant.looks c.in_ok-add_transmission.ensures.looks
           (λ y first second b holds right.
           let f = λ (k : ℕ). versions_of_transmission o b key k (transactions_sent b key.sender k) in
-          let within : n ≤ key.number = listed_within o b key of_these c.args.chosen.now right all i n (c.as_slice-number-items.ensures.value ∙ c.in_ok-numbers.ensures.numbers) c.number-item.is c.loop-number-test.true in
+          let within = listed_within o b key of_these c.args.chosen.now right all i n (c.as_slice-number-items.ensures.value ∙ c.in_ok-numbers.ensures.numbers) c.number-item.is c.loop-number-test.true in
           subst (λ (ws : List CutWork). AddsCandidates (holders_of c.args.kind o) of_these ws first_list new_list)
           (ap (λ (ws : List CutWork). versions_in o b key (take i all) ++ ws) (sym (append-nil (f n))) ∙ sym (ap (versions_in o b key) next ∙ flat_map-append f (take i all) (n ∷ [])))
           (adds_then (holders_of c.args.kind o) of_these (versions_in o b key (take i all)) (f n) first_list mid_list new_list (first b holds right) (second b holds within right)));

@@ -1,4 +1,3 @@
-use Rattle.std.proofs.Common.{refl}
 use Rattle.society_book.proofs.shown.QuestionLemmas.{asked_then}
 use Rattle.society_book.proofs.orders.known_pool_of.Goals as goal
 

@@ -11,8 +11,8 @@ returns c =
     let there = c.in-Some.ensures.lookup in
     let listed = c.judged.result.now in
     let fields : settled (record { number = c.value.result; place = c.in-Ok.place; work = c.work_of.result; isrcs = c.in-Some-isrcs.isrcs; verdict = c.args.verdict })
-    ≡ record { number = c.args.number; place = c.args.at; work = _; isrcs = c.in-Some-isrcs.isrcs.now; verdict = c.args.verdict } =
-    λ i. record { number = c.value.ensures.value i; place = c.in-Ok.ensures.1 i; work = c.work_of.ensures i; isrcs = c.in-Some-isrcs.isrcs.now; verdict = c.args.verdict } in
+    ≡ record { number = c.args.noted.now.number; place = c.args.at; work = _; isrcs = c.in-Some-isrcs.isrcs.now; verdict = c.args.verdict } =
+    λ i. record { number = (c.value.ensures.value ∙ c.number.ensures) i; place = c.in-Ok.ensures.1 i; work = c.work_of.ensures i; isrcs = c.in-Some-isrcs.isrcs.now; verdict = c.args.verdict } in
     record {
       judged = c.in-Some.judged.now;
       isrcs = c.in-Some-isrcs.isrcs.now;

@@ -8,7 +8,7 @@ use Rattle.society_book.proofs.outcomes.append_outcomes.Goals as goal
 pub loop-at-preserved : goal.loop-at-preserved
 loop-at-preserved c =
     let here : c.loop-at.at < length c.args.verdicts.now = omega (arith, c.loop-at-test.true) in
-    settled_at c.args.number c.loop-at.at c.args.noted.now c.args.verdicts.now _ (map settled c.args.list.now.items) _ _ here (get_or_default c.args.verdicts.now c.loop-at.at _ _ here) c.in_ok-append_outcome.ensures c.loop-at.invariant
+    settled_at c.loop-at.at c.args.noted.now c.args.verdicts.now _ (map settled c.args.list.now.items) _ _ here (get_or_default c.args.verdicts.now c.loop-at.at _ _ here) c.in_ok-append_outcome.ensures c.loop-at.invariant
 
 pub returns : goal.returns
 returns c =
@@ -16,5 +16,5 @@ returns c =
     let all = c.args.verdicts.now in
     let none = drop_all c.loop-at.at all (omega (arith, c.loop-at-test.false)) in
     sym (append-nil (map settled c.loop-at.list.items))
-    ∙ ap (λ (l : List Settled). map settled c.loop-at.list.items ++ l) (sym (settled_end c.args.number c.loop-at.at (drop c.loop-at.at notes.judged) (drop c.loop-at.at notes.isrcs) (drop c.loop-at.at all) none))
+    ∙ ap (λ (l : List Settled). map settled c.loop-at.list.items ++ l) (sym (settled_end notes.number c.loop-at.at (drop c.loop-at.at notes.judged) (drop c.loop-at.at notes.isrcs) (drop c.loop-at.at all) none))
     ∙ c.loop-at.invariant

@@ -5,5 +5,5 @@ use Rattle.society_book.proofs.outcomes.append_outcomes.Given as goal
 
 abbrev pub invariant-loop-at : goal.invariant-loop-at
 invariant-loop-at l =
-    map settled l.list.items ++ settled_from l.number l.at (drop l.at l.noted.judged) (drop l.at l.noted.isrcs) (drop l.at l.verdicts)
-    ≡ map settled l.initial.list.items ++ settled_from l.number 0 l.noted.judged l.noted.isrcs l.verdicts
+    map settled l.list.items ++ settled_from l.noted.number l.at (drop l.at l.noted.judged) (drop l.at l.noted.isrcs) (drop l.at l.verdicts)
+    ≡ map settled l.initial.list.items ++ settled_from l.noted.number 0 l.noted.judged l.noted.isrcs l.verdicts

@@ -1,10 +1,8 @@
 use Rattle.std.proofs.Common.{◌≡◌, ◌∙◌, ◌++◌, ℕ, List, OnOk, map, ap, sym, subst}
-use Rattle.society_core.proofs.Numbers.{number_is}
 use Rattle.society_book.specs.Outcomes.{settled}
-use Rattle.society_book.specs.Runs.{Settled, settled_from}
+use Rattle.society_book.specs.Runs.{settled_from}
 use Rattle.society_book.proofs.lines.OutcomeLemmas.{on_any}
 use Rattle.society_book.proofs.outcomes.settle_next.Goals as goal
-use Rattle.work_ids.specs.Numbers.{is_transmission_number}
 use Rattle.works_core.specs.Ends.{EndsAt, KnowsWorks}
 use Rattle.works_core.specs.Verdicts.{verdicts_from}
 use Rattle.works_core.specs.Versions.{judged_of, placed_behind}
@@ -14,17 +12,13 @@ use Rattle.works_core.specs.declared.verdict.Verdict.{Verdict}
 pub returns-clause-settled : goal.returns-clause-settled
 returns-clause-settled c = λ known past at knows.
     let notes = c.args.noted.now in
-    let same : c.in-Some.number ≡ c.args.number = number_is is_transmission_number c.args.number c.in-Some.number (sym c.from_u32.ensures ∙ c.in-Some.is) in
     let verdicts : c.as_slice.result.now ≡ verdicts_from (judged_of past) notes.judged =
     c.as_slice.ensures.value ∙ c.in_ok-verdicts.ensures.verdicts known past at (subst (KnowsWorks known) (sym c.judged.ensures) knows) ∙ ap (verdicts_from (judged_of past)) c.judged.ensures in
-    let told = λ (l : List Settled). OnOk c.append_outcomes.result (map settled c.append_outcomes.new.list.items ≡ map settled c.args.list.now.items ++ l) in
-    subst (λ (k : ℕ). told (settled_from k 0 notes.judged notes.isrcs (verdicts_from (judged_of past) notes.judged))) same
-    (subst (λ (vs : List Verdict). told (settled_from c.in-Some.number 0 notes.judged notes.isrcs vs)) verdicts c.append_outcomes.ensures)
+    subst (λ (vs : List Verdict). OnOk c.append_outcomes.result (map settled c.append_outcomes.new.list.items ≡ map settled c.args.list.now.items ++ settled_from notes.number 0 notes.judged notes.isrcs vs)) verdicts c.append_outcomes.ensures
 
 pub returns-clause-ends : goal.returns-clause-ends
 returns-clause-ends c = λ known past at knows.
-    let same : c.in-Some.number ≡ c.args.number = number_is is_transmission_number c.args.number c.in-Some.number (sym c.from_u32.ensures ∙ c.in-Some.is) in
     on_any c.append_outcomes.result
-    (subst (λ (js : List Judged). EndsAt known (placed_behind past c.args.number 0 js) c.verdicts_next.new.end) c.judged.ensures
-    (subst (λ (k : ℕ). EndsAt known (placed_behind past k 0 c.judged.result.now) c.verdicts_next.new.end) same
+    (subst (λ (js : List Judged). EndsAt known (placed_behind past c.args.noted.now.number 0 js) c.verdicts_next.new.end) c.judged.ensures
+    (subst (λ (k : ℕ). EndsAt known (placed_behind past k 0 c.judged.result.now) c.verdicts_next.new.end) c.number.ensures
     (c.in_ok-verdicts.ensures.ends known past at (subst (KnowsWorks known) (sym c.judged.ensures) knows))))

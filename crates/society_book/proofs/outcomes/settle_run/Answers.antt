@@ -1,4 +1,4 @@
-use Rattle.std.proofs.Common.{◌≡◌, ◌∙◌, ◌+◌, ◌++◌, ◌<◌, ℕ, List, ◌∷◌, drop, map, length, ap, sym, subst, arith, append_assoc}
+use Rattle.std.proofs.Common.{◌≡◌, ◌∙◌, ◌+◌, ◌++◌, ◌<◌, List, drop, map, length, ap, sym, subst, arith, append_assoc}
 use Rattle.std.proofs.lemmas.List.{append-nil, drop_all}
 use Rattle.society_book.specs.Outcomes.{settled}
 use Rattle.society_book.specs.Runs.{KnowsRun, Notes, Settled, behind_run, settled_from, settled_run}
@@ -18,21 +18,18 @@ loop-noted-preserved c = λ known past at there.
     let so_far = c.loop-noted.invariant known past at there in
     let now = so_far.0 in
     let knows = subst (KnowsRun known) next so_far.2 in
-    let after = c.in-Some.next in
-    let one_more : after ≡ c.loop-noted.number + 1 = c.in-Some.ensures.1 in
     let rest = drop (i + 1) all in
     let old = map settled c.loop-noted.list.items in
-    let behind = placed_behind now after 0 x.judged in
-    let its = settled_from after 0 x.judged x.isrcs (verdicts_from (judged_of now) x.judged) in (
+    let behind = placed_behind now x.number 0 x.judged in
+    let its = settled_from x.number 0 x.judged x.isrcs (verdicts_from (judged_of now) x.judged) in (
       behind,
       c.in_ok-settle_next.ensures.ends known now so_far.1 knows.0,
       knows.1,
-      ap (λ (l : List Settled). l ++ settled_run behind (after + 1) rest) (c.in_ok-settle_next.ensures.settled known now so_far.1 knows.0)
-          ∙ append_assoc old its (settled_run behind (after + 1) rest)
-          ∙ ap (λ (k : ℕ). old ++ settled_run now k (x ∷ rest)) one_more
-          ∙ ap (λ (xs : List Notes). old ++ settled_run now (c.loop-noted.number + 1) xs) (sym next)
+      ap (λ (l : List Settled). l ++ settled_run behind rest) (c.in_ok-settle_next.ensures.settled known now so_far.1 knows.0)
+          ∙ append_assoc old its (settled_run behind rest)
+          ∙ ap (λ (xs : List Notes). old ++ settled_run now xs) (sym next)
           ∙ so_far.3,
-      ap (λ (k : ℕ). behind_run now k (x ∷ rest)) one_more ∙ ap (behind_run now (c.loop-noted.number + 1)) (sym next) ∙ so_far.4,
+      ap (behind_run now) (sym next) ∙ so_far.4,
     )
 
 pub returns-clause-settled : goal.returns-clause-settled
@@ -41,7 +38,7 @@ returns-clause-settled c = λ known past at there.
     let so_far = c.loop-noted.invariant known past at there in
     let none = drop_all c.loop-noted.noted-index all (omega (arith, c.loop-noted-test.false)) in
     sym (append-nil (map settled c.loop-noted.list.items))
-    ∙ ap (λ (xs : List Notes). map settled c.loop-noted.list.items ++ settled_run so_far.0 (c.loop-noted.number + 1) xs) (sym none)
+    ∙ ap (λ (xs : List Notes). map settled c.loop-noted.list.items ++ settled_run so_far.0 xs) (sym none)
     ∙ so_far.3
 
 pub returns-clause-ends : goal.returns-clause-ends
@@ -49,5 +46,5 @@ returns-clause-ends c = λ known past at there.
     let all = c.args.run.now in
     let so_far = c.loop-noted.invariant known past at there in
     let none = drop_all c.loop-noted.noted-index all (omega (arith, c.loop-noted-test.false)) in
-    let same : so_far.0 ≡ behind_run past (c.args.reached + 1) all = ap (behind_run so_far.0 (c.loop-noted.number + 1)) (sym none) ∙ so_far.4 in
+    let same : so_far.0 ≡ behind_run past all = ap (behind_run so_far.0) (sym none) ∙ so_far.4 in
     subst (λ (p : List Placed). EndsAt known p c.loop-noted.end) same so_far.1

@@ -1,4 +1,4 @@
-use Rattle.std.proofs.Common.{◌≡◌, ◌+◌, ◌++◌, Bool, ℕ, List, map, drop}
+use Rattle.std.proofs.Common.{◌≡◌, ◌++◌, Bool, ℕ, List, map, drop}
 use Rattle.society_book.specs.Outcomes.{settled}
 use Rattle.society_book.specs.Runs.{KnowsRun, behind_run, settled_run}
 use Rattle.society_book.proofs.outcomes.settle_run.Given as goal
@@ -9,5 +9,5 @@ use Rattle.works_core.specs.Versions.{Placed}
 abbrev pub invariant-loop-noted : goal.invariant-loop-noted
 invariant-loop-noted l = (known : List ℕ → Bool) (past : List Placed) → EndsAt known past l.initial.end → KnowsRun known l.run →
     (now : List Placed) × EndsAt known now l.end × KnowsRun known (drop l.noted-index l.run)
-    × (map settled l.list.items ++ settled_run now (l.number + 1) (drop l.noted-index l.run) ≡ settled_run past (l.reached + 1) l.run)
-    × (behind_run now (l.number + 1) (drop l.noted-index l.run) ≡ behind_run past (l.reached + 1) l.run)
+    × (map settled l.list.items ++ settled_run now (drop l.noted-index l.run) ≡ settled_run past l.run)
+    × (behind_run now (drop l.noted-index l.run) ≡ behind_run past l.run)

@@ -1,4 +1,4 @@
-use Rattle.std.proofs.Common.{◌∙◌, ap, cond, refl}
+use Rattle.std.proofs.Common.{◌∙◌, ap, cond}
 use Rattle.society_core.specs.Answers.{paid_by, payer}
 use Rattle.society_core.specs.Book.{return_at}
 use Rattle.society_core.specs.declared.store.Payment.TheVariants.{Unknown}

@@ -1,5 +1,5 @@
-use Rattle.society_core.proofs.HeadlineLemmas.{holds_what_came}
+use Rattle.society_core.proofs.HeadlineLemmas.{holds_what_came, one_of_unstated}
 use Rattle.society_core.proofs.laws.book_holds_what_came.Goals as goal
 
 pub returns : goal.returns
-returns c = holds_what_came
+returns c = record { came = holds_what_came; unstated = one_of_unstated }

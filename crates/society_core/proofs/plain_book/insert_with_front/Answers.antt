@@ -1,26 +1,31 @@
-use Rattle.std.proofs.Common.{◌≡◌, ℕ, Vec, Global, is_some, false, true, unwrap_or, ap, sym, subst, ◌∙◌}
+use Rattle.std.proofs.Common.{◌≡◌, ◌≤◌, ℕ, Vec, Global, true, unwrap_or, refl, ap, sym, subst, ◌∙◌}
+use Rattle.std.specs.BTreeMap as tree
 use Rattle.std.specs.FinMap as finite
-use Rattle.society_core.specs.Book.{Transmissions, front_in, has_all_in}
-use Rattle.society_core.specs.Keys.{transmission_key}
-use Rattle.society_core.specs.PlainMaps.{transmissions_of}
+use Rattle.sender_segments.specs.Ways.{is_reached}
+use Rattle.society_core.specs.Book.{AreOrderly, Transmissions, ends_among, front_in, is_among}
+use Rattle.society_core.specs.Keys.{bytes_cmp}
+use Rattle.society_core.specs.PlainMaps.{IsReachedBy, ends_kept, transmissions_of}
+use Rattle.society_core.proofs.Fronts.{front_within}
 use Rattle.society_core.proofs.Kept.{one_kept}
-use Rattle.society_core.proofs.KeptFronts.{end_still, fronts_put, reached_still, where_ok}
+use Rattle.society_core.proofs.KeptFronts.{fronts_raised, other_there, same_front, taken_reaches}
 use Rattle.society_core.proofs.KeyOrders.{exact_transmissions, transmissions_total}
 use Rattle.society_core.proofs.plain_book.insert_with_front.Goals as goal
 
-pub front_from-front-requires-clause-reached : goal.front_from-front-requires-clause-reached
-front_from-front-requires-clause-reached c =
+pub raise_front-requires-clause-reached : goal.raise_front-requires-clause-reached
+raise_front-requires-clause-reached c =
     let m = transmissions_of c.args.transmissions.now in
+    let ends = ends_kept c.args.ends.now in
+    let s = c.args.key.sender in
     let put = one_kept transmissions_total exact_transmissions (λ (v : Vec ℕ Global). v.items) c.args.transmissions.now.entries c.insert.new.self.entries c.args.key c.args.body c.in_ok-insert.ensures.updates.0 in
-    let reached : c.unwrap_or-reached.result ≡ front_in m c.args.key.sender =
-    c.unwrap_or-reached.ensures ∙ ap (λ o. unwrap_or o 0) (c.copied.ensures ∙ c.get.ensures.value) ∙ c.keep_front.ensures.same c.args.key.sender ∙ c.requires.fronts c.args.key.sender in
-    subst (λ (t : Transmissions). has_all_in t c.args.key.sender c.unwrap_or-reached.result ≡ true) (sym put) (reached_still m c.args.key c.args.body.items c.unwrap_or-reached.result c.requires.free reached)
+    let is : unwrap_or (tree.get bytes_cmp c.keep_front.new.fronts s) 0 ≡ front_in m ends s = c.keep_front.ensures.same s ∙ c.requires.fronts s in
+    subst (λ (t : Transmissions). IsReachedBy c.keep_front.new.fronts t ends s) (sym put)
+    (subst (λ (n : ℕ). (is_reached (is_among (finite.insert m c.args.key c.args.body.items) s) (ends_among ends s) n ≡ true) × (n ≤ 1999999)) (sym is)
+    (taken_reaches m ends c.args.key c.args.body.items c.requires.free, front_within m ends s (c.requires.orderly s)))
 
-pub front_from-front-requires-clause-end : goal.front_from-front-requires-clause-end
-front_from-front-requires-clause-end c =
-    let m = transmissions_of c.args.transmissions.now in
+pub raise_front-requires-clause-orderly : goal.raise_front-requires-clause-orderly
+raise_front-requires-clause-orderly c =
     let put = one_kept transmissions_total exact_transmissions (λ (v : Vec ℕ Global). v.items) c.args.transmissions.now.entries c.insert.new.self.entries c.args.key c.args.body c.in_ok-insert.ensures.updates.0 in
-    subst (λ (t : Transmissions). is_some (finite.get t (transmission_key c.args.key.sender 1000000)) ≡ false) (sym put) (end_still m c.args.key c.args.body.items c.requires.number c.requires.end)
+    subst (λ (t : Transmissions). AreOrderly t (ends_kept c.args.ends.now) c.args.key.sender) (sym put) (c.requires.after c.args.key.sender)
 
 pub returns-clause-ok : goal.returns-clause-ok
 returns-clause-ok c =
@@ -29,7 +34,10 @@ returns-clause-ok c =
 pub returns-clause-fronts : goal.returns-clause-fronts
 returns-clause-fronts c = λ sender.
     let m = transmissions_of c.args.transmissions.now in
+    let ends = ends_kept c.args.ends.now in
+    let n = finite.insert m c.args.key c.args.body.items in
     let put = one_kept transmissions_total exact_transmissions (λ (v : Vec ℕ Global). v.items) c.args.transmissions.now.entries c.insert.new.self.entries c.args.key c.args.body c.in_ok-insert.ensures.updates.0 in
-    fronts_put c.keep_front.new.fronts c.insert-2.new.self m c.args.key c.args.body.items c.front_from-front.result c.requires.free
-    (λ s. c.keep_front.ensures.same s ∙ c.requires.fronts s) (where_ok c.insert-2.result c.if-is_err.ensures.value c.insert-2.ensures.updates).0 (c.front_from-front.ensures ∙ ap (λ (t : Transmissions). front_in t c.args.key.sender) put) sender
-    ∙ ap (λ (t : Transmissions). front_in t sender) (sym put)
+    fronts_raised c.keep_front.new.fronts c.raise_front.new.fronts m n ends ends c.args.key.sender c.raise_front.result
+    (λ s. c.keep_front.ensures.same s ∙ c.requires.fronts s) c.raise_front.ensures.put (c.raise_front.ensures.front ∙ ap (λ (t : Transmissions). front_in t ends c.args.key.sender) put)
+    (λ s apart. same_front m n ends ends s (c.requires.after s) (other_there m c.args.key c.args.body.items s c.requires.free apart) (λ g. refl) (c.requires.orderly s)) sender
+    ∙ ap (λ (t : Transmissions). front_in t ends sender) (sym put)

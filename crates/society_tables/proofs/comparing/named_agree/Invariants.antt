@@ -1,4 +1,4 @@
-use Rattle.std.proofs.Common.{◌≡◌, ◌∷◌, Ok, false, take}
+use Rattle.std.proofs.Common.{◌≡◌, ◌∷◌, Ok, take}
 use Rattle.sqlite.specs.Held.{state}
 use Rattle.sqlite.specs.Steps.{over_memory}
 use Rattle.society_rows.specs.Stored.{HasLayout}

@@ -5,7 +5,7 @@ use Rattle.sqlite.specs.Steps.{over_memory}
 use Rattle.share_rules.specs.declared.office.Office.{Office}
 use Rattle.society_core.specs.Book.{Book, empty_book}
 use Rattle.society_book.specs.Kept.{HoldsBook}
-use Rattle.society_tables.proofs.audit.EntryBooks.{keeps_entries, sound_entries}
+use Rattle.society_tables.proofs.audit.EntryBooks.{keeps_ends, keeps_entries, sound_entries}
 use Rattle.society_tables.proofs.audit.EntrySenders.{senders_of_entries}
 use Rattle.society_tables.proofs.opened.OpenLemmas.{as_inspected}
 use Rattle.society_tables.proofs.confirming.agrees_aside.Goals as goal
@@ -19,9 +19,9 @@ returns g c =
           let senders = c.args.senders.now in
           let memory = (state over_memory t.conn).now.trees in
           as_inspected _ _ c.lines_and_pools_agree.result _ _ (rw c.into_connection.ensures.same at c.lines_and_pools_agree.ensures.confirmed)
-          (λ x agree holds numbered. ∥∥₁_map t.rests (λ r.
+          (λ x agree holds above numbered. ∥∥₁_map t.rests (λ r.
           let kept = (r refl).kept in
           let begun : HoldsBook c.args.office.now empty_book memory =
           subst (λ (o : Office). HoldsBook o empty_book memory) c.in_ok-tables.ensures.office (subst (λ (b : Book). HoldsBook t.office b memory) c.in_ok-tables.ensures.empty kept.holds) in
-          agree (sound_entries senders db holds) (keeps_entries senders db holds) (senders_of_entries senders db holds) kept.layout begun numbered));
+          agree (sound_entries senders db holds above) (keeps_entries senders db holds) (keeps_ends senders db holds) (senders_of_entries senders db holds) kept.layout begun numbered));
     }

@@ -8,4 +8,5 @@ use Rattle.society_tables.proofs.entries.ascending_senders.Goals as goal
 pub returns : goal.returns
 returns c =
     let listed : IfOk c.collect.result (λ list. list.items ≡ c.in_ok-set.set.keys) = search rules in
-    subst (λ ks. IfOk c.collect.result (λ list. list.items ≡ ks)) (collected_ascends nat_list_cmp_total exact_bytes c.in_ok-senders_of.field-0.items c.in_ok-set.set c.in_ok-set.ensures ∙ ap (ascending bytes_cmp) c.in_ok-senders_of.ensures) listed
+    subst (λ ks. IfOk c.collect.result (λ list. list.items ≡ ks))
+    (collected_ascends nat_list_cmp_total exact_bytes c.extend_from_slice.new.self.items c.in_ok-set.set c.in_ok-set.ensures ∙ ap (ascending bytes_cmp) c.in_ok-extend_from_slice.ensures.items) listed

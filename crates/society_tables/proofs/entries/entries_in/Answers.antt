@@ -1,14 +1,11 @@
-use Rattle.std.proofs.Common.{◌≡◌, Ok, Err, Some, None, Vec, List, ℕ}
-use Rattle.std.specs.declared.alloc.Global.{Global}
-use Rattle.std.proofs.Common.{Bool, IsTrue, map}
+use Rattle.std.proofs.Common.{◌≡◌, Bool, Err, IsTrue, None, Ok, Some}
 use Rattle.sqlite.specs.Held.{state}
 use Rattle.sqlite_trees.specs.Tree.{Trees}
-use Rattle.society_core.specs.Keys.{ascending, bytes_cmp}
 use Rattle.society_rows.specs.Layout as layout
 use Rattle.society_rows.specs.Stored.{rows_in}
-use Rattle.society_tables.specs.Auditing.{AreEntries, is_right_return, is_right_sent}
-use Rattle.society_book.specs.BookRows.{is_return_row, is_transmission_row}
-use Rattle.society_book.specs.Columns.{text_at}
+use Rattle.society_tables.specs.Auditing.{AreEntries, is_right_return}
+use Rattle.society_tables.specs.LineSteps.{FindsSenders}
+use Rattle.society_book.specs.BookRows.{is_return_row}
 use Rattle.society_tables.proofs.audit.AloneReads.{reads_as, reads_not_so, reads_then}
 use Rattle.society_tables.proofs.entries.entries_in.Goals as goal
 
@@ -34,11 +31,10 @@ returns-then-branch g c =
           let old = state g.S.Store c.args.conn.now in
           let mid = state g.S.Store c.senders_in.new.conn in
           let new = state g.S.Store c.are_returns_right.new.conn in
-          let Both : Trees → Bool → Type 0 = λ db right. ((senders : Vec (List ℕ) Global) → c.in_ok-senders.senders ≡ Some senders → AreEntries is_right_sent is_transmission_row (rows_in layout.transmissions db) × (senders.items ≡ ascending bytes_cmp (map (text_at 0) (rows_in layout.transmissions db))))
-          × (IsTrue right → AreEntries is_right_return is_return_row (rows_in layout.returns db)) in
+          let Both : Trees → Bool → Type 0 = λ db right. FindsSenders db c.in_ok-senders.senders × (IsTrue right → AreEntries is_right_return is_return_row (rows_in layout.returns db)) in
           reads_as old new c.in_ok-are_returns_right.field-0 (Ok c.in_ok-senders.senders) Both _
           (reads_then old mid new c.in_ok-senders.senders (Ok c.in_ok-are_returns_right.field-0) _ _ Both c.in_ok-senders.ensures.read c.in_ok-are_returns_right.ensures.read (λ y a b. (a, b)))
-          (λ both senders is. record { transmissions = (both.0 senders is).0; returns = both.1 c.if-branch.true; senders = (both.0 senders is).1 });
+          (λ both senders is. record { transmissions = (both.0 senders is).0; ends = (both.0 senders is).1; returns = both.1 c.if-branch.true; senders = (both.0 senders is).2 });
     }
 
 pub returns-else-branch : goal.returns-else-branch

@@ -1,8 +1,6 @@
-use Rattle.std.proofs.Common.{Ok, List, refl, subst}
+use Rattle.std.proofs.Common.{Ok, refl}
 use Rattle.sqlite.specs.Held.{state}
 use Rattle.sqlite.specs.Steps.{over_memory}
-use Rattle.society_tables.specs.Auditing.{SettlesLine}
-use Rattle.society_book.specs.Runs.{Notes}
 use Rattle.society_tables.specs.declared.audit_fault.AuditFault.{AuditFault}
 use Rattle.society_book.proofs.shown.AskLemmas.{clean_is}
 use Rattle.society_tables.proofs.audit.LineAudits.{line_more}
@@ -17,11 +15,10 @@ returns g c =
           let after = (state over_memory c.settle_line.new.conn).now.trees in
           let s = c.args.sender.now in
           then_inspected {D = AuditFault} _ _ c.in_ok-run.run' (Ok tt) _ _ (inspects_of _ _ _ _ c.in_ok-run.ensures.asked)
-          (λ found book has sent laid.
-          let settled = c.in_ok-settle_line.ensures.settled.written (clean_is _ refl) laid in
-          let its : SettlesLine s c.in_ok-run.run'.notes before after = subst (λ (notes : List Notes). SettlesLine s notes before after) c.noted.ensures settled.1 in (
+          (λ found book has orderly known laid.
+          let settled = c.in_ok-settle_line.ensures.settled.written (clean_is _ refl) laid in (
             settled.0,
-            its.others,
-            λ of_these apart lines. line_more c.args.office.now book s c.in_ok-run.run'.notes (found book has) of_these apart sent before after its lines,
+            settled.1.others,
+            λ of_these apart lines. line_more c.args.office.now book s c.in_ok-run.run' (found book has orderly) orderly.right of_these apart known before after settled.1 lines,
           ));
     }

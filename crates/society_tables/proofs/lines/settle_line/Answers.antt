@@ -1,12 +1,13 @@
-use Rattle.std.proofs.Common.{◌∙◌, [], ap, map, w64}
+use Rattle.std.proofs.Common.{◌∙◌, [], List, ap, map, subst, sym, w64, ℕ}
 use Rattle.std.proofs.lemmas.Int.{to_z-of_z}
 use Rattle.society_book.specs.Outcomes.{settled}
-use Rattle.society_book.specs.Runs.{KnowsRun, behind_run, is_among}
+use Rattle.society_book.specs.Runs.{KnowsRun, Notes, behind_run, is_among, settled_run}
+use Rattle.works_core.specs.Verdicts.{works_in}
+use Rattle.works_core.specs.Versions.{judged_of}
 use Rattle.society_tables.proofs.audit.AloneReads.{ok_also}
-use Rattle.society_tables.proofs.audit.LineWrites.{settles_by}
 use Rattle.society_book.proofs.lines.RunLines.{knows_each}
+use Rattle.society_book.proofs.lines.RunWrites.{settles_by}
 use Rattle.society_tables.proofs.lines.settle_line.Goals as goal
-use Rattle.std.proofs.Common.{List, ℕ, subst, sym}
 
 pub returns : goal.returns
 returns g c =
@@ -14,16 +15,20 @@ returns g c =
       settled =
           record {
             written = λ clean has.
-                let notes = c.args.run.now in
+                let run = c.args.run.now in
+                let notes = c.noted-2.result.now in
+                let same = c.noted-2.ensures in
                 let asked = c.as_slice.result.now in
-                let knows : KnowsRun (is_among asked) notes = subst (λ (works : List (List ℕ)). KnowsRun (is_among works) notes) (sym (c.as_slice.ensures.value ∙ c.in_ok-works.ensures)) (knows_each notes) in
+                let knows : KnowsRun (is_among asked) notes =
+                subst (KnowsRun (is_among asked)) (c.noted.ensures ∙ sym same)
+                (subst (λ (works : List (List ℕ)). KnowsRun (is_among works) c.noted.result.now) (sym (c.as_slice.ensures.value ∙ c.in_ok-works.ensures)) (knows_each c.noted.result.now)) in
                 let ends = c.in_ok-outcomes.ensures.ends (is_among asked) [] c.in_ok-end.ensures knows in
-                let their = ap (map settled) c.as_slice-2.ensures.value ∙ c.in_ok-outcomes.ensures.settled (is_among asked) [] c.in_ok-end.ensures knows in
+                let their = ap (map settled) c.as_slice-2.ensures.value ∙ c.in_ok-outcomes.ensures.settled (is_among asked) [] c.in_ok-end.ensures knows ∙ ap (settled_run []) same in
                 ok_also c.write_line.result
                 (λ written. (
                   written.0,
-                  settles_by c.args.sender.now c.as_bytes.result.now notes c.as_slice-2.result.now c.in-Ok.front c.works.result _ c.as_bytes.ensures.bytes c.in-Ok.ensures.1 c.in_ok-column_of.ensures.value
-                      (c.works.ensures (is_among asked) (behind_run [] 1 notes) ends) their _ _ written.1,
+                  settles_by c.args.sender.now c.as_bytes.result.now [] run c.as_slice-2.result.now c.reached.result c.works.result _ c.as_bytes.ensures.bytes c.reached.ensures c.in_ok-column_of.ensures.value
+                      (c.works.ensures (is_among asked) (behind_run [] notes) ends ∙ ap (λ (xs : List Notes). works_in (judged_of (behind_run [] xs))) same) their _ _ written.1,
                 ))
                 ((rw (to_z-of_z w64 c.in_ok-column_of.field-0 c.in_ok-column_of.ensures.range) at c.write_line.ensures.written).written clean has);
           };

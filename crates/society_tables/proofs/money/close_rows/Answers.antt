@@ -1,4 +1,4 @@
-use Rattle.std.proofs.Common.{Ok, refl}
+use Rattle.std.proofs.Common.{Ok}
 use Rattle.society_tables.specs.declared.audit_fault.AuditFault.{AuditFault}
 use Rattle.society_tables.proofs.opened.OpenLemmas.{inspected_then, inspects_of, then_inspected}
 use Rattle.society_tables.proofs.money.close_rows.Goals as goal

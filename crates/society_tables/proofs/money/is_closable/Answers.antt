@@ -1,4 +1,4 @@
-use Rattle.std.proofs.Common.{◌≡◌, ◌∙◌, List, Ok, true, subst, sym}
+use Rattle.std.proofs.Common.{◌≡◌, ◌∙◌, List, true, subst, sym}
 use Rattle.std.specs.List.{AllByRecursion, list_all}
 use Rattle.society_core.specs.Book.{is_applied}
 use Rattle.society_core.specs.declared.return_key.ReturnKey.{ReturnKey}
@@ -10,18 +10,18 @@ use Rattle.society_rows.specs.Stored.{HasLayout}
 use Rattle.society_tables.specs.Auditing.{mixed}
 use Rattle.society_book.specs.Kept.{HoldsBook}
 use Rattle.society_tables.specs.declared.audit_fault.AuditFault.{AuditFault}
-use Rattle.society_tables.proofs.opened.OpenLemmas.{then_inspected}
+use Rattle.society_tables.proofs.opened.OpenLemmas.{inspected_then}
 use Rattle.society_tables.proofs.money.is_closable.Goals as goal
 
 pub returns-clause-closable : goal.returns-clause-closable
 returns-clause-closable g c =
-    then_inspected {D = AuditFault} _ _ _ (Ok _) _ _ c.in_ok-are_open_returns.ensures.free
-    (λ returns laid reached o b holds.
+    inspected_then {E = AuditFault} _ _ _ _ c.are_reached.result _ _ _ c.in_ok-are_open_returns.ensures.free c.are_reached.ensures.reached
+    (λ yes returns reached laid told o b holds.
     let db = (state g.S.Store c.args.conn.now).now.trees in
     let one = c.are_open_returns.ensures.same in
     let two = c.is_open_pool.ensures.same ∙ one in record {
       is_free = c.in_ok-is_open_pool.ensures.free (subst HasLayout (sym one) laid) c.if-not-branch-2.false o b db (subst (λ (m : Database). HoldsBook o b (mixed db m.trees)) (sym one) holds);
-      reached = subst (λ (cut : List TransmissionKey). list_all (is_applied b) cut ≡ true) c.cut.ensures.value (c.in_ok-are_reached.ensures.reached (subst HasLayout (sym two) laid) reached o b db (subst (λ (m : Database). HoldsBook o b (mixed db m.trees)) (sym two) holds));
+      reached = subst (λ (cut : List TransmissionKey). list_all (is_applied b) cut ≡ true) c.cut.ensures.value (reached (subst HasLayout (sym two) laid) told o b (subst (λ (m : Database). HoldsBook o b (mixed db m.trees)) (sym two) holds));
       returns = subst (λ (keys : List ReturnKey). AllByRecursion (IsOpenReturn b) keys) c.returns.ensures.value (returns laid c.if-not-branch.false o b holds);
     })
 
@@ -30,9 +30,6 @@ returns-in_err-is_open_pool-clause-same g c = c.is_open_pool.ensures.same ∙ c.
 
 pub returns-then-not-branch-2-clause-same : goal.returns-then-not-branch-2-clause-same
 returns-then-not-branch-2-clause-same g c = c.is_open_pool.ensures.same ∙ c.are_open_returns.ensures.same
-
-pub returns-in_err-are_reached-clause-same : goal.returns-in_err-are_reached-clause-same
-returns-in_err-are_reached-clause-same g c = c.are_reached.ensures.same ∙ (c.is_open_pool.ensures.same ∙ c.are_open_returns.ensures.same)
 
 pub returns-clause-same : goal.returns-clause-same
 returns-clause-same g c = c.are_reached.ensures.same ∙ (c.is_open_pool.ensures.same ∙ c.are_open_returns.ensures.same)

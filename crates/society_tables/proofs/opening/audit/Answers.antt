@@ -1,4 +1,4 @@
-use Rattle.std.proofs.Common.{◌≡◌, List, [], ◌∷◌, Result, Ok, Err, IfErr, refl, subst, sym}
+use Rattle.std.proofs.Common.{◌≡◌, List, [], ◌∷◌, Result, Ok, Err, IfErr, subst, sym}
 use Rattle.std.specs.Result.{IsErrAnd}
 use Rattle.share_rules.specs.declared.office.Office.{Office}
 use Rattle.sqlite_value.specs.Order.{Row}

@@ -1,4 +1,3 @@
-use Rattle.std.proofs.Common.{refl}
 use Rattle.society_tables.proofs.opened.OpenLemmas.{inspected_then}
 use Rattle.society_tables.proofs.anew.ComesAgain.{clean_before, shows_still}
 use Rattle.society_tables.proofs.anew.RowsAgain.{aside_told}

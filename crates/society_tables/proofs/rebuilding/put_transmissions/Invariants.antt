@@ -12,5 +12,6 @@ abbrev pub invariant-loop-row : goal.invariant-loop-row
 invariant-loop-row l = record {
   office : l.desk.office ≡ l.fn.desk.office;
   passes : (b : Book) → IsSound b → AllByRecursion (IsSent b) l.rows → IsWithin (book_of (state over_memory l.fn.desk.conn).now.trees).transmissions b.transmissions
+      → IsWithin (book_of (state over_memory l.fn.desk.conn).now.trees).ends b.ends
       → AllSent b (book_of (state over_memory l.fn.desk.conn).now.trees) (take l.row-index l.rows) (book_of (state over_memory l.desk.conn).now.trees);
 }

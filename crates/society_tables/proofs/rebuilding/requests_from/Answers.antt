@@ -1,4 +1,3 @@
-use Rattle.std.proofs.Common.{refl}
 use Rattle.society_tables.proofs.anew.ComesAgain.{clean_before, comes_still}
 use Rattle.society_tables.proofs.opened.OpenLemmas.{inspected_then}
 use Rattle.society_tables.proofs.anew.RowsAgain.{aside_told}
@@ -8,18 +7,18 @@ use Rattle.society_tables.proofs.rebuilding.requests_from.Goals as goal
 
 pub returns-clause-asked : goal.returns-clause-asked
 returns-clause-asked g c =
-    inspected_then _ _ _ _ c.money_from.result _ _ _ c.in_ok-transmissions_from.ensures.asked c.money_from.ensures.asked (λ y a b. tt)
+    inspected_then _ _ _ _ c.money_from.result _ _ _ c.in_ok-lines_from.ensures.asked c.money_from.ensures.asked (λ y a b. tt)
 
 pub returns-clause-passes : goal.returns-clause-passes
 returns-clause-passes g c b clean comes is =
     let mid = clean_before _ _ c.money_from.ensures.asked.survives clean in
-    c.money_from.ensures.passes b clean (comes_still b _ _ _ _ c.in_ok-transmissions_from.ensures.asked mid comes) (c.in_ok-transmissions_from.ensures.passes b mid comes is)
+    c.money_from.ensures.passes b clean (comes_still b _ _ _ _ c.in_ok-lines_from.ensures.asked mid comes) (c.in_ok-lines_from.ensures.passes b mid comes is)
 
-pub returns-in_err-transmissions_from-clause-passes : goal.returns-in_err-transmissions_from-clause-passes
-returns-in_err-transmissions_from-clause-passes g c b clean comes is = aside_told _ _ c.from_residual.result c.from_residual.ensures.1 (c.in_err-transmissions_from.ensures.passes b clean comes is)
+pub returns-in_err-lines_from-clause-passes : goal.returns-in_err-lines_from-clause-passes
+returns-in_err-lines_from-clause-passes g c b clean comes is = aside_told _ _ c.from_residual.result c.from_residual.ensures.1 (c.in_err-lines_from.ensures.passes b clean comes is)
 
-pub returns-in_err-transmissions_from-clause-failed : goal.returns-in_err-transmissions_from-clause-failed
-returns-in_err-transmissions_from-clause-failed g c = failed_passed Store _ _ c.in_err-transmissions_from.field-0.0 c.from_residual.result _ c.in_err-transmissions_from.ensures.asked c.in_err-transmissions_from.ensures.failed c.from_residual.ensures.1
+pub returns-in_err-lines_from-clause-failed : goal.returns-in_err-lines_from-clause-failed
+returns-in_err-lines_from-clause-failed g c = failed_passed Store _ _ c.in_err-lines_from.field-0.0 c.from_residual.result _ c.in_err-lines_from.ensures.asked c.in_err-lines_from.ensures.failed c.from_residual.ensures.1
 
 pub returns-clause-failed : goal.returns-clause-failed
-returns-clause-failed g c = failed_then Store _ _ _ _ c.money_from.result _ c.in_ok-transmissions_from.ensures.asked c.money_from.ensures.asked.survives c.money_from.ensures.failed
+returns-clause-failed g c = failed_then Store _ _ _ _ c.money_from.result _ c.in_ok-lines_from.ensures.asked c.money_from.ensures.asked.survives c.money_from.ensures.failed

@@ -4,7 +4,7 @@ use Rattle.society_rows.specs.Layout as layout
 use Rattle.society_book.specs.BookRows.{is_transmission_row, transmission_rows}
 use Rattle.society_book.specs.Columns.{HasRows}
 use Rattle.society_tables.proofs.store.AddLemmas.{any_told}
-use Rattle.society_tables.proofs.anew.ComesAgain.{empty_within, listed_rows, sent_end}
+use Rattle.society_tables.proofs.anew.ComesAgain.{empty_within, listed_rows, no_ends_within, sent_end}
 use Rattle.society_tables.proofs.opened.OpenLemmas.{then_inspected}
 use Rattle.society_tables.proofs.anew.RowsAgain.{all_sent, aside_told}
 use Rattle.society_tables.proofs.opened.Failing.{failed_never, failed_passed}
@@ -19,7 +19,7 @@ returns-clause-passes g c b clean comes empty =
     let shown = comes.shows (c.in_ok-rows.ensures.asked.answered clean) in
     let has = listed_rows is_transmission_row (transmission_rows b) layout.transmissions _ _ _ shown.1.transmissions (c.in_ok-rows.ensures.asked.found clean shown.0) in
     let here = subst (λ (rows : List Row). HasRows is_transmission_row (transmission_rows b) rows) (sym c.as_slice.ensures.value) has in
-    sent_end b _ _ c.as_slice.result.now c.put_transmissions.result here empty (c.put_transmissions.ensures.passes b comes.sound (all_sent b c.as_slice.result.now here) (empty_within b _ empty))
+    sent_end b _ _ c.as_slice.result.now c.put_transmissions.result here empty (c.put_transmissions.ensures.passes b comes.sound (all_sent b c.as_slice.result.now here) (empty_within b _ empty) (no_ends_within b _ empty))
 
 pub returns-in_err-rows-clause-passes : goal.returns-in_err-rows-clause-passes
 returns-in_err-rows-clause-passes g c b clean comes empty = aside_told _ _ c.from_residual.result c.from_residual.ensures.1 c.in_err-rows.ensures.aside

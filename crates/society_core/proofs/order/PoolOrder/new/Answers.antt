@@ -2,7 +2,8 @@ use Rattle.std.proofs.Common.{◌≡◌, ◌∙◌, ◌||◌, ◌≤◌, ℕ, tr
 use Rattle.std.proofs.lemmas.List.{length-map}
 use Rattle.std.proofs.lemmas.List.Folds.{list_all-map}
 use Rattle.std.specs.List.{list_all}
-use Rattle.work_ids.specs.Numbers.{is_return_number, is_transmission_number}
+use Rattle.work_ids.specs.Numbers.{is_return_number}
+use Rattle.work_ids.specs.Segments.{is_transmission_number}
 use Rattle.work_ids.specs.SenderKey.{is_sender_key}
 use Rattle.society_core.specs.Keys.{ascending, return_cmp, return_key, transmission_cmp, transmission_key}
 use Rattle.society_core.specs.Orders.{IsOrder, has_repeat, is_out_of_range, is_too_long, names_twice, order_fault, order_of, return_pair, same_numbered, same_sender, sent_pair}

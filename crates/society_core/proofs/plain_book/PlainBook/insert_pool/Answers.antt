@@ -17,7 +17,7 @@ returns-clause-ok c =
     let same = λ (o : Order). o in
     let map_of = λ (es : List (ℕ × Order)). finite.from_entries {R = nat_cmp} es in
     let kept = one_kept nat_cmp_total exact_numbers same old.pools.entries new c.args.pool c.in_ok-copy.copy c.in_ok-insert.ensures.updates.0 in
-    let put = λ (m : FinMap nat_cmp Order). let b : Book = record (plain_book old.transmissions.entries old.returns.entries old.pools.entries) { pools = m } in b in
+    let put = λ (m : FinMap nat_cmp Order). let b : Book = record (plain_book old.transmissions.entries old.ends.entries old.returns.entries old.pools.entries) { pools = m } in b in
     ap put (ap map_of (sym (pairs_same new)) ∙ kept ∙ ap (λ (es : List (ℕ × Order)). finite.insert (map_of es) c.args.pool c.in_ok-copy.copy) (pairs_same old.pools.entries))
     ∙ ap (λ (b : Book). with_pool b c.args.pool c.in_ok-copy.copy) c.self.view_is
     ∙ ap (λ (x : Order). with_pool c.args.self.now c.args.pool x) c.in_ok-copy.ensures.copy

@@ -9,4 +9,4 @@ invariant_of-self-clause-rests g c = still_rests _ _ _ _ _ c.args.self.now.rests
 pub returns : goal.returns
 returns g c =
     question_own c.args.self.now.office (λ b text. option_map (λ bytes. bytes.items) text ≡ ack c.args.self.now.office b c.args.sender.now c.args.number) _ _ _ _ _ c.told.result c.args.self.now.rests
-    (rw c.value.ensures.value at c.ack_of-answer.ensures.asked) (λ b text. one_text _ _) (below_greatest _ c.args.self.now.small c.if-self.false) c.told.ensures
+    c.ack_of-answer.ensures.asked (λ b text. one_text _ _) (below_greatest _ c.args.self.now.small c.if-self.false) c.told.ensures

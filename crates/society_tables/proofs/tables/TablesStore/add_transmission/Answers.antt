@@ -1,10 +1,11 @@
 use Rattle.std.proofs.Common.{◌≡◌}
 use Rattle.std.proofs.Math.Logic.{∥∥₁_map}
-use Rattle.society_core.specs.Book.{front, with_transmission}
+use Rattle.society_core.specs.Answers.{place_in}
+use Rattle.society_core.specs.Book.{with_transmission}
 use Rattle.society_book.specs.BookRows.{book_of}
 use Rattle.society_book.specs.Steps.{Arrives, ArrivesTo}
 use Rattle.society_tables.proofs.store.AddLemmas.{addition, rests_after}
-use Rattle.society_tables.proofs.store.StoreQuestions.{below_greatest, one_number}
+use Rattle.society_tables.proofs.store.StoreQuestions.{below_greatest, one_place}
 use Rattle.society_tables.proofs.tables.TablesStore.add_transmission.Goals as goal
 
 pub invariant_of-self-clause-rests : goal.invariant_of-self-clause-rests
@@ -16,7 +17,7 @@ invariant_of-self-clause-rests g c =
     ∥∥₁_map c.args.self.now.rests
     (rests_after o _ _ (Arrives o s c.args.number body) (ArrivesTo o s c.args.number body) (with_transmission book s c.args.number body) c.arrive-answer.result
     (rw (c.sender.ensures, c.body.ensures) at c.arrive-answer.ensures.added)
-    (λ clean holds db arrives. arrives book holds (c.requires.free clean)))
+    (λ clean holds db arrives. arrives book holds (c.requires.free clean) (c.requires.within clean)))
 
 pub returns : goal.returns
 returns g c =
@@ -26,6 +27,6 @@ returns g c =
     let book = book_of (g.S.Store.view c.args.self.now.conn.store).trees in
     addition o _ _ (Arrives o s c.args.number body) (ArrivesTo o s c.args.number body) (with_transmission book s c.args.number body) c.arrive-answer.result
     (rw (c.sender.ensures, c.body.ensures) at c.arrive-answer.ensures.added)
-    (λ clean holds db arrives. arrives book holds (c.requires.free clean))
-    (λ n. n ≡ front (with_transmission book s c.args.number body) s) (λ n. one_number n _) (λ clean holds n says. says book holds (c.requires.free clean))
+    (λ clean holds db arrives. arrives book holds (c.requires.free clean) (c.requires.within clean))
+    (λ place. place ≡ place_in (with_transmission book s c.args.number body) s c.args.number) (λ place. one_place place _) (λ clean holds place says. says book holds (c.requires.free clean) (c.requires.within clean))
     _ _ c.told.result c.args.self.now.rests (below_greatest _ c.args.self.now.small c.if-self.false) c.told.ensures

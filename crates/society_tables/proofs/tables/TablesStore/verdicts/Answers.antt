@@ -9,4 +9,4 @@ invariant_of-self-clause-rests g c = still_rests _ _ _ _ _ c.args.self.now.rests
 pub returns : goal.returns
 returns g c =
     question_by (λ o b shown. option_map (λ list. list.items) shown ≡ shown_verdicts o b c.args.sender.now c.args.number) _ _ _ _ _ _ c.told.result c.args.self.now.rests
-    (rw (c.as_bytes.ensures.bytes, c.value.ensures.value) at c.verdicts_of-answer.ensures.asked) (λ b shown. one_judgment _ _) (below_greatest _ c.args.self.now.small c.if-self.false) c.told.ensures
+    (rw (c.as_bytes.ensures.bytes) at c.verdicts_of-answer.ensures.asked) (λ b shown. one_judgment _ _) (below_greatest _ c.args.self.now.small c.if-self.false) c.told.ensures

@@ -1,0 +1,86 @@
+-- What a statement lets go on, and what holds of a sender that stated nothing.
+use Rattle.std.proofs.Common.{◌≡◌, ℕ, ◌+◌, ◌<◌, ◌≤◌, true, false, List, Option, Some, None, length, ap, sym, ◌∙◌, arith, ⊎_elim}
+use Rattle.std.proofs.lemmas.Bool.{cases_Bool, cases_lt}
+use Rattle.std.proofs.lemmas.List.FromFn.{length-range_with_len}
+use Rattle.sender_segments.specs.Ways.{AreRight, End, IsGap}
+use Rattle.sender_segments.proofs.Ranks.{made_plain, number_is}
+use Rattle.sender_segments.proofs.Reached.{leads_is, next_reached}
+use Rattle.work_ids.specs.Segments.{base_of, most_in, segment_of}
+use Rattle.society_core.specs.Book.{Book, IsSound, ends_of, front, is_there}
+use Rattle.society_core.specs.Ends.{place_stated}
+use Rattle.society_core.specs.Laws.{NumbersOfPlainLines, PlainLinesAreAlike, PlainLinesCountFromOne, PlainLinesEndAtGaps, StatementsLeadOn, StatesNothing}
+use Rattle.sender_segments.specs.Ways.{end_stated}
+use Rattle.society_core.proofs.Books.{sound_order}
+use Rattle.society_core.proofs.Fronts.{all_there, front_gap, front_led, front_reaches, led_there}
+use Rattle.society_core.proofs.GrowthLemmas.{is_stated}
+use Rattle.society_core.proofs.HeadlineLemmas.{past_is_none}
+use Rattle.society_core.proofs.LineNumbers.{plain_in_line, plain_line}
+use Rattle.society_core.proofs.Stores.{end_entry}
+
+pub leads_on : StatementsLeadOn
+leads_on b s stated sound key right free none =
+    is_stated b s (place_stated stated) (end_stated stated) sound free (end_entry s stated key right)
+    (λ n there same. past_is_none b s (place_stated stated) stated.last n none there same)
+
+pub sound_gap : (b : Book) (s : List ℕ) → IsSound b → IsGap (is_there b s) (ends_of b s) (front b s)
+sound_gap b s sound = front_gap b.transmissions b.ends s (sound_order b sound s)
+
+none_stated : (e : End) → ◌≡◌ {A = Option End} None (Some e) → ⊥
+none_stated e h = cc
+
+nothing_right : (b : Book) (s : List ℕ) → StatesNothing b s → AreRight (ends_of b s)
+nothing_right b s nothing = record {
+  within = λ g e stated. absurd (none_stated e (sym (nothing g) ∙ stated));
+  later = λ g e stated. absurd (none_stated e (sym (nothing g) ∙ stated));
+}
+
+-- the front of a sender that stated nothing is a plain number
+pub plain_front : (b : Book) (s : List ℕ) → StatesNothing b s → front b s < 1000000
+plain_front b s nothing = ⊎_elim plain dated (cases_lt (segment_of (front b s)) 1)
+  where
+    plain : segment_of (front b s) < 1 → front b s < 1000000
+    plain first =
+        let g : segment_of (front b s) ≡ 0 = omega (arith, first) in
+        let made = number_is (front b s) in
+        let base : base_of (segment_of (front b s)) ≡ 0 = ap base_of g in
+        let most : most_in (segment_of (front b s)) ≡ 999999 = ap most_in g in
+        omega (arith, made.is, made.within, base, most)
+
+    dated : 1 ≤ segment_of (front b s) → front b s < 1000000
+    dated later =
+        let at = leads_is (ends_of b s) (nothing_right b s nothing) (front b s) (front_led b.transmissions b.ends s) in
+        let by = led_there (ends_of b s) (segment_of (front b s)) (omega (arith, at, later)) in
+        absurd (none_stated by.1 (sym (nothing by.0) ∙ by.2))
+
+pub plain_is_line : PlainLinesCountFromOne
+plain_is_line b s nothing = plain_line b s (plain_front b s nothing)
+
+pub plain_numbers_are : NumbersOfPlainLines
+plain_numbers_are b s nothing n = plain_in_line b s (plain_front b s nothing) n
+
+pub plain_ends : PlainLinesEndAtGaps
+plain_ends b s nothing plain =
+    ⊎_elim
+    (λ (there : is_there b s (front b s + 1) ≡ true).
+    let f = front b s in
+    let below = plain (f + 1) there in
+    let right = nothing_right b s nothing in
+    let g = made_plain f (omega (arith, below)) in
+    let made = number_is f in
+    let base : base_of (segment_of f) ≡ 0 = ap base_of g in
+    let most : most_in (segment_of f) ≡ 999999 = ap most_in g in
+    let above = front_reaches b.transmissions b.ends s right (f + 1) (next_reached (ends_of b s) right (is_there b s) f (omega (arith, made.is, base, most, below)) (all_there b.transmissions b.ends s) there) in
+    absurd (omega (arith, above)))
+    (λ (gap : is_there b s (front b s + 1) ≡ false). gap)
+    (cases_Bool (is_there b s (front b s + 1)))
+
+-- lines of one sender that stated nothing have one front
+pub plain_alike : PlainLinesAreAlike
+plain_alike a b s first second same bodies = record {
+  same_front =
+      sym (length-range_with_len 1 (front a s))
+      ∙ ap length (sym (plain_is_line a s first) ∙ same ∙ plain_is_line b s second)
+      ∙ length-range_with_len 1 (front b s);
+  same_line = same;
+  same_bodies = bodies;
+}

@@ -1,0 +1,43 @@
+use Rattle.std.proofs.Common.{◌≡◌, ◌≤◌, ℕ, true, unwrap_or, refl, ap, sym, subst, ◌∙◌}
+use Rattle.std.specs.BTreeMap as tree
+use Rattle.std.specs.FinMap as finite
+use Rattle.sender_segments.specs.Ways.{end_stated, is_reached}
+use Rattle.society_core.specs.Book.{AreOrderly, Ends, ends_among, front_in, is_among}
+use Rattle.society_core.specs.Keys.{bytes_cmp}
+use Rattle.society_core.specs.PlainMaps.{IsReachedBy, ends_kept, transmissions_of}
+use Rattle.society_core.proofs.Fronts.{front_within}
+use Rattle.society_core.proofs.Kept.{one_kept}
+use Rattle.society_core.proofs.KeptFronts.{fronts_raised, other_stated, same_front, stated_reaches}
+use Rattle.society_core.proofs.KeyOrders.{exact_segments, segments_total}
+use Rattle.society_core.proofs.plain_book.insert_end_with_front.Goals as goal
+
+pub raise_front-requires-clause-reached : goal.raise_front-requires-clause-reached
+raise_front-requires-clause-reached c =
+    let m = transmissions_of c.args.transmissions.now in
+    let ends = ends_kept c.args.ends.now in
+    let s = c.args.key.sender in
+    let put = one_kept segments_total exact_segments end_stated c.args.ends.now.entries c.insert.new.self.entries c.args.key c.args.end c.in_ok-insert.ensures.updates.0 in
+    let is : unwrap_or (tree.get bytes_cmp c.keep_front.new.fronts s) 0 ≡ front_in m ends s = c.keep_front.ensures.same s ∙ c.requires.fronts s in
+    subst (λ (t : Ends). IsReachedBy c.keep_front.new.fronts m t s) (sym put)
+    (subst (λ (n : ℕ). (is_reached (is_among m s) (ends_among (finite.insert ends c.args.key (end_stated c.args.end)) s) n ≡ true) × (n ≤ 1999999)) (sym is)
+    (stated_reaches m ends c.args.key (end_stated c.args.end) c.requires.free, front_within m ends s (c.requires.orderly s)))
+
+pub raise_front-requires-clause-orderly : goal.raise_front-requires-clause-orderly
+raise_front-requires-clause-orderly c =
+    let put = one_kept segments_total exact_segments end_stated c.args.ends.now.entries c.insert.new.self.entries c.args.key c.args.end c.in_ok-insert.ensures.updates.0 in
+    subst (λ (t : Ends). AreOrderly (transmissions_of c.args.transmissions.now) t c.args.key.sender) (sym put) (c.requires.after c.args.key.sender)
+
+pub returns-clause-ok : goal.returns-clause-ok
+returns-clause-ok c =
+    one_kept segments_total exact_segments end_stated c.args.ends.now.entries c.insert.new.self.entries c.args.key c.args.end c.in_ok-insert.ensures.updates.0
+
+pub returns-clause-fronts : goal.returns-clause-fronts
+returns-clause-fronts c = λ sender.
+    let m = transmissions_of c.args.transmissions.now in
+    let ends = ends_kept c.args.ends.now in
+    let others = finite.insert ends c.args.key (end_stated c.args.end) in
+    let put = one_kept segments_total exact_segments end_stated c.args.ends.now.entries c.insert.new.self.entries c.args.key c.args.end c.in_ok-insert.ensures.updates.0 in
+    fronts_raised c.keep_front.new.fronts c.raise_front.new.fronts m m ends others c.args.key.sender c.raise_front.result
+    (λ s. c.keep_front.ensures.same s ∙ c.requires.fronts s) c.raise_front.ensures.put (c.raise_front.ensures.front ∙ ap (λ (t : Ends). front_in m t c.args.key.sender) put)
+    (λ s apart. same_front m m ends others s (c.requires.after s) (λ k. refl) (other_stated ends c.args.key (end_stated c.args.end) s c.requires.free apart) (c.requires.orderly s)) sender
+    ∙ ap (λ (t : Ends). front_in m t sender) (sym put)
