@@ -6,7 +6,7 @@ peak memory of the program in MB, the bytes in and out, and how many answers of 
 examples/first.cwr, each under a number and a recording of its own.
 """
 import common
-from common import FIRST, MAX_BODY, SENDER, get, plays, put_file, put_pool, put_return, work_lines, works_file
+from common import FIRST, MAX_BODY, SENDER, get, plays, put_file, put_pool, put_return, request, work_lines, works_file
 
 PATH = f"/v1/senders/{SENDER}"
 
@@ -31,6 +31,12 @@ def full_files_acknowledged(count):
 
 def held_ones_let_go(count):
     return b"".join(put_file(works_file(n, 1), n) for n in range(count + 1, 0, -1)), count + 1
+
+
+def a_year_let_go(count):
+    """Held files of a year, downwards, and the statement that leads to the year."""
+    files = [request("PUT", f"{PATH}/files/CW26{n:04d}EXA_900.V22", works_file(n, 1)) for n in range(count, 0, -1)]
+    return b"".join(files) + request("PUT", f"{PATH}/segments/plain", b'{"last":0,"next":26}'), count + 1
 
 
 def questions(path, count):
@@ -58,6 +64,7 @@ CASES = {
     "5,000 files of 20 works": lambda: files_of_works(20, 5_000),
     "40 full files, each with its acknowledgement": lambda: full_files_acknowledged(40),
     "10,000 held files let go": lambda: held_ones_let_go(10_000),
+    "9,999 held files of a year let go by a statement": lambda: a_year_let_go(9_999),
     "questions: a balance": lambda: questions("/v1/accounts/I00000000199", 300_000),
     "questions: a sender": lambda: questions(PATH, 300_000),
     "questions: a work": lambda: questions(f"{PATH}/works/W0", 300_000),
