@@ -21,6 +21,11 @@ const MEMBERS: usize = 3;
 /// The member by which an order names its kind.
 const KIND: &str = "kind";
 
+/// The names of the two rights (CISAC CWR 2.2).
+const PERFORMING: &str = "PR";
+
+const MECHANICAL: &str = "MR";
+
 /// Elements of an entry of a cut, or of the list of returns.
 const ELEMENTS: usize = 2;
 
@@ -155,11 +160,13 @@ fn returns_of(alloc: Global, value: &Value) -> Result<Option<Vec<(Reporter, u64)
 fn kind_named(text: &str) -> Option<Kind>
     ensures { result ≡ kind_named text.now }
 {
-    match text {
-        "PR" => Some(Kind::Performing),
-        "MR" => Some(Kind::Mechanical),
-        _ => None,
+    if text == PERFORMING {
+        return Some(Kind::Performing);
     }
+    if text == MECHANICAL {
+        return Some(Kind::Mechanical);
+    }
+    None
 }
 
 // The right that an order names: performance where it names none.
