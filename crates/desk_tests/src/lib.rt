@@ -10,6 +10,8 @@ mod feeding_tests;
 #[cfg(test)]
 mod hostile_tests;
 #[cfg(test)]
+mod kind_tests;
+#[cfg(test)]
 mod peer_tests;
 #[cfg(test)]
 mod request_tests;

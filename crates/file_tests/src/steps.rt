@@ -1,4 +1,5 @@
 //! Requests that are sent one after another, and what is answered to each.
+use share_rules::Kind;
 use society_core::{Arrival, Desk, PoolOrder, Receipt, Refusal, ReturnKey, Store};
 use std::alloc::Global;
 use std::test::Fail;
@@ -85,9 +86,15 @@ fn reporter() -> Result<Reporter, &'static str> {
 
 /// The order that closes a pool of 1,001 units at cut 3 over the first return.
 pub fn order_at_a_cut(alloc: Global) -> Result<PoolOrder, Fail> {
-    let order = PoolOrder::new(alloc, 1_001, &[(sender()?, 3)], &[(reporter()?, 1)])
-        .ok()
-        .ok_or("an order")?;
+    let order = PoolOrder::new(
+        alloc,
+        Kind::Performing,
+        1_001,
+        &[(sender()?, 3)],
+        &[(reporter()?, 1)],
+    )
+    .ok()
+    .ok_or("an order")?;
     Ok(order)
 }
 

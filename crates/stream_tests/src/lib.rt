@@ -8,6 +8,8 @@ mod checks;
 #[cfg(test)]
 mod http_tests;
 #[cfg(test)]
+mod kind_tests;
+#[cfg(test)]
 mod limit_tests;
 #[cfg(test)]
 mod samples;

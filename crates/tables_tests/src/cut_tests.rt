@@ -78,7 +78,7 @@ fn found(alloc: Global, cut: u64) -> Result<Vec<Candidate>, Fail> {
     put_all(alloc, &mut conn, &office)?;
     let one = SenderKey::from_bytes(ONE).ok().ok_or("a sender")?;
     let other = SenderKey::from_bytes(OTHER).ok().ok_or("a sender")?;
-    let order = PoolOrder::new(alloc, 100, &[(one, cut), (other, 1)], &[])
+    let order = PoolOrder::new(alloc, Kind::Performing, 100, &[(one, cut), (other, 1)], &[])
         .ok()
         .ok_or("an order")?;
     let tally = tallied(alloc)?;

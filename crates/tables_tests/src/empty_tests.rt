@@ -1,5 +1,6 @@
 //! The store over tables in memory, asked before anything has come.
 use crate::checks::{holds, told};
+use share_rules::Kind;
 use society_core::{Known, KnownTransmission, Payment, Place, PoolOrder, ReturnKey, Store};
 use society_tables::Tables;
 use sqlite::MemStore;
@@ -92,7 +93,7 @@ fn nobody_has_money_of_an_empty_book(rt: HostRuntime) -> Result<(), Fail> {
     let pool = PoolNumber::from_u32(1).ok_or("a pool")?;
     let credits = tables.credits(rt.alloc(), pool);
     holds(&rt, "credits", credits.is_ok_and(|found| found.is_none()));
-    let order = PoolOrder::new(rt.alloc(), 0, &[], &[])
+    let order = PoolOrder::new(rt.alloc(), Kind::Performing, 0, &[], &[])
         .ok()
         .ok_or("an order")?;
     told(

@@ -2,7 +2,7 @@
 ghost use Rattle.std.specs.Prelude.{◌≡◌, IfOk, false};
 
 use crate::checks::{holds, told};
-use share_rules::Office;
+use share_rules::{Kind, Office};
 use society_core::{Desk, PoolOrder, ReturnKey, Store};
 use society_rows::Idle;
 use society_tables::{AuditFault, OpenFault, Tables, confirm, open_after_crash, reopen};
@@ -48,9 +48,15 @@ fn put_all(alloc: Global, desk: &mut Desk<Tables<MemStore>>) -> Result<(), Fail>
         .ok_or("a transmission")?;
     let key = played()?;
     desk.put_return(alloc, &key, PLAYED).ok().ok_or("a return")?;
-    let order = PoolOrder::new(alloc, 1_000, &[(sender, 1)], &[(key.reporter, 1)])
-        .ok()
-        .ok_or("an order")?;
+    let order = PoolOrder::new(
+        alloc,
+        Kind::Performing,
+        1_000,
+        &[(sender, 1)],
+        &[(key.reporter, 1)],
+    )
+    .ok()
+    .ok_or("an order")?;
     let pool = PoolNumber::from_u32(7).ok_or("a pool")?;
     desk.close_pool(alloc, pool, &order).ok().ok_or("a pool")?;
     Ok(())

@@ -1,6 +1,7 @@
 //! The rows of money on the desk, each over tables in memory and over the plain store: returns, pools at a cut, credits and balances.
 use crate::checks::{holds, told};
 use pool_split::Credit;
+use share_rules::Kind;
 use society_core::{
     Desk, OrderError, OrderFault, PlainStore, PoolOrder, Receipt, Refusal, ReturnKey, Store,
 };
@@ -70,7 +71,7 @@ fn order(alloc: Global, amount: u64, cut: u64, returns: &[u64]) -> Result<PoolOr
         named.push((reporter, *number))?;
     }
     Ok(
-        PoolOrder::new(alloc, amount, &senders, &named)
+        PoolOrder::new(alloc, Kind::Performing, amount, &senders, &named)
             .ok()
             .ok_or("an order")?,
     )
@@ -251,6 +252,7 @@ fn check_two_claimants<S: Store>(
     let reporter = Reporter::from_bytes(b"RADIO1").ok().ok_or("a reporter")?;
     let both = PoolOrder::new(
         alloc,
+        Kind::Performing,
         10,
         &[(sender(SECOND)?, 1), (sender(FIRST)?, 1)],
         &[(reporter, 1)],
@@ -415,20 +417,20 @@ fn faults_of_orders(rt: HostRuntime) -> Result<(), Fail> {
     let alloc = rt.alloc();
     let one = sender(FIRST)?;
     let twice = [(one, 1), (one, 2)];
-    let above = PoolOrder::new(alloc, 1_000_000_000_001, &twice, &[]);
+    let above = PoolOrder::new(alloc, Kind::Performing, 1_000_000_000_001, &twice, &[]);
     holds(
         &rt,
         "order fault 2",
         matches!(above, Err(OrderError::Order(OrderFault::OutOfRange))),
     );
-    let named_twice = PoolOrder::new(alloc, 1, &twice, &[]);
+    let named_twice = PoolOrder::new(alloc, Kind::Performing, 1, &twice, &[]);
     let fourth = matches!(named_twice, Err(OrderError::Order(OrderFault::NamedTwice)));
     holds(&rt, "order fault 4", fourth);
     let mut senders = Vec::new(alloc);
     for _ in 0..201 {
         senders.push((one, 1))?;
     }
-    let many = PoolOrder::new(alloc, 1, &senders, &[]);
+    let many = PoolOrder::new(alloc, Kind::Performing, 1, &senders, &[]);
     holds(
         &rt,
         "order fault 3",

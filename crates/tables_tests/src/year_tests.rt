@@ -1,5 +1,6 @@
 //! Files by year and stated ends, each row over tables in memory and over the plain store: what is answered, and how the sender stands then.
 use crate::checks::told;
+use share_rules::Kind;
 use society_core::{Arrival, Desk, PlainStore, PoolOrder, Receipt, Refusal, Standing, Store};
 use society_tables::Tables;
 use std::alloc::Global;
@@ -93,7 +94,7 @@ fn put_end<S: Store>(
 }
 
 fn close<S: Store>(alloc: Global, desk: &mut Desk<S>, cut: u64) -> Result<Told, Fail> {
-    let order = PoolOrder::new(alloc, 10, &[(sender()?, cut)], &[])
+    let order = PoolOrder::new(alloc, Kind::Performing, 10, &[(sender()?, cut)], &[])
         .ok()
         .ok_or("an order")?;
     let pool = PoolNumber::from_u32(7).ok_or("a pool")?;
