@@ -38,7 +38,7 @@ pub fn over_tables(alloc: Global, office: &Office, input: &[u8]) -> Vec<u8> {
 }
 
 /// What the desk over the plain store writes for a stream.
-pub fn over_plain<R: Read>(alloc: Global, office: &Office, source: R) -> Seen {
+pub fn over_plain<R: Read + Drop>(alloc: Global, office: &Office, source: R) -> Seen {
     let mut desk = Desk::new(PlainStore::new(alloc, office));
     let mut reader = Counted::new(source);
     let mut writer = Counted::new(Vec::new(alloc));

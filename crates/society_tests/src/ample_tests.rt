@@ -171,13 +171,7 @@ fn run_of_one_hundred_thousand_puts(rt: HostRuntime) -> Result<(), Fail> {
     let alloc = rt.alloc();
     let mut input = Vec::new(alloc);
     let mut wanted = Vec::new(alloc);
-    add_puts(
-        alloc,
-        &mut input,
-        &mut wanted,
-        [EMPTY, EMPTY],
-        100_000,
-    )?;
+    add_puts(alloc, &mut input, &mut wanted, [EMPTY, EMPTY], 100_000)?;
     let (out, status) = replayed(alloc, input.as_slice())?;
     holds(&rt, "each is applied", out.as_slice() == wanted.as_slice());
     is_status(&rt, "they are served", status, 0);
@@ -189,13 +183,7 @@ fn fronts_to_three_hundred(rt: HostRuntime) -> Result<(), Fail> {
     let alloc = rt.alloc();
     let mut input = Vec::new(alloc);
     let mut wanted = Vec::new(alloc);
-    add_puts(
-        alloc,
-        &mut input,
-        &mut wanted,
-        [REGISTERED, REVISED],
-        300,
-    )?;
+    add_puts(alloc, &mut input, &mut wanted, [REGISTERED, REVISED], 300)?;
     input.extend_from_slice(b"GET /v1/senders/PB000000012/verdicts/300 HTTP/1.1\r\n\r\n")?;
     let last = b"[{\"ordinal\":1,\"revision\":299}]";
     answer(alloc, &mut wanted, "200 OK", "json", last)?;

@@ -81,18 +81,29 @@ fn found(alloc: Global, cut: u64) -> Result<Vec<Candidate>, Fail> {
     Ok(candidates.ok().ok_or("candidates")?)
 }
 
-/// Each cut of the one sender, and the candidates then, each a sender and a recording. The first version names a recording, a revision
-/// before the cut names another, and a work that drops its recordings is no candidate.
-const CUTS: [(u64, &str); 3] = [
-    (1, "PB000000012 ATABC2600001\nPB000000034 ATABC2600002\n"),
-    (2, "PB000000012 ATABC2600002\nPB000000034 ATABC2600002\n"),
-    (3, "PB000000034 ATABC2600002\n"),
+/// A name, a cut of the one sender, and the candidates then, each a sender and a recording.
+const CUTS: [(&str, u64, &str); 3] = [
+    (
+        "a_first_version_names_its_recording",
+        1,
+        "PB000000012 ATABC2600001\nPB000000034 ATABC2600002\n",
+    ),
+    (
+        "a_revision_before_the_cut_names_another",
+        2,
+        "PB000000012 ATABC2600002\nPB000000034 ATABC2600002\n",
+    ),
+    (
+        "a_work_that_drops_its_recordings_is_no_candidate",
+        3,
+        "PB000000034 ATABC2600002\n",
+    ),
 ];
 
 #[test]
 fn candidates_at_cuts(rt: HostRuntime) -> Result<(), Fail> {
     let alloc = rt.alloc();
-    for (cut, wanted) in CUTS {
+    for (row, cut, wanted) in CUTS {
         let mut seen = String::new(alloc);
         for candidate in found(alloc, cut)?.iter() {
             let sender = str::from_utf8(candidate.sender.as_bytes()).unwrap_or("");
@@ -100,7 +111,7 @@ fn candidates_at_cuts(rt: HostRuntime) -> Result<(), Fail> {
             let line = format!(in alloc; "{sender} {isrc}\n")?;
             seen.push_str(line.as_str())?;
         }
-        told(&rt, "candidates", &seen.as_str(), &wanted);
+        told(&rt, row, &seen.as_str(), &wanted);
     }
     Ok(())
 }

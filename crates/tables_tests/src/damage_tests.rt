@@ -154,7 +154,13 @@ const OPENINGS: [Opening; 13] = [
         900,
         DAMAGED,
     ),
-    ("a_year_begun_is_opened", YEAR_BEGUN, YEAR_CHANGES, 900, None),
+    (
+        "a_year_begun_is_opened",
+        YEAR_BEGUN,
+        YEAR_CHANGES,
+        900,
+        None,
+    ),
     (
         "another_office_is_told_before_damage",
         CLOSED_AT_A_CUT,
@@ -183,11 +189,29 @@ const OPENINGS: [Opening; 13] = [
         SCHEMA,
     ),
     ("a file that waits", ONE_WAITS, &[""], 900, None),
-    ("what_was_changed_is_damage", ONE_WAITS, WAITING_DAMAGES, 900, DAMAGED),
-    ("what_is_not_the_offices_is_refused", ONE_WAITS, STRAYS, 900, SCHEMA),
+    (
+        "what_was_changed_is_damage",
+        ONE_WAITS,
+        WAITING_DAMAGES,
+        900,
+        DAMAGED,
+    ),
+    (
+        "what_is_not_the_offices_is_refused",
+        ONE_WAITS,
+        STRAYS,
+        900,
+        SCHEMA,
+    ),
     ("no office", ONE_WAITS, &["DELETE FROM office"], 900, SCHEMA),
     ("another office", ONE_WAITS, &[""], 901, OTHER_OFFICE),
-    ("damage at another office", ONE_WAITS, WAITING_DAMAGES, 901, OTHER_OFFICE),
+    (
+        "a_damaged_database_stays_as_it_is",
+        ONE_WAITS,
+        &["UPDATE balances SET units = 502"],
+        900,
+        DAMAGED,
+    ),
 ];
 
 /// Makes changes to a database that requests leave, each by itself, and opens it.

@@ -64,9 +64,10 @@ fn send(
     match step {
         Step::Put(rank, file) => {
             let body = file.as_bytes();
-            Ok(desk
-                .put_transmission(alloc, &sender, number(rank)?, body)
-                .err())
+            Ok(
+                desk.put_transmission(alloc, &sender, number(rank)?, body)
+                    .err(),
+            )
         }
         Step::Ends(segment, last, next) => {
             let end = SegmentEnd::new(segment, last, next).ok().ok_or("an end")?;

@@ -123,9 +123,11 @@ fn a_store_is_found_again(rt: HostRuntime) -> Result<(), Fail> {
     let Ok(mut found) = found else {
         return Err(Fail::new("a second opening"));
     };
-    check_front(&rt, "by its rows", &mut found, 1)?;
+    let row = "a_database_with_the_rows_of_a_store_is_that_store";
+    check_front(&rt, row, &mut found, 1)?;
     let Ok(mut again) = reopen(alloc, tables) else {
         return Err(Fail::new("a third opening"));
     };
-    check_front(&rt, "by its connection", &mut again, 1)
+    let row = "a_store_is_found_again_by_its_connection";
+    check_front(&rt, row, &mut again, 1)
 }
