@@ -5,6 +5,8 @@ use Rattle.sqlite_value.specs.declared.value.Value.TheVariants.{Int, Text, Blob}
 use Rattle.sqlite_value.specs.Order.{Row}
 use Rattle.sqlite_trees.specs.Tree.{Trees}
 use Rattle.sender_segments.specs.Ways.{End}
+use Rattle.share_rules.specs.declared.kind.Kind.{Kind}
+use Rattle.share_rules.specs.declared.kind.Kind.TheVariants.{Performing, Mechanical}
 use Rattle.society_core.specs.Book.{Book, body_at, end_at, order_at, return_at}
 use Rattle.society_core.specs.Keys.{ascending, return_cmp, return_key, segment_key, transmission_cmp, transmission_key}
 use Rattle.society_core.specs.Orders.{Order, same_return_key, same_transmission_key}
@@ -111,7 +113,25 @@ paid_row pool key = Text (without_trailing_blanks key.reporter) ∷ Int (pos key
 abbrev pub paid_rows : Book → ℕ → List Row
 paid_rows book pool = rows_of_order (paid_row pool) (λ order. order.returns) (order_at book pool)
 
--- the book's own tables have exactly the rows of a book; no book has a pool of mechanical rights yet
+-- the row that marks a pool as one of the mechanical right: its number
+abbrev pub mechanical_row : ℕ → Row
+mechanical_row pool = Int (pos pool) ∷ []
+
+-- the marks of a pool that pays this right
+abbrev pub marks_of : ℕ → Kind → List Row
+marks_of pool Performing = []
+marks_of pool Mechanical = mechanical_row pool ∷ []
+
+-- the marks of a pool by its order
+abbrev pub marks_by : ℕ → Option Order → List Row
+marks_by pool (Some order) = marks_of pool order.kind
+marks_by pool None = []
+
+-- the marks of a pool: one where it is closed and pays the mechanical right
+abbrev pub mechanical_rows : Book → ℕ → List Row
+mechanical_rows book pool = marks_by pool (order_at book pool)
+
+-- the book's own tables have exactly the rows of a book
 pub record AreOfBook (book : Book) (db : Trees) : Type 0 where
   pub transmissions : HasRows is_transmission_row (transmission_rows book) (rows_in layout.transmissions db)
   pub returns : HasRows is_return_row (return_rows book) (rows_in layout.returns db)
@@ -119,7 +139,7 @@ pub record AreOfBook (book : Book) (db : Trees) : Type 0 where
   pub cuts : HasRows (is_of_pool 0) (cut_rows book) (rows_in layout.pool_cuts db)
   pub paid : HasRows (is_of_pool 2) (paid_rows book) (rows_in layout.pool_returns db)
   pub ends : HasRows is_end_row (end_rows book) (rows_in layout.segment_ends db)
-  pub mechanical : rows_in layout.mechanical_pools db ≡ []
+  pub mechanical : HasRows (is_of_pool 0) (mechanical_rows book) (rows_in layout.mechanical_pools db)
 
 -- a row of a transmission as an entry of the book
 abbrev pub transmission_entry : Row → TransmissionKey × List ℕ
@@ -137,17 +157,28 @@ return_entry row = (return_key_of row, blob_at 2 row)
 abbrev pub cut_key_of : Row → TransmissionKey
 cut_key_of row = transmission_key (text_at 1 row) (whole_number_at 2 row)
 
--- the order of a pool, by the rows of its cut and of its returns
-abbrev pub order_in : List Row → List Row → ℕ → ℕ → Order
-order_in cuts paid pool amount = record {
+-- the right that a pool with these marks pays
+abbrev pub kind_marked : List Row → Kind
+kind_marked [] = Performing
+kind_marked (_ ∷ _) = Mechanical
+
+-- the order of a pool, by the rows of its cut, of its returns and of its marks
+abbrev pub order_in : List Row → List Row → List Row → ℕ → ℕ → Order
+order_in cuts paid marks pool amount = record {
+  kind = kind_marked (filter (is_of_pool 0 pool) marks);
   amount = amount;
   cut = ascending transmission_cmp (map cut_key_of (filter (is_of_pool 0 pool) cuts));
   returns = ascending return_cmp (map return_key_of (filter (is_of_pool 2 pool) paid));
 }
 
 -- a row of a pool as an entry of the book
-abbrev pub pool_entry : List Row → List Row → Row → ℕ × Order
-pool_entry cuts paid row = (whole_number_at 0 row, order_in cuts paid (whole_number_at 0 row) (whole_number_at 1 row))
+abbrev pub pool_entry : List Row → List Row → List Row → Row → ℕ × Order
+pool_entry cuts paid marks row = (whole_number_at 0 row, order_in cuts paid marks (whole_number_at 0 row) (whole_number_at 1 row))
+
+-- the pools that the tables stand for, as entries of the book
+abbrev pub pool_entries : Trees → List (ℕ × Order)
+pool_entries db =
+    map (pool_entry (rows_in layout.pool_cuts db) (rows_in layout.pool_returns db) (rows_in layout.mechanical_pools db)) (rows_in layout.pools db)
 
 -- the book that the tables stand for
 unfoldable pub book_of : Trees → Book
@@ -155,5 +186,5 @@ book_of db = record {
   transmissions = finite.from_entries (map transmission_entry (rows_in layout.transmissions db));
   ends = finite.from_entries (map end_entry (rows_in layout.segment_ends db));
   returns = finite.from_entries (map return_entry (rows_in layout.returns db));
-  pools = finite.from_entries (map (pool_entry (rows_in layout.pool_cuts db) (rows_in layout.pool_returns db)) (rows_in layout.pools db));
+  pools = finite.from_entries (pool_entries db);
 }

@@ -7,12 +7,15 @@ use Rattle.society_rows.specs.Layout as layout
 use Rattle.society_rows.specs.Layout.{all_tables}
 use Rattle.society_rows.specs.Stored.{Adds, rows_in}
 use Rattle.pool_split.specs.declared.claim.Credit.{Credit}
+use Rattle.share_rules.specs.declared.kind.Kind.{Kind}
+use Rattle.share_rules.specs.declared.kind.Kind.TheVariants.{Performing, Mechanical}
 use Rattle.share_rules.specs.declared.office.Office.{Office}
 use Rattle.society_core.specs.Answers.{close_refusal}
 use Rattle.society_core.specs.Book.{Book, order_at, with_pool}
 use Rattle.society_core.specs.Candidates.{ReachesCut}
 use Rattle.society_core.specs.Orders.{Order}
 use Rattle.society_core.specs.Pools.{credits_of}
+use Rattle.society_book.specs.BookRows.{mechanical_row}
 use Rattle.society_book.specs.Sources.{HoldsWorks}
 use Rattle.society_book.specs.DerivedRows.{balance_rows_by}
 use Rattle.society_book.specs.Kept.{HoldsBook}
@@ -22,14 +25,21 @@ use Rattle.work_ids.specs.Account.{account_text}
 
 -- every table but those of an order is as it was
 abbrev pub KeepsUnordered : Trees → Trees → Type 0
-KeepsUnordered old new = AllByRecursion (λ t. t.tree ≢ layout.pools.tree → t.tree ≢ layout.pool_cuts.tree → t.tree ≢ layout.pool_returns.tree → new t.tree ≡ old t.tree) all_tables
+KeepsUnordered old new =
+    AllByRecursion (λ t. t.tree ≢ layout.pools.tree → t.tree ≢ layout.pool_cuts.tree → t.tree ≢ layout.pool_returns.tree → t.tree ≢ layout.mechanical_pools.tree → new t.tree ≡ old t.tree) all_tables
 
--- the tables have this row of a pool more, and these rows of its cut and of the returns that it pays; the other tables are as they were
-pub record AddsOrder (row : Row) (cut paid : List Row) (old new : Trees) : Type 0 where
+-- the tables have this row of a pool more, and these rows of its cut, of the returns that it pays and of its marks; the other tables are as they were
+pub record AddsOrder (row : Row) (cut paid marks : List Row) (old new : Trees) : Type 0 where
   pub pools : IsPermutation ((row ∷ []) ++ rows_in layout.pools old) (rows_in layout.pools new)
   pub cuts : IsPermutation (cut ++ rows_in layout.pool_cuts old) (rows_in layout.pool_cuts new)
   pub returns : IsPermutation (paid ++ rows_in layout.pool_returns old) (rows_in layout.pool_returns new)
+  pub marks : IsPermutation (marks ++ rows_in layout.mechanical_pools old) (rows_in layout.mechanical_pools new)
   pub others : KeepsUnordered old new
+
+-- a pool is marked where it pays the mechanical right; else nothing is done
+abbrev pub Marks : ℕ → Kind → Database → Database → Type 0
+Marks pool Performing old new = new ≡ old
+Marks pool Mechanical old new = Adds layout.mechanical_pools (mechanical_row pool ∷ []) old new
 
 -- these lines are there, and then these credits' units are added
 abbrev pub PaysOut : List Row → List Credit → Database → Database → Type 0

@@ -21,7 +21,7 @@ use Rattle.work_ids.specs.Account.{account_of, account_text}
 use Rattle.work_ids.specs.declared.fault.IdFault.{IdFault}
 use Rattle.work_ids.specs.declared.account.Account.{Account}
 use Rattle.work_ids.specs.declared.account.Account.TheVariants.{Ipi, Party, Unclaimed}
-use Rattle.society_book.specs.BookRows.{cut_row, paid_row, pool_row}
+use Rattle.society_book.specs.BookRows.{cut_row, marks_of, paid_row, pool_row}
 use Rattle.society_book.specs.Columns.{whole_number_at, text_at}
 use Rattle.society_book.specs.DerivedRows.{credit_row, verdict_row}
 use Rattle.society_book.specs.Kept.{HoldsBook}
@@ -172,12 +172,13 @@ AddsEach (credit ∷ credits) old new = (mid : Database) × AddsUnits (account_t
 -- every table but those of the pools and of what they pay is as it was
 abbrev pub KeepsLines : Trees → Trees → Type 0
 KeepsLines old new =
-    AllByRecursion (λ t. t.tree ≢ layout.pools.tree → t.tree ≢ layout.pool_cuts.tree → t.tree ≢ layout.pool_returns.tree → t.tree ≢ layout.credits_table.tree → t.tree ≢ layout.balances.tree → new t.tree ≡ old t.tree) all_tables
+    AllByRecursion (λ t. t.tree ≢ layout.pools.tree → t.tree ≢ layout.pool_cuts.tree → t.tree ≢ layout.pool_returns.tree → t.tree ≢ layout.mechanical_pools.tree → t.tree ≢ layout.credits_table.tree → t.tree ≢ layout.balances.tree → new t.tree ≡ old t.tree) all_tables
 
--- the tables have the rows of a pool more, with its cut, the returns that it pays and the lines of its credits; but for the balances the other tables are as they were
+-- the tables have the rows of a pool more, with its cut, the returns that it pays, its marks and the lines of its credits; but for the balances the other tables are as they were
 pub record AddsPool (pool : ℕ) (order : Order) (paid_out : List Credit) (old new : Trees) : Type 0 where
   pub pools : IsPermutation ((pool_row pool order ∷ []) ++ rows_in layout.pools old) (rows_in layout.pools new)
   pub cuts : IsPermutation (map (cut_row pool) order.cut ++ rows_in layout.pool_cuts old) (rows_in layout.pool_cuts new)
   pub paid : IsPermutation (map (paid_row pool) order.returns ++ rows_in layout.pool_returns old) (rows_in layout.pool_returns new)
+  pub marks : IsPermutation (marks_of pool order.kind ++ rows_in layout.mechanical_pools old) (rows_in layout.mechanical_pools new)
   pub lines : IsPermutation (map (λ line. credit_row pool line.0 line.1) (enumerate_from 0 paid_out) ++ rows_in layout.credits_table old) (rows_in layout.credits_table new)
   pub others : KeepsLines old new

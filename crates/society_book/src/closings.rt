@@ -2,8 +2,8 @@
 ghost use Rattle.std.specs.Prelude.{◌≡◌, ◌∷◌, ◌++◌, [], map, unwrap_or, IfOk, OnOk};
 ghost use Rattle.std.specs.List.{enumerate_from};
 ghost use Rattle.society_rows.specs.Rows.{credit_values, pool_cut_values, pool_return_values, pool_values};
-ghost use Rattle.society_book.specs.BookRows.{cut_row, paid_row};
-ghost use Rattle.society_book.specs.Closings.{AddsOrder, ClosesWith, PaysOut};
+ghost use Rattle.society_book.specs.BookRows.{cut_row, marks_of, paid_row};
+ghost use Rattle.society_book.specs.Closings.{AddsOrder, ClosesWith, Marks, PaysOut};
 ghost use Rattle.society_book.specs.DerivedRows.{credit_row};
 ghost use Rattle.work_ids.specs.Account.{account_text};
 ghost use Rattle.society_book.specs.Shown.{AddsEach};
@@ -15,10 +15,11 @@ use crate::outcomes::column_of;
 use crate::pools::{NO_ISRC, text_of};
 use crate::totals::totals_of;
 use pool_split::Credit;
+use share_rules::Kind;
 use society_core::{PoolOrder, ReturnKey, TransmissionKey};
 use society_rows::{
-    CreditRow, PoolCutRow, PoolReturnRow, PoolRow, RowFault, add_credits, add_pool, add_pool_cuts,
-    add_pool_returns, add_units,
+    CreditRow, MechanicalPoolRow, PoolCutRow, PoolReturnRow, PoolRow, RowFault, add_credits,
+    add_mechanical_pool, add_pool, add_pool_cuts, add_pool_returns, add_units,
 };
 use sqlite::{Alter, Transaction};
 use std::alloc::Global;
@@ -149,24 +150,55 @@ fn add_cut<S: Alter>(
     cuts: &[PoolCutRow<'_>],
 ) -> Result<(), RowFault>
     ensures same_reference { tx.new.conn.ghost_name ≡ tx.old.conn.ghost_name }
-    ensures does { within S.Store tx.old tx.new DoesOpen result (Makes (AddsOrder (pool_values pool.now) (map pool_cut_values cuts.now) [])) }
+    ensures does { within S.Store tx.old tx.new DoesOpen result (Makes (AddsOrder (pool_values pool.now) (map pool_cut_values cuts.now) [] [])) }
 {
     add_pool(tx, pool)?;
     add_pool_cuts(tx, cuts)
 }
 
+// Marks a pool as one of the mechanical right, where it pays this one.
+fn add_mark<S: Alter>(
+    tx: &mut Transaction<'_, S>,
+    pool: u32,
+    kind: Kind,
+) -> Result<(), RowFault>
+    ensures same_reference { tx.new.conn.ghost_name ≡ tx.old.conn.ghost_name }
+    ensures does { within S.Store tx.old tx.new Does result (λ before after _. Marks pool kind before after) }
+{
+    match kind {
+        Kind::Performing => Ok(()),
+        Kind::Mechanical => add_mechanical_pool(tx, &MechanicalPoolRow { pool }),
+    }
+}
+
 // Adds a pool with its cut and the returns that it pays.
-fn add_order<S: Alter>(
+fn add_paid<S: Alter>(
     tx: &mut Transaction<'_, S>,
     pool: &PoolRow,
     cuts: &[PoolCutRow<'_>],
     paid: &[PoolReturnRow<'_>],
 ) -> Result<(), RowFault>
     ensures same_reference { tx.new.conn.ghost_name ≡ tx.old.conn.ghost_name }
-    ensures does { within S.Store tx.old tx.new DoesOpen result (Makes (AddsOrder (pool_values pool.now) (map pool_cut_values cuts.now) (map pool_return_values paid.now))) }
+    ensures does { within S.Store tx.old tx.new DoesOpen result (Makes (AddsOrder (pool_values pool.now) (map pool_cut_values cuts.now) (map pool_return_values paid.now) [])) }
 {
     add_cut(tx, pool, cuts)?;
     add_pool_returns(tx, paid)
+}
+
+// Adds what an order is: the pool, its cut, the returns that it pays, and its mark where it pays the mechanical right.
+fn add_order<S: Alter>(
+    tx: &mut Transaction<'_, S>,
+    kind: Kind,
+    pool: &PoolRow,
+    cuts: &[PoolCutRow<'_>],
+    paid: &[PoolReturnRow<'_>],
+) -> Result<(), RowFault>
+    ensures same_reference { tx.new.conn.ghost_name ≡ tx.old.conn.ghost_name }
+    ensures does { within S.Store tx.old tx.new DoesOpen result
+        (Makes (AddsOrder (pool_values pool.now) (map pool_cut_values cuts.now) (map pool_return_values paid.now) (marks_of pool.now.pool kind))) }
+{
+    add_paid(tx, pool, cuts, paid)?;
+    add_mark(tx, pool.pool, kind)
 }
 
 // Adds the lines of credits, and the units that they come to, as credits, to the balances of their accounts.
@@ -203,6 +235,6 @@ pub fn write_pool<S: Alter>(
         amount: column_of(order.amount())?,
     };
     let totals = totals_of(alloc, credits)?;
-    add_order(tx, &row, cuts.as_slice(), paid.as_slice())?;
+    add_order(tx, order.kind(), &row, cuts.as_slice(), paid.as_slice())?;
     pay_out(alloc, tx, lines.as_slice(), totals.as_slice())
 }

@@ -4,12 +4,13 @@ ghost use Rattle.society_core.specs.Answers.{pool_known_as, pool_known_by};
 ghost use Rattle.society_core.specs.Keys.{return_key, transmission_key};
 ghost use Rattle.society_core.specs.Orders.{Order, order_of};
 ghost use Rattle.society_rows.specs.Questions.{Asks};
-ghost use Rattle.society_book.specs.BookRows.{cut_key_of, return_key_of};
+ghost use Rattle.society_book.specs.BookRows.{cut_key_of, kind_marked, return_key_of};
 ghost use Rattle.society_book.specs.Shown.{ByBook, ShowPool};
 ghost use Rattle.society_rows.specs.Between.{between};
 ghost use Rattle.society_book.specs.Items.{transmission_keys, return_keys};
-ghost use Rattle.society_book.specs.OrderShown.{IsAmount, IsCutOf, AreReturnsOf};
+ghost use Rattle.society_book.specs.OrderShown.{IsAmount, IsKindOf, IsCutOf, AreReturnsOf};
 
+use share_rules::Kind;
 use society_core::{Known, OrderError, PoolOrder};
 use society_rows::{Idle, PoolCutRow, PoolReturnRow, PoolRow, Question, RowFault, ask};
 use sqlite::{Alter, Row};
@@ -36,6 +37,24 @@ fn amount_of<S: Alter>(conn: &mut Idle<S>, pool: u32) -> Result<Option<u64>, Row
 {
     let rows = ask(conn, Question::Pool(pool))?;
     shown_amount(rows.as_slice())
+}
+
+// The right that a pool with these marks pays.
+fn marked_kind(marks: &[Row]) -> Kind
+    ensures { result ≡ kind_marked marks.now }
+{
+    match marks {
+        [] => Kind::Performing,
+        _ => Kind::Mechanical,
+    }
+}
+
+// The right that a pool pays; of one that is not closed that of performance.
+fn kind_of<S: Alter>(conn: &mut Idle<S>, pool: u32) -> Result<Kind, RowFault>
+    ensures asked { between S.Store conn.old conn.new Asks result (ByBook (λ _ book kind. IsKindOf pool book kind)) }
+{
+    let marks = ask(conn, Question::Mechanical(pool))?;
+    Ok(marked_kind(marks.as_slice()))
 }
 
 // The sender and the number of a row of a cut; `Unread` where it has no sender.
@@ -98,20 +117,21 @@ fn returns_of<S: Alter>(conn: &mut Idle<S>, pool: u32) -> Result<Vec<(Reporter, 
     returns_in(*rows.allocator(), rows.as_slice())
 }
 
-// Whether an amount, a cut and returns are an order's; `Unread` where they are no order's at all.
+// Whether an amount, a kind, a cut and returns are an order's; `Unread` where they are no order's at all.
 fn compared(
     alloc: Global,
     amount: Option<u64>,
+    kind: Kind,
     cut: &[(SenderKey, u64)],
     returns: &[(Reporter, u64)],
     order: &PoolOrder,
 ) -> Result<Known, RowFault>
-    ensures { IfOk result (λ known. known ≡ pool_known_by order.now (option_map (λ units. order_of units cut.now returns.now) amount)) }
+    ensures { IfOk result (λ known. known ≡ pool_known_by order.now (option_map (λ units. order_of kind units cut.now returns.now) amount)) }
 {
     let Some(amount) = amount else {
         return Ok(Known::Absent);
     };
-    match PoolOrder::new(alloc, amount, cut, returns) {
+    match PoolOrder::new(alloc, kind, amount, cut, returns) {
         Ok(kept) => {
             if kept.is_same(order) {
                 Ok(Known::Same)
@@ -124,18 +144,42 @@ fn compared(
     }
 }
 
-// Whether a pool of this amount and cut was closed by an order.
+// Whether a pool of this amount, kind and cut was closed by an order.
 fn known_with_cut<S: Alter>(
     conn: &mut Idle<S>,
     pool: u32,
     amount: Option<u64>,
+    kind: Kind,
     cut: &[(SenderKey, u64)],
     order: &PoolOrder,
 ) -> Result<Known, RowFault>
-    ensures asked { between S.Store conn.old conn.new Asks result (ByBook (λ _ book known. IsAmount pool book amount → IsCutOf pool book cut.now → known ≡ pool_known_as book pool order.now)) }
+    ensures asked { between S.Store conn.old conn.new Asks result
+        (ByBook (λ _ book known. IsAmount pool book amount → IsKindOf pool book kind → IsCutOf pool book cut.now → known ≡ pool_known_as book pool order.now)) }
 {
     let returns = returns_of(conn, pool)?;
-    compared(*returns.allocator(), amount, cut, returns.as_slice(), order)
+    compared(
+        *returns.allocator(),
+        amount,
+        kind,
+        cut,
+        returns.as_slice(),
+        order,
+    )
+}
+
+// Whether a pool of this amount and kind was closed by an order.
+fn known_with_kind<S: Alter>(
+    conn: &mut Idle<S>,
+    pool: u32,
+    amount: Option<u64>,
+    kind: Kind,
+    order: &PoolOrder,
+) -> Result<Known, RowFault>
+    ensures asked { between S.Store conn.old conn.new Asks result
+        (ByBook (λ _ book known. IsAmount pool book amount → IsKindOf pool book kind → known ≡ pool_known_as book pool order.now)) }
+{
+    let cut = cut_of(conn, pool)?;
+    known_with_cut(conn, pool, amount, kind, cut.as_slice(), order)
 }
 
 // Whether a pool of this amount was closed by an order.
@@ -147,8 +191,8 @@ fn known_with_amount<S: Alter>(
 ) -> Result<Known, RowFault>
     ensures asked { between S.Store conn.old conn.new Asks result (ByBook (λ _ book known. IsAmount pool book amount → known ≡ pool_known_as book pool order.now)) }
 {
-    let cut = cut_of(conn, pool)?;
-    known_with_cut(conn, pool, amount, cut.as_slice(), order)
+    let kind = kind_of(conn, pool)?;
+    known_with_kind(conn, pool, amount, kind, order)
 }
 
 /// Whether the book has an order, another one under its pool, or none.

@@ -12,7 +12,7 @@ use crate::closings::write_pool;
 use crate::cut_works::candidates_in;
 use perf_returns::{ReturnError, read_return};
 use pool_split::{Credit, are_payable, credits};
-use share_rules::{Kind, Office};
+use share_rules::Office;
 use society_core::{Candidate, PoolOrder, ReturnKey, Tally, claims};
 use society_rows::{Idle, Question, ReturnRow, RowFault, answer};
 use sqlite::{Alter, Row, Transaction};
@@ -98,7 +98,7 @@ pub fn credits_in<S: Alter>(
     ensures kept { IsOrder order.now }
 {
     let tally = tally_of(alloc, tx, order.returns())?;
-    let candidates = candidates_in(alloc, Kind::Performing, tx, office, &tally, order)?;
+    let candidates = candidates_in(alloc, order.kind(), tx, office, &tally, order)?;
     credits_by(alloc, &tally, &candidates, order)
 }
 

@@ -32,7 +32,6 @@ use Rattle.society_core.proofs.Fronts.{first_holds, second_holds}
 use Rattle.society_core.proofs.Gaps.{alike_over}
 use Rattle.society_core.proofs.HeadlineLemmas.{run_fits, run_keeps}
 use Rattle.society_core.proofs.LineNumbers.{in_line_of_to, in_line_within, there_in_line}
-use Rattle.share_rules.specs.declared.kind.Kind.TheVariants.{Performing}
 
 filter_alike : {X : Type 0} (p q : X → Bool) (xs : List X) → ((x : X) → p x ≡ q x) → filter p xs ≡ filter q xs
 filter_alike p q [] h = refl
@@ -112,7 +111,7 @@ credits_same o a b pool order alike entry =
     ∙ ap (λ (rs : List Performance). map (claim_by (works_of_cut o b order)) (points_by_recording rs)) rows)
   where
     claim_by : List CutWork → List ℕ × ℕ → Claim
-    claim_by ws played = record { isrc = played.0; points = played.1; holders = option_map (holders_of Performing o) (sole (filter (names_recording played.0) ws)) }
+    claim_by ws played = record { isrc = played.0; points = played.1; holders = option_map (holders_of order.kind o) (sole (filter (names_recording played.0) ws)) }
 
 -- what is answered of the credits of a pool, by its order
 abbrev pub credits_shown : Office → Book → Option Order → Reply

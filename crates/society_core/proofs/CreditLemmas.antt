@@ -38,7 +38,6 @@ use Rattle.works_core.specs.declared.judged.Judged.TheVariants.{Clean, Faulty}
 use Rattle.works_core.specs.declared.version.WorkVersion.{WorkVersion}
 use Rattle.society_core.proofs.CandidateLemmas.{all_append, both, versions_over}
 use Rattle.share_rules.specs.declared.kind.Kind.{Kind}
-use Rattle.share_rules.specs.declared.kind.Kind.TheVariants.{Performing}
 
 -- whether a transaction is clean
 abbrev pub is_clean : Judged → Bool
@@ -210,13 +209,16 @@ abbrev pub claim_with : List ℕ × ℕ → Option (List Holder) → Claim
 claim_with played holders = record { isrc = played.0; points = played.1; holders = holders }
 
 -- the claims among candidates that stand for the works of a cut are those of the pool
-pub claims_are : (office : Office) (book : Book) (order : Order) (candidates : List Candidate) (of_these : List ℕ → Bool) (ps : List (List ℕ × ℕ)) → AllByRecursion (λ p. of_these p.0 ≡ true) ps → StandFor (holders_of Performing office) of_these (works_of_cut office book order) candidates → claims_among ps candidates ≡ map (claim_of office book order) ps
-claims_are office book order candidates of_these [] these stand = refl
-claims_are office book order candidates of_these (p ∷ ps) these stand =
-    let same : option_map (λ (c : Candidate). c.holders) (sole (filter (is_candidate_for p.0) candidates)) ≡ option_map (holders_of Performing office) (owner office book order p.0) =
-    sole_map (λ (c : Candidate). c.holders) (filter (is_candidate_for p.0) candidates) ∙ ap sole (stand.same p.0 these.0) ∙ sym (sole_map (holders_of Performing office) (filter (names_recording p.0) (works_of_cut office book order))) in
+pub claims_are : (office : Office) (book : Book) (order : Order) (right : Kind) → right ≡ order.kind → (candidates : List Candidate) (of_these : List ℕ → Bool) (ps : List (List ℕ × ℕ)) → AllByRecursion (λ p. of_these p.0 ≡ true) ps → StandFor (holders_of right office) of_these (works_of_cut office book order) candidates → claims_among ps candidates ≡ map (claim_of office book order) ps
+claims_are office book order right is candidates of_these [] these stand = refl
+claims_are office book order right is candidates of_these (p ∷ ps) these stand =
+    let same : option_map (λ (c : Candidate). c.holders) (sole (filter (is_candidate_for p.0) candidates)) ≡ option_map (holders_of order.kind office) (owner office book order p.0) =
+    sole_map (λ (c : Candidate). c.holders) (filter (is_candidate_for p.0) candidates)
+    ∙ ap sole (stand.same p.0 these.0)
+    ∙ sym (sole_map (holders_of right office) (filter (names_recording p.0) (works_of_cut office book order)))
+    ∙ ap (λ (k : Kind). option_map (holders_of k office) (owner office book order p.0)) is in
     ap (λ (hs : Option (List Holder)). claim_with p hs ∷ claims_among ps candidates) same
-    ∙ ap (λ (cs : List Claim). claim_of office book order p ∷ cs) (claims_are office book order candidates of_these ps these.1 stand)
+    ∙ ap (λ (cs : List Claim). claim_of office book order p ∷ cs) (claims_are office book order right is candidates of_these ps these.1 stand)
 
 -- what is read of each claim
 pub isrcs_of_claims : (office : Office) (book : Book) (order : Order) (ps : List (List ℕ × ℕ)) → map (λ (c : Claim). c.isrc) (map (claim_of office book order) ps) ≡ map (λ (e : List ℕ × ℕ). e.0) ps
@@ -229,7 +231,7 @@ points_of_claims office book order (p ∷ ps) = ap (λ r. p.1 ∷ r) (points_of_
 
 -- the claims of a pool can be paid
 pub claims_payable : (office : Office) (book : Book) (order : Order) (ps : List (List ℕ × ℕ)) → All (λ (e : List ℕ × ℕ). 1 ≤ e.1) ps → All IsPayable (map (claim_of office book order) ps)
-claims_payable office book order ps h = All-map IsPayable (claim_of office book order) ps (λ k d low. record { points = h k d low; holders = owner_has_weights Performing office book order _ })
+claims_payable office book order ps h = All-map IsPayable (claim_of office book order) ps (λ k d low. record { points = h k d low; holders = owner_has_weights order.kind office book order _ })
 
 -- what stands in a sound book of an order
 pub order_has_returns : (book : Book) (pool : ℕ) (order : Order) → IsSound book → order_at book pool ≡ Some order → HasReturns book order

@@ -1,8 +1,11 @@
--- Orders that close a pool: an amount, a cut of each sender's works, and the returns that are paid.
+-- Orders that close a pool: the right that it pays, an amount, a cut of each sender's works, and the returns that are paid.
 use Rattle.std.specs.Prelude.{ℕ, Bool, true, false, not, List, [], ◌∷◌, ◌==◌, ◌&&◌, ◌||◌, ◌≡◌, ◌↔◌, Contains, Option, Some, None, is_none, if◌then◌else◌, Result, Ok, Err, bytes_eq, length, map, nat_lt, nat_le, refl}
 use Rattle.std.specs.Cmp.Lexicographic.{pointwise}
 use Rattle.std.specs.Coded.{Coded, code_by, coded×, coded_ℕ, coded_list}
 use Rattle.std.specs.List.{list_any, list_all}
+use Rattle.share_rules.specs.contracts.kind.Kind.the_row as kind_row
+use Rattle.share_rules.specs.declared.kind.Kind.{Kind}
+use Rattle.share_rules.specs.declared.kind.Kind.TheVariants.{Performing, Mechanical}
 use Rattle.work_ids.specs.Numbers.{is_return_number}
 use Rattle.work_ids.specs.Segments.{is_transmission_number}
 use Rattle.work_ids.specs.SenderKey.{is_sender_key}
@@ -14,16 +17,20 @@ use Rattle.society_core.specs.declared.order_fault.OrderFault.TheVariants.{Shape
 use Rattle.society_core.specs.declared.return_key.ReturnKey.{ReturnKey}
 use Rattle.society_core.specs.declared.transmission_key.TransmissionKey.{TransmissionKey}
 
--- an order: units of money, of each sender of the cut its last transmission that counts, and the returns, both ascending (profile)
+-- an order: the right that the pool pays, units of money, of each sender of the cut its last transmission that counts, and the returns, both ascending (profile)
 pub record Order : Type 0 where
+  pub kind : Kind
   pub amount : ℕ
   pub cut : List TransmissionKey
   pub returns : List ReturnKey
 
--- as an amount and two lists
+-- as a kind, an amount and two lists
 abbrev pub coded_order : Coded Order
 coded_order =
-    code_by (ℕ × (List TransmissionKey × List ReturnKey)) (coded× coded_ℕ (coded× (coded_list coded_transmission_key) (coded_list coded_return_key))) (λ o. (o.amount, (o.cut, o.returns))) (λ p. record { amount = p.0; cut = p.1.0; returns = p.1.1 }) (λ _. refl)
+    code_by (Kind × (ℕ × (List TransmissionKey × List ReturnKey)))
+    (coded× kind_row.coded (coded× coded_ℕ (coded× (coded_list coded_transmission_key) (coded_list coded_return_key))))
+    (λ o. (o.kind, (o.amount, (o.cut, o.returns))))
+    (λ p. record { kind = p.0; amount = p.1.0; cut = p.1.1.0; returns = p.1.1.1 }) (λ _. refl)
 
 -- whether two keys are one
 abbrev pub same_transmission_key : TransmissionKey → TransmissionKey → Bool
@@ -33,9 +40,15 @@ same_transmission_key a b = bytes_eq a.sender b.sender && a.number == b.number
 abbrev pub same_return_key : ReturnKey → ReturnKey → Bool
 same_return_key a b = bytes_eq a.reporter b.reporter && a.number == b.number
 
--- whether two orders are one: an equal amount, an equal cut, equal returns (profile)
+-- whether two kinds are one
+abbrev pub same_kind : Kind → Kind → Bool
+same_kind Performing Performing = true
+same_kind Mechanical Mechanical = true
+same_kind _ _ = false
+
+-- whether two orders are one: an equal kind, an equal amount, an equal cut, equal returns (profile)
 abbrev pub same_order : Order → Order → Bool
-same_order a b = a.amount == b.amount && pointwise same_transmission_key a.cut b.cut && pointwise same_return_key a.returns b.returns
+same_order a b = same_kind a.kind b.kind && a.amount == b.amount && pointwise same_transmission_key a.cut b.cut && pointwise same_return_key a.returns b.returns
 
 -- whether an order names a return
 abbrev pub names_return : ReturnKey → Order → Bool
@@ -80,19 +93,20 @@ order_fault amount cut returns =
     if is_out_of_range amount cut returns then Some OutOfRange
     else (if is_too_long cut returns then Some TooLong else (if names_twice cut returns then Some NamedTwice else None))
 
--- the order that these numbers make (profile)
-abbrev pub order_of : ℕ → List (List ℕ × ℕ) → List (List ℕ × ℕ) → Order
-order_of amount cut returns = record {
+-- the order of this kind that these numbers make (profile)
+abbrev pub order_of : Kind → ℕ → List (List ℕ × ℕ) → List (List ℕ × ℕ) → Order
+order_of kind amount cut returns = record {
+  kind = kind;
   amount = amount;
   cut = ascending transmission_cmp (map (λ c. transmission_key c.0 c.1) cut);
   returns = ascending return_cmp (map (λ r. return_key r.0 r.1) returns);
 }
 
--- an order where no fault holds, else the least one; memory may run out only where none holds
-abbrev pub OrdersAs : ℕ → List (List ℕ × ℕ) → List (List ℕ × ℕ) → Result Order OrderError → Type 0
-OrdersAs amount cut returns (Ok order) = (order_fault amount cut returns ≡ None) × (order ≡ order_of amount cut returns)
-OrdersAs amount cut returns (Err (errors.Order fault)) = order_fault amount cut returns ≡ Some fault
-OrdersAs amount cut returns (Err errors.Memory) = order_fault amount cut returns ≡ None
+-- an order of this kind where no fault holds, else the least one; memory may run out only where none holds
+abbrev pub OrdersAs : Kind → ℕ → List (List ℕ × ℕ) → List (List ℕ × ℕ) → Result Order OrderError → Type 0
+OrdersAs kind amount cut returns (Ok order) = (order_fault amount cut returns ≡ None) × (order ≡ order_of kind amount cut returns)
+OrdersAs kind amount cut returns (Err (errors.Order fault)) = order_fault amount cut returns ≡ Some fault
+OrdersAs kind amount cut returns (Err errors.Memory) = order_fault amount cut returns ≡ None
 
 -- the sender and the number of a key
 abbrev pub sent_pair : TransmissionKey → List ℕ × ℕ
@@ -113,8 +127,8 @@ pub record IsOrder (order : Order) : Type 0 where
   pub cut : ascending transmission_cmp order.cut ≡ order.cut
   pub returns : ascending return_cmp order.returns ≡ order.returns
 
--- orders of one amount with the same transmissions in their cuts and the same returns are one
+-- orders of one kind and one amount with the same transmissions in their cuts and the same returns are one
 abbrev pub OrdersAreSets : Type 0
 OrdersAreSets =
-    (a b : Order) → IsOrder a → IsOrder b → a.amount ≡ b.amount → ((key : TransmissionKey) → Contains a.cut key ↔ Contains b.cut key)
+    (a b : Order) → IsOrder a → IsOrder b → a.kind ≡ b.kind → a.amount ≡ b.amount → ((key : TransmissionKey) → Contains a.cut key ↔ Contains b.cut key)
     → ((key : ReturnKey) → Contains a.returns key ↔ Contains b.returns key) → a ≡ b

@@ -8,7 +8,6 @@ use Rattle.pool_split.specs.declared.claim.Credit.{Credit}
 use Rattle.share_rules.specs.Weights.{weights_of}
 use Rattle.share_rules.specs.declared.holder.Holder.{Holder}
 use Rattle.share_rules.specs.declared.kind.Kind.{Kind}
-use Rattle.share_rules.specs.declared.kind.Kind.TheVariants.{Performing}
 use Rattle.share_rules.specs.declared.office.Office.{Office}
 use Rattle.work_ids.specs.declared.account.Account.{Account}
 use Rattle.society_core.specs.Accounts.{same_account}
@@ -21,12 +20,12 @@ use Rattle.society_core.specs.Points.{points_by_recording, rows_named}
 abbrev pub holders_of : Kind → Office → CutWork → List Holder
 holders_of right office work = weights_of right work.sender office work.transaction
 
--- a recording with its points as a claim of its owner's holders in the performing right, or of nobody
+-- a recording with its points as a claim of its owner's holders in the right that the order names, or of nobody
 abbrev pub claim_of : Office → Book → Order → List ℕ × ℕ → Claim
 claim_of office book order played = record {
   isrc = played.0;
   points = played.1;
-  holders = option_map (holders_of Performing office) (owner office book order played.0);
+  holders = option_map (holders_of order.kind office) (owner office book order played.0);
 }
 
 -- the claims of a pool: each recording of its returns with its points and its owner's holders, ascending by ISRC (profile)

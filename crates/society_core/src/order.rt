@@ -11,6 +11,7 @@ ghost use Rattle.work_ids.specs.SenderKey.{is_sender_key};
 use crate::order_fault::OrderFault;
 use crate::return_key::ReturnKey;
 use crate::transmission_key::TransmissionKey;
+use share_rules::Kind;
 use std::alloc::{AllocError, AllocFailed, Global};
 use std::collections::BTreeSet;
 use std::marker::Model;
@@ -56,10 +57,12 @@ impl<T: Drop> From<AllocFailed<T>> for OrderError {
     }
 }
 
-/// An order that closes a pool: an amount of 0 to 1,000,000,000,000 units of money, a cut of at most 200 senders and at most
-/// 1,000 returns, each once and ascending (profile). Clauses see the amount and the two lists.
+/// An order that closes a pool: the right that the pool pays, an amount of 0 to 1,000,000,000,000 units of money, a cut of at
+/// most 200 senders and at most 1,000 returns, each once and ascending (profile). Clauses see the kind, the amount and the two
+/// lists.
 #[derive(Debug, Drop)]
 pub struct PoolOrder {
+    kind: Kind,
     amount: u64,
     cut: Vec<TransmissionKey>,
     returns: Vec<ReturnKey>,
@@ -70,9 +73,9 @@ impl Model for PoolOrder {
 
     ghost Value = { Order };
 
-    ghost view = { λ o. record { amount = o.amount; cut = o.cut.items; returns = o.returns.items } };
+    ghost view = { λ o. record { kind = o.kind; amount = o.amount; cut = o.cut.items; returns = o.returns.items } };
 
-    ghost invariant = { λ o. IsOrder (record { amount = o.amount; cut = o.cut.items; returns = o.returns.items }) };
+    ghost invariant = { λ o. IsOrder (record { kind = o.kind; amount = o.amount; cut = o.cut.items; returns = o.returns.items }) };
 }
 
 // The number of a transmission with a rank, where one has it.
@@ -272,15 +275,16 @@ fn ascending_returns(
 }
 
 impl PoolOrder {
-    /// The order that these numbers make, those of the cut by their ranks (`TransmissionNumber`); else the least fault of them
+    /// The order of this kind that these numbers make, those of the cut by their ranks (`TransmissionNumber`); else the least fault of them
     /// all. Memory may run out only where they make an order.
     pub fn new(
         alloc: Global,
+        kind: Kind,
         amount: u64,
         cut: &[(SenderKey, u64)],
         returns: &[(Reporter, u64)],
     ) -> Result<PoolOrder, OrderError>
-        ensures { OrdersAs amount cut.now returns.now result }
+        ensures { OrdersAs kind amount cut.now returns.now result }
     {
         if let Some(fault) = order_fault(amount, cut, returns) {
             return Err(OrderError::Order(fault));
@@ -288,10 +292,18 @@ impl PoolOrder {
         let cut = ascending_cut(alloc, cut)?;
         let returns = ascending_returns(alloc, returns)?;
         Ok(PoolOrder {
+            kind,
             amount,
             cut,
             returns,
         })
+    }
+
+    /// The right that the pool pays.
+    pub fn kind(&self) -> Kind
+        ensures { result ≡ self.now.kind }
+    {
+        self.kind
     }
 
     /// Units of money that the pool has, 0 to 1,000,000,000,000.
@@ -319,11 +331,14 @@ impl PoolOrder {
         self.returns.as_slice()
     }
 
-    /// Whether two orders are one: equal amounts, cuts and returns, in whatever order these were given.
+    /// Whether two orders are one: equal kinds, amounts, cuts and returns, in whatever order these were given.
     pub fn is_same(&self, other: &PoolOrder) -> bool
         ensures { result ≡ same_order self.now other.now }
     {
-        self.amount == other.amount && self.cut == other.cut && self.returns == other.returns
+        self.kind == other.kind
+            && self.amount == other.amount
+            && self.cut == other.cut
+            && self.returns == other.returns
     }
 
     /// Whether the order names a return.
@@ -339,6 +354,7 @@ impl PoolOrder {
         ensures order { IsOrder self.now }
     {
         Ok(PoolOrder {
+            kind: self.kind,
             amount: self.amount,
             cut: Vec::from_slice(alloc, &self.cut)?,
             returns: Vec::from_slice(alloc, &self.returns)?,
@@ -346,7 +362,7 @@ impl PoolOrder {
     }
 }
 
-/// Orders are sets: orders of one amount with the same transmissions in their cuts and the same returns are one, in
+/// Orders are sets: orders of one kind and one amount with the same transmissions in their cuts and the same returns are one, in
 /// whatever order and however often these were given (profile).
 pub fn orders_are_sets()
     ensures { OrdersAreSets }

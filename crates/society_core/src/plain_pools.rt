@@ -20,7 +20,7 @@ use crate::return_key::ReturnKey;
 use crate::store::{Known, Payment};
 use perf_returns::{ReturnError, read_return};
 use pool_split::{Credit, credits};
-use share_rules::{Kind, Office};
+use share_rules::Office;
 use std::alloc::{AllocError, Global};
 use work_ids::{Account, PoolNumber};
 
@@ -120,7 +120,7 @@ fn credits_by(
 {
     let tally = tally_of(alloc, book, order)?;
     let points = tally.points_by_recording(alloc)?;
-    let candidates = candidates_of(alloc, Kind::Performing, office, &tally, book, order)?;
+    let candidates = candidates_of(alloc, order.kind(), office, &tally, book, order)?;
     let claims = claims(alloc, &points, &candidates)?;
     credits(alloc, order.amount(), &claims)
 }

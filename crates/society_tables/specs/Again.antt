@@ -7,7 +7,7 @@ use Rattle.sqlite_trees.specs.declared.memory.MemStore.{MemStore}
 use Rattle.sqlite_value.specs.Order.{Row}
 use Rattle.society_core.specs.Book.{Book, IsSound, order_at}
 use Rattle.society_core.specs.Orders.{Order}
-use Rattle.society_book.specs.BookRows.{cut_rows, is_of_pool, paid_rows, pool_rows}
+use Rattle.society_book.specs.BookRows.{cut_rows, is_of_pool, mechanical_rows, paid_rows, pool_rows}
 use Rattle.society_book.specs.Columns.{HasRows, whole_number_at}
 use Rattle.society_tables.specs.InMemory.{memory_book}
 use Rattle.society_tables.specs.Rebuilding.{AllReported, AllSent, AllStated, ClosedOn, ComesFrom, IsClosed, IsReported, IsSent, IsStated, IsUpToPools, IsWithin, Passes, ReportedOn, SentOn, StatedOn, without_pools}
@@ -37,18 +37,18 @@ PassesClosed pool order old new result =
     (b : Book) → IsSound b → order_at b pool ≡ Some order → IsUpToPools b old
     → Passes result (λ _. ClosedOn b old pool order new)
 
--- the row of a pool of the book, with the rows of all cuts and of all returns that are paid, passes as this number and order
-abbrev pub PassesOrder : Row → List Row → List Row → Result (ℕ × Order) AuditFault → Type 0
-PassesOrder row cuts paid result =
+-- the row of a pool of the book, with the rows of all cuts, of all returns that are paid and of all marks, passes as this number and order
+abbrev pub PassesOrder : Row → List Row → List Row → List Row → Result (ℕ × Order) AuditFault → Type 0
+PassesOrder row cuts paid marks result =
     (b : Book) → IsSound b → (closed : IsClosed b row)
-    → HasRows (is_of_pool 0) (cut_rows b) cuts → HasRows (is_of_pool 2) (paid_rows b) paid
+    → HasRows (is_of_pool 0) (cut_rows b) cuts → HasRows (is_of_pool 2) (paid_rows b) paid → HasRows (is_of_pool 0) (mechanical_rows b) marks
     → Passes result (λ it. (it.0 ≡ whole_number_at 0 row) × (it.1 ≡ closed.order))
 
 -- the row of a pool of the book passes
-abbrev pub PassesPool : Row → List Row → List Row → Book → Book → Result (Unit {0}) AuditFault → Type 0
-PassesPool row cuts paid old new result =
+abbrev pub PassesPool : Row → List Row → List Row → List Row → Book → Book → Result (Unit {0}) AuditFault → Type 0
+PassesPool row cuts paid marks old new result =
     (b : Book) → IsSound b → (closed : IsClosed b row)
-    → HasRows (is_of_pool 0) (cut_rows b) cuts → HasRows (is_of_pool 2) (paid_rows b) paid
+    → HasRows (is_of_pool 0) (cut_rows b) cuts → HasRows (is_of_pool 2) (paid_rows b) paid → HasRows (is_of_pool 0) (mechanical_rows b) marks
     → IsUpToPools b old
     → Passes result (λ _. ClosedOn b old (whole_number_at 0 row) closed.order new)
 
@@ -71,11 +71,11 @@ PassesAllReported rows old new result =
     → Passes result (λ _. AllReported b old rows new)
 
 -- the pools of the book pass, and with them it is whole
-abbrev pub PassesPools : List Row → List Row → List Row → Book → Book → Result (Unit {0}) AuditFault → Type 0
-PassesPools rows cuts paid old new result =
+abbrev pub PassesPools : List Row → List Row → List Row → List Row → Book → Book → Result (Unit {0}) AuditFault → Type 0
+PassesPools rows cuts paid marks old new result =
     (b : Book) → IsSound b
     → HasRows (is_of_pool 0) (pool_rows b) rows → HasRows (is_of_pool 0) (cut_rows b) cuts → HasRows (is_of_pool 2) (paid_rows b) paid
-    → old ≡ without_pools b
+    → HasRows (is_of_pool 0) (mechanical_rows b) marks → old ≡ without_pools b
     → Passes result (λ _. new ≡ b)
 
 -- what a database has of a book passes: tables in memory that had one part of it have another then
@@ -98,4 +98,12 @@ PassesRowsOfPools rows first last result old new =
 abbrev pub PassesRowsOfCuts : List Row → List Row → Held MemStore → Held MemStore → Result (Unit {0}) AuditFault → State → State → Type 0
 PassesRowsOfCuts rows cuts first last result old new =
     (b : Book) → HasCleanDisk new → ComesFrom b old → HasRows (is_of_pool 0) (pool_rows b) rows → HasRows (is_of_pool 0) (cut_rows b) cuts → memory_book first ≡ without_pools b
+    → Passes result (λ _. memory_book last ≡ b)
+
+-- the rows of pools, of cuts and of returns that are paid pass that a database has of a book
+abbrev pub PassesRowsOfPaid : List Row → List Row → List Row → Held MemStore → Held MemStore → Result (Unit {0}) AuditFault → State → State → Type 0
+PassesRowsOfPaid rows cuts paid first last result old new =
+    (b : Book) → HasCleanDisk new → ComesFrom b old
+    → HasRows (is_of_pool 0) (pool_rows b) rows → HasRows (is_of_pool 0) (cut_rows b) cuts → HasRows (is_of_pool 2) (paid_rows b) paid
+    → memory_book first ≡ without_pools b
     → Passes result (λ _. memory_book last ≡ b)

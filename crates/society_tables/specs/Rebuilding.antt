@@ -11,7 +11,7 @@ use Rattle.society_core.specs.Orders.{Order}
 use Rattle.work_ids.specs.Blanks.{fill}
 use Rattle.work_ids.specs.Reporter.{reporter_of}
 use Rattle.work_ids.specs.SenderKey.{is_sender_key}
-use Rattle.society_rows.specs.Forms.{IsOfForms, pool_cut_forms, pool_return_forms}
+use Rattle.society_rows.specs.Forms.{IsOfForms, mechanical_pool_forms, pool_cut_forms, pool_return_forms}
 use Rattle.society_book.specs.BookRows.{AreOfBook, segment_key_of, end_of, end_row, pool_row, return_key_of, return_row, transmission_key_of, transmission_row}
 use Rattle.share_rules.specs.declared.office.Office.{Office}
 use Rattle.society_book.specs.Kept.{HoldsBook}
@@ -143,6 +143,10 @@ IsCut row = IsOfForms pool_cut_forms row × (is_sender_key (text_at 1 row) ≡ t
 -- the row is that of a return that a pool pays
 abbrev pub IsPaid : Row → Type 0
 IsPaid row = IsOfForms pool_return_forms row × (reporter_of (text_at 0 row) ≡ Ok (fill 20 (text_at 0 row)))
+
+-- the row is that of the mark of a pool
+abbrev pub IsMark : Row → Type 0
+IsMark row = IsOfForms mechanical_pool_forms row
 
 -- the row is that of a pool of the book
 pub record IsClosed (book : Book) (row : Row) : Type 0 where

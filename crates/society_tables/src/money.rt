@@ -26,11 +26,12 @@ use sqlite::{Alter, MemStore, Row, Transaction};
 use std::alloc::Global;
 use work_ids::{PoolNumber, SenderKey};
 
-/// The rows of all cuts, and of all returns that are paid.
+/// The rows of all cuts, of all returns that are paid, and of all marks.
 #[derive(Drop)]
 struct PaidRows<'a> {
     cuts: &'a [Row],
     paid: &'a [Row],
+    marks: &'a [Row],
 }
 
 // The rows that answer a question over tables in memory, which stay as they are.
@@ -228,7 +229,7 @@ fn close_aside<S: Alter>(
     Ok(())
 }
 
-// Closes the pool of a row in tables in memory, with the rows of all cuts and of all returns that are paid.
+// Closes the pool of a row in tables in memory, with the rows of all cuts, of all returns that are paid and of all marks.
 fn close_row<S: Alter>(
     alloc: Global,
     conn: &mut Idle<S>,
@@ -240,11 +241,11 @@ fn close_row<S: Alter>(
     ensures closed { between S.Store conn.old conn.new Inspects result (StaysAside office.now (in_memory memory.old) (in_memory memory.new)) }
 {
     conn.see_last_commit();
-    let (pool, order) = pool_of_row(alloc, row, orders.cuts, orders.paid)?;
+    let (pool, order) = pool_of_row(alloc, row, orders.cuts, orders.paid, orders.marks)?;
     close_aside(alloc, conn, memory, office, pool, &order)
 }
 
-// Closes the pools of rows in tables in memory, with the rows of all cuts and of all returns that are paid.
+// Closes the pools of rows in tables in memory, with the rows of all cuts, of all returns that are paid and of all marks.
 fn close_rows<S: Alter>(
     alloc: Global,
     conn: &mut Idle<S>,
@@ -275,10 +276,12 @@ pub(crate) fn close_all<S: Alter>(
     let pools = rows_of_table(conn, TableName::Pools)?;
     let cuts = rows_of_table(conn, TableName::PoolCuts)?;
     let paid = rows_of_table(conn, TableName::PoolReturns)?;
+    let marks = rows_of_table(conn, TableName::MechanicalPools)?;
     put_references(alloc, memory, cuts.as_slice(), paid.as_slice())?;
     let orders = PaidRows {
         cuts: cuts.as_slice(),
         paid: paid.as_slice(),
+        marks: marks.as_slice(),
     };
     close_rows(alloc, conn, memory, office, pools.as_slice(), &orders)
 }

@@ -1,25 +1,27 @@
 //! The book of a database's own rows, built anew in memory.
-ghost use Rattle.std.specs.Prelude.{◌≡◌, ◌≢◌, ℕ, pos, Some, None, map, filter, IfErr, IfOk, ⊤};
+ghost use Rattle.std.specs.Prelude.{◌≡◌, ◌≢◌, ℕ, pos, Some, None, if◌then◌else◌, map, filter, IfErr, IfOk, ⊤};
 ghost use Rattle.std.specs.List.{AllByRecursion};
 ghost use Rattle.sqlite.specs.State.{HasCleanDisk};
+ghost use Rattle.share_rules.specs.declared.kind.Kind.TheVariants.{Mechanical};
 ghost use Rattle.society_core.specs.Book.{Book, empty_book};
 ghost use Rattle.society_core.specs.Orders.{order_fault, order_of};
 ghost use Rattle.society_core.specs.declared.refusal.Refusal.TheVariants.{Unavailable};
-ghost use Rattle.society_book.specs.BookRows.{is_of_pool};
+ghost use Rattle.society_book.specs.BookRows.{is_of_pool, kind_marked};
 ghost use Rattle.society_tables.specs.Opening.{Inspects, TellsFailure};
 ghost use Rattle.society_tables.specs.declared.audit_fault.AuditFault.TheVariants.{Store};
-ghost use Rattle.society_tables.specs.Rebuilding.{ComesFrom, IsAside, IsCut, IsPaid, Passes, cut_pair, lines_alone, paid_pair, sent_alone, without_pools};
+ghost use Rattle.society_tables.specs.Rebuilding.{ComesFrom, IsAside, IsCut, IsMark, IsPaid, Passes, cut_pair, lines_alone, paid_pair, sent_alone, without_pools};
 ghost use Rattle.society_rows.specs.Between.{between};
 ghost use Rattle.society_tables.specs.InMemory.{memory_book};
-ghost use Rattle.society_tables.specs.Again.{PassesSent, PassesStated, PassesReported, PassesClosed, PassesOrder, PassesPool, PassesAllSent, PassesAllStated, PassesAllReported, PassesPools, PassesFrom, whole_book, PassesRowsOfPools, PassesRowsOfCuts};
+ghost use Rattle.society_tables.specs.Again.{PassesSent, PassesStated, PassesReported, PassesClosed, PassesOrder, PassesPool, PassesAllSent, PassesAllStated, PassesAllReported, PassesPools, PassesFrom, whole_book, PassesRowsOfPools, PassesRowsOfCuts, PassesRowsOfPaid};
 
 use crate::Tables;
 use crate::audit_fault::AuditFault;
 use crate::comparing::rows_of_table;
-use share_rules::Office;
+use share_rules::{Kind, Office};
 use society_core::{Desk, OrderError, PoolOrder, Refusal, ReturnKey, Store};
 use society_rows::{
-    Idle, PoolCutRow, PoolReturnRow, PoolRow, ReturnRow, SegmentEndRow, TableName, TransmissionRow,
+    Idle, MechanicalPoolRow, PoolCutRow, PoolReturnRow, PoolRow, ReturnRow, SegmentEndRow,
+    TableName, TransmissionRow,
 };
 use sqlite::{Alter, MemStore, Row};
 use std::alloc::Global;
@@ -143,20 +145,49 @@ fn returns_among(alloc: Global, rows: &[Row], pool: u32) -> Result<Vec<(Reporter
     Ok(returns)
 }
 
-// The order of an amount, a cut and returns.
+// A right, or that of a mark where the row is one of this pool.
+fn kind_with(kind: Kind, row: &Row, pool: u32) -> Kind
+    ensures { IsMark row.now → result ≡ (if is_of_pool 0 pool row.now then Mechanical else kind) }
+{
+    match MechanicalPoolRow::from_row(row) {
+        Ok(mark) => {
+            if mark.pool == pool {
+                Kind::Mechanical
+            } else {
+                kind
+            }
+        }
+        // No mark: the comparison of the tables tells it.
+        Err(_) => kind,
+    }
+}
+
+// The right that a pool pays, out of the rows of all marks.
+fn kind_among(rows: &[Row], pool: u32) -> Kind
+    ensures { AllByRecursion IsMark rows.now → result ≡ kind_marked (filter (is_of_pool 0 pool) rows.now) }
+{
+    let mut kind = Kind::Performing;
+    for row in rows {
+        kind = kind_with(kind, row, pool);
+    }
+    kind
+}
+
+// The order of a kind, an amount, a cut and returns.
 fn order_with(
     alloc: Global,
+    kind: Kind,
     amount: i64,
     cut: &[(SenderKey, u64)],
     returns: &[(Reporter, u64)],
 ) -> Result<PoolOrder, AuditFault>
-    ensures passes { (units : ℕ) → amount ≡ pos units → order_fault units cut.now returns.now ≡ None → Passes result (λ order. order ≡ order_of units cut.now returns.now) }
+    ensures passes { (units : ℕ) → amount ≡ pos units → order_fault units cut.now returns.now ≡ None → Passes result (λ order. order ≡ order_of kind units cut.now returns.now) }
     ensures judged { IfErr result (λ e. e ≢ Store) }
 {
     let Ok(amount) = u64::try_from(amount) else {
         return Err(AuditFault::Damaged);
     };
-    match PoolOrder::new(alloc, amount, cut, returns) {
+    match PoolOrder::new(alloc, kind, amount, cut, returns) {
         Ok(order) => Ok(order),
         Err(OrderError::Memory) => Err(AuditFault::Memory),
         Err(OrderError::Order(_)) => Err(AuditFault::Damaged),
@@ -180,14 +211,15 @@ fn close_with(
     }
 }
 
-/// The number of a pool and its order, out of its row and of the rows of all cuts and of all returns that are paid.
+/// The number of a pool and its order, out of its row and of the rows of all cuts, of all returns that are paid and of all marks.
 pub(crate) fn pool_of_row(
     alloc: Global,
     row: &Row,
     cuts: &[Row],
     paid: &[Row],
+    marks: &[Row],
 ) -> Result<(PoolNumber, PoolOrder), AuditFault>
-    ensures passes { PassesOrder row.now cuts.now paid.now result }
+    ensures passes { PassesOrder row.now cuts.now paid.now marks.now result }
     ensures judged { IfErr result (λ e. e ≢ Store) }
 {
     let Ok(row) = PoolRow::from_row(row) else {
@@ -198,23 +230,31 @@ pub(crate) fn pool_of_row(
     };
     let cut = cut_among(alloc, cuts, row.pool)?;
     let returns = returns_among(alloc, paid, row.pool)?;
-    let order = order_with(alloc, row.amount, cut.as_slice(), returns.as_slice())?;
+    let kind = kind_among(marks, row.pool);
+    let order = order_with(
+        alloc,
+        kind,
+        row.amount,
+        cut.as_slice(),
+        returns.as_slice(),
+    )?;
     Ok((pool, order))
 }
 
-// Closes the pool of a row, with the rows of all cuts and of all returns that are paid.
+// Closes the pool of a row, with the rows of all cuts, of all returns that are paid and of all marks.
 fn close_pool(
     alloc: Global,
     desk: &mut Anew,
     row: &Row,
     cuts: &[Row],
     paid: &[Row],
+    marks: &[Row],
 ) -> Result<(), AuditFault>
     ensures office { desk.new.office ≡ desk.old.office }
-    ensures passes { PassesPool row.now cuts.now paid.now (memory_book desk.old.conn) (memory_book desk.new.conn) result }
+    ensures passes { PassesPool row.now cuts.now paid.now marks.now (memory_book desk.old.conn) (memory_book desk.new.conn) result }
     ensures judged { IfErr result (λ e. e ≢ Store) }
 {
-    let (pool, order) = pool_of_row(alloc, row, cuts, paid)?;
+    let (pool, order) = pool_of_row(alloc, row, cuts, paid, marks)?;
     close_with(alloc, desk, pool, &order)
 }
 
@@ -254,20 +294,21 @@ fn put_returns(alloc: Global, desk: &mut Anew, rows: &[Row]) -> Result<(), Audit
     Ok(())
 }
 
-// Closes the pools of rows, with the rows of all cuts and of all returns that are paid.
+// Closes the pools of rows, with the rows of all cuts, of all returns that are paid and of all marks.
 fn close_pools(
     alloc: Global,
     desk: &mut Anew,
     rows: &[Row],
     cuts: &[Row],
     paid: &[Row],
+    marks: &[Row],
 ) -> Result<(), AuditFault>
     ensures office { desk.new.office ≡ desk.old.office }
-    ensures passes { PassesPools rows.now cuts.now paid.now (memory_book desk.old.conn) (memory_book desk.new.conn) result }
+    ensures passes { PassesPools rows.now cuts.now paid.now marks.now (memory_book desk.old.conn) (memory_book desk.new.conn) result }
     ensures judged { IfErr result (λ e. e ≢ Store) }
 {
     for row in rows {
-        close_pool(alloc, desk, row, cuts, paid)?;
+        close_pool(alloc, desk, row, cuts, paid, marks)?;
     }
     Ok(())
 }
@@ -328,6 +369,24 @@ fn returns_from<S: Alter>(
     put_returns(alloc, desk, rows.as_slice())
 }
 
+// Closes the pools of a database, with the rows of all cuts and of all returns that are paid.
+fn pools_with_paid<S: Alter>(
+    alloc: Global,
+    conn: &mut Idle<S>,
+    desk: &mut Anew,
+    rows: &[Row],
+    cuts: &[Row],
+    paid: &[Row],
+) -> Result<(), AuditFault>
+    ensures asked { between S.Store conn.old conn.new Inspects result (λ _ _. ⊤) }
+    ensures failed { between S.Store conn.old conn.new (TellsFailure Store) result }
+    ensures office { desk.new.office ≡ desk.old.office }
+    ensures passes { between S.Store conn.old conn.new (PassesRowsOfPaid rows.now cuts.now paid.now desk.old.conn desk.new.conn result) }
+{
+    let marks = rows_of_table(conn, TableName::MechanicalPools)?;
+    close_pools(alloc, desk, rows, cuts, paid, marks.as_slice())
+}
+
 // Closes the pools of a database, with the rows of all cuts.
 fn pools_with_cuts<S: Alter>(
     alloc: Global,
@@ -342,7 +401,7 @@ fn pools_with_cuts<S: Alter>(
     ensures passes { between S.Store conn.old conn.new (PassesRowsOfCuts rows.now cuts.now desk.old.conn desk.new.conn result) }
 {
     let paid = rows_of_table(conn, TableName::PoolReturns)?;
-    close_pools(alloc, desk, rows, cuts, paid.as_slice())
+    pools_with_paid(alloc, conn, desk, rows, cuts, paid.as_slice())
 }
 
 // Closes the pools of a database.

@@ -287,7 +287,7 @@ module _ (o : Office) (a b : Book) (s : List ℕ) (more : List ℕ) (goes : Goes
           cuts = subst (HasRows _ _) (sym (rows_kept layout.pool_cuts old new keeps.pool_cuts)) holds.kept.cuts;
           paid = subst (HasRows _ _) (sym (rows_kept layout.pool_returns old new keeps.pool_returns)) holds.kept.paid;
           ends = subst (HasRows _ _) (sym (rows_kept layout.segment_ends old new keeps.ends)) holds.kept.ends;
-          mechanical = rows_kept layout.mechanical_pools old new keeps.mechanical ∙ holds.kept.mechanical;
+          mechanical = subst (HasRows _ _) (sym (rows_kept layout.mechanical_pools old new keeps.mechanical)) holds.kept.mechanical;
         };
         derived = record {
           fronts = fronts_hold o a b s more goes right knows (rows_in layout.fronts old) (rows_in layout.fronts new) holds.derived.fronts (puts.put holds.numbered.0);
@@ -333,7 +333,7 @@ module _ (o : Office) (b : Book) (s : List ℕ) (n : ℕ) (body : List ℕ) (fre
           cuts = subst (HasRows _ _) (sym (rows_kept layout.pool_cuts old new keeps.pool_cuts)) is.kept.cuts;
           paid = subst (HasRows _ _) (sym (rows_kept layout.pool_returns old new keeps.pool_returns)) is.kept.paid;
           ends = subst (HasRows _ _) (sym (rows_kept layout.segment_ends old new keeps.ends)) is.kept.ends;
-          mechanical = rows_kept layout.mechanical_pools old new keeps.mechanical ∙ is.kept.mechanical;
+          mechanical = subst (HasRows _ _) (sym (rows_kept layout.mechanical_pools old new keeps.mechanical)) is.kept.mechanical;
         };
         derived = record {
           fronts = subst (HasRows _ _) (sym (rows_kept layout.fronts old new keeps.fronts)) is.derived.fronts;
@@ -386,7 +386,7 @@ module _ (o : Office) (b : Book) (s : List ℕ) (g : ℕ) (end : End) (free : en
           cuts = subst (HasRows _ _) (sym (rows_kept layout.pool_cuts old new keeps.pool_cuts)) is.kept.cuts;
           paid = subst (HasRows _ _) (sym (rows_kept layout.pool_returns old new keeps.pool_returns)) is.kept.paid;
           ends = more_rows is_end_row (end_rows b) (end_rows ended) (end_row (segment_key s g) end ∷ []) (rows_in layout.segment_ends old) (rows_in layout.segment_ends new) is.kept.ends (λ q. same_permutation (end_more q)) rows;
-          mechanical = rows_kept layout.mechanical_pools old new keeps.mechanical ∙ is.kept.mechanical;
+          mechanical = subst (HasRows _ _) (sym (rows_kept layout.mechanical_pools old new keeps.mechanical)) is.kept.mechanical;
         };
         derived = record {
           fronts = subst (HasRows _ _) (sym (rows_kept layout.fronts old new keeps.fronts)) is.derived.fronts;

@@ -9,6 +9,8 @@ use Rattle.std.proofs.lemmas.Bool.Decides.{Decides-eqb, nat_tests}
 use Rattle.std.proofs.lemmas.List.{append-nil}
 use Rattle.std.proofs.lemmas.List.Sorted.{IsPermutation-append_comm, IsPermutation-append_right}
 use Rattle.pool_split.specs.declared.claim.Credit.{Credit}
+use Rattle.share_rules.specs.declared.kind.Kind.{Kind}
+use Rattle.share_rules.specs.declared.kind.Kind.TheVariants.{Performing, Mechanical}
 use Rattle.share_rules.specs.declared.office.Office.{Office}
 use Rattle.sqlite_keyed.proofs.ListLemmas.{IsPermutation-filter}
 use Rattle.sqlite_trees.specs.Tree.{Trees, rowid}
@@ -25,7 +27,7 @@ use Rattle.society_core.specs.declared.transmission_key.TransmissionKey.{Transmi
 use Rattle.society_rows.specs.Layout as layout
 use Rattle.society_rows.specs.Layout.{all_tables, written_out}
 use Rattle.society_rows.specs.Stored.{AreNumbered, rows_in}
-use Rattle.society_book.specs.BookRows.{cut_row, is_of_pool, paid_row, pool_row, row_of_some, rows_of_order}
+use Rattle.society_book.specs.BookRows.{cut_row, is_of_pool, marks_by, marks_of, paid_row, pool_row, row_of_some, rows_of_order}
 use Rattle.society_book.specs.Columns.{HasRows, whole_number_at}
 use Rattle.society_book.specs.DerivedRows.{balance_rows, credit_row, credit_rows_by, is_named}
 use Rattle.society_book.specs.Kept.{HoldsBook}
@@ -45,20 +47,18 @@ pub record KeepLines (old new : Trees) : Type 0 where
   pub versions : new layout.versions.tree ≡ old layout.versions.tree
   pub recordings : new layout.recordings.tree ≡ old layout.recordings.tree
   pub ends : new layout.segment_ends.tree ≡ old layout.segment_ends.tree
-  pub mechanical : new layout.mechanical_pools.tree ≡ old layout.mechanical_pools.tree
 
 kept_lines : (old new : Trees) → KeepsLines old new → KeepLines old new
 unfolding all_tables written_out
 kept_lines old new keeps = record {
-  office = keeps.0 (λ e. omega (arith, e)) (λ e. omega (arith, e)) (λ e. omega (arith, e)) (λ e. omega (arith, e)) (λ e. omega (arith, e));
-  transmissions = keeps.1.0 (λ e. omega (arith, e)) (λ e. omega (arith, e)) (λ e. omega (arith, e)) (λ e. omega (arith, e)) (λ e. omega (arith, e));
-  returns = keeps.1.1.0 (λ e. omega (arith, e)) (λ e. omega (arith, e)) (λ e. omega (arith, e)) (λ e. omega (arith, e)) (λ e. omega (arith, e));
-  fronts = keeps.1.1.1.1.1.1.0 (λ e. omega (arith, e)) (λ e. omega (arith, e)) (λ e. omega (arith, e)) (λ e. omega (arith, e)) (λ e. omega (arith, e));
-  verdicts = keeps.1.1.1.1.1.1.1.0 (λ e. omega (arith, e)) (λ e. omega (arith, e)) (λ e. omega (arith, e)) (λ e. omega (arith, e)) (λ e. omega (arith, e));
-  versions = keeps.1.1.1.1.1.1.1.1.0 (λ e. omega (arith, e)) (λ e. omega (arith, e)) (λ e. omega (arith, e)) (λ e. omega (arith, e)) (λ e. omega (arith, e));
-  recordings = keeps.1.1.1.1.1.1.1.1.1.0 (λ e. omega (arith, e)) (λ e. omega (arith, e)) (λ e. omega (arith, e)) (λ e. omega (arith, e)) (λ e. omega (arith, e));
-  ends = keeps.1.1.1.1.1.1.1.1.1.1.1.1.0 (λ e. omega (arith, e)) (λ e. omega (arith, e)) (λ e. omega (arith, e)) (λ e. omega (arith, e)) (λ e. omega (arith, e));
-  mechanical = keeps.1.1.1.1.1.1.1.1.1.1.1.1.1.0 (λ e. omega (arith, e)) (λ e. omega (arith, e)) (λ e. omega (arith, e)) (λ e. omega (arith, e)) (λ e. omega (arith, e));
+  office = keeps.0 (λ e. omega (arith, e)) (λ e. omega (arith, e)) (λ e. omega (arith, e)) (λ e. omega (arith, e)) (λ e. omega (arith, e)) (λ e. omega (arith, e));
+  transmissions = keeps.1.0 (λ e. omega (arith, e)) (λ e. omega (arith, e)) (λ e. omega (arith, e)) (λ e. omega (arith, e)) (λ e. omega (arith, e)) (λ e. omega (arith, e));
+  returns = keeps.1.1.0 (λ e. omega (arith, e)) (λ e. omega (arith, e)) (λ e. omega (arith, e)) (λ e. omega (arith, e)) (λ e. omega (arith, e)) (λ e. omega (arith, e));
+  fronts = keeps.1.1.1.1.1.1.0 (λ e. omega (arith, e)) (λ e. omega (arith, e)) (λ e. omega (arith, e)) (λ e. omega (arith, e)) (λ e. omega (arith, e)) (λ e. omega (arith, e));
+  verdicts = keeps.1.1.1.1.1.1.1.0 (λ e. omega (arith, e)) (λ e. omega (arith, e)) (λ e. omega (arith, e)) (λ e. omega (arith, e)) (λ e. omega (arith, e)) (λ e. omega (arith, e));
+  versions = keeps.1.1.1.1.1.1.1.1.0 (λ e. omega (arith, e)) (λ e. omega (arith, e)) (λ e. omega (arith, e)) (λ e. omega (arith, e)) (λ e. omega (arith, e)) (λ e. omega (arith, e));
+  recordings = keeps.1.1.1.1.1.1.1.1.1.0 (λ e. omega (arith, e)) (λ e. omega (arith, e)) (λ e. omega (arith, e)) (λ e. omega (arith, e)) (λ e. omega (arith, e)) (λ e. omega (arith, e));
+  ends = keeps.1.1.1.1.1.1.1.1.1.1.1.1.0 (λ e. omega (arith, e)) (λ e. omega (arith, e)) (λ e. omega (arith, e)) (λ e. omega (arith, e)) (λ e. omega (arith, e)) (λ e. omega (arith, e));
 }
 
 tie : (n m : ℕ) → eq_by_cmp nat_cmp n m ≡ (n == m)
@@ -104,6 +104,10 @@ cuts_at pool (key ∷ keys) = (refl, cuts_at pool keys)
 paid_at : (pool : ℕ) (keys : List ReturnKey) → AreAt 2 pool (map (paid_row pool) keys)
 paid_at pool [] = tt
 paid_at pool (key ∷ keys) = (refl, paid_at pool keys)
+
+marks_at : (pool : ℕ) (kind : Kind) → AreAt 0 pool (marks_of pool kind)
+marks_at pool Performing = tt
+marks_at pool Mechanical = (refl, tt)
 
 lines_at : (pool from : ℕ) (cs : List Credit) → AreAt 0 pool (map (λ line. credit_row pool line.0 line.1) (enumerate_from from cs))
 lines_at pool from [] = tt
@@ -172,7 +176,7 @@ module _ (o : Office) (b : Book) (pool : ℕ) (order : Order) (free : order_at b
             cuts = more_rows (is_of_pool 0) (λ q. rows_of_order (cut_row q) (λ r. r.cut) (order_at b q)) (λ q. rows_of_order (cut_row q) (λ r. r.cut) (order_at closed q)) (map (cut_row pool) order.cut) (rows_in layout.pool_cuts old) (rows_in layout.pool_cuts new) holds.kept.cuts (grown 0 (λ q. rows_of_order (cut_row q) (λ r. r.cut)) (map (cut_row pool) order.cut) (cuts_at pool order.cut) refl refl) closes.cuts;
             paid = more_rows (is_of_pool 2) (λ q. rows_of_order (paid_row q) (λ r. r.returns) (order_at b q)) (λ q. rows_of_order (paid_row q) (λ r. r.returns) (order_at closed q)) (map (paid_row pool) order.returns) (rows_in layout.pool_returns old) (rows_in layout.pool_returns new) holds.kept.paid (grown 2 (λ q. rows_of_order (paid_row q) (λ r. r.returns)) (map (paid_row pool) order.returns) (paid_at pool order.returns) refl refl) closes.paid;
             ends = subst (HasRows _ _) (sym (rows_kept layout.segment_ends old new keeps.ends)) holds.kept.ends;
-            mechanical = rows_kept layout.mechanical_pools old new keeps.mechanical ∙ holds.kept.mechanical;
+            mechanical = more_rows (is_of_pool 0) (λ q. marks_by q (order_at b q)) (λ q. marks_by q (order_at closed q)) (marks_of pool order.kind) (rows_in layout.mechanical_pools old) (rows_in layout.mechanical_pools new) holds.kept.mechanical (grown 0 marks_by (marks_of pool order.kind) (marks_at pool order.kind) refl refl) closes.marks;
           };
           derived = record {
             fronts = subst (HasRows _ _) (sym (rows_kept layout.fronts old new keeps.fronts)) holds.derived.fronts;

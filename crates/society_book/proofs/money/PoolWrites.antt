@@ -14,9 +14,11 @@ use Rattle.society_rows.specs.Balances.{AddsUnits}
 use Rattle.society_rows.specs.Layout as layout
 use Rattle.society_rows.specs.Layout.{all_tables, written_out}
 use Rattle.society_rows.specs.Stored.{Adds, rows_in}
+use Rattle.share_rules.specs.declared.kind.Kind.{Kind}
+use Rattle.share_rules.specs.declared.kind.Kind.TheVariants.{Performing, Mechanical}
 use Rattle.society_core.specs.Orders.{Order}
-use Rattle.society_book.specs.BookRows.{cut_row, paid_row, pool_row}
-use Rattle.society_book.specs.Closings.{AddsOrder, ClosesWith, ComeToTheSame}
+use Rattle.society_book.specs.BookRows.{cut_row, marks_of, mechanical_row, paid_row, pool_row}
+use Rattle.society_book.specs.Closings.{AddsOrder, ClosesWith, ComeToTheSame, Marks}
 use Rattle.society_book.specs.DerivedRows.{credit_row}
 use Rattle.society_book.specs.Shown.{AddsEach}
 use Rattle.society_book.proofs.lines.RunTables.{rows_kept, same_permutation}
@@ -28,16 +30,17 @@ record OfOrder (P : Table → Type 0) : Type 0 where
   pub pools : P layout.pools
   pub cuts : P layout.pool_cuts
   pub returns : P layout.pool_returns
+  pub marks : P layout.mechanical_pools
 
 of_order : (P : Table → Type 0) → AllByRecursion P all_tables → OfOrder P
 unfolding all_tables written_out
-of_order P all = record { pools = all.1.1.1.0; cuts = all.1.1.1.1.0; returns = all.1.1.1.1.1.0 }
+of_order P all = record { pools = all.1.1.1.0; cuts = all.1.1.1.1.0; returns = all.1.1.1.1.1.0; marks = all.1.1.1.1.1.1.1.1.1.1.1.1.1.0 }
 
 abbrev KeptOfOrder : Trees → Trees → Table → Type 0
-KeptOfOrder old new t = t.tree ≢ layout.pools.tree → t.tree ≢ layout.pool_cuts.tree → t.tree ≢ layout.pool_returns.tree → new t.tree ≡ old t.tree
+KeptOfOrder old new t = t.tree ≢ layout.pools.tree → t.tree ≢ layout.pool_cuts.tree → t.tree ≢ layout.pool_returns.tree → t.tree ≢ layout.mechanical_pools.tree → new t.tree ≡ old t.tree
 
 -- a pool that was added, and then its cut
-pub adds_cut : (row : Row) (cut : List Row) (old mid new : Database) → Adds layout.pools (row ∷ []) old mid → Adds layout.pool_cuts cut mid new → AddsOrder row cut [] old.trees new.trees
+pub adds_cut : (row : Row) (cut : List Row) (old mid new : Database) → Adds layout.pools (row ∷ []) old mid → Adds layout.pool_cuts cut mid new → AddsOrder row cut [] [] old.trees new.trees
 unfolding all_tables written_out
 adds_cut row cut old mid new first second =
     let early = of_order (KeptBut layout.pools old.trees mid.trees) first.others in
@@ -46,11 +49,12 @@ adds_cut row cut old mid new first second =
       pools = permuted_to ((row ∷ []) ++ rows_in layout.pools old.trees) _ _ (rows_kept layout.pools mid.trees new.trees (later.pools (λ e. omega (arith, e)))) first.rows;
       cuts = permuted_from cut _ _ _ (rows_kept layout.pool_cuts old.trees mid.trees (early.cuts (λ e. omega (arith, e)))) second.rows;
       returns = same_permutation (sym (rows_kept layout.pool_returns old.trees new.trees (later.returns (λ e. omega (arith, e)) ∙ early.returns (λ e. omega (arith, e)))));
-      others = both_of (KeptBut layout.pools old.trees mid.trees) (KeptBut layout.pool_cuts mid.trees new.trees) (KeptOfOrder old.trees new.trees) all_tables (λ t p q x y z. q y ∙ p x) first.others second.others;
+      marks = same_permutation (sym (rows_kept layout.mechanical_pools old.trees new.trees (later.marks (λ e. omega (arith, e)) ∙ early.marks (λ e. omega (arith, e)))));
+      others = both_of (KeptBut layout.pools old.trees mid.trees) (KeptBut layout.pool_cuts mid.trees new.trees) (KeptOfOrder old.trees new.trees) all_tables (λ t p q x y z w. q y ∙ p x) first.others second.others;
     }
 
 -- and then the returns that it pays
-pub adds_order : (row : Row) (cut paid : List Row) (old mid new : Database) → AddsOrder row cut [] old.trees mid.trees → Adds layout.pool_returns paid mid new → AddsOrder row cut paid old.trees new.trees
+pub adds_order : (row : Row) (cut paid : List Row) (old mid new : Database) → AddsOrder row cut [] [] old.trees mid.trees → Adds layout.pool_returns paid mid new → AddsOrder row cut paid [] old.trees new.trees
 unfolding all_tables written_out
 adds_order row cut paid old mid new first second =
     let early = of_order (KeptBut layout.pool_returns mid.trees new.trees) second.others in
@@ -58,8 +62,27 @@ adds_order row cut paid old mid new first second =
       pools = permuted_to ((row ∷ []) ++ rows_in layout.pools old.trees) _ _ (rows_kept layout.pools mid.trees new.trees (early.pools (λ e. omega (arith, e)))) first.pools;
       cuts = permuted_to (cut ++ rows_in layout.pool_cuts old.trees) _ _ (rows_kept layout.pool_cuts mid.trees new.trees (early.cuts (λ e. omega (arith, e)))) first.cuts;
       returns = IsPermutation-trans (paid ++ rows_in layout.pool_returns old.trees) (paid ++ rows_in layout.pool_returns mid.trees) (rows_in layout.pool_returns new.trees) (IsPermutation-append_right paid (rows_in layout.pool_returns old.trees) (rows_in layout.pool_returns mid.trees) first.returns) second.rows;
-      others = both_of (KeptOfOrder old.trees mid.trees) (KeptBut layout.pool_returns mid.trees new.trees) (KeptOfOrder old.trees new.trees) all_tables (λ t p q x y z. q z ∙ p x y z) first.others second.others;
+      marks = permuted_to (rows_in layout.mechanical_pools old.trees) _ _ (rows_kept layout.mechanical_pools mid.trees new.trees (early.marks (λ e. omega (arith, e)))) first.marks;
+      others = both_of (KeptOfOrder old.trees mid.trees) (KeptBut layout.pool_returns mid.trees new.trees) (KeptOfOrder old.trees new.trees) all_tables (λ t p q x y z w. q z ∙ p x y z w) first.others second.others;
     }
+
+adds_mark : (row : Row) (cut paid : List Row) (pool : ℕ) (old mid new : Database) → AddsOrder row cut paid [] old.trees mid.trees → Adds layout.mechanical_pools (mechanical_row pool ∷ []) mid new → AddsOrder row cut paid (mechanical_row pool ∷ []) old.trees new.trees
+unfolding all_tables written_out
+adds_mark row cut paid pool old mid new first second =
+    let early = of_order (KeptBut layout.mechanical_pools mid.trees new.trees) second.others in
+    let mark : List Row = mechanical_row pool ∷ [] in
+    record {
+      pools = permuted_to ((row ∷ []) ++ rows_in layout.pools old.trees) _ _ (rows_kept layout.pools mid.trees new.trees (early.pools (λ e. omega (arith, e)))) first.pools;
+      cuts = permuted_to (cut ++ rows_in layout.pool_cuts old.trees) _ _ (rows_kept layout.pool_cuts mid.trees new.trees (early.cuts (λ e. omega (arith, e)))) first.cuts;
+      returns = permuted_to (paid ++ rows_in layout.pool_returns old.trees) _ _ (rows_kept layout.pool_returns mid.trees new.trees (early.returns (λ e. omega (arith, e)))) first.returns;
+      marks = IsPermutation-trans (mark ++ rows_in layout.mechanical_pools old.trees) (mark ++ rows_in layout.mechanical_pools mid.trees) (rows_in layout.mechanical_pools new.trees) (IsPermutation-append_right mark (rows_in layout.mechanical_pools old.trees) (rows_in layout.mechanical_pools mid.trees) first.marks) second.rows;
+      others = both_of (KeptOfOrder old.trees mid.trees) (KeptBut layout.mechanical_pools mid.trees new.trees) (KeptOfOrder old.trees new.trees) all_tables (λ t p q x y z w. q w ∙ p x y z w) first.others second.others;
+    }
+
+-- and then its mark, where it pays the mechanical right
+pub adds_marked : (row : Row) (cut paid : List Row) (pool : ℕ) (kind : Kind) (old mid new : Database) → AddsOrder row cut paid [] old.trees mid.trees → Marks pool kind mid new → AddsOrder row cut paid (marks_of pool kind) old.trees new.trees
+adds_marked row cut paid pool Performing old mid new first same = subst (λ (db : Database). AddsOrder row cut paid [] old.trees db.trees) (sym same) first
+adds_marked row cut paid pool Mechanical old mid new first second = adds_mark row cut paid pool old mid new first second
 
 -- the next credit comes to those so far
 pub each_next : (done : List Credit) (credit : Credit) (old mid new : Database) → AddsEach done old mid → AddsUnits (account_text credit.account) (pos credit.units) mid new → AddsEach (done ++ credit ∷ []) old new
@@ -104,18 +127,19 @@ record OfPool (P : Table → Type 0) : Type 0 where
   pub pools : P layout.pools
   pub cuts : P layout.pool_cuts
   pub returns : P layout.pool_returns
+  pub marks : P layout.mechanical_pools
   pub credits : P layout.credits_table
   pub balances : P layout.balances
 
 of_pool : (P : Table → Type 0) → AllByRecursion P all_tables → OfPool P
 unfolding all_tables written_out
-of_pool P all = record { pools = all.1.1.1.0; cuts = all.1.1.1.1.0; returns = all.1.1.1.1.1.0; credits = all.1.1.1.1.1.1.1.1.1.1.0; balances = all.1.1.1.1.1.1.1.1.1.1.1.0 }
+of_pool P all = record { pools = all.1.1.1.0; cuts = all.1.1.1.1.0; returns = all.1.1.1.1.1.0; marks = all.1.1.1.1.1.1.1.1.1.1.1.1.1.0; credits = all.1.1.1.1.1.1.1.1.1.1.0; balances = all.1.1.1.1.1.1.1.1.1.1.1.0 }
 
 abbrev KeptOfPool : Trees → Trees → Table → Type 0
-KeptOfPool old new t = t.tree ≢ layout.pools.tree → t.tree ≢ layout.pool_cuts.tree → t.tree ≢ layout.pool_returns.tree → t.tree ≢ layout.credits_table.tree → t.tree ≢ layout.balances.tree → new t.tree ≡ old t.tree
+KeptOfPool old new t = t.tree ≢ layout.pools.tree → t.tree ≢ layout.pool_cuts.tree → t.tree ≢ layout.pool_returns.tree → t.tree ≢ layout.mechanical_pools.tree → t.tree ≢ layout.credits_table.tree → t.tree ≢ layout.balances.tree → new t.tree ≡ old t.tree
 
 -- an order, and then the lines of its credits, and then their units
-pub closes_by : (pool : ℕ) (order : Order) (cs totals : List Credit) (old mid late new : Database) → AddsOrder (pool_row pool order) (map (cut_row pool) order.cut) (map (paid_row pool) order.returns) old.trees mid.trees
+pub closes_by : (pool : ℕ) (order : Order) (cs totals : List Credit) (old mid late new : Database) → AddsOrder (pool_row pool order) (map (cut_row pool) order.cut) (map (paid_row pool) order.returns) (marks_of pool order.kind) old.trees mid.trees
     → Adds layout.credits_table (map (λ line. credit_row pool line.0 line.1) (enumerate_from 0 cs)) mid late → ComeToTheSame totals cs → AddsEach totals late new → ClosesWith pool order cs old new
 unfolding all_tables written_out
 closes_by pool order cs totals old mid late new ordered lines same each =
@@ -127,13 +151,14 @@ closes_by pool order cs totals old mid late new ordered lines same each =
         pools = permuted_to ((pool_row pool order ∷ []) ++ rows_in layout.pools old.trees) _ _ (rows_kept layout.pools mid.trees new.trees (third.pools (λ e. omega (arith, e)) ∙ second.pools (λ e. omega (arith, e)))) ordered.pools;
         cuts = permuted_to (map (cut_row pool) order.cut ++ rows_in layout.pool_cuts old.trees) _ _ (rows_kept layout.pool_cuts mid.trees new.trees (third.cuts (λ e. omega (arith, e)) ∙ second.cuts (λ e. omega (arith, e)))) ordered.cuts;
         paid = permuted_to (map (paid_row pool) order.returns ++ rows_in layout.pool_returns old.trees) _ _ (rows_kept layout.pool_returns mid.trees new.trees (third.returns (λ e. omega (arith, e)) ∙ second.returns (λ e. omega (arith, e)))) ordered.returns;
+        marks = permuted_to (marks_of pool order.kind ++ rows_in layout.mechanical_pools old.trees) _ _ (rows_kept layout.mechanical_pools mid.trees new.trees (third.marks (λ e. omega (arith, e)) ∙ second.marks (λ e. omega (arith, e)))) ordered.marks;
         lines = permuted_to (map (λ line. credit_row pool line.0 line.1) (enumerate_from 0 cs) ++ rows_in layout.credits_table old.trees) _ _ (rows_kept layout.credits_table late.trees new.trees (third.credits (λ e. omega (arith, e))))
-            (permuted_from (map (λ line. credit_row pool line.0 line.1) (enumerate_from 0 cs)) _ _ _ (rows_kept layout.credits_table old.trees mid.trees (first.credits (λ e. omega (arith, e)) (λ e. omega (arith, e)) (λ e. omega (arith, e)))) lines.rows);
-        others = both_of (KeptOfOrder old.trees mid.trees) (λ t. t.tree ≢ layout.credits_table.tree → t.tree ≢ layout.balances.tree → new.trees t.tree ≡ mid.trees t.tree) (KeptOfPool old.trees new.trees) all_tables (λ t p q x y z v w. q v w ∙ p x y z) ordered.others
+            (permuted_from (map (λ line. credit_row pool line.0 line.1) (enumerate_from 0 cs)) _ _ _ (rows_kept layout.credits_table old.trees mid.trees (first.credits (λ e. omega (arith, e)) (λ e. omega (arith, e)) (λ e. omega (arith, e)) (λ e. omega (arith, e)))) lines.rows);
+        others = both_of (KeptOfOrder old.trees mid.trees) (λ t. t.tree ≢ layout.credits_table.tree → t.tree ≢ layout.balances.tree → new.trees t.tree ≡ mid.trees t.tree) (KeptOfPool old.trees new.trees) all_tables (λ t p q x y z m v w. q v w ∙ p x y z m) ordered.others
             (both_of (KeptBut layout.credits_table mid.trees late.trees) (KeptBut layout.balances late.trees new.trees) (λ t. t.tree ≢ layout.credits_table.tree → t.tree ≢ layout.balances.tree → new.trees t.tree ≡ mid.trees t.tree) all_tables (λ t p q v w. q w ∙ p v) lines.others kept);
       },
       late,
-      second.balances (λ e. omega (arith, e)) ∙ first.balances (λ e. omega (arith, e)) (λ e. omega (arith, e)) (λ e. omega (arith, e)),
+      second.balances (λ e. omega (arith, e)) ∙ first.balances (λ e. omega (arith, e)) (λ e. omega (arith, e)) (λ e. omega (arith, e)) (λ e. omega (arith, e)),
       totals,
       same,
       each,

@@ -17,6 +17,8 @@ use Rattle.std.proofs.lemmas.Cmp.{nat_cmp_total}
 use Rattle.std.proofs.lemmas.List.Sorted.{IsPermutation-map, list_any-IsPermutation}
 use Rattle.std.proofs.lemmas.Map.Text.{is_eq-slice_cmp}
 use Rattle.sender_segments.specs.Ways.{End}
+use Rattle.share_rules.specs.declared.kind.Kind.{Kind}
+use Rattle.share_rules.specs.declared.kind.Kind.TheVariants.{Performing, Mechanical}
 use Rattle.sqlite_trees.specs.Tree.{Trees}
 use Rattle.sqlite_value.specs.declared.value.Value.TheVariants.{Int}
 use Rattle.sqlite_value.specs.Order.{Row}
@@ -30,9 +32,9 @@ use Rattle.society_core.proofs.KeyOrders.{exact_numbers, exact_returns, exact_se
 use Rattle.society_rows.specs.Layout as layout
 use Rattle.society_rows.specs.SegmentColumns.{segment_column}
 use Rattle.society_rows.specs.Stored.{rows_in}
-use Rattle.society_book.specs.BookRows.{AreOfBook, book_of, cut_key_of, cut_row, end_entry, end_of, end_row, is_end_row, is_of_pool, is_return_row, is_transmission_row, order_in, paid_row, pool_entry, pool_row, return_entry, return_key_of, return_row, return_rows, row_of_some, rows_of_order, same_segment_key, segment_key_of, transmission_entry, transmission_key_of, transmission_row}
+use Rattle.society_book.specs.BookRows.{AreOfBook, book_of, cut_key_of, cut_row, end_entry, end_of, end_row, is_end_row, is_of_pool, is_return_row, is_transmission_row, kind_marked, marks_by, marks_of, mechanical_row, order_in, paid_row, pool_entry, pool_row, return_entry, return_key_of, return_row, return_rows, row_of_some, rows_of_order, same_segment_key, segment_key_of, transmission_entry, transmission_key_of, transmission_row}
 use Rattle.society_book.specs.Columns.{HasRows, segment_of_value, whole_number_at}
-use Rattle.society_book.proofs.rows_alike.RowLemmas.{map_of_rows, only}
+use Rattle.society_book.proofs.rows_alike.RowLemmas.{map_of_rows, none_else, one_else, only}
 
 -- two orders in turn tie where both do
 both_tie : (a b : Ordering) → is_eq (ordering_then a b) ≡ (is_eq a && is_eq b)
@@ -123,9 +125,14 @@ all_refilled book rows has (key ∷ keys) h = (
 pub third_holds : (a b c : Bool) → (a && b && c) ≡ true → c ≡ true
 third_holds a b c h = second_holds (a && b) c h
 
--- the order that the rows of a pool's cut and returns make
-order_back : (pool : ℕ) (order : Order) (o : Option Order) → o ≡ Some order → IsOrder order → AllByRecursion IsRefilled order.returns → (cuts paid : List Row) → IsPermutation (rows_of_order (cut_row pool) (λ x. x.cut) o) (filter (is_of_pool 0 pool) cuts) → IsPermutation (rows_of_order (paid_row pool) (λ x. x.returns) o) (filter (is_of_pool 2 pool) paid) → order_in cuts paid pool order.amount ≡ order
-order_back pool order o is kept refills cuts paid of_cut of_paid =
+-- the right of a pool is read back from its marks
+pub kind_back : (pool : ℕ) (kind : Kind) (marks : List Row) → IsPermutation (marks_of pool kind) marks → kind_marked marks ≡ kind
+kind_back pool Performing marks same = ap kind_marked (none_else marks same)
+kind_back pool Mechanical marks same = ap kind_marked (one_else (mechanical_row pool) marks same)
+
+-- the order that the rows of a pool's cut, returns and marks make
+order_back : (pool : ℕ) (order : Order) (o : Option Order) → o ≡ Some order → IsOrder order → AllByRecursion IsRefilled order.returns → (cuts paid marks : List Row) → IsPermutation (rows_of_order (cut_row pool) (λ x. x.cut) o) (filter (is_of_pool 0 pool) cuts) → IsPermutation (rows_of_order (paid_row pool) (λ x. x.returns) o) (filter (is_of_pool 2 pool) paid) → IsPermutation (marks_by pool o) (filter (is_of_pool 0 pool) marks) → order_in cuts paid marks pool order.amount ≡ order
+order_back pool order o is kept refills cuts paid marks of_cut of_paid of_marks =
     let cut_rows : IsPermutation (map (cut_row pool) order.cut) (filter (is_of_pool 0 pool) cuts) = subst (λ (z : Option Order). IsPermutation (rows_of_order (cut_row pool) (λ x. x.cut) z) (filter (is_of_pool 0 pool) cuts)) is of_cut in
     let paid_rows : IsPermutation (map (paid_row pool) order.returns) (filter (is_of_pool 2 pool) paid) = subst (λ (z : Option Order). IsPermutation (rows_of_order (paid_row pool) (λ x. x.returns) z) (filter (is_of_pool 2 pool) paid)) is of_paid in
     let cut : ascending transmission_cmp (map cut_key_of (filter (is_of_pool 0 pool) cuts)) ≡ order.cut =
@@ -134,7 +141,8 @@ order_back pool order o is kept refills cuts paid of_cut of_paid =
     let returns : ascending return_cmp (map return_key_of (filter (is_of_pool 2 pool) paid)) ≡ order.returns =
     one_ascent returns_total exact_returns (map return_key_of (map (paid_row pool) order.returns)) (map return_key_of (filter (is_of_pool 2 pool) paid)) (IsPermutation-map return_key_of (map (paid_row pool) order.returns) (filter (is_of_pool 2 pool) paid) paid_rows)
     ∙ ap (ascending return_cmp) (paid_back pool order.returns refills) ∙ kept.returns in
-    λ i. record { amount = order.amount; cut = cut i; returns = returns i }
+    let kind = kind_back pool order.kind (filter (is_of_pool 0 pool) marks) (subst (λ (z : Option Order). IsPermutation (marks_by pool z) (filter (is_of_pool 0 pool) marks)) is of_marks) in
+    λ i. record { kind = kind i; amount = order.amount; cut = cut i; returns = returns i }
 
 -- the reporters of the returns that a pool pays are read back from their texts
 pub named_refilled : (book : Book) (rows : List Row) → HasRows is_return_row (return_rows book) rows → IsSound book → (pool : ℕ) (order : Order) → order_at book pool ≡ Some order → AllByRecursion IsRefilled order.returns
@@ -147,8 +155,8 @@ the_book book db sound rows =
     let transmissions = map_of_rows transmissions_total exact_transmissions is_transmission_row transmission_entry (λ q r. transmissions_tie q (transmission_key_of r)) book.transmissions transmission_row (λ q x there. refl) (rows_in layout.transmissions db) rows.transmissions in
     let returns = map_of_rows returns_total exact_returns is_return_row return_entry (λ q r. returns_tie q (return_key_of r)) book.returns return_row (λ q x there. refl) (rows_in layout.returns db) rows.returns in
     let pools =
-    map_of_rows nat_cmp_total exact_numbers (is_of_pool 0) (pool_entry (rows_in layout.pool_cuts db) (rows_in layout.pool_returns db)) (λ q r. numbers_tie q (whole_number_at 0 r)) book.pools pool_row
-    (λ q x there. order_back q x (order_at book q) there (sound.orders q x there) (named q x there) (rows_in layout.pool_cuts db) (rows_in layout.pool_returns db) (rows.cuts q) (rows.paid q)) (rows_in layout.pools db) rows.pools in
+    map_of_rows nat_cmp_total exact_numbers (is_of_pool 0) (pool_entry (rows_in layout.pool_cuts db) (rows_in layout.pool_returns db) (rows_in layout.mechanical_pools db)) (λ q r. numbers_tie q (whole_number_at 0 r)) book.pools pool_row
+    (λ q x there. order_back q x (order_at book q) there (sound.orders q x there) (named q x there) (rows_in layout.pool_cuts db) (rows_in layout.pool_returns db) (rows_in layout.mechanical_pools db) (rows.cuts q) (rows.paid q) (rows.mechanical q)) (rows_in layout.pools db) rows.pools in
     let ends = map_of_rows segments_total exact_segments is_end_row end_entry (λ q r. segments_tie q (segment_key_of r)) book.ends end_row (λ q x there. end_back q x) (rows_in layout.segment_ends db) rows.ends in
     λ i. record { transmissions = transmissions i; ends = ends i; returns = returns i; pools = pools i }
   where

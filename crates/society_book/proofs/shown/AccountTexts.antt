@@ -49,7 +49,6 @@ use Rattle.work_ids.specs.declared.fault.IdFault.TheVariants.{Length, Character}
 use Rattle.cwr_files.specs.FileFault.{file_fault}
 use Rattle.std.specs.Prelude.{is_none}
 use Rattle.share_rules.specs.declared.kind.Kind.{Kind}
-use Rattle.share_rules.specs.declared.kind.Kind.TheVariants.{Performing}
 
 -- ---- one text, one account
 
@@ -225,7 +224,7 @@ unfolding credits_of
 order_filled o b sound pool order there =
     split_filled order.amount (claims_of o b order)
     (all_mapped (λ (claim : Claim). OwnersFilled claim.holders) (claim_of o b order) (λ _. Unit {0})
-    (λ played _. sole_filled Performing o (filter (names_recording played.0) (works_of_cut o b order)) (filter_all HasSender (names_recording played.0) (works_of_cut o b order) (cut_sent o b sound order.cut (order_reaches_cut b pool order sound there))))
+    (λ played _. sole_filled order.kind o (filter (names_recording played.0) (works_of_cut o b order)) (filter_all HasSender (names_recording played.0) (works_of_cut o b order) (cut_sent o b sound order.cut (order_reaches_cut b pool order sound there))))
     (points_by_recording (rows_named b order)) (all_of (λ (_ : List ℕ × ℕ). Unit {0}) (λ _. tt) (points_by_recording (rows_named b order))))
 
 pools_filled : (o : Office) (b : Book) → IsSound b → (es : List (ℕ × Order)) → AllByRecursion (IsPool b) es → CreditsFilled (flat_map (credits_of o b) (map (λ e. e.1) es))

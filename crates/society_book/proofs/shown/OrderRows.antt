@@ -3,6 +3,8 @@ use Rattle.std.proofs.Common.{◌≡◌, ◌∙◌, ℕ, pos, true, List, [], �
 use Rattle.std.specs.List.{AllByRecursion}
 use Rattle.std.proofs.lemmas.Bool.Decides.{nat_tests}
 use Rattle.std.proofs.lemmas.List.Sorted.{IsPermutation-map, IsPermutation-trans}
+use Rattle.share_rules.specs.declared.kind.Kind.{Kind}
+use Rattle.share_rules.specs.declared.kind.Kind.TheVariants.{Performing, Mechanical}
 use Rattle.share_rules.specs.declared.office.Office.{Office}
 use Rattle.sqlite_schema.specs.Rules.{equal}
 use Rattle.sqlite_trees.proofs.ListLemmas.{filter_same}
@@ -21,10 +23,10 @@ use Rattle.society_rows.specs.Layout as layout
 use Rattle.society_rows.specs.Reads.{Lists, has_at, has_key}
 use Rattle.society_rows.specs.Stored.{rows_in}
 use Rattle.society_rows.specs.declared.fault.RowFault.{RowFault}
-use Rattle.society_book.specs.BookRows.{cut_key_of, cut_row, cut_rows, is_of_pool, paid_row, paid_rows, return_key_of, rows_of_order}
+use Rattle.society_book.specs.BookRows.{cut_key_of, cut_row, cut_rows, is_of_pool, kind_marked, marks_by, marks_of, mechanical_rows, paid_row, paid_rows, return_key_of, rows_of_order}
 use Rattle.society_book.specs.Columns.{whole_number_at}
 use Rattle.society_book.specs.Kept.{HoldsBook}
-use Rattle.society_book.proofs.rows_alike.BookLemmas.{cuts_back, named_refilled, one_ascent, paid_back}
+use Rattle.society_book.proofs.rows_alike.BookLemmas.{cuts_back, kind_back, named_refilled, one_ascent, paid_back}
 use Rattle.society_book.proofs.shown.CreditRows.{HasNumber, found_by_number}
 use Rattle.society_book.proofs.rows_alike.Equals.{numbers_equal}
 use Rattle.society_book.proofs.rows_alike.KeyRows.{numbers_either_way}
@@ -37,6 +39,14 @@ cut_numbered q (key ∷ keys) = (refl, cut_numbered q keys)
 cuts_numbered : (q : ℕ) (o : Option Order) → AllByRecursion HasNumber (rows_of_order (cut_row q) (λ order. order.cut) o)
 cuts_numbered q None = tt
 cuts_numbered q (Some order) = cut_numbered q order.cut
+
+mark_numbered : (q : ℕ) (kind : Kind) → AllByRecursion HasNumber (marks_of q kind)
+mark_numbered q Performing = tt
+mark_numbered q Mechanical = (refl, tt)
+
+marks_numbered : (q : ℕ) (o : Option Order) → AllByRecursion HasNumber (marks_by q o)
+marks_numbered q None = tt
+marks_numbered q (Some order) = mark_numbered q order.kind
 
 -- the last column is a whole number from 0
 abbrev HasPool : Row → Type 0
@@ -59,6 +69,12 @@ at_pool n (row ∷ rows) all =
     (ap (λ v. equal Binary v (Int (pos n))) all.0 ∙ numbers_equal (whole_number_at 2 row) n ∙ numbers_either_way (whole_number_at 2 row) n, at_pool n rows all.1)
 
 module _ (o : Office) (b : Book) (db : Trees) (holds : HoldsBook o b db) (n : ℕ) (found : List Row) where
+  -- the right that a pool pays, by its marks
+  pub kind_found : Lists layout.mechanical_pools (has_key (Int (pos n) ∷ [])) 1 db found → (order : Order) → order_at b n ≡ Some order → kind_marked found ≡ order.kind
+  kind_found lists order there =
+      let rows = found_by_number n layout.mechanical_pools (mechanical_rows b) 1 db found holds.kept.mechanical (λ q. marks_numbered q (order_at b q)) lists in
+      kind_back n order.kind found (subst (λ (x : Option Order). IsPermutation (marks_by n x) found) there rows)
+
   -- the cut of a pool, as its rows have it
   pub cut_found : Lists layout.pool_cuts (has_key (Int (pos n) ∷ [])) 2 db found → (keys : List TransmissionKey) → keys ≡ map cut_key_of found → (order : Order) → order_at b n ≡ Some order → ascending transmission_cmp keys ≡ order.cut
   cut_found lists keys are order there =
@@ -85,14 +101,16 @@ pub if_ok_as : {X : Type 0} (r : Result X RowFault) (P Q : X → Type 0) → ((x
 if_ok_as (Ok x) P Q follows h = follows x h
 if_ok_as (Err fault) P Q follows h = tt
 
--- a pool with the amount, the cut and the returns of its order is known by it
-pub known_so : (kept : Option Order) (amount : Option ℕ) (cut returns : List (List ℕ × ℕ)) (mine : Order) → amount ≡ option_map (λ order. order.amount) kept
+-- a pool with the amount, the kind, the cut and the returns of its order is known by it
+pub known_so : (kept : Option Order) (amount : Option ℕ) (kind : Kind) (cut returns : List (List ℕ × ℕ)) (mine : Order) → amount ≡ option_map (λ order. order.amount) kept
+    → ((order : Order) → kept ≡ Some order → kind ≡ order.kind)
     → ((order : Order) → kept ≡ Some order → ascending transmission_cmp (map (λ key. transmission_key key.0 key.1) cut) ≡ order.cut)
     → ((order : Order) → kept ≡ Some order → ascending return_cmp (map (λ key. return_key key.0 key.1) returns) ≡ order.returns)
-    → pool_known_by mine (option_map (λ units. order_of units cut returns) amount) ≡ pool_known_by mine kept
-known_so None amount cut returns mine e of_cut of_returns = ap (λ (x : Option ℕ). pool_known_by mine (option_map (λ units. order_of units cut returns) x)) e
-known_so (Some order) amount cut returns mine e of_cut of_returns =
+    → pool_known_by mine (option_map (λ units. order_of kind units cut returns) amount) ≡ pool_known_by mine kept
+known_so None amount kind cut returns mine e of_kind of_cut of_returns = ap (λ (x : Option ℕ). pool_known_by mine (option_map (λ units. order_of kind units cut returns) x)) e
+known_so (Some order) amount kind cut returns mine e of_kind of_cut of_returns =
+    let kind_same = of_kind order refl in
     let cut_same = of_cut order refl in
     let returns_same = of_returns order refl in
-    let one : order_of order.amount cut returns ≡ order = λ i. record { amount = order.amount; cut = cut_same i; returns = returns_same i } in
-    ap (λ (x : Option ℕ). pool_known_by mine (option_map (λ units. order_of units cut returns) x)) e ∙ ap (λ (x : Order). pool_known_by mine (Some x)) one
+    let one : order_of kind order.amount cut returns ≡ order = λ i. record { kind = kind_same i; amount = order.amount; cut = cut_same i; returns = returns_same i } in
+    ap (λ (x : Option ℕ). pool_known_by mine (option_map (λ units. order_of kind units cut returns) x)) e ∙ ap (λ (x : Order). pool_known_by mine (Some x)) one

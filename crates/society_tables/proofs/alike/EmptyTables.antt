@@ -28,7 +28,7 @@ use Rattle.sqlite.specs.State.{State}
 use Rattle.society_book.specs.BookRows.{book_of}
 use Rattle.society_tables.proofs.store.AddLemmas.{holds_own, stands}
 use Rattle.society_rows.specs.Stored.{rows_in, values_of}
-use Rattle.society_book.specs.BookRows.{cut_row, end_row, paid_row, pool_row, return_row, row_of_some, rows_of_order, transmission_row}
+use Rattle.society_book.specs.BookRows.{cut_row, end_row, marks_by, paid_row, pool_row, return_row, row_of_some, rows_of_order, transmission_row}
 use Rattle.society_book.specs.Columns.{HasRows}
 use Rattle.society_book.specs.DerivedRows.{Telling, balance_rows, balance_rows_by, credit_rows_by, front_rows, knows_sender, tells_recordings, tells_verdict, tells_version, told_by, told_to_front, works_to}
 use Rattle.society_book.specs.Kept.{HoldsBook, IsAtRest, office_row}
@@ -105,7 +105,7 @@ begins_empty o row db is new =
         cuts = no_rows _ _ _ (bare_rows layout.pool_cuts db bare.pool_cuts) (λ q. ap (rows_of_order (cut_row q) (λ order. order.cut)) (finite.get-empty nat_cmp q));
         paid = no_rows _ _ _ (bare_rows layout.pool_returns db bare.pool_returns) (λ q. ap (rows_of_order (paid_row q) (λ order. order.returns)) (finite.get-empty nat_cmp q));
         ends = no_rows _ _ _ (bare_rows layout.segment_ends db bare.ends) (λ q. ap (row_of_some (end_row q)) (finite.get-empty segment_cmp q));
-        mechanical = bare_rows layout.mechanical_pools db bare.mechanical;
+        mechanical = no_rows _ _ _ (bare_rows layout.mechanical_pools db bare.mechanical) (λ q. ap (marks_by q) (finite.get-empty nat_cmp q));
       };
       derived = record {
         fronts = no_rows _ (front_rows o empty_book) _ (bare_rows layout.fronts db bare.fronts) (λ q. ap (λ b. cond b ((Text q ∷ Int (pos (front empty_book q)) ∷ Int (pos (works_to o empty_book q)) ∷ []) ∷ []) []) (nothing_known q));

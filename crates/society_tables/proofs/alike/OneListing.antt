@@ -6,6 +6,8 @@ use Rattle.std.proofs.lemmas.List.Sorted.{IsPermutation-trans}
 use Rattle.std.proofs.lemmas.Slice.Eq.{bytes_eq-Decides}
 use Rattle.cwr_files.specs.declared.transmission.Transaction.{Transaction}
 use Rattle.pool_split.specs.declared.claim.Credit.{Credit}
+use Rattle.share_rules.specs.declared.kind.Kind as Rights
+use Rattle.share_rules.specs.declared.kind.Kind.TheVariants.{Performing, Mechanical}
 use Rattle.share_rules.specs.declared.office.Office.{Office}
 use Rattle.sqlite_keyed.proofs.ListLemmas.{IsPermutation-filter, all-append, all-flat_map, all-map, all_of}
 use Rattle.sqlite_schema.specs.declared.schema.Table.{Table}
@@ -30,13 +32,13 @@ use Rattle.society_rows.specs.Stored.{rows_in}
 use Rattle.society_rows.specs.TableNames.{listing_width, table_called}
 use Rattle.society_rows.specs.declared.tables.TableName.{TableName}
 use Rattle.society_rows.specs.declared.tables.TableName.TheVariants as name
-use Rattle.society_book.specs.BookRows.{cut_row, cut_rows, end_row, end_rows, is_end_row, is_of_pool, is_return_row, is_transmission_row, paid_row, paid_rows, pool_row, pool_rows, return_key_of, return_row, return_rows, row_of_some, rows_of_order, segment_key_of, transmission_key_of, transmission_row, transmission_rows}
+use Rattle.society_book.specs.BookRows.{cut_row, cut_rows, end_row, end_rows, is_end_row, is_of_pool, is_return_row, is_transmission_row, marks_by, marks_of, mechanical_rows, paid_row, paid_rows, pool_row, pool_rows, return_key_of, return_row, return_rows, row_of_some, rows_of_order, segment_key_of, transmission_key_of, transmission_row, transmission_rows}
 use Rattle.society_book.specs.Columns.{HasRows, segment_at, segment_of_value, text_at, whole_number_at}
 use Rattle.society_book.specs.DerivedRows.{Telling, balance_rows, balance_rows_by, credit_row, credit_rows, credit_rows_by, credits_to, front_rows, is_named, knows_sender, tells_recordings, tells_verdict, tells_version, told_by, told_from, told_to_front, work_text, works_to}
 use Rattle.society_book.specs.Kept.{HoldsBook, office_row}
 use Rattle.society_book.proofs.rows_alike.BookLemmas.{IsRefilled, refilled}
 use Rattle.society_book.proofs.rows_alike.KeyRows.{both_same}
-use Rattle.society_book.proofs.rows_alike.RowLemmas.{all_rows, none_else, one_else}
+use Rattle.society_book.proofs.rows_alike.RowLemmas.{all_rows, one_else}
 use Rattle.society_tables.proofs.alike.RowTies.{IsTold, Kind, Number, Segment, Words, one_row}
 use Rattle.society_tables.proofs.alike.SameTables.{all_pass}
 use Rattle.society_tables.proofs.alike.SortedOnce.{as_many, sorted_once}
@@ -47,10 +49,6 @@ use Rattle.works_core.specs.Recordings.{isrcs_of}
 -- what a table lists, in any order
 all_listed : (table : Table) (width : ℕ) (db : Trees) (xs : List Row) → Lists table (λ _. true) width db xs → IsPermutation (rows_in table db) xs
 all_listed table width db xs lists = subst (λ rows. IsPermutation rows xs) (all_pass (rows_in table db)) lists.rows
-
--- a table without rows lists none
-none_listed : (table : Table) (width : ℕ) (db : Trees) (xs : List Row) → rows_in table db ≡ [] → Lists table (λ _. true) width db xs → xs ≡ []
-none_listed table width db xs none lists = none_else xs (subst (λ rows. IsPermutation rows xs) none (all_listed table width db xs lists))
 
 module _ {K : Type 0} (is_of : K → Row → Bool) (key_of : Row → K) (own : (r : Row) → is_of (key_of r) r ≡ true) (expected : K → List Row) (kinds : List Kind) (found : Row → List Row) (told : (q : K) → AllByRecursion (IsTold kinds found) (expected q)) where
   listed_has : (table : Table) (db : Trees) (xs : List Row) → HasRows is_of expected (rows_in table db) → Lists table (λ _. true) (length kinds) db xs → HasRows is_of expected xs
@@ -118,6 +116,14 @@ module _ (b : Book) where
   closed_told : (q : ℕ) (x : Option Order) → order_at b q ≡ x → AllByRecursion (IsTold (Number ∷ []) closed) (row_of_some (pool_row q) x)
   closed_told q None is = tt
   closed_told q (Some order) is = (((refl, tt), ap (row_of_some (pool_row q)) is), tt)
+
+  mark_told : (q : ℕ) (kind : Rights.Kind) → AllByRecursion (IsTold (Number ∷ []) alone) (marks_of q kind)
+  mark_told q Performing = tt
+  mark_told q Mechanical = (((refl, tt), refl), tt)
+
+  marks_told : (q : ℕ) (x : Option Order) → AllByRecursion (IsTold (Number ∷ []) alone) (marks_by q x)
+  marks_told q None = tt
+  marks_told q (Some order) = mark_told q order.kind
 
   cuts_told : (q : ℕ) (x : Option Order) → AllByRecursion (IsTold (Number ∷ Words ∷ Number ∷ []) alone) (rows_of_order (cut_row q) (λ order. order.cut) x)
   cuts_told q None = tt
@@ -230,4 +236,6 @@ listed_alike o b one two holds also name.Balances xs ys lists others =
 listed_alike o b one two holds also name.SegmentEnds xs ys lists others =
     listed_once is_end_row segment_key_of (λ r. both_same (text_at 0 r) (segment_at 1 r)) (end_rows b) end_kinds alone (λ q. ended_told b q (end_at b q.sender q.segment))
     layout.segment_ends one two xs ys holds.kept.ends also.kept.ends lists others
-listed_alike o b one two holds also name.MechanicalPools xs ys lists others = none_listed layout.mechanical_pools 1 one xs holds.kept.mechanical lists ∙ sym (none_listed layout.mechanical_pools 1 two ys also.kept.mechanical others)
+listed_alike o b one two holds also name.MechanicalPools xs ys lists others =
+    listed_once (is_of_pool 0) (whole_number_at 0) (λ r. same_number (whole_number_at 0 r)) (mechanical_rows b) (Number ∷ []) alone (λ q. marks_told b q (order_at b q))
+    layout.mechanical_pools one two xs ys holds.kept.mechanical also.kept.mechanical lists others

@@ -13,7 +13,7 @@ use Rattle.society_book.specs.Columns.{HasRows}
 use Rattle.society_book.specs.Kept.{HoldsOwnBook, HoldsBook, office_row}
 use Rattle.society_tables.specs.Opening.{Agree, every_name}
 use Rattle.society_tables.proofs.store.AddLemmas.{holds_own}
-use Rattle.society_book.proofs.rows_alike.RowLemmas.{none_else, one_else}
+use Rattle.society_book.proofs.rows_alike.RowLemmas.{one_else}
 use Rattle.sqlite_keyed.proofs.ListLemmas.{IsPermutation-filter, all-append}
 use Rattle.sqlite_schema.specs.declared.schema.Table.{Table}
 use Rattle.society_rows.specs.Reads.{Lists}
@@ -23,10 +23,6 @@ use Rattle.society_rows.specs.declared.tables.TableName.{TableName}
 -- the rows of each key are the same along the order of a table
 pub has_rows : {K : Type 0} (is_of : K → Row → Bool) (expected : K → List Row) (one two : List Row) → HasRows is_of expected one → IsPermutation one two → HasRows is_of expected two
 has_rows is_of expected one two has same q = IsPermutation-trans (expected q) (filter (is_of q) one) (filter (is_of q) two) (has q) (IsPermutation-filter (is_of q) one two same)
-
--- a table that is empty in one is empty in the other
-still_none : (table : Table) (one two : Trees) → rows_in table one ≡ [] → IsPermutation (rows_in table one) (rows_in table two) → rows_in table two ≡ []
-still_none table one two none same = none_else (rows_in table two) (subst (λ rows. IsPermutation rows (rows_in table two)) none same)
 
 pub holds_as : (o : Office) (b : Book) (one two : Trees) → HoldsBook o b one → Agree every_name one two → AreNumbered layout.fronts two × AreNumbered layout.balances two → HoldsBook o b two
 holds_as o b one two holds agree numbered = record {
@@ -39,7 +35,7 @@ holds_as o b one two holds agree numbered = record {
     cuts = has_rows _ _ _ _ holds.kept.cuts agree.1.1.1.1.0;
     paid = has_rows _ _ _ _ holds.kept.paid agree.1.1.1.1.1.0;
     ends = has_rows _ _ _ _ holds.kept.ends agree.1.1.1.1.1.1.1.1.1.1.1.1.0;
-    mechanical = still_none layout.mechanical_pools one two holds.kept.mechanical agree.1.1.1.1.1.1.1.1.1.1.1.1.1.0;
+    mechanical = has_rows _ _ _ _ holds.kept.mechanical agree.1.1.1.1.1.1.1.1.1.1.1.1.1.0;
   };
   derived = record {
     fronts = has_rows _ _ _ _ holds.derived.fronts agree.1.1.1.1.1.1.0;

@@ -1,8 +1,10 @@
 -- The rows of a pool give its order again.
-use Rattle.std.proofs.Common.{◌≡◌, ◌∙◌, ◌<◌, ◌≤◌, ◌^◌, ◌&&◌, ℕ, ℤ, pos, Bool, true, false, List, [], ◌∷◌, Option, Some, None, is_none, is_some, nat_le, Result, Ok, Err, FitsSigned, of_z, to_z, w64, map, filter, length, if◌then◌else◌, ap, ap₂, refl, sym, subst, arith, IsPermutation}
+use Rattle.std.proofs.Common.{◌≡◌, ◌∙◌, ◌<◌, ◌≤◌, ◌^◌, ◌&&◌, ◌+◌, ◌++◌, ℕ, ℤ, pos, Bool, true, false, cond, List, [], ◌∷◌, get_or, take, Option, Some, None, is_none, is_some, nat_le, Result, Ok, Err, FitsSigned, of_z, to_z, w64, map, filter, length, if◌then◌else◌, ap, ap₂, refl, sym, subst, arith, IsPermutation}
 use Rattle.std.proofs.lemmas.Bool.{false≢true}
 use Rattle.std.proofs.lemmas.Bool.Decides.{nat_tests}
 use Rattle.std.proofs.lemmas.Int.{to_z-of_z}
+use Rattle.std.proofs.lemmas.List.{append-nil, take_more}
+use Rattle.std.proofs.lemmas.List.Elements.{filter-append}
 use Rattle.std.proofs.lemmas.List.Sorted.{IsPermutation-map}
 use Rattle.std.specs.List.{AllByRecursion, list_all}
 use Rattle.std.specs.Result.{IsErrAnd}
@@ -10,6 +12,8 @@ use Rattle.sqlite_keyed.proofs.ListLemmas.{all_both, all_from_test, all_map, all
 use Rattle.sqlite_value.specs.Order.{Row, column}
 use Rattle.sqlite_value.specs.declared.value.Value.{Value}
 use Rattle.sqlite_value.specs.declared.value.Value.TheVariants.{Int}
+use Rattle.share_rules.specs.declared.kind.Kind.{Kind}
+use Rattle.share_rules.specs.declared.kind.Kind.TheVariants.{Performing, Mechanical}
 use Rattle.society_core.specs.Book.{Book, IsSound, is_applied, is_pool_entry, is_reporter, order_at, return_at}
 use Rattle.society_core.proofs.LineNumbers.{in_line_within}
 use Rattle.society_core.specs.Keys.{ascending, return_cmp, return_key, transmission_cmp, transmission_key}
@@ -29,11 +33,11 @@ use Rattle.work_ids.specs.Reporter.{reporter_of}
 use Rattle.work_ids.specs.SenderKey.{is_sender_key}
 use Rattle.work_ids.specs.declared.fault.IdFault.{IdFault}
 use Rattle.work_ids.specs.declared.fault.IdFault.TheVariants.{Character, Length}
-use Rattle.society_book.specs.BookRows.{cut_row, cut_rows, is_of_pool, paid_row, paid_rows, pool_row, rows_of_order}
+use Rattle.society_book.specs.BookRows.{cut_row, cut_rows, is_of_pool, kind_marked, marks_by, marks_of, mechanical_rows, paid_row, paid_rows, pool_row, rows_of_order}
 use Rattle.society_book.specs.Columns.{HasRows, whole_number_at}
-use Rattle.society_tables.specs.Rebuilding.{IsAside, IsCut, IsPaid, Passes, cut_pair, paid_pair}
+use Rattle.society_tables.specs.Rebuilding.{IsAside, IsCut, IsMark, IsPaid, Passes, cut_pair, paid_pair}
 use Rattle.society_tables.specs.declared.audit_fault.AuditFault.{AuditFault}
-use Rattle.society_book.proofs.rows_alike.BookLemmas.{IsRefilled, one_ascent, third_holds}
+use Rattle.society_book.proofs.rows_alike.BookLemmas.{IsRefilled, kind_back, one_ascent, third_holds}
 use Rattle.society_book.proofs.rows_alike.RowLemmas.{all_rows}
 
 small : (n : ℕ) → n ≤ 999999 → n < 2 ^ 32
@@ -177,6 +181,17 @@ module _ (b : Book) (sound : IsSound b) where
     pairs_back [] whole = refl
     pairs_back (key ∷ keys) whole = ap₂ (λ (r : List ℕ) (l : List (List ℕ × ℕ)). (r, key.number) ∷ l) whole.0 (pairs_back keys whole.1)
 
+    -- the row of its mark is of the form
+    mark_forms : (kind : Kind) → AllByRecursion IsMark (marks_of pool kind)
+    mark_forms Performing = tt
+    mark_forms Mechanical = ((refl, ((pool, refl, small_pool), tt)), tt)
+
+    -- its right is read back from its marks
+    kind_given : (marks : List Row) → HasRows (is_of_pool 0) (mechanical_rows b) marks → kind_marked (filter (is_of_pool 0 pool) marks) ≡ order.kind
+    kind_given marks has =
+        kind_back pool order.kind (filter (is_of_pool 0 pool) marks)
+        (subst (λ (x : Option Order). IsPermutation (marks_by pool x) (filter (is_of_pool 0 pool) marks)) there (has pool))
+
     module _ (cuts paid : List Row) (has_cuts : HasRows (is_of_pool 0) (cut_rows b) cuts) (has_paid : HasRows (is_of_pool 2) (paid_rows b) paid) where
       cut_given : IsPermutation (map sent_pair order.cut) (map cut_pair (filter (is_of_pool 0 pool) cuts))
       cut_given =
@@ -197,7 +212,7 @@ module _ (b : Book) (sound : IsSound b) where
           (none_of (order_fault order.amount (map sent_pair order.cut) (map return_pair order.returns)) (sound.orders pool order there).faultless)
 
       -- and make its order
-      pub order_again : order_of order.amount (map cut_pair (filter (is_of_pool 0 pool) cuts)) (map paid_pair (filter (is_of_pool 2 pool) paid)) ≡ order
+      pub order_again : order_of order.kind order.amount (map cut_pair (filter (is_of_pool 0 pool) cuts)) (map paid_pair (filter (is_of_pool 2 pool) paid)) ≡ order
       order_again =
           let key_of : List ℕ × ℕ → TransmissionKey = λ c. transmission_key c.0 c.1 in
           let named : List ℕ × ℕ → ReturnKey = λ r. return_key r.0 r.1 in
@@ -209,7 +224,7 @@ module _ (b : Book) (sound : IsSound b) where
           let returns : ascending return_cmp (map named some_returns) ≡ order.returns =
           one_ascent returns_total exact_returns (map named (map return_pair order.returns)) (map named some_returns) (IsPermutation-map named (map return_pair order.returns) some_returns returns_given)
           ∙ ap (ascending return_cmp) (map_back return_pair named (λ key. refl) order.returns) ∙ (sound.orders pool order there).returns in
-          λ i. record { amount = order.amount; cut = cut i; returns = returns i }
+          λ i. record { kind = order.kind; amount = order.amount; cut = cut i; returns = returns i }
 
       module _ (p : ℕ) (cut returns : List (List ℕ × ℕ)) (same : p ≡ pool) (are_cut : cut ≡ map cut_pair (filter (is_of_pool 0 p) cuts)) (are_paid : returns ≡ map paid_pair (filter (is_of_pool 2 p) paid)) where
         whole_cut : cut ≡ map cut_pair (filter (is_of_pool 0 pool) cuts)
@@ -223,8 +238,10 @@ module _ (b : Book) (sound : IsSound b) where
         faultless_read = ap₂ (order_fault order.amount) whole_cut whole_returns ∙ faultless_again
 
         -- and makes its order
-        pub order_read : order_of order.amount cut returns ≡ order
-        order_read = ap₂ (order_of order.amount) whole_cut whole_returns ∙ order_again
+        pub order_read : (kind : Kind) (marks : List Row) → HasRows (is_of_pool 0) (mechanical_rows b) marks → kind ≡ kind_marked (filter (is_of_pool 0 p) marks) → order_of kind order.amount cut returns ≡ order
+        order_read kind marks has is =
+            let right : kind ≡ order.kind = is ∙ ap (λ (n : ℕ). kind_marked (filter (is_of_pool 0 n) marks)) same ∙ kind_given marks has in
+            ap (λ (k : Kind). order_of k order.amount cut returns) right ∙ ap₂ (order_of order.kind order.amount) whole_cut whole_returns ∙ order_again
 
   -- all rows of cuts are of the form
   pub all_cuts : (cuts : List Row) → HasRows (is_of_pool 0) (cut_rows b) cuts → AllByRecursion IsCut cuts
@@ -241,3 +258,27 @@ module _ (b : Book) (sound : IsSound b) where
       of_pool : (q : ℕ) (x : Option Order) → order_at b q ≡ x → AllByRecursion IsPaid (rows_of_order (paid_row q) (λ order. order.returns) x)
       of_pool q None is = tt
       of_pool q (Some order) is = paid_forms q order is
+
+  -- all rows of marks are of the form
+  pub all_marks : (marks : List Row) → HasRows (is_of_pool 0) (mechanical_rows b) marks → AllByRecursion IsMark marks
+  all_marks marks has = all_rows (is_of_pool 0) (whole_number_at 0) own_pool IsMark (mechanical_rows b) marks has (λ q. of_pool q (order_at b q) refl)
+    where
+      of_pool : (q : ℕ) (x : Option Order) → order_at b q ≡ x → AllByRecursion IsMark (marks_by q x)
+      of_pool q None is = tt
+      of_pool q (Some order) is = mark_forms q order is order.kind
+
+-- one row more is a mark of the pool, or changes nothing
+pub kind_next : (pool : ℕ) (rows : List Row) (i : ℕ) (row : Row) → i < length rows → row ≡ get_or rows i row
+    → kind_marked (filter (is_of_pool 0 pool) (take (i + 1) rows)) ≡ (if is_of_pool 0 pool row then Mechanical else kind_marked (filter (is_of_pool 0 pool) (take i rows)))
+kind_next pool rows i row within is =
+    ap (λ (l : List Row). kind_marked (filter (is_of_pool 0 pool) l)) (take_more rows i row within ∙ ap (λ (r : Row). take i rows ++ r ∷ []) (sym is))
+    ∙ ap kind_marked (filter-append (is_of_pool 0 pool) (take i rows) (row ∷ []))
+    ∙ by_case (is_of_pool 0 pool row)
+  where
+    marked_by : (xs : List Row) → kind_marked (xs ++ row ∷ []) ≡ Mechanical
+    marked_by [] = refl
+    marked_by (x ∷ xs) = refl
+
+    by_case : (t : Bool) → kind_marked (filter (is_of_pool 0 pool) (take i rows) ++ cond t (row ∷ []) []) ≡ (if t then Mechanical else kind_marked (filter (is_of_pool 0 pool) (take i rows)))
+    by_case true = marked_by (filter (is_of_pool 0 pool) (take i rows))
+    by_case false = ap kind_marked (append-nil (filter (is_of_pool 0 pool) (take i rows)))

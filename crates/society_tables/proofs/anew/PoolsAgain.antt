@@ -11,7 +11,9 @@ use Rattle.share_rules.specs.declared.office.Office.{Office}
 use Rattle.sqlite_keyed.proofs.ListLemmas.{all_both, all_from_test, all_weaker}
 use Rattle.society_core.specs.Answers.{close_answer, close_book, close_refusal, closed_answer, closed_book, cut_refusal, refusal_or_later, first_refusal, payer, payment_by, payment_refusal, pool_known_by, pool_of, return_refusal}
 use Rattle.society_core.specs.Book.{Book, Ends, IsSound, Transmissions, is_applied, is_pool_entry, line, order_at, return_at}
-use Rattle.society_core.specs.Orders.{Order, names_return, same_order, same_return_key, same_transmission_key}
+use Rattle.share_rules.specs.declared.kind.Kind.{Kind}
+use Rattle.share_rules.specs.declared.kind.Kind.TheVariants.{Performing, Mechanical}
+use Rattle.society_core.specs.Orders.{Order, names_return, same_kind, same_order, same_return_key, same_transmission_key}
 use Rattle.society_core.specs.Requests.{Closed, Closes, Refused, Reply, told}
 use Rattle.society_core.specs.Runs.{Step}
 use Rattle.society_core.specs.declared.answers.Receipt.{Receipt}
@@ -54,11 +56,18 @@ same_return key = both_hold (bytes_eq key.reporter key.reporter) (key.number == 
 same_transmission : (key : TransmissionKey) → same_transmission_key key key ≡ true
 same_transmission key = both_hold (bytes_eq key.sender key.sender) (key.number == key.number) (same_name key.sender) (same_number key.number)
 
+kind_itself : (kind : Kind) → same_kind kind kind ≡ true
+kind_itself Performing = refl
+kind_itself Mechanical = refl
+
 -- an order is the same as itself
 same_itself : (order : Order) → same_order order order ≡ true
 same_itself order =
-    both_hold (order.amount == order.amount && pointwise same_transmission_key order.cut order.cut) (pointwise same_return_key order.returns order.returns)
-    (both_hold (order.amount == order.amount) (pointwise same_transmission_key order.cut order.cut) (same_number order.amount) (same_all same_transmission_key same_transmission order.cut))
+    let kinds = same_kind order.kind order.kind in
+    let amounts = order.amount == order.amount in
+    let cuts = pointwise same_transmission_key order.cut order.cut in
+    both_hold (kinds && amounts && cuts) (pointwise same_return_key order.returns order.returns)
+    (both_hold (kinds && amounts) cuts (both_hold kinds amounts (kind_itself order.kind) (same_number order.amount)) (same_all same_transmission_key same_transmission order.cut))
     (same_all same_return_key same_return order.returns)
 
 -- an order that is kept is known again

@@ -97,7 +97,7 @@ each_mixed bodies (credit ∷ credits) old new adds =
     (mix bodies adds.0, units_mixed bodies (account_text credit.account) (pos credit.units) old adds.0 adds.1, each_mixed bodies credits adds.0 new adds.2)
 
 abbrev KeptOfPool : Trees → Trees → Table → Type 0
-KeptOfPool old new t = t.tree ≢ layout.pools.tree → t.tree ≢ layout.pool_cuts.tree → t.tree ≢ layout.pool_returns.tree → t.tree ≢ layout.credits_table.tree → t.tree ≢ layout.balances.tree → new t.tree ≡ old t.tree
+KeptOfPool old new t = t.tree ≢ layout.pools.tree → t.tree ≢ layout.pool_cuts.tree → t.tree ≢ layout.pool_returns.tree → t.tree ≢ layout.mechanical_pools.tree → t.tree ≢ layout.credits_table.tree → t.tree ≢ layout.balances.tree → new t.tree ≡ old t.tree
 
 -- what closes a pool closes it in it
 pub closes_mixed : (bodies : Trees) (pool : ℕ) (order : Order) (credits : List Credit) (old new : Database) → ClosesWith pool order credits old new → ClosesWith pool order credits (mix bodies old) (mix bodies new)
@@ -107,8 +107,9 @@ closes_mixed bodies pool order credits old new closes = (
     pools = closes.0.pools;
     cuts = closes.0.cuts;
     paid = closes.0.paid;
+    marks = closes.0.marks;
     lines = closes.0.lines;
-    others = all_weaker (KeptOfPool old.trees new.trees) (KeptOfPool (mixed bodies old.trees) (mixed bodies new.trees)) (λ t same a b c d e. still bodies old.trees new.trees t.tree (same a b c d e)) all_tables closes.0.others;
+    others = all_weaker (KeptOfPool old.trees new.trees) (KeptOfPool (mixed bodies old.trees) (mixed bodies new.trees)) (λ t same a b c d e f. still bodies old.trees new.trees t.tree (same a b c d e f)) all_tables closes.0.others;
   },
   mix bodies closes.1,
   closes.2,
@@ -174,7 +175,7 @@ begun_mixed o b bodies first then sound kept stated empty keeps fronts verdicts 
         cuts = subst (HasRows _ _) (sym (rows_kept layout.pool_cuts first then same.pool_cuts)) empty.kept.cuts;
         paid = subst (HasRows _ _) (sym (rows_kept layout.pool_returns first then same.pool_returns)) empty.kept.paid;
         ends = stated;
-        mechanical = rows_kept layout.mechanical_pools first then same.mechanical ∙ empty.kept.mechanical;
+        mechanical = subst (HasRows _ _) (sym (rows_kept layout.mechanical_pools first then same.mechanical)) empty.kept.mechanical;
       };
       derived = record {
         fronts = fronts;
@@ -312,8 +313,8 @@ closed_mixed o bodies pool order credits old new holds number is free reached ar
 pub works_still : (pool : ℕ) (order : Order) (credits : List Credit) (old new : Database) → ClosesWith pool order credits old new → (rows_in layout.versions new.trees ≡ rows_in layout.versions old.trees) × (rows_in layout.recordings new.trees ≡ rows_in layout.recordings old.trees)
 unfolding all_tables written_out
 works_still pool order credits old new closes = (
-  rows_kept layout.versions old.trees new.trees (closes.0.others.1.1.1.1.1.1.1.1.0 (λ e. omega (arith, e)) (λ e. omega (arith, e)) (λ e. omega (arith, e)) (λ e. omega (arith, e)) (λ e. omega (arith, e))),
-  rows_kept layout.recordings old.trees new.trees (closes.0.others.1.1.1.1.1.1.1.1.1.0 (λ e. omega (arith, e)) (λ e. omega (arith, e)) (λ e. omega (arith, e)) (λ e. omega (arith, e)) (λ e. omega (arith, e))),
+  rows_kept layout.versions old.trees new.trees (closes.0.others.1.1.1.1.1.1.1.1.0 (λ e. omega (arith, e)) (λ e. omega (arith, e)) (λ e. omega (arith, e)) (λ e. omega (arith, e)) (λ e. omega (arith, e)) (λ e. omega (arith, e))),
+  rows_kept layout.recordings old.trees new.trees (closes.0.others.1.1.1.1.1.1.1.1.1.0 (λ e. omega (arith, e)) (λ e. omega (arith, e)) (λ e. omega (arith, e)) (λ e. omega (arith, e)) (λ e. omega (arith, e)) (λ e. omega (arith, e))),
 )
 
 -- where all other tables agree with those of the database of the bodies, that holds the book too

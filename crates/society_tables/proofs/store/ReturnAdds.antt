@@ -119,7 +119,7 @@ return_added o b key body old new holds free entry whole came others =
         cuts = subst (HasRows _ _) (sym (rows_kept layout.pool_cuts old new keeps.pool_cuts)) holds.kept.cuts;
         paid = subst (HasRows _ _) (sym (rows_kept layout.pool_returns old new keeps.pool_returns)) holds.kept.paid;
         ends = subst (HasRows _ _) (sym (rows_kept layout.segment_ends old new keeps.ends)) holds.kept.ends;
-        mechanical = rows_kept layout.mechanical_pools old new keeps.mechanical ∙ holds.kept.mechanical;
+        mechanical = subst (HasRows _ _) (sym (rows_kept layout.mechanical_pools old new keeps.mechanical)) holds.kept.mechanical;
       };
       derived = record {
         fronts = subst (HasRows _ _) (sym (rows_kept layout.fronts old new keeps.fronts)) holds.derived.fronts;

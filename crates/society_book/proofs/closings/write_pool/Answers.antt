@@ -12,6 +12,6 @@ returns-clause-does g c =
     let new = state g.S.Store c.pay_out.new.tx.conn.now in
     let lines = c.in_ok-lines.ensures (ap (map (λ t. t.items)) c.as_slice.ensures.value ∙ c.in_ok-texts.ensures) in
     does_open_then old mid new _ c.pay_out.result _ _ _
-    (rw (to_z-of_z w64 c.in_ok-column_of.field-0 c.in_ok-column_of.ensures.range, c.in_ok-column_of.ensures.value, c.amount.ensures.value, c.as_slice-2.ensures.value, c.as_slice-3.ensures.value, c.in_ok-cuts.ensures, c.in_ok-paid.ensures, c.cut.ensures.value, c.returns.ensures.value) at c.in_ok-add_order.ensures.does)
+    (rw (to_z-of_z w64 c.in_ok-column_of.field-0 c.in_ok-column_of.ensures.range, c.in_ok-column_of.ensures.value, c.amount.ensures.value, c.as_slice-2.ensures.value, c.as_slice-3.ensures.value, c.in_ok-cuts.ensures, c.in_ok-paid.ensures, c.cut.ensures.value, c.returns.ensures.value, c.kind.ensures) at c.in_ok-add_order.ensures.does)
     (rw (c.as_slice-4.ensures.value, lines, c.as_slice-5.ensures.value) at c.pay_out.ensures.does)
     (λ y ordered paid. closes_by c.args.pool c.args.order.now c.args.credits.now c.in_ok-totals.totals.items old.now mid.now paid.0 new.now ordered paid.1 c.in_ok-totals.ensures paid.2)

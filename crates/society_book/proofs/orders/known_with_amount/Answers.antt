@@ -5,6 +5,6 @@ pub returns : goal.returns
 returns g c =
     record {
       asked =
-          asked_then _ _ _ _ c.known_with_cut.result _ _ _ c.in_ok-cut.ensures.asked (rw c.as_slice.ensures.value at c.known_with_cut.ensures.asked)
-          (λ y cut known o b holds amount. known o b holds amount (cut o b holds));
+          asked_then _ _ _ _ c.known_with_kind.result _ _ _ c.in_ok-kind.ensures.asked c.known_with_kind.ensures.asked
+          (λ y kind known o b holds amount. known o b holds amount (kind o b holds));
     }

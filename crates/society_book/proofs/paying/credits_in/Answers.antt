@@ -13,7 +13,7 @@ use Rattle.society_book.proofs.money.Payments.{by_each}
 use Rattle.society_book.proofs.together.StepLemmas.{looks_as, looks_then}
 use Rattle.society_book.proofs.paying.credits_in.Goals as goal
 use Rattle.society_core.specs.Pools.{holders_of}
-use Rattle.share_rules.specs.declared.kind.Kind.TheVariants.{Performing}
+use Rattle.share_rules.specs.declared.kind.Kind.{Kind}
 
 pub returns-clause-looks : goal.returns-clause-looks
 returns-clause-looks g c =
@@ -27,5 +27,7 @@ returns-clause-looks g c =
     looks_then old mid new tally c.credits_by.result _ (λ db y. (b : Book) → Ready db b → y.items ≡ credits_of o b order) (λ db y. PaysBy o order db y.items) c.in_ok-tally.ensures.looks
     (looks_as mid new c.in_ok-candidates.candidates c.credits_by.result _ _ c.in_ok-candidates.ensures.looks
     (λ stand. by_each c.credits_by.result (Ready mid.now.trees) (λ b y. y.items ≡ credits_of o b order)
-    (λ b ready. c.credits_by.ensures o b ready.2 (subst (StandFor (holders_of Performing o) (is_tallied tally) (works_of_cut o b order)) (sym c.deref.ensures.value) (stand b ready.0 ready.1)))))
+    (λ b ready. c.credits_by.ensures o b ready.2
+    (subst (λ (right : Kind). StandFor (holders_of right o) (is_tallied tally) (works_of_cut o b order) c.deref.result.now) c.kind.ensures
+    (subst (StandFor (holders_of c.kind.result o) (is_tallied tally) (works_of_cut o b order)) (sym c.deref.ensures.value) (stand b ready.0 ready.1))))))
     (λ y tallied pays b holds reached. pays b (holds, reached, subst (λ (ks : List ReturnKey). Tallies tally (flat_map (rows_of_return b) ks)) c.returns.ensures.value (tallied o b holds c.returns.ensures.limit).0))

@@ -24,7 +24,7 @@ credits-requires-clause-ascending c =
     ∙ c.in_ok-claims.ensures
     ∙ ap (λ (xs : List (List ℕ × ℕ)). claims_among xs c.deref-2.result.now) (c.deref.ensures.value ∙ c.in_ok-points.ensures rows c.in_ok-tally.ensures.tally)
     ∙ ap (claims_among ps) c.deref-2.ensures.value
-    ∙ claims_are office book order c.in_ok-candidates.candidates.items (is_tallied c.in_ok-tally.tally) ps (recordings_tallied c.in_ok-tally.tally rows c.in_ok-tally.ensures.tally) c.in_ok-candidates.ensures in
+    ∙ claims_are office book order c.kind.result c.kind.ensures c.in_ok-candidates.candidates.items (is_tallied c.in_ok-tally.tally) ps (recordings_tallied c.in_ok-tally.tally rows c.in_ok-tally.ensures.tally) c.in_ok-candidates.ensures in
     subst Ascend (sym same) (subst (IsStrictlySortedBy bytes_cmp) (sym (isrcs_of_claims office book order ps)) (recordings_ascend rows))
 
 pub credits-requires-clause-payable : goal.credits-requires-clause-payable
@@ -39,7 +39,7 @@ credits-requires-clause-payable c =
     ∙ c.in_ok-claims.ensures
     ∙ ap (λ (xs : List (List ℕ × ℕ)). claims_among xs c.deref-2.result.now) (c.deref.ensures.value ∙ c.in_ok-points.ensures rows c.in_ok-tally.ensures.tally)
     ∙ ap (claims_among ps) c.deref-2.ensures.value
-    ∙ claims_are office book order c.in_ok-candidates.candidates.items (is_tallied c.in_ok-tally.tally) ps (recordings_tallied c.in_ok-tally.tally rows c.in_ok-tally.ensures.tally) c.in_ok-candidates.ensures in
+    ∙ claims_are office book order c.kind.result c.kind.ensures c.in_ok-candidates.candidates.items (is_tallied c.in_ok-tally.tally) ps (recordings_tallied c.in_ok-tally.tally rows c.in_ok-tally.ensures.tally) c.in_ok-candidates.ensures in
     subst (All IsPayable) (sym same) (claims_payable office book order ps (recordings_have_points rows c.in_ok-tally.ensures.tally.played))
 
 pub credits-requires-clause-points : goal.credits-requires-clause-points
@@ -54,7 +54,7 @@ credits-requires-clause-points c =
     ∙ c.in_ok-claims.ensures
     ∙ ap (λ (xs : List (List ℕ × ℕ)). claims_among xs c.deref-2.result.now) (c.deref.ensures.value ∙ c.in_ok-points.ensures rows c.in_ok-tally.ensures.tally)
     ∙ ap (claims_among ps) c.deref-2.ensures.value
-    ∙ claims_are office book order c.in_ok-candidates.candidates.items (is_tallied c.in_ok-tally.tally) ps (recordings_tallied c.in_ok-tally.tally rows c.in_ok-tally.ensures.tally) c.in_ok-candidates.ensures in
+    ∙ claims_are office book order c.kind.result c.kind.ensures c.in_ok-candidates.candidates.items (is_tallied c.in_ok-tally.tally) ps (recordings_tallied c.in_ok-tally.tally rows c.in_ok-tally.ensures.tally) c.in_ok-candidates.ensures in
     let total : sum (points_claimed c.deref-3.result.now) ≡ sum (map (λ (e : List ℕ × ℕ). e.1) ps) = ap (λ (cs : List Claim). sum (points_claimed cs)) same ∙ ap sum (points_of_claims office book order ps) in
     let within = all_points_within rows c.in_ok-tally.ensures.tally.played c.in_ok-tally.ensures.limit in
     omega (arith, total, within)
@@ -72,5 +72,5 @@ returns-clause-credits c =
     ∙ c.in_ok-claims.ensures
     ∙ ap (λ (xs : List (List ℕ × ℕ)). claims_among xs c.deref-2.result.now) (c.deref.ensures.value ∙ c.in_ok-points.ensures rows c.in_ok-tally.ensures.tally)
     ∙ ap (claims_among ps) c.deref-2.ensures.value
-    ∙ claims_are office book order c.in_ok-candidates.candidates.items (is_tallied c.in_ok-tally.tally) ps (recordings_tallied c.in_ok-tally.tally rows c.in_ok-tally.ensures.tally) c.in_ok-candidates.ensures in
+    ∙ claims_are office book order c.kind.result c.kind.ensures c.in_ok-candidates.candidates.items (is_tallied c.in_ok-tally.tally) ps (recordings_tallied c.in_ok-tally.tally rows c.in_ok-tally.ensures.tally) c.in_ok-candidates.ensures in
     subst (λ (list : List Credit). IfOk c.credits.result (λ credits. credits.items ≡ list)) (ap (λ (n : ℕ). credits n c.deref-3.result.now) c.amount.ensures.value ∙ ap (credits order.amount) same) c.credits.ensures.credits

@@ -15,9 +15,11 @@ returns g c =
           let mid = (state over_memory c.put_references.new.conn).now in
           as_inspected _ _ c.close_rows.result _ _
           (inspected_after _ _ _ _ c.close_rows.result _ _
+          (inspected_after _ _ _ _ (Ok c.in_ok-marks.marks) _ _
           (inspected_after _ _ _ _ (Ok c.in_ok-paid.paid) _ _
           (inspected_after _ _ _ _ (Ok c.in_ok-cuts.cuts) _ _ c.in_ok-pools.ensures.asked c.in_ok-cuts.ensures.asked)
           c.in_ok-paid.ensures.asked)
+          c.in_ok-marks.ensures.asked)
           c.close_rows.ensures.closed)
           (λ x closes aside.
           let wrote = c.in_ok-put_references.ensures.written.written (clean_is _ refl) aside.layout in

@@ -5,23 +5,23 @@ use Rattle.society_tables.proofs.anew.PoolsWhole.{closed_here, more_closed, none
 use Rattle.society_tables.proofs.rebuilding.close_pools.Goals as goal
 
 pub loop-row-init : goal.loop-row-init
-loop-row-init c = record { office = refl; closing = λ b sound rows cuts paid start. none_closed b _ start }
+loop-row-init c = record { office = refl; closing = λ b sound rows cuts paid marks start. none_closed b _ start }
 
 pub returns-in_err-close_pool-clause-passes : goal.returns-in_err-close_pool-clause-passes
-returns-in_err-close_pool-clause-passes c b sound rows cuts paid start =
-    let before = c.loop-row.invariant.closing b sound rows cuts paid start in
+returns-in_err-close_pool-clause-passes c b sound rows cuts paid marks start =
+    let before = c.loop-row.invariant.closing b sound rows cuts paid marks start in
     let closed = closed_here b c.args.rows.now rows c.loop-row.row-index c.row-item.result c.loop-row-test.true c.row-item.is in
-    aside_on c.from_residual.result c.in_err-close_pool.field-0.0 _ c.from_residual.ensures.1 (c.in_err-close_pool.ensures.passes b sound closed cuts paid before.part)
+    aside_on c.from_residual.result c.in_err-close_pool.field-0.0 _ c.from_residual.ensures.1 (c.in_err-close_pool.ensures.passes b sound closed cuts paid marks before.part)
 
 pub loop-row-preserved : goal.loop-row-preserved
 loop-row-preserved c = record {
   office = c.close_pool.ensures.office ∙ c.loop-row.invariant.office;
-  closing = λ b sound rows cuts paid start.
-      let before = c.loop-row.invariant.closing b sound rows cuts paid start in
+  closing = λ b sound rows cuts paid marks start.
+      let before = c.loop-row.invariant.closing b sound rows cuts paid marks start in
       let closed = closed_here b c.args.rows.now rows c.loop-row.row-index c.row-item.result c.loop-row-test.true c.row-item.is in
-      more_closed b _ _ c.args.rows.now c.loop-row.row-index c.row-item.result c.loop-row-test.true c.row-item.is before closed (c.in_ok-close_pool.ensures.passes b sound closed cuts paid before.part);
+      more_closed b _ _ c.args.rows.now c.loop-row.row-index c.row-item.result c.loop-row-test.true c.row-item.is before closed (c.in_ok-close_pool.ensures.passes b sound closed cuts paid marks before.part);
 }
 
 pub returns-clause-passes : goal.returns-clause-passes
-returns-clause-passes c b sound rows cuts paid start =
-    whole_book b _ c.args.rows.now rows c.loop-row.row-index c.loop-row-test.false (c.loop-row.invariant.closing b sound rows cuts paid start)
+returns-clause-passes c b sound rows cuts paid marks start =
+    whole_book b _ c.args.rows.now rows c.loop-row.row-index c.loop-row-test.false (c.loop-row.invariant.closing b sound rows cuts paid marks start)

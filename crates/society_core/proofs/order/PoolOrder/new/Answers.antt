@@ -2,6 +2,7 @@ use Rattle.std.proofs.Common.{◌≡◌, ◌∙◌, ◌||◌, ◌≤◌, ℕ, tr
 use Rattle.std.proofs.lemmas.List.{length-map}
 use Rattle.std.proofs.lemmas.List.Folds.{list_all-map}
 use Rattle.std.specs.List.{list_all}
+use Rattle.share_rules.specs.declared.kind.Kind.{Kind}
 use Rattle.work_ids.specs.Numbers.{is_return_number}
 use Rattle.work_ids.specs.Segments.{is_transmission_number}
 use Rattle.work_ids.specs.SenderKey.{is_sender_key}
@@ -19,8 +20,8 @@ none_is : {X : Type 0} (o : Option X) → o ≡ None → is_none o ≡ true
 none_is o e = ap is_none e
 
 -- numbers that make an order, of senders, have its limits
-order_is_kept : (amount : ℕ) (cut returns : List (List ℕ × ℕ)) → list_all (λ (c : List ℕ × ℕ). is_sender_key c.0) cut ≡ true → order_fault amount cut returns ≡ None → IsOrder (order_of amount cut returns)
-order_is_kept amount cut returns senders_are none =
+order_is_kept : (kind : Kind) (amount : ℕ) (cut returns : List (List ℕ × ℕ)) → list_all (λ (c : List ℕ × ℕ). is_sender_key c.0) cut ≡ true → order_fault amount cut returns ≡ None → IsOrder (order_of kind amount cut returns)
+order_is_kept kind amount cut returns senders_are none =
     let in_range = told_none (is_out_of_range amount cut returns) OutOfRange _ none in
     let short = told_none (is_too_long cut returns) TooLong _ in_range.1 in
     let sent_in_range = list_all (λ (c : List ℕ × ℕ). is_transmission_number c.1) cut in
@@ -51,6 +52,6 @@ order_is_kept amount cut returns senders_are none =
 pub invariant_of-result : goal.invariant_of-result
 invariant_of-result c =
     let none : order_fault c.args.amount c.args.cut.now c.args.returns.now ≡ None = search rules in
-    let kept = order_is_kept c.args.amount c.args.cut.now c.args.returns.now c.in_ok-cut.ensures.senders none in
-    subst (λ (ks : List TransmissionKey). IsOrder (record { amount = c.args.amount; cut = ks; returns = c.in_ok-returns.returns.items })) (sym c.in_ok-cut.ensures.keys)
-    (subst (λ (ks : List ReturnKey). IsOrder (record { amount = c.args.amount; cut = ascending transmission_cmp (map (λ k. transmission_key k.0 k.1) c.args.cut.now); returns = ks })) (sym c.in_ok-returns.ensures) kept)
+    let kept = order_is_kept c.args.kind c.args.amount c.args.cut.now c.args.returns.now c.in_ok-cut.ensures.senders none in
+    subst (λ (ks : List TransmissionKey). IsOrder (record { kind = c.args.kind; amount = c.args.amount; cut = ks; returns = c.in_ok-returns.returns.items })) (sym c.in_ok-cut.ensures.keys)
+    (subst (λ (ks : List ReturnKey). IsOrder (record { kind = c.args.kind; amount = c.args.amount; cut = ascending transmission_cmp (map (λ k. transmission_key k.0 k.1) c.args.cut.now); returns = ks })) (sym c.in_ok-returns.ensures) kept)
