@@ -1,16 +1,17 @@
 //! Rows are read back as they were written, in a transaction of a new book in memory.
 use crate::book::{SENDER, book};
 use crate::checks::told;
+use crate::lists::{
+    CREDIT_0, CREDIT_1, CREDIT_2, RECORDING_0, RECORDING_1, RECORDING_2, VERDICT_0, VERDICT_1,
+    VERDICT_2, VERDICT_3, VERDICT_4, VERDICT_5, VERSION_0, VERSION_1, VERSION_2,
+};
 use crate::reads::{Read, read_all};
 use crate::typed::{Typed, is_there};
 use crate::writes::{
-    BALANCES, BOOK, ENDS, FRONTS, MECHANICAL, POOLS, VERDICTS, WORKS, Write, YEAR_END, write,
-    write_all,
+    BALANCES, BOOK, ENDS, FRONTS, MECHANICAL, POOLS, VERDICTS, WORKS, Write, YEAR_END, write_all,
+    write_one,
 };
-use society_rows::{
-    CreditRow, RecordingRow, RowFault, SegmentEndRow, TableName, VerdictRow, VersionRow,
-    are_numbered, ends_of,
-};
+use society_rows::{RowFault, SegmentEndRow, TableName, are_numbered, ends_of};
 use sqlite::{Alter, Transaction};
 use std::alloc::Global;
 use std::process::Abort;
@@ -130,10 +131,7 @@ const GIVING_WAY: Case = Case {
     refused: &[],
     read: &[
         (
-            &[
-                Read::All(TableName::Fronts),
-                Read::All(TableName::Balances),
-            ],
+            &[Read::All(TableName::Fronts), Read::All(TableName::Balances)],
             "PB000000012|2|1|;PB000000034|1|0|;UNCLAIMED|999999999999999999|;",
         ),
         (
@@ -161,55 +159,12 @@ const UNITS: Case = Case {
     )],
 };
 
-const fn verdict(place: u32) -> VerdictRow<'static> {
-    VerdictRow {
-        sender: SENDER,
-        number: 1,
-        place,
-        fault: 0,
-        ordinal: 7,
-        revision: 0,
-    }
-}
-
-const fn version(revision: i64) -> VersionRow<'static> {
-    VersionRow {
-        sender: SENDER,
-        work: b"W1",
-        revision,
-        number: 1,
-        place: 3,
-        ordinal: 7,
-    }
-}
-
-const fn recording(revision: i64) -> RecordingRow<'static> {
-    RecordingRow {
-        sender: SENDER,
-        work: b"W1",
-        revision,
-        isrc: b"ATABC2600001",
-    }
-}
-
-const fn credit(line: u32) -> CreditRow<'static> {
-    CreditRow {
-        pool: 7,
-        line,
-        isrc: b"-",
-        account: b"UNCLAIMED",
-        units: 5,
-    }
-}
-
-// Lists are written by two rows a statement.
-
 const THREE_ROWS: Case = Case {
     name: "three_rows_are_written_each_once",
     written: &[&[
-        Write::Versions(&[version(2), version(0), version(1)]),
-        Write::Recordings(&[recording(2), recording(0), recording(1)]),
-        Write::Credits(&[credit(2), credit(0), credit(1)]),
+        Write::Versions(&[VERSION_2, VERSION_0, VERSION_1]),
+        Write::Recordings(&[RECORDING_2, RECORDING_0, RECORDING_1]),
+        Write::Credits(&[CREDIT_2, CREDIT_0, CREDIT_1]),
     ]],
     refused: &[],
     read: &[
@@ -231,11 +186,11 @@ const FAILING_LIST: Case = Case {
     name: "a_list_that_fails_leaves_whole_pairs",
     written: &[&[
         Write::Verdicts(&[]),
-        Write::Verdicts(&[verdict(2), verdict(0), verdict(1)]),
+        Write::Verdicts(&[VERDICT_2, VERDICT_0, VERDICT_1]),
     ]],
     // The last one is there already.
     refused: &[(
-        Write::Verdicts(&[verdict(3), verdict(4), verdict(5), verdict(3)]),
+        Write::Verdicts(&[VERDICT_3, VERDICT_4, VERDICT_5, VERDICT_3]),
         false,
     )],
     read: &[(
@@ -254,7 +209,7 @@ fn check<S: Alter>(
         write_all(tx, writes)?;
     }
     for (what, is_too_great) in case.refused {
-        let fault = write(tx, *what).err();
+        let fault = write_one(tx, *what).err();
         let seen = (fault.is_some(), fault == Some(RowFault::Overflow));
         told(rt, case.name, seen, (true, *is_too_great));
     }
@@ -296,7 +251,8 @@ fn check_typed<S: Alter>(rt: &impl Abort, tx: &mut Transaction<'_, S>) -> Result
         ("ends", Typed::Ends),
         ("pool", Typed::Mechanical),
     ] {
-        told(rt, row, is_there(tx, what)?, true);
+        let name = "rows_are_read_typed";
+        told(rt, name, (row, is_there(tx, what)?), (row, true));
     }
     for (row, table) in [
         ("office", TableName::Office),
@@ -307,7 +263,8 @@ fn check_typed<S: Alter>(rt: &impl Abort, tx: &mut Transaction<'_, S>) -> Result
         ("ends", TableName::SegmentEnds),
         ("mechanical pools", TableName::MechanicalPools),
     ] {
-        told(rt, row, are_numbered(tx, table)?, true);
+        let name = "rows_that_were_written_are_numbered";
+        told(rt, name, (row, are_numbered(tx, table)?), (row, true));
     }
     Ok(())
 }
@@ -323,12 +280,13 @@ fn check_misread<S: Alter>(rt: &impl Abort, tx: &mut Transaction<'_, S>) -> Resu
         let [row] = rows.as_slice() else {
             return Err(Fail::new("one end"));
         };
-        told(rt, change, SegmentEndRow::from_row(row).is_err(), true);
+        let name = "a_column_of_no_segment_is_not_read";
+        let is_misread = SegmentEndRow::from_row(row).is_err();
+        told(rt, name, (change, is_misread), (change, true));
     }
     Ok(())
 }
 
-/// rows_that_were_written_are_numbered, and a_column_of_no_segment_is_not_read.
 #[test]
 fn rows_are_read_typed(rt: HostRuntime) -> Result<(), Fail> {
     let mut conn = book(rt.alloc())?;

@@ -33,7 +33,7 @@ pub enum Write {
 // over a store by its name each of them takes a minute to prove, and so a second.
 
 /// Writes rows.
-pub fn write<S: Alter>(tx: &mut Transaction<'_, S>, what: Write) -> Result<(), RowFault> {
+pub fn write_one<S: Alter>(tx: &mut Transaction<'_, S>, what: Write) -> Result<(), RowFault> {
     match what {
         Write::Transmissions(rows) => add_transmissions(tx, rows),
         Write::Returns(rows) => add_returns(tx, rows),
@@ -55,7 +55,7 @@ pub fn write<S: Alter>(tx: &mut Transaction<'_, S>, what: Write) -> Result<(), R
 /// Writes one after another, up to the first that fails.
 pub fn write_all<S: Alter>(tx: &mut Transaction<'_, S>, writes: &[Write]) -> Result<(), RowFault> {
     for what in writes {
-        write(tx, *what)?;
+        write_one(tx, *what)?;
     }
     Ok(())
 }

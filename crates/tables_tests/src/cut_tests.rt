@@ -68,7 +68,7 @@ fn found(alloc: Global, cut: u64) -> Result<Vec<Candidate>, Fail> {
     let office = office(900)?;
     let mut conn = filled(alloc, &office)?;
     let (one, other) = (SenderKey::from_bytes(ONE)?, SenderKey::from_bytes(OTHER)?);
-    let order = PoolOrder::new(alloc, 100, &[(one, cut), (other, 1)], &[])
+    let order = PoolOrder::new(alloc, Kind::Performing, 100, &[(one, cut), (other, 1)], &[])
         .ok()
         .ok_or("an order")?;
     let body = b"isrc,plays,seconds\nATABC2600001,10,200\nATABC2600002,10,200\n";

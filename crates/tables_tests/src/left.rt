@@ -1,7 +1,7 @@
 //! Databases in memory that requests leave.
 ghost use Rattle.std.specs.Prelude.{◌≡◌, IfOk, false};
 
-use share_rules::Office;
+use share_rules::{Kind, Office};
 use society_core::{Desk, PoolOrder, Refusal, ReturnKey};
 use society_tables::Tables;
 use sqlite::{Connection, MemStore};
@@ -80,7 +80,13 @@ fn send(
         }
         Step::Close(amount, cut) => {
             let key = first_return()?;
-            let order = PoolOrder::new(alloc, amount, &[(sender, cut)], &[(key.reporter, 1)])
+            let order = PoolOrder::new(
+                alloc,
+                Kind::Performing,
+                amount,
+                &[(sender, cut)],
+                &[(key.reporter, 1)],
+            )
                 .ok()
                 .ok_or("an order")?;
             let pool = PoolNumber::from_u32(7).ok_or("a pool")?;
