@@ -29,11 +29,11 @@ KeepsUnordered old new =
     AllByRecursion (λ t. t.tree ≢ layout.pools.tree → t.tree ≢ layout.pool_cuts.tree → t.tree ≢ layout.pool_returns.tree → t.tree ≢ layout.mechanical_pools.tree → new t.tree ≡ old t.tree) all_tables
 
 -- the tables have this row of a pool more, and these rows of its cut, of the returns that it pays and of its marks; the other tables are as they were
-pub record AddsOrder (row : Row) (cut paid marks : List Row) (old new : Trees) : Type 0 where
+pub record AddsOrder (row : Row) (cut paid marked : List Row) (old new : Trees) : Type 0 where
   pub pools : IsPermutation ((row ∷ []) ++ rows_in layout.pools old) (rows_in layout.pools new)
   pub cuts : IsPermutation (cut ++ rows_in layout.pool_cuts old) (rows_in layout.pool_cuts new)
   pub returns : IsPermutation (paid ++ rows_in layout.pool_returns old) (rows_in layout.pool_returns new)
-  pub marks : IsPermutation (marks ++ rows_in layout.mechanical_pools old) (rows_in layout.mechanical_pools new)
+  pub marks : IsPermutation (marked ++ rows_in layout.mechanical_pools old) (rows_in layout.mechanical_pools new)
   pub others : KeepsUnordered old new
 
 -- a pool is marked where it pays the mechanical right; else nothing is done
