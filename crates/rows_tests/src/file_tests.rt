@@ -10,6 +10,7 @@ use society_rows::{Idle, RowFault, TableName};
 use sqlite::{Alter, Connection, FileStore, Files, Options};
 use sqlite_disk::Memory;
 use std::alloc::Global;
+use std::process::Abort;
 use std::test::Fail;
 
 type Filed = Connection<FileStore<Memory>>;
@@ -78,28 +79,42 @@ fn shown_all<S: Alter>(conn: &mut Connection<S>, alloc: Global) -> Result<String
     read_all(&mut tx, alloc, &ALL)
 }
 
-fn written(alloc: Global) -> Result<Memory, RowFault>
-    ensures { IfOk result (λ db. IsTrue (memory_is_usable db)) }
-{
-    let Ok(mut conn) = Idle::new(open(alloc, Memory::new(alloc))?) else {
+/// A new book in an empty database, with rows in every table.
+fn filled<S: Alter + Drop>(conn: Connection<S>) -> Result<Connection<S>, RowFault> {
+    let Ok(mut conn) = Idle::new(conn) else {
         return Err(RowFault::Unread);
     };
     begin(&mut conn)?;
     let mut conn = conn.into_connection();
     commit_all(&mut conn)?;
-    close(conn)
+    Ok(conn)
+}
+
+/// A file that was filled and closed.
+fn written(alloc: Global) -> Result<Memory, RowFault>
+    ensures { IfOk result (λ db. IsTrue (memory_is_usable db)) }
+{
+    let conn = open(alloc, Memory::new(alloc))?;
+    close(filled(conn)?)
+}
+
+/// The rows of every table.
+const ROWS: &str =
+    "1|3|900|40|EXAMPLE SOCIETY|;PB000000012|1||;PB000000012|2|second|;RADIO1|3|isrc,plays,seconds|;7|1000000000000|;7|PB000000012|2|;RADIO1|3|7|;PB000000012|W1|0|1|0|99999999999|;PB000000012|W1|1|2|4|99999999999|;PB000000012|W1|0|ATABC2600001|;PB000000012|1|0|21|0|0|;7|0|-|UNCLAIMED|5|;PB000000012|2|1|;PB000000034|1|0|;UNCLAIMED|999999999999999999|;PB000000012|-1|2|0|;PB000000012|0|9999|99|;PB000000034|26|0|27|;7|;";
+
+fn check_rows<S: Alter + Drop>(
+    rt: &impl Abort,
+    alloc: Global,
+    conn: Connection<S>,
+) -> Result<(), Fail> {
+    let mut conn = conn;
+    let seen = shown_all(&mut conn, alloc)?;
+    told(rt, "all tables", seen.as_str(), ROWS);
+    Ok(())
 }
 
 #[test]
 fn a_file_holds_what_was_committed(rt: HostRuntime) -> Result<(), Fail> {
     let alloc = rt.alloc();
-    let mut conn = open(alloc, written(alloc)?)?;
-    let seen = shown_all(&mut conn, alloc)?;
-    told(
-        &rt,
-        "all tables",
-        seen.as_str(),
-        "1|3|900|40|EXAMPLE SOCIETY|;PB000000012|1||;PB000000012|2|second|;RADIO1|3|isrc,plays,seconds|;7|1000000000000|;7|PB000000012|2|;RADIO1|3|7|;PB000000012|W1|0|1|0|99999999999|;PB000000012|W1|1|2|4|99999999999|;PB000000012|W1|0|ATABC2600001|;PB000000012|1|0|21|0|0|;7|0|-|UNCLAIMED|5|;PB000000012|2|1|;PB000000034|1|0|;UNCLAIMED|999999999999999999|;PB000000012|-1|2|0|;PB000000012|0|9999|99|;PB000000034|26|0|27|;7|;",
-    );
-    Ok(())
+    check_rows(&rt, alloc, open(alloc, written(alloc)?)?)
 }

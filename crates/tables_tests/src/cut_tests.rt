@@ -8,8 +8,8 @@ use share_rules::{Kind, Office};
 use society_book::{arrive, candidates_in};
 use society_core::{Candidate, PoolOrder, Tally};
 use society_rows::{Idle, OfficeRow, create};
-use sqlite::{Connection, MemStore};
-use std::alloc::Global;
+use sqlite::{Alter, Connection};
+use std::alloc::{AllocError, Global};
 use std::str;
 use std::test::Fail;
 use test_bodies::{REGISTERED, REVISED, changed, number};
@@ -21,7 +21,7 @@ const ONE: &[u8] = b"PB000000012";
 const OTHER: &[u8] = b"PB000000034";
 
 /// Puts a work of one sender, which names another recording in each of its three versions, and one of another sender.
-fn put_all(alloc: Global, conn: &mut Idle<MemStore>, office: &Office) -> Result<(), Fail> {
+fn put_all<S: Alter>(alloc: Global, conn: &mut Idle<S>, office: &Office) -> Result<(), Fail> {
     let second = changed(alloc, REVISED, &[(9, 261, b"2")])?;
     let third = changed(alloc, REVISED, &[(9, 261, b"3")])?;
     let others = changed(
@@ -49,36 +49,48 @@ fn put_all(alloc: Global, conn: &mut Idle<MemStore>, office: &Office) -> Result<
     Ok(())
 }
 
-/// The tables of an office to which these have come.
-fn filled(alloc: Global, office: &Office) -> Result<Idle<MemStore>, Fail> {
-    let connection = Connection::open_in_memory(alloc)?;
-    let mut conn = Idle { connection };
+/// Makes the tables of an office to which these come.
+fn fill<S: Alter>(alloc: Global, conn: &mut Idle<S>, office: &Office) -> Result<(), Fail> {
     let row = OfficeRow {
         society: 900,
         territory: 40,
         name: office.name(),
     };
-    create(&mut conn, &row).ok().ok_or("tables")?;
-    put_all(alloc, &mut conn, office)?;
-    Ok(conn)
+    create(conn, &row).ok().ok_or("tables")?;
+    put_all(alloc, conn, office)
 }
 
 /// The candidates for the first two recordings where the one sender is cut at this number.
-fn found(alloc: Global, cut: u64) -> Result<Vec<Candidate>, Fail> {
-    let office = office(900)?;
-    let mut conn = filled(alloc, &office)?;
+fn found<S: Alter>(
+    alloc: Global,
+    conn: &mut Idle<S>,
+    office: &Office,
+    cut: u64,
+) -> Result<Vec<Candidate>, Fail> {
     let (one, other) = (SenderKey::from_bytes(ONE)?, SenderKey::from_bytes(OTHER)?);
-    let order = PoolOrder::new(alloc, Kind::Performing, 100, &[(one, cut), (other, 1)], &[])
-        .ok()
-        .ok_or("an order")?;
+    let kind = Kind::Performing;
+    let order = PoolOrder::new(alloc, kind, 100, &[(one, cut), (other, 1)], &[]);
+    let order = order.ok().ok_or("an order")?;
     let body = b"isrc,plays,seconds\nATABC2600001,10,200\nATABC2600002,10,200\n";
     let performances = read_return(alloc, body).ok().ok_or("a return")?;
     let mut tally = Tally::new(alloc);
     tally.add_all(performances.rows.as_slice())?;
     let mut tx = conn.connection.transaction();
-    let candidates = candidates_in(alloc, Kind::Performing, &mut tx, &office, &tally, &order);
+    let candidates = candidates_in(alloc, kind, &mut tx, office, &tally, &order);
     tx.rollback();
     Ok(candidates.ok().ok_or("candidates")?)
+}
+
+/// Each candidate, a sender and a recording, a line for each.
+fn shown(alloc: Global, candidates: &[Candidate]) -> Result<String, AllocError> {
+    let mut text = String::new(alloc);
+    for candidate in candidates {
+        let sender = str::from_utf8(candidate.sender.as_bytes()).unwrap_or("");
+        let isrc = str::from_utf8(candidate.isrc.as_bytes()).unwrap_or("");
+        let line = format!(in alloc; "{sender} {isrc}\n")?;
+        text.push_str(line.as_str())?;
+    }
+    Ok(text)
 }
 
 /// A name, a cut of the one sender, and the candidates then, each a sender and a recording.
@@ -103,14 +115,13 @@ const CUTS: [(&str, u64, &str); 3] = [
 #[test]
 fn candidates_at_cuts(rt: HostRuntime) -> Result<(), Fail> {
     let alloc = rt.alloc();
+    let office = office(900)?;
+    let connection = Connection::open_in_memory(alloc)?;
+    let mut conn = Idle { connection };
+    fill(alloc, &mut conn, &office)?;
     for (row, cut, wanted) in CUTS {
-        let mut seen = String::new(alloc);
-        for candidate in found(alloc, cut)?.iter() {
-            let sender = str::from_utf8(candidate.sender.as_bytes()).unwrap_or("");
-            let isrc = str::from_utf8(candidate.isrc.as_bytes()).unwrap_or("");
-            let line = format!(in alloc; "{sender} {isrc}\n")?;
-            seen.push_str(line.as_str())?;
-        }
+        let candidates = found(alloc, &mut conn, &office, cut)?;
+        let seen = shown(alloc, &candidates)?;
         told(&rt, row, &seen.as_str(), &wanted);
     }
     Ok(())

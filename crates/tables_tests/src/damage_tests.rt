@@ -1,9 +1,9 @@
 //! Databases in which something was changed, opened as the tables of an office: the fault that is told, and that nothing is written.
 use crate::checks::{holds, told};
-use crate::left::{CLOSED_AT_A_CUT, ONE_WAITS, Step, YEAR_BEGUN, left_by, office};
+use crate::left::{CLOSED_AT_A_CUT, ONE_WAITS, Step, YEAR_BEGUN, change, left_by, opened};
 use crate::listing::{TABLES, rows_by};
-use society_tables::{OpenFault, Tables};
-use sqlite::{Connection, MemStore, params};
+use society_tables::OpenFault;
+use sqlite::{Alter, Connection, params};
 use std::alloc::Global;
 use std::process::Abort;
 use std::test::Fail;
@@ -94,20 +94,17 @@ const WAITING_DAMAGES: &[&str] = &[
 const OLDER: usize = 12;
 
 /// Opens a database, and checks the fault that is told, and that what these statements read is as before.
-fn check_opened(
+fn check_opened<S: Alter + Drop>(
     rt: &impl Abort,
     alloc: Global,
     row: &str,
-    mut conn: Connection<MemStore>,
+    mut conn: Connection<S>,
     statements: &[&str],
     opening: (u16, Option<OpenFault>),
 ) -> Result<(), Fail> {
     let (society, wanted) = opening;
     let before = rows_by(alloc, &mut conn, statements)?;
-    if !conn.is_autocommit() {
-        return Err(Fail::new("no transaction"));
-    }
-    let (fault, mut conn) = match Tables::open(alloc, conn, &office(society)?) {
+    let (fault, mut conn) = match opened(alloc, conn, society)? {
         Ok(tables) => (None, tables.into_connection()),
         Err((fault, conn)) => (Some(fault), conn),
     };
@@ -217,10 +214,10 @@ const OPENINGS: [Opening; 13] = [
 /// Makes changes to a database that requests leave, each by itself, and opens it.
 fn check_opening(rt: &impl Abort, alloc: Global, opening: &Opening) -> Result<(), Fail> {
     let (name, steps, changes, society, wanted) = opening;
-    for change in changes.iter() {
+    for text in changes.iter() {
         let mut conn = left_by(alloc, steps)?;
-        conn.execute_batch(change)?;
-        let row = format!(in alloc; "{name}: {change}")?;
+        change(&mut conn, text)?;
+        let row = format!(in alloc; "{name}: {text}")?;
         check_opened(rt, alloc, &row, conn, &TABLES, (*society, *wanted))?;
     }
     Ok(())
@@ -241,7 +238,7 @@ fn the_tables_of_layout_2_are_no_office(rt: HostRuntime) -> Result<(), Fail> {
     let (older, _) = tables.split_at(OLDER);
     for steps in [CLOSED_AT_A_CUT, ONE_WAITS] {
         let mut conn = left_by(alloc, steps)?;
-        conn.execute_batch(LAYOUT_2)?;
+        change(&mut conn, LAYOUT_2)?;
         check_opened(&rt, alloc, LAYOUT_2, conn, older, (900, SCHEMA))?;
     }
     Ok(())
@@ -250,15 +247,20 @@ fn the_tables_of_layout_2_are_no_office(rt: HostRuntime) -> Result<(), Fail> {
 /// How the bodies are read, each behind its number.
 const BODIES: [&str; 1] = ["SELECT number, body FROM transmissions ORDER BY number"];
 
+/// Sets the body of the first transmission.
+fn set_body<S: Alter>(conn: &mut Connection<S>, body: &Vec<u8>) -> Result<(), Fail> {
+    conn.execute(
+        "UPDATE transmissions SET body = ?1 WHERE number = 1",
+        params![body],
+    )?;
+    Ok(())
+}
+
 #[test]
 fn a_changed_byte_of_a_body_is_damage(rt: HostRuntime) -> Result<(), Fail> {
     let alloc = rt.alloc();
     let mut conn = left_by(alloc, CLOSED_AT_A_CUT)?;
-    let body = changed(alloc, REGISTERED, &[(1, 1, b"X")])?;
-    conn.execute(
-        "UPDATE transmissions SET body = ?1 WHERE number = 1",
-        params![&body],
-    )?;
+    set_body(&mut conn, &changed(alloc, REGISTERED, &[(1, 1, b"X")])?)?;
     check_opened(&rt, alloc, "a body", conn, &BODIES, (900, DAMAGED))
 }
 
@@ -266,7 +268,8 @@ fn a_changed_byte_of_a_body_is_damage(rt: HostRuntime) -> Result<(), Fail> {
 fn pools_alone_are_no_office(rt: HostRuntime) -> Result<(), Fail> {
     let alloc = rt.alloc();
     let mut conn = Connection::open_in_memory(alloc)?;
-    conn.execute_batch(
+    change(
+        &mut conn,
         "CREATE TABLE pools (pool INTEGER NOT NULL PRIMARY KEY, amount INTEGER NOT NULL) STRICT; INSERT INTO pools (pool, amount) VALUES (7, 1001)",
     )?;
     let statements = [

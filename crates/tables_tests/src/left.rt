@@ -1,10 +1,8 @@
 //! Databases in memory that requests leave.
-ghost use Rattle.std.specs.Prelude.{◌≡◌, IfOk, false};
-
 use share_rules::{Kind, Office};
-use society_core::{Desk, PoolOrder, Refusal, ReturnKey};
-use society_tables::Tables;
-use sqlite::{Connection, MemStore};
+use society_core::{Desk, PoolOrder, Refusal, ReturnKey, Store};
+use society_tables::{OpenFault, Tables};
+use sqlite::{Alter, Connection, MemStore};
 use std::alloc::Global;
 use std::test::Fail;
 use test_bodies::{EMPTY, REGISTERED, REVISED, number, sender};
@@ -55,11 +53,7 @@ fn first_return() -> Result<ReturnKey, Fail> {
 }
 
 /// Sends a request, and tells why it is refused, where it is.
-fn send(
-    alloc: Global,
-    desk: &mut Desk<Tables<MemStore>>,
-    step: Step,
-) -> Result<Option<Refusal>, Fail> {
+fn send<S: Store>(alloc: Global, desk: &mut Desk<S>, step: Step) -> Result<Option<Refusal>, Fail> {
     let sender = sender()?;
     match step {
         Step::Put(rank, file) => {
@@ -87,28 +81,55 @@ fn send(
                 &[(sender, cut)],
                 &[(key.reporter, 1)],
             )
-                .ok()
-                .ok_or("an order")?;
+            .ok()
+            .ok_or("an order")?;
             let pool = PoolNumber::from_u32(7).ok_or("a pool")?;
             Ok(desk.close_pool(alloc, pool, &order).err())
         }
     }
 }
 
+/// Sends requests to a store that does not fail.
+fn send_all<S: Store>(alloc: Global, desk: &mut Desk<S>, steps: &[Step]) -> Result<(), Fail> {
+    for step in steps {
+        if send(alloc, desk, *step)? == Some(Refusal::Unavailable) {
+            return Err(Fail::new("a store that does not fail"));
+        }
+    }
+    Ok(())
+}
+
 /// The database that requests leave at a new office.
-pub fn left_by(alloc: Global, steps: &[Step]) -> Result<Connection<MemStore>, Fail>
-    ensures { IfOk result (λ c. c.in_transaction ≡ false) }
-{
+pub fn left_by(alloc: Global, steps: &[Step]) -> Result<Connection<MemStore>, Fail> {
     let tables = Tables::in_memory(alloc, &office(900)?)
         .ok()
         .ok_or("memory")?;
     let mut desk = Desk::new(tables);
-    for step in steps {
-        if send(alloc, &mut desk, *step)? == Some(Refusal::Unavailable) {
-            return Err(Fail::new("a store that does not fail"));
-        }
-    }
+    send_all(alloc, &mut desk, steps)?;
     Ok(desk.into_store().into_connection())
+}
+
+// What is done over a store is done over any: over a store by its name each call takes a minute to prove.
+
+/// A database that is opened as the tables of an office, or why it is not.
+pub type Opened<S> = Result<Tables<S>, (OpenFault, Connection<S>)>;
+
+/// Opens a database as the tables of the office of this society.
+pub fn opened<S: Alter + Drop>(
+    alloc: Global,
+    conn: Connection<S>,
+    society: u16,
+) -> Result<Opened<S>, Fail> {
+    if !conn.is_autocommit() {
+        return Err(Fail::new("no transaction"));
+    }
+    Ok(Tables::open(alloc, conn, &office(society)?))
+}
+
+/// Runs statements.
+pub fn change<S: Alter>(conn: &mut Connection<S>, statements: &str) -> Result<(), Fail> {
+    conn.execute_batch(statements)?;
+    Ok(())
 }
 
 /// A registration, two files with no group, a return and a pool of 1,001 units, whose order comes first when it still has to wait.

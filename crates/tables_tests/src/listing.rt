@@ -1,6 +1,6 @@
-//! The rows of a database in memory as text, a line for each: its values between bars.
+//! The rows of a database as text, a line for each: its values between bars.
 use sqlite::types::ValueRef;
-use sqlite::{Connection, MemStore, Row};
+use sqlite::{Alter, Connection, Row};
 use std::alloc::Global;
 use std::str;
 use std::test::Fail;
@@ -51,9 +51,9 @@ fn append_row(alloc: Global, text: &mut String, row: &Row) -> Result<(), Fail> {
 }
 
 /// Appends the rows that a statement reads.
-fn append_rows(
+fn append_rows<S: Alter>(
     alloc: Global,
-    conn: &mut Connection<MemStore>,
+    conn: &mut Connection<S>,
     sql: &str,
     text: &mut String,
 ) -> Result<(), Fail> {
@@ -65,9 +65,9 @@ fn append_rows(
 }
 
 /// The rows that statements read.
-pub fn rows_by(
+pub fn rows_by<S: Alter>(
     alloc: Global,
-    conn: &mut Connection<MemStore>,
+    conn: &mut Connection<S>,
     statements: &[&str],
 ) -> Result<String, Fail> {
     let mut text = String::new(alloc);

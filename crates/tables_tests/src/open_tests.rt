@@ -1,47 +1,85 @@
 //! Databases that are opened as the tables of an office, sound ones and empty ones.
 use crate::checks::{holds, told};
-use crate::left::{ONE_WAITS, left_by, office};
+use crate::left::{ONE_WAITS, Opened, left_by, office, opened};
 use society_core::Store;
 use society_rows::Idle;
 use society_tables::{AuditFault, OpenFault, Tables, confirm, open_after_crash, reopen};
-use sqlite::{Connection, MemStore};
+use sqlite::{Alter, Connection};
 use std::alloc::Global;
 use std::process::Abort;
 use std::test::Fail;
 use test_bodies::{number, sender};
 use work_ids::Account;
 
-/// Checks the sender's front.
-fn check_front(
+// What is done over a store is done over any: over a store by its name each call takes a minute to prove.
+
+/// Checks the sender's front in tables that are opened.
+fn check_front<S: Alter + Drop>(
     rt: &impl Abort,
     row: &str,
-    tables: &mut Tables<MemStore>,
+    opened: Opened<S>,
     wanted: u32,
 ) -> Result<(), Fail> {
+    let Ok(mut tables) = opened else {
+        return Err(Fail::new("an opening"));
+    };
     let place = tables.place(&sender()?, number(1)?);
     let place = place.ok().ok_or("a place")?;
     told(rt, row, &place.front, &wanted);
     Ok(())
 }
 
+/// Opens tables that have to be there.
+fn existing<S: Alter + Drop>(
+    alloc: Global,
+    conn: Connection<S>,
+    society: u16,
+) -> Result<Opened<S>, Fail> {
+    if !conn.is_autocommit() {
+        return Err(Fail::new("no transaction"));
+    }
+    Ok(Tables::open_existing(alloc, conn, &office(society)?))
+}
+
 #[test]
-fn a_database_opens_as_it_was_left(rt: HostRuntime) -> Result<(), Fail> {
+fn tables_that_are_there_are_opened(rt: HostRuntime) -> Result<(), Fail> {
     let alloc = rt.alloc();
-    let Ok(mut tables) = Tables::open(alloc, left_by(alloc, ONE_WAITS)?, &office(900)?) else {
+    let row = "an_empty_database_becomes_a_new_book";
+    let empty = Connection::open_in_memory(alloc)?;
+    check_front(&rt, row, opened(alloc, empty, 900)?, 0)?;
+    let row = "tables_that_are_there_are_opened";
+    let there = left_by(alloc, ONE_WAITS)?;
+    check_front(&rt, row, existing(alloc, there, 900)?, 1)
+}
+
+/// Checks what is there of a database that was left with a file that waits.
+fn check_left<S: Alter + Drop>(
+    rt: &impl Abort,
+    alloc: Global,
+    opened: Opened<S>,
+) -> Result<(), Fail> {
+    let Ok(mut tables) = opened else {
         return Err(Fail::new("an opening"));
     };
-    check_front(&rt, "the front", &mut tables, 1)?;
     let status = tables.standing(alloc, &sender()?);
     let status = status.ok().ok_or("a standing")?;
-    told(&rt, "what waits", &status.held.len(), &1);
+    told(rt, "the front", &status.front, &1);
+    told(rt, "what waits", &status.held.len(), &1);
     let account = Account::from_bytes(b"I00000000295")?;
     let balance = tables.balance(alloc, &account);
-    holds(&rt, "a balance", balance.is_ok_and(|units| units > 0));
+    holds(rt, "a balance", balance.is_ok_and(|units| units > 0));
     Ok(())
 }
 
+#[test]
+fn a_database_opens_as_it_was_left(rt: HostRuntime) -> Result<(), Fail> {
+    let alloc = rt.alloc();
+    let left = left_by(alloc, ONE_WAITS)?;
+    check_left(&rt, alloc, opened(alloc, left, 900)?)
+}
+
 /// Whether a database is confirmed with a body in memory at a time.
-fn is_confirmed(alloc: Global, conn: &mut Idle<MemStore>, society: u16) -> Result<bool, Fail> {
+fn is_confirmed<S: Alter>(alloc: Global, conn: &mut Idle<S>, society: u16) -> Result<bool, Fail> {
     match confirm(alloc, conn, &office(society)?) {
         Ok(()) => Ok(true),
         Err(AuditFault::Damaged) => Ok(false),
@@ -54,8 +92,8 @@ fn a_sound_database_is_confirmed_with_a_body_in_memory_at_a_time(
     rt: HostRuntime,
 ) -> Result<(), Fail> {
     let alloc = rt.alloc();
-    let mut conn = Idle {
-        connection: left_by(alloc, ONE_WAITS)?,
+    let Ok(mut conn) = Idle::new(left_by(alloc, ONE_WAITS)?) else {
+        return Err(Fail::new("no transaction"));
     };
     for (society, wanted) in [(900, true), (901, false), (900, true)] {
         let seen = is_confirmed(alloc, &mut conn, society)?;
@@ -64,70 +102,56 @@ fn a_sound_database_is_confirmed_with_a_body_in_memory_at_a_time(
     Ok(())
 }
 
-#[test]
-fn an_empty_database_becomes_a_new_book(rt: HostRuntime) -> Result<(), Fail> {
-    let conn = Connection::open_in_memory(rt.alloc()).ok().ok_or("memory")?;
-    if !conn.is_autocommit() {
-        return Err(Fail::new("no transaction"));
-    }
-    let Ok(mut tables) = Tables::open(rt.alloc(), conn, &office(900)?) else {
-        return Err(Fail::new("an opening"));
-    };
-    check_front(&rt, "the front", &mut tables, 0)
-}
-
-#[test]
-fn nothing_is_begun_where_tables_are_to_be_there(rt: HostRuntime) -> Result<(), Fail> {
-    let conn = Connection::open_in_memory(rt.alloc()).ok().ok_or("memory")?;
-    if !conn.is_autocommit() {
-        return Err(Fail::new("no transaction"));
-    }
-    let opened = Tables::open_existing(rt.alloc(), conn, &office(900)?);
-    let Err((OpenFault::Empty, mut conn)) = opened else {
-        return Err(Fail::new("an empty database"));
-    };
-    let names = conn.query_all("SELECT name FROM sqlite_master", &[])?;
-    told(&rt, "its tables", &names.len(), &0);
-    Ok(())
-}
-
-#[test]
-fn tables_that_are_there_are_opened(rt: HostRuntime) -> Result<(), Fail> {
-    let alloc = rt.alloc();
-    let opened = Tables::open_existing(alloc, left_by(alloc, ONE_WAITS)?, &office(900)?);
-    let Ok(mut tables) = opened else {
-        return Err(Fail::new("an opening"));
-    };
-    check_front(&rt, "the front", &mut tables, 1)
-}
-
-#[test]
-fn tables_of_another_office_are_told_as_such(rt: HostRuntime) -> Result<(), Fail> {
-    let alloc = rt.alloc();
-    let opened = Tables::open_existing(alloc, left_by(alloc, ONE_WAITS)?, &office(901)?);
-    let Err((fault, _)) = opened else {
+/// Checks the fault where tables have to be there, and how many tables there are then.
+fn check_not_there<S: Alter + Drop>(
+    rt: &impl Abort,
+    row: &str,
+    opened: Opened<S>,
+    fault: OpenFault,
+    count: usize,
+) -> Result<(), Fail> {
+    let Err((seen, mut conn)) = opened else {
         return Err(Fail::new("a fault"));
     };
-    told(&rt, "the fault", &fault, &OpenFault::OtherOffice);
+    let names = conn.query_all("SELECT name FROM sqlite_master WHERE type = 'table'", &[])?;
+    told(rt, row, &(seen, names.len()), &(fault, count));
     Ok(())
 }
 
-/// A store is found again by its connection, and by a database with its rows.
+#[test]
+fn tables_that_are_not_there(rt: HostRuntime) -> Result<(), Fail> {
+    let alloc = rt.alloc();
+    let row = "nothing_is_begun_where_tables_are_to_be_there";
+    let empty = Connection::open_in_memory(alloc)?;
+    let opened = existing(alloc, empty, 900)?;
+    check_not_there(&rt, row, opened, OpenFault::Empty, 0)?;
+    let row = "tables_of_another_office_are_told_as_such";
+    let other = existing(alloc, left_by(alloc, ONE_WAITS)?, 901)?;
+    check_not_there(&rt, row, other, OpenFault::OtherOffice, 14)
+}
+
+/// Checks the front of a store that is found again by another database, and then by its own connection.
+fn check_found<S: Alter + Drop>(
+    rt: &impl Abort,
+    alloc: Global,
+    opened: Opened<S>,
+    other: Connection<S>,
+) -> Result<(), Fail> {
+    let Ok(tables) = opened else {
+        return Err(Fail::new("an opening"));
+    };
+    if !other.is_autocommit() {
+        return Err(Fail::new("no transaction"));
+    }
+    let row = "a_database_with_the_rows_of_a_store_is_that_store";
+    check_front(rt, row, open_after_crash(alloc, &tables, other), 1)?;
+    let row = "a_store_is_found_again_by_its_connection";
+    check_front(rt, row, reopen(alloc, tables), 1)
+}
+
 #[test]
 fn a_store_is_found_again(rt: HostRuntime) -> Result<(), Fail> {
     let alloc = rt.alloc();
-    let Ok(tables) = Tables::open(alloc, left_by(alloc, ONE_WAITS)?, &office(900)?) else {
-        return Err(Fail::new("an opening"));
-    };
-    let found = open_after_crash(alloc, &tables, left_by(alloc, ONE_WAITS)?);
-    let Ok(mut found) = found else {
-        return Err(Fail::new("a second opening"));
-    };
-    let row = "a_database_with_the_rows_of_a_store_is_that_store";
-    check_front(&rt, row, &mut found, 1)?;
-    let Ok(mut again) = reopen(alloc, tables) else {
-        return Err(Fail::new("a third opening"));
-    };
-    let row = "a_store_is_found_again_by_its_connection";
-    check_front(&rt, row, &mut again, 1)
+    let opened = opened(alloc, left_by(alloc, ONE_WAITS)?, 900)?;
+    check_found(&rt, alloc, opened, left_by(alloc, ONE_WAITS)?)
 }
