@@ -264,11 +264,11 @@ def check_day(browser, faults):
     compare("day: senders", rows(browser, "senders"), [[ALPHA, "Alpha Music", "3", "", ""], waits, [GAMMA, "Gamma & <b>Söhne</b>", "0", "", ""]])
     fault = faults["transaction"]["5"]
     compare("day: rejected", rows(browser, "rejected"), [[BETA, "2", "X2", MARKUP.decode(), f"5: {fault['means']}", fault["cure"]]])
-    compare("day: pools", rows(browser, "pools"), [["1", "100,000", "7", "4,286 (4.3 %)", "Credits"]])
+    compare("day: pools", rows(browser, "pools"), [["1", "100,000", "7", "4,286 (4.3 %)", "Credits"], ["2", "10,000", "6", "0 (0.0 %)", "Credits"]])
     balances = [(it[0], it[2], it[3]) for it in rows(browser, "balances")]
-    units = [("I00000000295", "77,857"), ("I00000000199", "8,929"), (f"P{BETA}A1", "8,928"), ("UNCLAIMED", "4,286")]
+    units = [("I00000000295", "77,857"), ("I00000000199", "18,929"), (f"P{BETA}A1", "8,928"), ("UNCLAIMED", "4,286")]
     compare("day: balances", balances, [(account, it, it) for account, it in units])
-    compare("day: sums", browser.value("document.querySelector('.sums').textContent"), "Balances 100,000; pools 100,000: they agree.")
+    compare("day: sums", browser.value("document.querySelector('.sums').textContent"), "Balances 110,000; pools 110,000: they agree.")
 
 
 def set_form(browser, place, **fields):
@@ -326,9 +326,9 @@ def use_forms(browser, folder, faults):
     compare("a cut too high", state(browser, "send"), f"Not taken. {BETA} has all files up to 4 only: wait for the missing ones, or cut it lower.")
     set_form(browser, "send", order=order_body(5_000, [[BETA, 4]], [["RADIO2", 1]]).decode())
     submit(browser, "send")
-    compare("an order", state(browser, "send"), "Pool 2 is closed.")
-    compare("pools then", [it[:2] for it in rows(browser, "pools")], [["1", "100,000"], ["2", "5,000"]])
-    compare("sums then", browser.value("document.querySelector('.sums').textContent"), "Balances 105,000; pools 105,000: they agree.")
+    compare("an order", state(browser, "send"), "Pool 3 is closed.")
+    compare("pools then", [it[:2] for it in rows(browser, "pools")], [["1", "100,000"], ["2", "10,000"], ["3", "5,000"]])
+    compare("sums then", browser.value("document.querySelector('.sums').textContent"), "Balances 115,000; pools 115,000: they agree.")
 
 
 def check_many(browser):

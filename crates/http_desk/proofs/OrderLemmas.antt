@@ -13,7 +13,7 @@ use Rattle.http_desk.specs.OrderText.{OrderNumbers, before, close_asked, close_q
 -- ---- what numbers ask
 
 pub closes_ordered : (pool : ℕ) (numbers : OrderNumbers) (order : Order) → order_fault numbers.amount numbers.cut numbers.returns ≡ None
-    → order ≡ order_of numbers.amount numbers.cut numbers.returns → Closes pool order ≡ close_asked pool (Some numbers)
+    → order ≡ order_of numbers.kind numbers.amount numbers.cut numbers.returns → Closes pool order ≡ close_asked pool (Some numbers)
 closes_ordered pool numbers order none is = rw none (ap (Closes pool) is)
 
 pub closes_faulty : (pool : ℕ) (numbers : OrderNumbers) (fault : OrderFault) → order_fault numbers.amount numbers.cut numbers.returns ≡ Some fault

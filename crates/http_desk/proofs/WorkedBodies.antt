@@ -5,6 +5,8 @@ use Rattle.csv.specs.Writing.{escaped, fields_text, is_blank}
 use Rattle.percent_encoding.specs.Percent.{percent_encode_byte}
 use Rattle.serde_json.proofs.OnLiterals.{serde_json_on_literals}
 use Rattle.serde_json.specs.Read.{read}
+use Rattle.share_rules.specs.declared.kind.Kind.{Kind}
+use Rattle.share_rules.specs.declared.kind.Kind.TheVariants.{Performing, Mechanical}
 use Rattle.work_ids.specs.Digits.{last_digits}
 use Rattle.work_ids.specs.SpelledNumber.{dated_in_text, is_dated_text}
 use Rattle.work_ids.specs.declared.account.Account.TheVariants.{Party, Unclaimed}
@@ -67,9 +69,59 @@ an_array : close_of (codes "[]") ≡ ClosesFaulty Shape
 unfolding serde_json_on_literals
 an_array = refl
 
-another_member : close_of (codes "{\"amount\":1,\"cut\":[],\"returns\":[],\"kind\":0}") ≡ ClosesFaulty Shape
+another_member : close_of (codes "{\"amount\":1,\"cut\":[],\"returns\":[],\"note\":0}") ≡ ClosesFaulty Shape
 unfolding serde_json_on_literals
 another_member = refl
+
+-- what a close of pool 7 with these members before an amount of 1, no cut and no returns asks
+abbrev close_with : List ℕ → Query
+close_with members = close_of (codes "{" ++ members ++ codes "\"amount\":1,\"cut\":[],\"returns\":[]}")
+
+-- what the close of pool 7 by an order of this kind over nothing asks
+abbrev closes_nothing : Kind → Query
+closes_nothing kind = Closes 7 (order_of kind 1 [] [])
+
+kind_not_named : close_with [] ≡ closes_nothing Performing
+unfolding serde_json_on_literals
+kind_not_named = refl
+
+kind_of_performance : close_with (codes "\"kind\":\"PR\",") ≡ closes_nothing Performing
+unfolding serde_json_on_literals
+kind_of_performance = refl
+
+kind_of_reproduction : close_with (codes "\"kind\":\"MR\",") ≡ closes_nothing Mechanical
+unfolding serde_json_on_literals
+kind_of_reproduction = refl
+
+-- of two members with one key the last counts
+kind_named_twice : close_with (codes "\"kind\":\"PR\",\"kind\":\"MR\",") ≡ closes_nothing Mechanical
+unfolding serde_json_on_literals
+kind_named_twice = refl
+
+kind_of_another_right : close_with (codes "\"kind\":\"XR\",") ≡ ClosesFaulty Shape
+unfolding serde_json_on_literals
+kind_of_another_right = refl
+
+kind_in_small_letters : close_with (codes "\"kind\":\"pr\",") ≡ ClosesFaulty Shape
+unfolding serde_json_on_literals
+kind_in_small_letters = refl
+
+kind_as_a_number : close_with (codes "\"kind\":1,") ≡ ClosesFaulty Shape
+unfolding serde_json_on_literals
+kind_as_a_number = refl
+
+kind_null : close_with (codes "\"kind\":null,") ≡ ClosesFaulty Shape
+unfolding serde_json_on_literals
+kind_null = refl
+
+another_member_beside_the_kind : close_with (codes "\"kind\":\"MR\",\"note\":0,") ≡ ClosesFaulty Shape
+unfolding serde_json_on_literals
+another_member_beside_the_kind = refl
+
+-- four members, of which the kind is one and an amount is none
+kind_for_an_amount : close_of (codes "{\"kind\":\"MR\",\"note\":1,\"cut\":[],\"returns\":[]}") ≡ ClosesFaulty Shape
+unfolding serde_json_on_literals
+kind_for_an_amount = refl
 
 amount_over_the_limit : close_of (codes "{\"amount\":1000000000001,\"cut\":[],\"returns\":[]}") ≡ ClosesFaulty OutOfRange
 unfolding serde_json_on_literals
@@ -83,7 +135,7 @@ return_named_twice = refl
 abbrev close_at : List ℕ → Query
 close_at number = close_of (codes "{\"amount\":1,\"cut\":[[\"PB000000012\"," ++ number ++ codes "]],\"returns\":[]}")
 
-cut_at_a_year : close_at (codes "\"26-0001\"") ≡ Closes 7 (order_of 1 ((codes "PB000000012", 1260001) ∷ []) [])
+cut_at_a_year : close_at (codes "\"26-0001\"") ≡ Closes 7 (order_of Performing 1 ((codes "PB000000012", 1260001) ∷ []) [])
 unfolding serde_json_on_literals dated_in_text is_dated_text
 cut_at_a_year = refl
 

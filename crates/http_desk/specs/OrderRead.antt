@@ -2,6 +2,6 @@
 use Rattle.http_desk.specs.OrderText.{OrderNumbers}
 use Rattle.http_desk.specs.declared.order_text.Numbers.{Numbers}
 
--- the amount and the two lists
+-- the kind, the amount and the two lists
 abbrev pub numbers_read : Numbers → OrderNumbers
-numbers_read numbers = record { amount = numbers.amount; cut = numbers.cut.items; returns = numbers.returns.items }
+numbers_read numbers = record { kind = numbers.kind; amount = numbers.amount; cut = numbers.cut.items; returns = numbers.returns.items }

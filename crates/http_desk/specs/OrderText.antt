@@ -1,10 +1,12 @@
 -- The shape of an order that is spelled in JSON, and what a close by it asks (profile).
-use Rattle.std.specs.Prelude.{ℕ, Bool, false, List, [], ◌∷◌, ◌==◌, codes, if◌then◌else◌, Option, Some, None, option_and_then, unwrap_or}
+use Rattle.std.specs.Prelude.{ℕ, Bool, false, List, [], ◌∷◌, ◌==◌, bytes_eq, codes, if◌then◌else◌, Option, Some, None, is_some, option_and_then, unwrap_or}
 use Rattle.std.specs.Option.{option_map, option_zip}
 use Rattle.std.specs.Result.{result_ok}
 use Rattle.serde_json.specs.Data.{Data, Items, no_items, item}
 use Rattle.serde_json.specs.Events.{items_len}
 use Rattle.serde_json.specs.Find.{at, get, as_array, as_object, as_str}
+use Rattle.share_rules.specs.declared.kind.Kind.{Kind}
+use Rattle.share_rules.specs.declared.kind.Kind.TheVariants.{Performing, Mechanical}
 use Rattle.work_ids.specs.Reporter.{reporter_of}
 use Rattle.work_ids.specs.SenderKey.{sender_key_of}
 use Rattle.work_ids.specs.SpelledNumber.{dated_in_text, transmission_number_spelled}
@@ -16,8 +18,9 @@ use Rattle.society_core.specs.declared.order_fault.OrderFault.{OrderFault}
 use Rattle.society_core.specs.declared.order_fault.OrderFault.TheVariants.{Shape}
 use Rattle.http_desk.specs.JsonBodies.{has_members, json_of, whole_in, whole_member}
 
--- what an order's JSON spells, whatever its limits: an amount, of each sender of the cut the rank of a number, and the returns
+-- what an order's JSON spells, whatever its limits: the right that its pool pays, an amount, of each sender of the cut the rank of a number, and the returns
 pub record OrderNumbers : Type 0 where
+  pub kind : Kind
   pub amount : ℕ
   pub cut : List (List ℕ × ℕ)
   pub returns : List (List ℕ × ℕ)
@@ -91,12 +94,32 @@ sender_entry value = named_number sender_of rank_in value
 abbrev pub return_entry : Data → Option (List ℕ × ℕ)
 return_entry value = named_number reporter_named whole_in value
 
--- the numbers, where all three are there
-abbrev pub numbers_by : Option ℕ → Option (List (List ℕ × ℕ)) → Option (List (List ℕ × ℕ)) → Option OrderNumbers
-numbers_by (Some amount) (Some cut) (Some returns) = Some (record { amount = amount; cut = cut; returns = returns })
-numbers_by (Some amount) (Some cut) None = None
-numbers_by (Some amount) None returns = None
-numbers_by None cut returns = None
+-- the right that a text names: PR or MR (CISAC CWR 2.2)
+abbrev pub kind_named : List ℕ → Option Kind
+kind_named text =
+    if bytes_eq text (codes "PR") then Some Performing
+    else (if bytes_eq text (codes "MR") then Some Mechanical else None)
+
+-- the right by an order's member, PR where it has none (profile)
+abbrev pub kind_by : Option Data → Option Kind
+kind_by None = Some Performing
+kind_by (Some value) = option_and_then kind_named (as_str value)
+
+-- the right that an object names
+abbrev pub kind_in : Data → Option Kind
+kind_in value = kind_by (get (codes "kind") value)
+
+-- how many members an order has: three, and one more where it names its kind (profile)
+abbrev pub members_of_order : Data → ℕ
+members_of_order value = if is_some (get (codes "kind") value) then 4 else 3
+
+-- the kind and the numbers, where all of them are there
+abbrev pub numbers_by : Option Kind → Option ℕ → Option (List (List ℕ × ℕ)) → Option (List (List ℕ × ℕ)) → Option OrderNumbers
+numbers_by (Some kind) (Some amount) (Some cut) (Some returns) = Some (record { kind = kind; amount = amount; cut = cut; returns = returns })
+numbers_by (Some kind) (Some amount) (Some cut) None = None
+numbers_by (Some kind) (Some amount) None returns = None
+numbers_by (Some kind) None cut returns = None
+numbers_by None amount cut returns = None
 
 -- the cut that an object spells
 abbrev pub cut_in : Data → Option (List (List ℕ × ℕ))
@@ -106,16 +129,16 @@ cut_in value = option_and_then (named_numbers_in sender_entry) (get (codes "cut"
 abbrev pub returns_in : Data → Option (List (List ℕ × ℕ))
 returns_in value = option_and_then (named_numbers_in return_entry) (get (codes "returns") value)
 
--- what an object spells: its members are the amount, the cut and the returns, and no others
+-- what an object spells: its members are the amount, the cut and the returns, the kind where it names one, and no others
 abbrev pub numbers_in : Data → Option OrderNumbers
 numbers_in value =
-    if has_members 3 (as_object value)
-    then numbers_by (whole_member (codes "amount") value) (cut_in value) (returns_in value)
+    if has_members (members_of_order value) (as_object value)
+    then numbers_by (kind_in value) (whole_member (codes "amount") value) (cut_in value) (returns_in value)
     else None
 
 -- what numbers without that fault ask of a pool
 abbrev pub close_by_numbers : ℕ → OrderNumbers → Option OrderFault → Query
-close_by_numbers pool numbers None = Closes pool (order_of numbers.amount numbers.cut numbers.returns)
+close_by_numbers pool numbers None = Closes pool (order_of numbers.kind numbers.amount numbers.cut numbers.returns)
 close_by_numbers pool numbers (Some fault) = ClosesFaulty fault
 
 -- what an order asks of a pool: another shape is a fault

@@ -5,24 +5,35 @@ ghost use Rattle.serde_json.specs.Find.{as_array};
 ghost use Rattle.serde_json.specs.View.{view};
 ghost use Rattle.society_core.specs.Requests.{query_of};
 ghost use Rattle.http_desk.specs.JsonBodies.{json_of, whole_in};
-ghost use Rattle.http_desk.specs.OrderText.{are_two, close_query, named_numbers_in, numbers_in, pair_in, rank_in, rank_spelled, return_entry, sender_entry, spelled_in};
+ghost use Rattle.http_desk.specs.OrderText.{are_two, close_query, kind_in, kind_named, members_of_order, named_numbers_in, numbers_in, pair_in, rank_in, rank_spelled, return_entry, sender_entry, spelled_in};
 ghost use Rattle.http_desk.specs.OrderRead.{numbers_read};
 
 use crate::json_body::{has_members, value_of, whole_member};
 use serde_json::Value;
+use share_rules::Kind;
 use society_core::{OrderError, OrderFault, PoolOrder, Request};
 use std::alloc::{AllocError, Global};
 use work_ids::{PoolNumber, Reporter, SenderKey, SpelledNumber};
 
-/// Members of an order.
+/// Members of an order that does not name its kind.
 const MEMBERS: usize = 3;
+
+/// The member by which an order names its kind.
+const KIND: &str = "kind";
+
+/// The names of the two rights (CISAC CWR 2.2).
+const PERFORMING: &str = "PR";
+
+const MECHANICAL: &str = "MR";
 
 /// Elements of an entry of a cut, or of the list of returns.
 const ELEMENTS: usize = 2;
 
-// The numbers that an order's JSON spells, whatever their limits; those of the cut by their ranks.
+// What an order's JSON spells, whatever its limits: the right that its pool pays and its numbers, those of the cut by their
+// ranks.
 #[derive(Drop)]
 pub(crate) struct Numbers {
+    kind: Kind,
     amount: u64,
     cut: Vec<(SenderKey, u64)>,
     returns: Vec<(Reporter, u64)>,
@@ -145,13 +156,49 @@ fn returns_of(alloc: Global, value: &Value) -> Result<Option<Vec<(Reporter, u64)
     Ok(Some(returns))
 }
 
-// The numbers of an order, where the value has the shape of one.
+// The right that a text names.
+fn kind_named(text: &str) -> Option<Kind>
+    ensures { result ≡ kind_named text.now }
+{
+    if text == PERFORMING {
+        return Some(Kind::Performing);
+    }
+    if text == MECHANICAL {
+        return Some(Kind::Mechanical);
+    }
+    None
+}
+
+// The right that an order names: performance where it names none.
+fn kind_of(value: &Value) -> Option<Kind>
+    ensures { result ≡ kind_in (view value.now) }
+{
+    match value.get(KIND) {
+        Some(kind) => kind.as_str().and_then(kind_named),
+        None => Some(Kind::Performing),
+    }
+}
+
+// How many members an order has, the kind where it names it among them.
+fn members_of_order(value: &Value) -> usize
+    ensures { result ≡ members_of_order (view value.now) }
+{
+    match value.get(KIND) {
+        Some(_) => MEMBERS + 1,
+        None => MEMBERS,
+    }
+}
+
+// The kind and the numbers of an order, where the value has the shape of one.
 fn numbers_of(alloc: Global, value: &Value) -> Result<Option<Numbers>, AllocError>
     ensures { IfOk result (λ numbers. option_map numbers_read numbers ≡ numbers_in (view value.now)) }
 {
-    if !has_members(value, MEMBERS) {
+    if !has_members(value, members_of_order(value)) {
         return Ok(None);
     }
+    let Some(kind) = kind_of(value) else {
+        return Ok(None);
+    };
     let Some(amount) = whole_member(value, "amount") else {
         return Ok(None);
     };
@@ -168,13 +215,14 @@ fn numbers_of(alloc: Global, value: &Value) -> Result<Option<Numbers>, AllocErro
         return Ok(None);
     };
     Ok(Some(Numbers {
+        kind,
         amount,
         cut,
         returns,
     }))
 }
 
-// The numbers that a body spells.
+// The kind and the numbers that a body spells.
 fn numbers_in(alloc: Global, body: &[u8]) -> Result<Option<Numbers>, AllocError>
     ensures { IfOk result (λ numbers. option_map numbers_read numbers
         ≡ option_and_then numbers_in (json_of body.now)) }
@@ -199,7 +247,13 @@ pub(crate) fn close_by<'b>(
             fault: OrderFault::Shape,
         });
     };
-    match PoolOrder::new(alloc, numbers.amount, &numbers.cut, &numbers.returns) {
+    match PoolOrder::new(
+        alloc,
+        numbers.kind,
+        numbers.amount,
+        &numbers.cut,
+        &numbers.returns,
+    ) {
         Ok(order) => Ok(Request::ClosePool { pool, order }),
         Err(OrderError::Order(fault)) => Ok(Request::FaultyOrder { fault }),
         Err(OrderError::Memory) => Err(AllocError),
