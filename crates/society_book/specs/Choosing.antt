@@ -10,7 +10,6 @@ use Rattle.perf_returns.specs.declared.performance.Performance.{Performance}
 use Rattle.pool_split.specs.declared.claim.Credit.{Credit}
 use Rattle.share_rules.specs.declared.office.Office.{Office}
 use Rattle.share_rules.specs.declared.kind.Kind.{Kind}
-use Rattle.share_rules.specs.declared.kind.Kind.TheVariants.{Performing}
 use Rattle.sqlite_trees.specs.Tree.{Trees}
 use Rattle.sqlite_value.specs.Order.{Row}
 use Rattle.society_rows.specs.declared.fault.RowFault.{RowFault}
@@ -103,7 +102,7 @@ TalliesReturns keys db tally =
 -- by the tally of an order's returns and its candidates it has these credits
 abbrev pub PaysByTally : Tally → List Candidate → Order → Result (Vec Credit Global) RowFault → Type 0
 PaysByTally tally candidates order result =
-    (office : Office) (book : Book) → Tallies tally (rows_named book order) → AreFor Performing office tally (works_of_cut office book order) candidates
+    (office : Office) (book : Book) → Tallies tally (rows_named book order) → AreFor order.kind office tally (works_of_cut office book order) candidates
     → IfOk result (λ credits. credits.items ≡ credits_of office book order)
 
 -- the performances of a return that is kept are counted

@@ -1,4 +1,4 @@
-use Rattle.std.proofs.Common.{◌≡◌, ◌∙◌, List, ℕ, ap}
+use Rattle.std.proofs.Common.{◌≡◌, refl, ◌∙◌, List, ℕ, ap}
 use Rattle.pool_split.specs.Credits.{credits}
 use Rattle.society_core.specs.Claims.{claims_among}
 use Rattle.society_core.specs.Points.{is_tallied, points_by_recording, rows_named}
@@ -18,5 +18,5 @@ returns c office book tallied stand =
     c.deref-3.ensures.value
     ∙ c.in_ok-claims.ensures
     ∙ ap (λ (xs : List (List ℕ × ℕ)). claims_among xs c.args.candidates.now) (c.deref.ensures.value ∙ c.in_ok-points.ensures rows tallied)
-    ∙ claims_are office book order c.args.candidates.now (is_tallied tally) ps (recordings_tallied tally rows tallied) stand in
+    ∙ claims_are office book order order.kind refl c.args.candidates.now (is_tallied tally) ps (recordings_tallied tally rows tallied) stand in
     c.in_ok-credits.ensures.credits ∙ (ap (λ (n : ℕ). credits n c.deref-3.result.now) c.amount.ensures.value ∙ ap (credits order.amount) same)
