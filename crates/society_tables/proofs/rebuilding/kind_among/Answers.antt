@@ -17,7 +17,7 @@ loop-row-preserved c all =
     let rows = c.args.rows.now in
     let row = c.row-item.result in
     let mark = subst IsMark (sym c.row-item.is) (all-get_or IsMark rows c.loop-row.row-index row all c.loop-row-test.true) in
-    c.kind_with.ensures mark
+    c.kind_with-kind.ensures mark
     ∙ ap (λ (kind : Kind). if is_of_pool 0 c.args.pool row then Mechanical else kind) (c.loop-row.invariant all)
     ∙ sym (kind_next c.args.pool rows c.loop-row.row-index row c.loop-row-test.true c.row-item.is)
 

@@ -45,5 +45,5 @@ returns-clause-passes c b sound closed cuts paid marks =
     let of_paid = c.as_slice-2.ensures.value ∙ c.in_ok-returns.ensures.passes (all_paid b sound c.args.paid.now paid) in
     let faultless = faultless_read b sound q closed.order closed.there c.args.cuts.now c.args.paid.now cuts paid c.in-Ok.row.pool _ _ same of_cut of_paid in
     let made = c.in_ok-order.ensures.passes closed.order.amount amount faultless in
-    let of_marks = c.kind_among.ensures (all_marks b sound c.args.marks.now marks) in
-    (pool, made ∙ order_read b sound q closed.order closed.there c.args.cuts.now c.args.paid.now cuts paid c.in-Ok.row.pool _ _ same of_cut of_paid c.kind_among.result c.args.marks.now marks of_marks)
+    let of_marks = c.kind_among-kind.ensures (all_marks b sound c.args.marks.now marks) in
+    (pool, made ∙ order_read b sound q closed.order closed.there c.args.cuts.now c.args.paid.now cuts paid c.in-Ok.row.pool _ _ same of_cut of_paid c.kind_among-kind.result c.args.marks.now marks of_marks)
