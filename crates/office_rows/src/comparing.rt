@@ -9,16 +9,23 @@ fn common(one: &[u8], other: &[u8]) -> usize {
         .count()
 }
 
+/// Writes bytes; what is not taken is passed over.
+fn tell<W: Write>(out: &mut W, bytes: &[u8]) {
+    let _ = out.write_all(bytes);
+}
+
 /// Whether a text is the one that is wanted; what differs is written, from the first byte that does.
 pub fn is_wanted<W: Write>(out: &mut W, way: &str, written: &[u8], wanted: &[u8]) -> bool {
     if written == wanted {
         return true;
     }
     let at = common(written, wanted);
-    let _ = writeln!(out, "over {way}, from byte {at} on, there is");
-    let _ = out.write_all(written.get(at..).unwrap_or(b""));
-    let _ = writeln!(out, "\nand wanted is");
-    let _ = out.write_all(wanted.get(at..).unwrap_or(b""));
-    let _ = writeln!(out, "\n");
+    tell(out, b"over ");
+    tell(out, way.as_bytes());
+    tell(out, b", from where they differ, there is\n");
+    tell(out, written.get(at..).unwrap_or(b""));
+    tell(out, b"\nand wanted is\n");
+    tell(out, wanted.get(at..).unwrap_or(b""));
+    tell(out, b"\n");
     false
 }
