@@ -7,8 +7,10 @@
 
 Run it anywhere in the repository. A value is a number or a text in a file of tests: a module that the root of its crate names
 under cfg(test), and the library of sample bodies. "a" and b"a" are one value, and a text of five bytes or more is not listed
-where it stands within another of AFTER. A value that stands fewer times need not be a case that was dropped, since several tests
-may share one table or one sample: read the list.
+where it stands within another of AFTER. The data of the program of rows counts too: each row and each folder of rows is a test by its
+name, each file is a text, and so is each number in one. A test is not listed as lacking where AFTER has a row of its name, in a file or
+in a table of a test. A value that stands fewer times need not be a case that was dropped, since several tests may share one table or one
+sample: read the list.
 """
 import ast
 import collections
@@ -17,6 +19,7 @@ import subprocess
 import sys
 
 LIBRARY_OF_BODIES = "test_bodies"
+PROGRAM_OF_ROWS = "office_rows"
 TOKEN = re.compile(
     r"""(?P<comment>//[^\n]*)
       |(?P<text>b?"(?:[^"\\]|\\.)*")
@@ -26,8 +29,12 @@ TOKEN = re.compile(
 )
 
 
+def git_bytes(*words):
+    return subprocess.run(["git", *words], capture_output=True, check=True).stdout
+
+
 def git(*words):
-    return subprocess.run(["git", *words], capture_output=True, check=True).stdout.decode()
+    return git_bytes(*words).decode()
 
 
 def files(revision):
@@ -50,6 +57,15 @@ def test_files(revision, names):
             for name in names:
                 if name == f"{source}{module}.rt" or name.startswith(f"{source}{module}/"):
                     yield crate, name
+
+
+def rows(revision, names):
+    """Each file of rows: its folders and its name, and what it holds."""
+    front = f"crates/{PROGRAM_OF_ROWS}/data/"
+    for name in names:
+        if name.startswith(front):
+            path, _, ending = name[len(front) :].rpartition(".")
+            yield path.split("/"), ending, git_bytes("show", f"{revision}:{name}")
 
 
 def value(token):
@@ -77,6 +93,14 @@ class Cases:
             found = [value(token) for token in TOKEN.finditer(text) if not token["comment"]]
             self.values.update(found)
             self.counts[crate].update(tests=len(tests), values=len(found), asserts=len(re.findall(r"\bassert\w*!\(", text)))
+        self.row_names = {item.decode(errors="replace") for item in self.values if isinstance(item, bytes)}
+        for path, ending, data in rows(revision, names):
+            numbers = [int(number) for number in re.findall(rb"(?<!\w)\d+(?!\w)", data)]
+            self.values.update([data, *numbers])
+            self.row_names.update(path)
+            if ending == "http":
+                self.tests.append((PROGRAM_OF_ROWS, "::".join(path[:-1]), path[-1]))
+            self.counts[PROGRAM_OF_ROWS].update(tests=ending == "http", values=1 + len(numbers))
         for name in names:
             edit = re.fullmatch(r"crates/(\w+)/must-fail/(\w+)\.edit", name)
             if edit:
@@ -110,7 +134,7 @@ def main():
     names = collections.Counter(test for _, _, test in before.tests)
     names.subtract(test for _, _, test in after.tests)
     for crate, module, test in before.tests:
-        if names[test] > 0:
+        if names[test] > 0 and test not in after.row_names:
             print(f"test {crate} {module}::{test}")
     edits = collections.Counter(edit for _, edit in before.edits)
     edits.subtract(edit for _, edit in after.edits)

@@ -4,7 +4,7 @@
 #
 # usage: bench/stop_trials.sh [NAME]     (a part of the tests' names; all: some 30 minutes)
 #
-# The trials are the files of bench/stop_trials. They go into a copy of crates/file_tests here, tests are made of them, and those are run
+# The trials are the files of bench/stop_trials. They go into a copy of crates/tables_tests here, tests are made of them, and those are run
 # under `rt try`, unproved.
 set -eu
 case ${1:-} in
@@ -17,9 +17,9 @@ here=$(cd "$(dirname "$0")/.." && pwd)
 copy=$(mktemp -d)
 trap 'rm -rf "$copy"' EXIT
 tar -C "$here" --exclude=out -cf - crates crates.txt HANDLES | tar -C "$copy" -xf -
-sed -i 's/^file_tests:.*/& sqlite_disk/' "$copy/crates.txt"
-cd "$copy/crates/file_tests"
-for module in fused stops stop_trials; do
+sed -i 's/^tables_tests:.*/& sqlite_disk/' "$copy/crates.txt"
+cd "$copy/crates/tables_tests"
+for module in steps fused stops stop_trials; do
   cp "$here/bench/stop_trials/$module.txt" "src/$module.rt"
   printf '#[cfg(test)]\nmod %s;\n' "$module" >>src/lib.rt
 done

@@ -2,8 +2,9 @@
 ghost use Rattle.std.specs.Prelude.{◌+◌, ◌≡◌};
 ghost use Rattle.society_rows.specs.declared.fault.RowFault.TheVariants.{Memory};
 
-use crate::book::{SENDER, book, shown, write_book, write_ends, write_fronts, write_works};
+use crate::book::{SENDER, book, shown};
 use crate::checks::told;
+use crate::writes::{BOOK, ENDS, FRONTS, WORKS, write_all};
 use society_rows::{Idle, Question, RowFault, RowFold, TableName, ask, fold_run, fold_table};
 use sqlite::{Alter, Connection, MemStore, Row};
 use std::alloc::Global;
@@ -44,20 +45,21 @@ fn commit_book<S: Alter>(conn: &mut Connection<S>) -> Result<(), RowFault> {
         return Err(RowFault::Unread);
     }
     let mut tx = conn.transaction();
-    write_book(&mut tx)?;
-    write_works(&mut tx)?;
-    write_fronts(&mut tx)?;
-    write_ends(&mut tx)?;
+    for writes in [BOOK, WORKS, FRONTS, ENDS] {
+        write_all(&mut tx, writes)?;
+    }
     tx.commit()?;
     Ok(())
 }
 
+/// How many rows a table has, taken one at a time.
 fn count_of<S: Alter>(conn: &mut Idle<S>, table: TableName) -> Result<u64, RowFault> {
     let mut count = Count { rows: 0 };
     fold_table(conn, table, &mut count)?;
     Ok(count.rows)
 }
 
+/// How many numbers are in a run that begins with this one.
 fn run_from<S: Alter>(conn: &mut Idle<S>, first: u32) -> Result<u64, RowFault> {
     let mut tx = conn.connection.transaction();
     let mut count = Count { rows: 0 };
@@ -65,15 +67,7 @@ fn run_from<S: Alter>(conn: &mut Idle<S>, first: u32) -> Result<u64, RowFault> {
     Ok(count.rows)
 }
 
-fn shown_of<S: Alter>(
-    conn: &mut Idle<S>,
-    alloc: Global,
-    question: Question<'_>,
-) -> Result<String, RowFault> {
-    let rows = ask(conn, question)?;
-    Ok(shown(alloc, rows)?)
-}
-
+/// Counts the rows of tables, and of runs.
 fn check_counts<S: Alter>(rt: &impl Abort, conn: &mut Idle<S>) -> Result<(), Fail> {
     for (row, table, wanted) in [
         ("transmissions", TableName::Transmissions, 2),
@@ -82,72 +76,66 @@ fn check_counts<S: Alter>(rt: &impl Abort, conn: &mut Idle<S>) -> Result<(), Fai
         ("ends", TableName::SegmentEnds, 3),
         ("mechanical pools", TableName::MechanicalPools, 0),
     ] {
-        told(rt, row, count_of(conn, table)?, wanted);
+        let name = "rows_are_taken_one_at_a_time";
+        told(rt, name, (row, count_of(conn, table)?), (row, wanted));
     }
-    Ok(())
-}
-
-#[test]
-fn rows_are_taken_one_at_a_time(rt: HostRuntime) -> Result<(), Fail> {
-    check_counts(&rt, &mut committed(rt.alloc())?)
-}
-
-fn check_runs<S: Alter>(rt: &impl Abort, conn: &mut Idle<S>) -> Result<(), Fail> {
     for (row, first, wanted) in [
         ("from 1", 1, 2),
         ("from 2", 2, 1),
         ("from 3", 3, 0),
         ("from 0", 0, 0),
     ] {
-        told(rt, row, run_from(conn, first)?, wanted);
+        let name = "a_run_ends_at_the_first_gap";
+        told(rt, name, (row, run_from(conn, first)?), (row, wanted));
     }
     Ok(())
 }
 
-#[test]
-fn a_run_ends_at_the_first_gap(rt: HostRuntime) -> Result<(), Fail> {
-    check_runs(&rt, &mut committed(rt.alloc())?)
-}
+/// Questions, each with the rows that answer it.
+const QUESTIONS: [(&str, Question<'static>, &str); 10] = [
+    ("front", Question::Front(SENDER), "PB000000012|2|1|;"),
+    ("no transmission", Question::Transmission(SENDER, 3), ""),
+    (
+        "numbers",
+        Question::NumbersAbove(SENDER, 1),
+        "PB000000012|2|;",
+    ),
+    (
+        "numbers between",
+        Question::NumbersBetween(SENDER, 0, 2),
+        "PB000000012|1|;",
+    ),
+    (
+        "ends",
+        Question::Ends(b"PB000000034"),
+        "PB000000034|26|0|27|;",
+    ),
+    ("no mechanical pool", Question::Mechanical(7), ""),
+    ("return", Question::HasReturn(b"RADIO1", 3), "RADIO1|3|;"),
+    ("no return", Question::HasReturn(b"RADIO1", 2), ""),
+    (
+        "version",
+        Question::LastVersion(SENDER, b"W1"),
+        "PB000000012|W1|1|2|4|99999999999|;",
+    ),
+    ("no version", Question::LastVersion(SENDER, b"W2"), ""),
+];
 
 fn check_questions<S: Alter>(
     rt: &impl Abort,
     alloc: Global,
     conn: &mut Idle<S>,
 ) -> Result<(), Fail> {
-    for (row, question, wanted) in [
-        ("front", Question::Front(SENDER), "PB000000012|2|1|;"),
-        ("no transmission", Question::Transmission(SENDER, 3), ""),
-        (
-            "numbers",
-            Question::NumbersAbove(SENDER, 1),
-            "PB000000012|2|;",
-        ),
-        (
-            "numbers between",
-            Question::NumbersBetween(SENDER, 0, 2),
-            "PB000000012|1|;",
-        ),
-        (
-            "ends",
-            Question::Ends(b"PB000000034"),
-            "PB000000034|26|0|27|;",
-        ),
-        ("no mechanical pool", Question::Mechanical(7), ""),
-        ("return", Question::HasReturn(b"RADIO1", 3), "RADIO1|3|;"),
-        ("no return", Question::HasReturn(b"RADIO1", 2), ""),
-        (
-            "version",
-            Question::LastVersion(SENDER, b"W1"),
-            "PB000000012|W1|1|2|4|99999999999|;",
-        ),
-        ("no version", Question::LastVersion(SENDER, b"W2"), ""),
-    ] {
-        told(rt, row, shown_of(conn, alloc, question)?.as_str(), wanted);
+    for (row, question, wanted) in QUESTIONS {
+        let text = shown(alloc, ask(conn, question)?)?;
+        told(rt, row, text.as_str(), wanted);
     }
     Ok(())
 }
 
 #[test]
 fn a_question_leaves_the_book(rt: HostRuntime) -> Result<(), Fail> {
-    check_questions(&rt, rt.alloc(), &mut committed(rt.alloc())?)
+    let mut conn = committed(rt.alloc())?;
+    check_counts(&rt, &mut conn)?;
+    check_questions(&rt, rt.alloc(), &mut conn)
 }

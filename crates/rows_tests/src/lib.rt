@@ -19,3 +19,5 @@ mod reads;
 mod rows_tests;
 #[cfg(test)]
 mod typed;
+#[cfg(test)]
+mod writes;

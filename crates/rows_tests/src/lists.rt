@@ -1,72 +1,91 @@
-//! Lists of rows, which are written by two rows a statement.
+//! Rows of lists, which are written by two rows a statement.
 use crate::book::SENDER;
-use society_rows::{
-    CreditRow, RecordingRow, RowFault, VerdictRow, VersionRow, add_credits, add_recordings,
-    add_verdicts, add_versions,
+use society_rows::{CreditRow, RecordingRow, VerdictRow, VersionRow};
+
+pub const VERDICT_0: VerdictRow<'static> = VerdictRow {
+    sender: SENDER,
+    number: 1,
+    place: 0,
+    fault: 0,
+    ordinal: 7,
+    revision: 0,
 };
-use sqlite::{Alter, Transaction};
 
-fn verdict(place: u32) -> VerdictRow<'static> {
-    VerdictRow {
-        sender: SENDER,
-        number: 1,
-        place,
-        fault: 0,
-        ordinal: 7,
-        revision: 0,
-    }
-}
+pub const VERDICT_1: VerdictRow<'static> = VerdictRow {
+    place: 1,
+    ..VERDICT_0
+};
 
-fn version(revision: i64) -> VersionRow<'static> {
-    VersionRow {
-        sender: SENDER,
-        work: b"W1",
-        revision,
-        number: 1,
-        place: 3,
-        ordinal: 7,
-    }
-}
+pub const VERDICT_2: VerdictRow<'static> = VerdictRow {
+    place: 2,
+    ..VERDICT_0
+};
 
-fn recording(revision: i64) -> RecordingRow<'static> {
-    RecordingRow {
-        sender: SENDER,
-        work: b"W1",
-        revision,
-        isrc: b"ATABC2600001",
-    }
-}
+pub const VERDICT_3: VerdictRow<'static> = VerdictRow {
+    place: 3,
+    ..VERDICT_0
+};
 
-fn credit(line: u32) -> CreditRow<'static> {
-    CreditRow {
-        pool: 7,
-        line,
-        isrc: b"-",
-        account: b"UNCLAIMED",
-        units: 5,
-    }
-}
+pub const VERDICT_4: VerdictRow<'static> = VerdictRow {
+    place: 4,
+    ..VERDICT_0
+};
 
-pub fn write_three_verdicts<S: Alter>(tx: &mut Transaction<'_, S>) -> Result<(), RowFault> {
-    add_verdicts(tx, &[verdict(2), verdict(0), verdict(1)])
-}
+pub const VERDICT_5: VerdictRow<'static> = VerdictRow {
+    place: 5,
+    ..VERDICT_0
+};
 
-pub fn write_three_versions<S: Alter>(tx: &mut Transaction<'_, S>) -> Result<(), RowFault> {
-    add_versions(tx, &[version(2), version(0), version(1)])
-}
+pub const VERSION_0: VersionRow<'static> = VersionRow {
+    sender: SENDER,
+    work: b"W1",
+    revision: 0,
+    number: 1,
+    place: 3,
+    ordinal: 7,
+};
 
-pub fn write_three_recordings<S: Alter>(tx: &mut Transaction<'_, S>) -> Result<(), RowFault> {
-    add_recordings(tx, &[recording(2), recording(0), recording(1)])
-}
+pub const VERSION_1: VersionRow<'static> = VersionRow {
+    revision: 1,
+    ..VERSION_0
+};
 
-pub fn write_three_credits<S: Alter>(tx: &mut Transaction<'_, S>) -> Result<(), RowFault> {
-    add_credits(tx, &[credit(2), credit(0), credit(1)])
-}
+pub const VERSION_2: VersionRow<'static> = VersionRow {
+    revision: 2,
+    ..VERSION_0
+};
 
-pub fn write_none<S: Alter>(tx: &mut Transaction<'_, S>) -> Result<(), RowFault> {
-    add_verdicts(tx, &[])
-}
+pub const RECORDING_0: RecordingRow<'static> = RecordingRow {
+    sender: SENDER,
+    work: b"W1",
+    revision: 0,
+    isrc: b"ATABC2600001",
+};
 
-pub fn write_one_twice<S: Alter>(tx: &mut Transaction<'_, S>) -> Result<(), RowFault> {
-    add_verdicts(tx, &[verdict(3), verdict(4), verdict(5), verdict(3)])
-}
+pub const RECORDING_1: RecordingRow<'static> = RecordingRow {
+    revision: 1,
+    ..RECORDING_0
+};
+
+pub const RECORDING_2: RecordingRow<'static> = RecordingRow {
+    revision: 2,
+    ..RECORDING_0
+};
+
+pub const CREDIT_0: CreditRow<'static> = CreditRow {
+    pool: 7,
+    line: 0,
+    isrc: b"-",
+    account: b"UNCLAIMED",
+    units: 5,
+};
+
+pub const CREDIT_1: CreditRow<'static> = CreditRow {
+    line: 1,
+    ..CREDIT_0
+};
+
+pub const CREDIT_2: CreditRow<'static> = CreditRow {
+    line: 2,
+    ..CREDIT_0
+};

@@ -1,94 +1,74 @@
 //! Rows as the types of their tables.
 use crate::book::SENDER;
+use crate::reads::{Read, rows};
 use society_rows::{
     BalanceRow, FrontRow, MechanicalPoolRow, OfficeRow, RowFault, SegmentEndRow, TransmissionRow,
-    all_offices, balance_at, ends_of, front_at, mechanical_at, transmission_at,
 };
 use sqlite::{Alter, Row, Transaction};
 use work_ids::Segment;
 
-fn is_office(row: &Row) -> bool {
-    match OfficeRow::from_row(row) {
-        Ok(office) => office.society == 900 && office.name == b"EXAMPLE SOCIETY".as_slice(),
-        Err(_) => false,
-    }
+/// What has to be there.
+#[derive(Clone, Copy)]
+pub enum Typed {
+    Office,
+    Second,
+    Front,
+    Balance,
+    Ends,
+    Mechanical,
 }
 
-fn is_second(row: &Row) -> bool {
-    match TransmissionRow::from_row(row) {
-        Ok(read) => read.number == 2 && read.sender == SENDER && read.body == b"second".as_slice(),
-        Err(_) => false,
-    }
-}
-
-fn is_late_front(row: &Row) -> bool {
-    match FrontRow::from_row(row) {
-        Ok(front) => front.front == 2 && front.works == 1,
-        Err(_) => false,
-    }
-}
-
-fn is_balance(row: &Row) -> bool {
-    match BalanceRow::from_row(row) {
-        Ok(balance) => balance.units == 999_999_999_999_999_999,
-        Err(_) => false,
-    }
-}
-
-fn is_plain_end(row: &Row) -> bool {
+/// Whether a row is the end of this segment, with these numbers.
+fn is_end(row: &Row, segment: Segment, last: u32, next: u32) -> bool {
     match SegmentEndRow::from_row(row) {
-        Ok(end) => end.segment == Segment::Plain && end.last == 2 && end.next == 0,
+        Ok(end) => end.segment == segment && end.last == last && end.next == next,
         Err(_) => false,
     }
 }
 
-fn is_year_end(row: &Row) -> bool {
-    match SegmentEndRow::from_row(row) {
-        Ok(end) => end.segment == Segment::Year(0) && end.last == 9_999 && end.next == 99,
-        Err(_) => false,
+/// Whether rows are what has to be there.
+fn are(rows: &[Row], what: Typed) -> bool {
+    match (what, rows) {
+        (Typed::Office, [row]) => match OfficeRow::from_row(row) {
+            Ok(office) => office.society == 900 && office.name == b"EXAMPLE SOCIETY".as_slice(),
+            Err(_) => false,
+        },
+        (Typed::Second, [row]) => match TransmissionRow::from_row(row) {
+            Ok(read) => {
+                read.number == 2 && read.sender == SENDER && read.body == b"second".as_slice()
+            }
+            Err(_) => false,
+        },
+        (Typed::Front, [row]) => match FrontRow::from_row(row) {
+            Ok(front) => front.front == 2 && front.works == 1,
+            Err(_) => false,
+        },
+        (Typed::Balance, [row]) => match BalanceRow::from_row(row) {
+            Ok(balance) => balance.units == 999_999_999_999_999_999,
+            Err(_) => false,
+        },
+        (Typed::Ends, [plain, year]) => {
+            is_end(plain, Segment::Plain, 2, 0) && is_end(year, Segment::Year(0), 9_999, 99)
+        }
+        (Typed::Mechanical, [row]) => match MechanicalPoolRow::from_row(row) {
+            Ok(marked) => marked.pool == 7,
+            Err(_) => false,
+        },
+        _ => false,
     }
 }
 
-fn is_mechanical(row: &Row) -> bool {
-    match MechanicalPoolRow::from_row(row) {
-        Ok(marked) => marked.pool == 7,
-        Err(_) => false,
-    }
-}
-
-/// Changes the segment of a year to one that is none, by its column.
-pub fn misread_ends<S: Alter>(tx: &mut Transaction<'_, S>, change: &str) -> Result<bool, RowFault> {
-    tx.execute(change, &[])?;
-    let rows = ends_of(tx, b"PB000000034")?;
-    Ok(rows.len() == 1 && SegmentEndRow::from_row(&rows[0]).is_err())
-}
-
-pub fn ends_are_there<S: Alter>(tx: &mut Transaction<'_, S>) -> Result<bool, RowFault> {
-    let rows = ends_of(tx, SENDER)?;
-    Ok(rows.len() == 2 && is_plain_end(&rows[0]) && is_year_end(&rows[1]))
-}
-
-pub fn mechanical_is_there<S: Alter>(tx: &mut Transaction<'_, S>) -> Result<bool, RowFault> {
-    let rows = mechanical_at(tx, 7)?;
-    Ok(rows.len() == 1 && is_mechanical(&rows[0]))
-}
-
-pub fn office_is_there<S: Alter>(tx: &mut Transaction<'_, S>) -> Result<bool, RowFault> {
-    let rows = all_offices(tx)?;
-    Ok(rows.len() == 1 && is_office(&rows[0]) && !is_second(&rows[0]))
-}
-
-pub fn second_is_there<S: Alter>(tx: &mut Transaction<'_, S>) -> Result<bool, RowFault> {
-    let rows = transmission_at(tx, SENDER, 2)?;
-    Ok(rows.len() == 1 && is_second(&rows[0]))
-}
-
-pub fn front_is_there<S: Alter>(tx: &mut Transaction<'_, S>) -> Result<bool, RowFault> {
-    let rows = front_at(tx, SENDER)?;
-    Ok(rows.len() == 1 && is_late_front(&rows[0]))
-}
-
-pub fn balance_is_there<S: Alter>(tx: &mut Transaction<'_, S>) -> Result<bool, RowFault> {
-    let rows = balance_at(tx, b"UNCLAIMED")?;
-    Ok(rows.len() == 1 && is_balance(&rows[0]))
+/// Whether it is there; the office's row is no transmission.
+pub fn is_there<S: Alter>(tx: &mut Transaction<'_, S>, what: Typed) -> Result<bool, RowFault> {
+    let read = match what {
+        Typed::Office => Read::Offices,
+        Typed::Second => Read::Transmission(SENDER, 2),
+        Typed::Front => Read::Front(SENDER),
+        Typed::Balance => Read::Balance(b"UNCLAIMED"),
+        Typed::Ends => Read::Ends(SENDER),
+        Typed::Mechanical => Read::Mechanical(7),
+    };
+    let rows = rows(tx, read)?;
+    let is_second = matches!(what, Typed::Second);
+    Ok(are(rows.as_slice(), what) && are(rows.as_slice(), Typed::Second) == is_second)
 }

@@ -3,7 +3,7 @@ use crate::checks::{holds, is_text};
 use http_desk::Counted;
 use society_commands::serve_connections;
 use society_core::{Desk, PlainStore};
-use std::alloc::Global;
+use std::alloc::{AllocError, Global};
 use std::io::{Read, Write};
 use std::net::{Ipv4Addr, Shutdown, TcpListener, TcpStream};
 use std::process::Abort;
@@ -21,50 +21,71 @@ fn sent(rt: &HostRuntime, listener: &TcpListener, bytes: &[u8]) -> Result<TcpStr
     Ok(stream)
 }
 
-/// A put of a transmission.
-fn put_of(alloc: Global, number: &str, body: &[u8]) -> Result<Vec<u8>, Fail> {
+/// What a peer sends.
+#[derive(Clone, Copy)]
+enum Sent {
+    Nothing,
+    /// A put of a transmission under this number.
+    Put(&'static str, &'static [u8]),
+    /// The same, and the request of its acknowledgement.
+    Both(&'static str, &'static [u8]),
+    /// The first 1,000 bytes of a put.
+    Cut(&'static [u8]),
+}
+
+/// What a peer gets.
+#[derive(Clone, Copy)]
+enum Got {
+    Nothing,
+    /// That a transmission is applied, under this front.
+    Applied(u32),
+    /// The same, and this acknowledgement.
+    Both(u32, &'static [u8]),
+    /// That its bytes are no request.
+    Bad,
+}
+
+/// What is answered to bytes that are no request.
+const BAD: &[u8] =
+    b"HTTP/1.1 400 Bad Request\r\nContent-Type: application/json\r\nContent-Length: 19\r\nConnection: close\r\n\r\n{\"error\":\"request\"}";
+
+/// The bytes that a peer sends.
+fn bytes_of(alloc: Global, what: Sent) -> Result<Vec<u8>, AllocError> {
     let mut input = Vec::new(alloc);
-    put(alloc, &mut input, number, body)?;
+    match what {
+        Sent::Nothing => {}
+        Sent::Put(number, body) => put(alloc, &mut input, number, body)?,
+        Sent::Both(number, body) => {
+            put(alloc, &mut input, number, body)?;
+            get(alloc, &mut input, number)?;
+        }
+        Sent::Cut(body) => {
+            put(alloc, &mut input, "1", body)?;
+            input.truncate(1_000);
+        }
+    }
     Ok(input)
 }
 
-/// A connection that has sent a put of a transmission.
-fn sent_put(
-    rt: &HostRuntime,
-    listener: &TcpListener,
-    number: &str,
-    body: &[u8],
-) -> Result<TcpStream, Fail> {
-    let input = put_of(rt.alloc(), number, body)?;
-    sent(rt, listener, &input)
-}
-
-/// A connection that has sent a put of a transmission and the request of its acknowledgement.
-fn sent_both(
-    rt: &HostRuntime,
-    listener: &TcpListener,
-    number: &str,
-    body: &[u8],
-) -> Result<TcpStream, Fail> {
-    let mut input = put_of(rt.alloc(), number, body)?;
-    get(rt.alloc(), &mut input, number)?;
-    sent(rt, listener, &input)
-}
-
-/// What is answered to a put that is applied, under this front.
-fn applied(alloc: Global, front: u32) -> Result<Vec<u8>, Fail> {
+/// Appends the answer to a put that is applied, under this front.
+fn applied(alloc: Global, wanted: &mut Vec<u8>, front: u32) -> Result<(), AllocError> {
     let json = format!(in alloc; "{{\"front\":{front},\"state\":\"applied\"}}")?;
-    let mut wanted = Vec::new(alloc);
-    answer(alloc, &mut wanted, "201 Created", "json", json.as_bytes())?;
-    Ok(wanted)
+    answer(alloc, wanted, "201 Created", "json", json.as_bytes())
 }
 
-/// What the peer of a connection got.
-fn got(alloc: Global, stream: TcpStream) -> Result<Vec<u8>, Fail> {
-    let mut stream = stream;
-    let mut bytes = Vec::new(alloc);
-    stream.read_to_end(&mut bytes)?;
-    Ok(bytes)
+/// The bytes that a peer gets.
+fn wanted_of(alloc: Global, what: Got) -> Result<Vec<u8>, AllocError> {
+    let mut wanted = Vec::new(alloc);
+    match what {
+        Got::Nothing => {}
+        Got::Applied(front) => applied(alloc, &mut wanted, front)?,
+        Got::Both(front, ack) => {
+            applied(alloc, &mut wanted, front)?;
+            answer(alloc, &mut wanted, "200 OK", "octet-stream", ack)?;
+        }
+        Got::Bad => wanted.extend_from_slice(BAD)?,
+    }
+    Ok(wanted)
 }
 
 /// Checks what the peer of a connection got.
@@ -75,37 +96,10 @@ fn check_got(
     stream: TcpStream,
     wanted: &[u8],
 ) -> Result<(), Fail> {
-    let bytes = got(alloc, stream)?;
+    let mut stream = stream;
+    let mut bytes = Vec::new(alloc);
+    stream.read_to_end(&mut bytes)?;
     is_text(rt, row, &bytes, wanted);
-    Ok(())
-}
-
-/// Checks that the peer of a connection got the answer to a put that is applied, under this front.
-fn check_applied(
-    rt: &impl Abort,
-    alloc: Global,
-    row: &str,
-    stream: TcpStream,
-    front: u32,
-) -> Result<(), Fail> {
-    let bytes = got(alloc, stream)?;
-    is_text(rt, row, &bytes, &applied(alloc, front)?);
-    Ok(())
-}
-
-/// Checks that it got this acknowledgement too.
-fn check_both(
-    rt: &impl Abort,
-    alloc: Global,
-    row: &str,
-    stream: TcpStream,
-    front: u32,
-    ack: &[u8],
-) -> Result<(), Fail> {
-    let bytes = got(alloc, stream)?;
-    let mut wanted = applied(alloc, front)?;
-    answer(alloc, &mut wanted, "200 OK", "octet-stream", ack)?;
-    is_text(rt, row, &bytes, &wanted);
     Ok(())
 }
 
@@ -123,64 +117,58 @@ fn served(
     Ok(out.into_inner())
 }
 
-/// Serves so many connections over one book, and checks the lines that are printed.
-fn check_served(
-    rt: &impl Abort,
-    alloc: Global,
-    listener: &TcpListener,
-    connections: u32,
-    wanted: &[u8],
-) -> Result<(), Fail> {
-    let lines = served(rt, alloc, listener, connections)?;
-    is_text(rt, "lines", &lines, wanted);
+/// A name, the peers that come one after another, each with what it sends and gets, and the lines that are printed.
+type Row = (&'static str, &'static [(Sent, Got)], &'static [u8]);
+
+/// Connections share one book, and a body that breaks off ends its connection alone.
+const ROWS: [Row; 3] = [
+    (
+        "one_connection",
+        &[(Sent::Both("1", REGISTERED), Got::Both(1, REGISTERED_ACK))],
+        b"connection 1: 2 requests\n",
+    ),
+    (
+        "connections_share_one_book",
+        &[
+            (Sent::Put("1", REGISTERED), Got::Applied(1)),
+            (Sent::Nothing, Got::Nothing),
+            (Sent::Both("2", EMPTY), Got::Both(2, EMPTY_ACK)),
+        ],
+        b"connection 1: 1 requests\nconnection 2: 0 requests\nconnection 3: 2 requests\n",
+    ),
+    (
+        "a_connection_that_breaks_off",
+        &[
+            (Sent::Cut(REGISTERED), Got::Bad),
+            (Sent::Put("1", REGISTERED), Got::Applied(1)),
+        ],
+        b"connection 1: 0 requests\nconnection 2: 1 requests\n",
+    ),
+];
+
+/// Lets peers send what they send, serves them, and checks what each of them got.
+fn check_peers(rt: &HostRuntime, row: Row) -> Result<(), Fail> {
+    let (name, peers, lines) = row;
+    let alloc = rt.alloc();
+    let listener = TcpListener::bind(rt, (Ipv4Addr::LOCALHOST, 0))?;
+    let mut streams = Vec::new(alloc);
+    for (what, _) in peers {
+        streams.push(sent(rt, &listener, &bytes_of(alloc, *what)?)?)?;
+    }
+    let printed = served(rt, alloc, &listener, peers.len() as u32)?;
+    is_text(rt, name, &printed, lines);
+    for (stream, (_, what)) in streams.into_iter().zip(peers) {
+        check_got(rt, alloc, name, stream, &wanted_of(alloc, *what)?)?;
+    }
     Ok(())
 }
 
 #[test]
-fn one_connection(rt: HostRuntime) -> Result<(), Fail> {
-    let alloc = rt.alloc();
-    let listener = TcpListener::bind(&rt, (Ipv4Addr::LOCALHOST, 0))?;
-    let peer = sent_both(&rt, &listener, "1", REGISTERED)?;
-    let lines = b"connection 1: 2 requests\n";
-    check_served(&rt, alloc, &listener, 1, lines)?;
-    check_both(&rt, alloc, "the peer", peer, 1, REGISTERED_ACK)
-}
-
-#[test]
-fn connections_share_one_book(rt: HostRuntime) -> Result<(), Fail> {
-    let alloc = rt.alloc();
-    let listener = TcpListener::bind(&rt, (Ipv4Addr::LOCALHOST, 0))?;
-    let one = sent_put(&rt, &listener, "1", REGISTERED)?;
-    let none = sent(&rt, &listener, b"")?;
-    let two = sent_both(&rt, &listener, "2", EMPTY)?;
-    let lines = b"connection 1: 1 requests\nconnection 2: 0 requests\nconnection 3: 2 requests\n";
-    check_served(&rt, alloc, &listener, 3, lines)?;
-    check_applied(&rt, alloc, "the first", one, 1)?;
-    check_got(&rt, alloc, "one without a request", none, b"")?;
-    check_both(&rt, alloc, "the last", two, 2, EMPTY_ACK)
-}
-
-/// What is answered to bytes that are no request.
-const BAD: &[u8] =
-    b"HTTP/1.1 400 Bad Request\r\nContent-Type: application/json\r\nContent-Length: 19\r\nConnection: close\r\n\r\n{\"error\":\"request\"}";
-
-/// A connection that has sent the first 1,000 bytes of a put.
-fn sent_cut(rt: &HostRuntime, listener: &TcpListener) -> Result<TcpStream, Fail> {
-    let whole = put_of(rt.alloc(), "1", REGISTERED)?;
-    sent(rt, listener, whole.get(..1_000).unwrap_or(b""))
-}
-
-/// A body that breaks off, and a peer that takes no answer, end their connections alone.
-#[test]
-fn a_connection_that_breaks_off(rt: HostRuntime) -> Result<(), Fail> {
-    let alloc = rt.alloc();
-    let listener = TcpListener::bind(&rt, (Ipv4Addr::LOCALHOST, 0))?;
-    let cut = sent_cut(&rt, &listener)?;
-    let after = sent_put(&rt, &listener, "1", REGISTERED)?;
-    let lines = b"connection 1: 0 requests\nconnection 2: 1 requests\n";
-    check_served(&rt, alloc, &listener, 2, lines)?;
-    check_got(&rt, alloc, "the one that breaks off", cut, BAD)?;
-    check_applied(&rt, alloc, "the one after it", after, 1)
+fn peers_that_come_one_after_another(rt: HostRuntime) -> Result<(), Fail> {
+    for row in ROWS {
+        check_peers(&rt, row)?;
+    }
+    Ok(())
 }
 
 /// A connection whose peer has sent the begin of a request and is gone.
@@ -196,13 +184,15 @@ fn a_peer_that_is_gone(rt: HostRuntime) -> Result<(), Fail> {
     let alloc = rt.alloc();
     let listener = TcpListener::bind(&rt, (Ipv4Addr::LOCALHOST, 0))?;
     left(&rt, &listener)?;
-    let after = sent_put(&rt, &listener, "1", REGISTERED)?;
+    let put = bytes_of(alloc, Sent::Put("1", REGISTERED))?;
+    let after = sent(&rt, &listener, &put)?;
     let lines = served(&rt, alloc, &listener, 2)?;
     let first = lines.starts_with(b"connection 1: ");
     holds(&rt, "a line of the first", first);
     let last = lines.ends_with(b"connection 2: 1 requests\n");
     holds(&rt, "the line of the other", last);
-    check_applied(&rt, alloc, "the one after it", after, 1)
+    let wanted = wanted_of(alloc, Got::Applied(1))?;
+    check_got(&rt, alloc, "the one after it", after, &wanted)
 }
 
 /// A peer that waits for its answer with its sending half open gets it, and the end: nothing is read behind a request that is whole.
@@ -217,6 +207,6 @@ fn a_peer_that_waits(rt: HostRuntime) -> Result<(), Fail> {
     let mut peer = TcpStream::connect(&rt, listener.local_addr()?)?;
     peer.write_all(asked)?;
     let lines = b"connection 1: 1 requests\n";
-    check_served(&rt, alloc, &listener, 1, lines)?;
+    is_text(&rt, "lines", &served(&rt, alloc, &listener, 1)?, lines);
     check_got(&rt, alloc, "the peer", peer, wanted)
 }

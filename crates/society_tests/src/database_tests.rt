@@ -2,7 +2,7 @@
 ghost use Rattle.std.specs.Prelude.{⊤};
 
 use crate::checks::{holds, is_status, is_text};
-use crate::day_tests::{ANSWERS, DAY};
+use crate::day::{ANSWERS, DAY};
 use http_desk::{Counted, serve};
 use share_rules::Office;
 use society_commands::{Host, OpenDatabase, TURNS, audit_file, serve_file};

@@ -1,17 +1,18 @@
-//! Tests of the office's tables: what arrives, ends of segments, cuts and pools, and databases that are opened, empty ones among them.
+//! Tests of the office's tables: candidates of a pool, the rows that requests leave, and databases that are opened, damaged ones among
+//! them. Requests and their answers are in the crate office_rows.
 #![tactic(auto)]
 
-#[cfg(test)]
-mod arrival_tests;
 #[cfg(test)]
 mod checks;
 #[cfg(test)]
 mod cut_tests;
 #[cfg(test)]
-mod empty_tests;
+mod damage_tests;
+#[cfg(test)]
+mod left;
+#[cfg(test)]
+mod listing;
 #[cfg(test)]
 mod open_tests;
 #[cfg(test)]
-mod pool_tests;
-#[cfg(test)]
-mod year_tests;
+mod row_tests;
