@@ -147,7 +147,7 @@ const ROWS: [Row; 3] = [
 ];
 
 /// Lets peers send what they send, serves them, and checks what each of them got.
-fn check_peers(rt: &HostRuntime, row: Row) -> Result<(), Fail> {
+fn check_peers(rt: &HostRuntime, test: &impl Abort, row: Row) -> Result<(), Fail> {
     let (name, peers, lines) = row;
     let alloc = rt.alloc();
     let listener = TcpListener::bind(rt, (Ipv4Addr::LOCALHOST, 0))?;
@@ -155,10 +155,10 @@ fn check_peers(rt: &HostRuntime, row: Row) -> Result<(), Fail> {
     for (what, _) in peers {
         streams.push(sent(rt, &listener, &bytes_of(alloc, *what)?)?)?;
     }
-    let printed = served(rt, alloc, &listener, peers.len() as u32)?;
-    is_text(rt, name, &printed, lines);
+    let printed = served(test, alloc, &listener, peers.len() as u32)?;
+    is_text(test, name, &printed, lines);
     for (stream, (_, what)) in streams.into_iter().zip(peers) {
-        check_got(rt, alloc, name, stream, &wanted_of(alloc, *what)?)?;
+        check_got(test, alloc, name, stream, &wanted_of(alloc, *what)?)?;
     }
     Ok(())
 }
@@ -166,7 +166,7 @@ fn check_peers(rt: &HostRuntime, row: Row) -> Result<(), Fail> {
 #[test]
 fn peers_that_come_one_after_another(rt: HostRuntime) -> Result<(), Fail> {
     for row in ROWS {
-        check_peers(&rt, row)?;
+        check_peers(&rt, &rt, row)?;
     }
     Ok(())
 }
