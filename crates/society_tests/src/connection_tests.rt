@@ -14,7 +14,7 @@ use test_bodies::{EMPTY, EMPTY_ACK, REGISTERED, REGISTERED_ACK, answer, get, off
 // take minutes to prove.
 
 /// A connection that has sent these bytes, and sends no more. The system keeps it until it is accepted.
-fn sent(rt: &HostRuntime, listener: &TcpListener, bytes: &[u8]) -> Result<TcpStream, Fail> {
+fn peer_of(rt: &HostRuntime, listener: &TcpListener, bytes: &[u8]) -> Result<TcpStream, Fail> {
     let mut stream = TcpStream::connect(rt, listener.local_addr()?)?;
     stream.write_all(bytes)?;
     stream.shutdown(Shutdown::Write)?;
@@ -153,7 +153,7 @@ fn check_peers(rt: &HostRuntime, test: &impl Abort, row: Row) -> Result<(), Fail
     let listener = TcpListener::bind(rt, (Ipv4Addr::LOCALHOST, 0))?;
     let mut streams = Vec::new(alloc);
     for (what, _) in peers {
-        streams.push(sent(rt, &listener, &bytes_of(alloc, *what)?)?)?;
+        streams.push(peer_of(rt, &listener, &bytes_of(alloc, *what)?)?)?;
     }
     let printed = served(test, alloc, &listener, peers.len() as u32)?;
     is_text(test, name, &printed, lines);
@@ -185,7 +185,7 @@ fn a_peer_that_is_gone(rt: HostRuntime) -> Result<(), Fail> {
     let listener = TcpListener::bind(&rt, (Ipv4Addr::LOCALHOST, 0))?;
     left(&rt, &listener)?;
     let put = bytes_of(alloc, Sent::Put("1", REGISTERED))?;
-    let after = sent(&rt, &listener, &put)?;
+    let after = peer_of(&rt, &listener, &put)?;
     let lines = served(&rt, alloc, &listener, 2)?;
     let first = lines.starts_with(b"connection 1: ");
     holds(&rt, "a line of the first", first);
