@@ -7,7 +7,7 @@ use perf_returns::read_return;
 use share_rules::{Kind, Office};
 use society_book::{arrive, candidates_in};
 use society_core::{Candidate, PoolOrder, Tally};
-use society_rows::{Idle, OfficeRow, create};
+use society_rows::{Found, Idle, OfficeRow, create, layout_found};
 use sqlite::{Alter, Connection};
 use std::alloc::{AllocError, Global};
 use std::str;
@@ -56,6 +56,9 @@ fn fill<S: Alter>(alloc: Global, conn: &mut Idle<S>, office: &Office) -> Result<
         territory: 40,
         name: office.name(),
     };
+    if !matches!(layout_found(conn), Found::Nothing) {
+        return Err(Fail::new("a database without tables"));
+    }
     create(conn, &row).ok().ok_or("tables")?;
     put_all(alloc, conn, office)
 }
