@@ -155,7 +155,8 @@ fn check_peers(rt: &HostRuntime, test: &impl Abort, row: Row) -> Result<(), Fail
     for (what, _) in peers {
         streams.push(peer_of(rt, &listener, &bytes_of(alloc, *what)?)?)?;
     }
-    let printed = served(test, alloc, &listener, peers.len() as u32)?;
+    let count = u32::try_from(peers.len()).ok().ok_or("a number of peers")?;
+    let printed = served(test, alloc, &listener, count)?;
     is_text(test, name, &printed, lines);
     for (stream, (_, what)) in streams.into_iter().zip(peers) {
         check_got(test, alloc, name, stream, &wanted_of(alloc, *what)?)?;
