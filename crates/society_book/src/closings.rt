@@ -157,11 +157,7 @@ fn add_cut<S: Alter>(
 }
 
 // Marks a pool as one of the mechanical right, where it pays this one.
-fn add_mark<S: Alter>(
-    tx: &mut Transaction<'_, S>,
-    pool: u32,
-    kind: Kind,
-) -> Result<(), RowFault>
+fn add_mark<S: Alter>(tx: &mut Transaction<'_, S>, pool: u32, kind: Kind) -> Result<(), RowFault>
     ensures same_reference { tx.new.conn.ghost_name ≡ tx.old.conn.ghost_name }
     ensures does { within S.Store tx.old tx.new Does result (λ before after _. Marks pool kind before after) }
 {

@@ -197,6 +197,7 @@ fn prepare<S: Alter>(alloc: Global, conn: &mut Idle<S>, office: &Office) -> Resu
     match layout_found(conn) {
         Found::Nothing => begin(conn, office),
         Found::Layout => audit(alloc, conn, office),
+        Found::Older(_) => Err(OpenFault::Schema),
         Found::Other => Err(OpenFault::Schema),
     }
 }

@@ -231,13 +231,7 @@ pub(crate) fn pool_of_row(
     let cut = cut_among(alloc, cuts, row.pool)?;
     let returns = returns_among(alloc, paid, row.pool)?;
     let kind = kind_among(marks, row.pool);
-    let order = order_with(
-        alloc,
-        kind,
-        row.amount,
-        cut.as_slice(),
-        returns.as_slice(),
-    )?;
+    let order = order_with(alloc, kind, row.amount, cut.as_slice(), returns.as_slice())?;
     Ok((pool, order))
 }
 

@@ -1,5 +1,5 @@
 -- What the fault of an opening says of the office.
-use Rattle.std.proofs.Common.{◌≡◌, ◌≢◌, ◌∙◌, ◌<◌, length, ◌^◌, ◌&&◌, ℕ, nat_le, leb-true, arith, Bool, true, false, List, [], ◌∷◌, Result, Ok, Err, IfErr, IsPermutation, ap, refl, subst, sym}
+use Rattle.std.proofs.Common.{◌≡◌, ◌≢◌, ◌∙◌, ◌<◌, length, ◌^◌, ◌&&◌, ℕ, nat_le, leb-true, arith, lit≤, Bool, true, false, List, [], ◌∷◌, Result, Ok, Err, IfErr, IsPermutation, ap, refl, subst, sym}
 use Rattle.std.specs.Result.{IsErrAnd}
 use Rattle.std.proofs.lemmas.Bool.{false≢true}
 use Rattle.std.proofs.Math.Logic.{∥∥₁_elim}
@@ -10,14 +10,17 @@ use Rattle.sqlite.specs.Effect.{Database}
 use Rattle.sqlite_schema.specs.declared.schema.Schema.{Schema}
 use Rattle.sqlite_value.specs.Order.{Row}
 use Rattle.society_rows.specs.Layout as layout
-use Rattle.society_rows.specs.Layout.{no_schema}
+use Rattle.society_rows.specs.Layouts.{HasOlder}
 use Rattle.society_rows.specs.NewBook.{IsBare}
 use Rattle.society_rows.specs.Stored.{HasLayout, rows_in}
+use Rattle.society_rows.specs.declared.older.OlderLayout.{OlderLayout}
+use Rattle.society_rows.specs.declared.older.OlderLayout.TheVariants as older
 use Rattle.society_rows.specs.declared.fault.RowFault.{RowFault}
 use Rattle.society_rows.specs.declared.fault.RowFault.TheVariants as row
 use Rattle.society_book.specs.Kept.{HoldsOwnBook, office_row}
 use Rattle.society_tables.specs.Opening.{HoldsOne, IsOneOffice, IsOutside, TellsDatabase, TellsOffice, audit_fault_by, open_fault_by}
 use Rattle.society_tables.specs.Rebuilding.{IsAside}
+use Rattle.society_rows.proofs.definitions.FirstTables.{first_long}
 use Rattle.society_tables.specs.declared.audit_fault.AuditFault.{AuditFault}
 use Rattle.society_tables.specs.declared.audit_fault.AuditFault.TheVariants as audit
 use Rattle.society_tables.specs.declared.open_fault.OpenFault.{OpenFault}
@@ -104,11 +107,20 @@ told_of_layout o db fault.OtherOffice has bare told damaged = (has, told)
 told_of_layout o db fault.Damaged has bare told damaged = (has, told, damaged refl)
 
 -- a database is not both bare and of the layout
-pub not_both : (s : Schema) → s ≡ no_schema → s ≡ layout.layout → ⊥
-unfolding layout.layout layout.written_out
-not_both s bare has =
-    let e : 0 ≡ 14 = ap (λ (z : Schema). length z.tables) (sym bare ∙ has) in
-    omega (e, arith)
+pub not_both : (db : Database) → IsBare db → HasLayout db → ⊥
+not_both db bare has =
+    let e : length db.schema.tables ≡ 0 = ap (λ (z : Schema). length z.tables) bare in
+    omega (e, first_long 14 (lit≤ tt) db has, arith)
+
+-- nor an older layout
+pub not_older : (layout : OlderLayout) (db : Database) → IsBare db → HasOlder layout db → ⊥
+not_older older.First db bare has = let e : length db.schema.tables ≡ 0 = ap (λ (z : Schema). length z.tables) bare in omega (e, first_long 6 (lit≤ tt) db has, arith)
+not_older older.Second db bare has = let e : length db.schema.tables ≡ 0 = ap (λ (z : Schema). length z.tables) bare in omega (e, first_long 12 (lit≤ tt) db has, arith)
+
+-- an older layout is not layout 3
+pub older_apart : (layout : OlderLayout) (db : Database) → HasOlder layout db → HasLayout db → ⊥
+older_apart older.First db was has = omega (first_long 6 (lit≤ tt) db was, first_long 14 (lit≤ tt) db has, arith)
+older_apart older.Second db was has = omega (first_long 12 (lit≤ tt) db was, first_long 14 (lit≤ tt) db has, arith)
 
 nothing_alone : (x y : ⊥) → x ≡ y
 nothing_alone x y = absurd x
@@ -132,7 +144,7 @@ own_office o =
 pub opened_else : (o : Office) (db : Database) (e : OpenFault) → HasLayout db → HoldsOne o db.trees → TellsDatabase o db e → IsOutside e
 opened_else o db fault.Memory has holds told = tt
 opened_else o db fault.Store has holds told = tt
-opened_else o db fault.Empty has holds told = absurd (not_both db.schema told has)
+opened_else o db fault.Empty has holds told = absurd (not_both db told has)
 opened_else o db fault.Schema has holds told = refuted o db holds (λ h. told.1 has (subst IsOneOffice (sym h.registered) (own_office o)))
 opened_else o db fault.OtherOffice has holds told = refuted o db holds (λ h. told.1.1 h.registered)
 opened_else o db fault.Damaged has holds told = refuted o db holds told.2

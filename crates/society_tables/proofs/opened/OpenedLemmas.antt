@@ -19,7 +19,7 @@ use Rattle.society_tables.specs.declared.open_fault.OpenFault.{OpenFault}
 use Rattle.society_tables.specs.declared.open_fault.OpenFault.TheVariants.{Damaged, Empty, Schema, Store}
 use Rattle.society_book.proofs.shown.AskLemmas.{clean_is, first_true, second_true}
 use Rattle.society_tables.proofs.alike.EmptyTables.{begun_book, begun_rests}
-use Rattle.society_tables.proofs.opened.OpenTold.{not_both, outside_told, told_of_layout}
+use Rattle.society_tables.proofs.opened.OpenTold.{not_both, not_older, outside_told, told_of_layout}
 
 -- what an answer says, by the answer
 on_ok : {X : Type 0} (r : Result X OpenFault) {P : Type 0} → P → OnOk r P
@@ -41,11 +41,11 @@ module _ (o : Office) (old new : State) (r : Result (Unit {0}) OpenFault) (settl
   opens_begun bare created neither failed crash = record {
     rests = rests_by r created;
     begun = λ clean is_open was. book_by r (created clean);
-    audited = λ clean is_open has. absurd (not_both old.now.schema bare (subst HasLayout (sym (settled is_open)) has));
+    audited = λ clean is_open has. absurd (not_both old.now bare (subst HasLayout (sym (settled is_open)) has));
     known = λ clean is_open. on_ok r (inl (subst IsBare (settled is_open) bare));
     unchanged = neither;
     told = λ clean is_open. told_by r failed;
-    failed = λ clean is_open has. absurd (not_both old.now.schema bare (subst HasLayout (sym (settled is_open)) has));
+    failed = λ clean is_open has. absurd (not_both old.now bare (subst HasLayout (sym (settled is_open)) has));
     crash = record {
       clean = crash.clean;
       shield = crash.shield;
@@ -72,7 +72,7 @@ module _ (o : Office) (old new : State) (r : Result (Unit {0}) OpenFault) (settl
   pub opens_audited : HasLayout old.now → Inspects old new r (λ db _. HoldsOne o db) → (HasCleanDisk new → HasLayout old.now → IfErr r (TellsOffice o (rows_in layout_office old.now.trees))) → (HasCleanDisk new → HasLayout old.now → IfErr r (λ e. e ≡ Damaged → ¬ HoldsOwnBook o old.now.trees)) → TellsFailure Store old new r → Opens o old new r
   opens_audited has inspected told damaged failed = record {
     rests = rests_by r (λ clean. inspected.found clean has);
-    begun = λ clean is_open bare. absurd (not_both old.now.schema (subst IsBare (sym (settled is_open)) bare) has);
+    begun = λ clean is_open bare. absurd (not_both old.now (subst IsBare (sym (settled is_open)) bare) has);
     audited = λ clean is_open was. held_by r (settled is_open) (inspected.found clean has) (inspected.undone clean);
     known = λ clean is_open. on_ok r (inr (subst HasLayout (settled is_open) has));
     unchanged = λ clean. on_err r (inspected.undone clean);
@@ -110,7 +110,7 @@ module _ (o : Office) (old new : State) (r : Result (Unit {0}) OpenFault) (settl
 
       told_by : (z : Result (Unit {0}) OpenFault) → old.now ≡ old.committed → IfErr z (TellsOffice o (rows_in layout_office old.now.trees)) → IfErr z (λ e. e ≡ Damaged → ¬ HoldsOwnBook o old.now.trees) → IfErr z (TellsDatabase o old.committed)
       told_by (Ok x) same says damage = tt
-      told_by (Err e) same says damage = subst (λ (db : Database). TellsDatabase o db e) same (told_of_layout o old.now e has (λ bare. not_both old.now.schema bare has) says damage)
+      told_by (Err e) same says damage = subst (λ (db : Database). TellsDatabase o db e) same (told_of_layout o old.now e has (λ bare. not_both old.now bare has) says damage)
 
       held_by : (z : Result (Unit {0}) OpenFault) → old.now ≡ old.committed → OnOk z (HoldsOne o old.now.trees) → ShowsAs old.committed new → OnOk z (HoldsOne o old.committed.trees × ShowsAs old.committed new)
       held_by (Ok x) same found shows = (subst (λ (db : Database). HoldsOne o db.trees) same found, shows)
@@ -149,7 +149,8 @@ survives_same s = record { clean = omega arith; shield = λ h. h; counts = omega
 -- what was found is not bare
 pub found_there : (db : Database) (what : Found) → IsFound db what → what ≢ kind.Nothing → IsBare db → ⊥
 found_there db kind.Nothing is other bare = other refl
-found_there db kind.Layout is other bare = not_both db.schema bare is
+found_there db kind.Layout is other bare = not_both db bare is
+found_there db (kind.Older layout) is other bare = not_older layout db bare is
 found_there db kind.Other is other bare = is.0 bare
 
 -- Where tables are there, what is opened was of layout 3.

@@ -1,3 +1,5 @@
+use Rattle.sqlite.specs.Held.{state}
+use Rattle.society_tables.proofs.opened.OpenTold.{not_older, older_apart}
 use Rattle.society_tables.proofs.opened.OpenedLemmas.{no_failure, opens_audited, opens_begun, opens_other}
 use Rattle.society_tables.specs.declared.open_fault.OpenFault.TheVariants.{Schema}
 use Rattle.society_tables.proofs.opening.prepare.Goals as goal
@@ -11,6 +13,11 @@ pub returns-in-Layout-clause-opens : goal.returns-in-Layout-clause-opens
 returns-in-Layout-clause-opens g c =
     opens_audited c.args.office.now _ _ c.audit.result c.in-Layout.ensures.settled
     c.in-Layout.ensures.found c.audit.ensures.whole c.audit.ensures.told c.audit.ensures.damaged c.audit.ensures.failed
+
+pub returns-in-Older-clause-opens : goal.returns-in-Older-clause-opens
+returns-in-Older-clause-opens g c =
+    let db = (state g.S.Store c.args.conn.now).now in
+    opens_other c.args.office.now _ Schema no_failure c.in-Older.ensures.settled ((λ bare. not_older _ db bare c.in-Older.ensures.found), λ has. absurd (older_apart _ db c.in-Older.ensures.found has))
 
 pub returns-in-Other-clause-opens : goal.returns-in-Other-clause-opens
 returns-in-Other-clause-opens g c =

@@ -14,7 +14,7 @@ returns-then-is_bare-clause-told g c clean is_open =
 
 pub returns-then-is_bare-clause-opens : goal.returns-then-is_bare-clause-opens
 returns-then-is_bare-clause-opens g c clean is_open has holds =
-    not_both _ (subst IsBare (c.see_last_commit.ensures.settled is_open) (c.is_bare.ensures.0 c.if-is_bare.true)) has
+    not_both (state g.S.Store c.args.connection).committed (subst IsBare (c.see_last_commit.ensures.settled is_open) (c.is_bare.ensures.0 c.if-is_bare.true)) has
 
 pub returns-then-is_bare-clause-unchanged : goal.returns-then-is_bare-clause-unchanged
 returns-then-is_bare-clause-unchanged g c =
