@@ -1,14 +1,13 @@
 //! A peer that waits for its answers with its sending half open: what is due to it is written before it is read on.
 use crate::checks::told;
 use crate::desk_rows::new_desk;
-use crate::streams::{answer, ask, put};
+use crate::streams::first_exchanges;
 use http_desk::{Counted, DeskFault, FaultKind, serve};
-use std::alloc::{AllocError, Global};
+use std::alloc::Global;
 use std::cell::Cell;
 use std::io::{ErrorKind, Read, Write};
 use std::process::Abort;
 use std::test::Fail;
-use test_bodies::REGISTERED;
 
 /// Bytes of answers that a peer has got, and that it had got when it was last asked for more than it sends.
 #[derive(Drop)]
@@ -60,36 +59,6 @@ impl Write for Receiving<'_> {
     fn flush(&mut self) -> std::io::Result<()> {
         Ok(())
     }
-}
-
-/// Requests and their answers, one behind another.
-#[derive(Drop)]
-struct Exchange {
-    requests: Vec<u8>,
-    answers: Vec<u8>,
-}
-
-/// A question, a put whose body is fed, and a put whose body is read whole: the first so many of them.
-fn first_exchanges(alloc: Global, count: usize) -> Result<Exchange, AllocError> {
-    let mut requests = Vec::new(alloc);
-    let mut answers = Vec::new(alloc);
-    if count > 0 {
-        ask(alloc, &mut requests, "GET /v1/senders/PB000000012", b"")?;
-        let text = "{\"front\":0,\"held\":[]}";
-        answer(alloc, &mut answers, "200 OK", "", text)?;
-    }
-    if count > 1 {
-        put(alloc, &mut requests, REGISTERED.len(), REGISTERED)?;
-        let text = "{\"front\":1,\"state\":\"applied\"}";
-        answer(alloc, &mut answers, "201 Created", "", text)?;
-    }
-    if count > 2 {
-        let body = b"isrc,plays,seconds\nATABC2600001,10,200\n";
-        ask(alloc, &mut requests, "PUT /v1/returns/RADIO1/7", body)?;
-        let text = "{\"state\":\"stored\"}";
-        answer(alloc, &mut answers, "201 Created", "", text)?;
-    }
-    Ok(Exchange { requests, answers })
 }
 
 /// A peer that sends the first so many requests and so many bytes more, and the rest once those are answered.

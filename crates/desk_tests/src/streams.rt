@@ -156,3 +156,39 @@ pub fn first_stream(alloc: Global) -> Result<Stream, AllocError> {
         arrival,
     })
 }
+
+/// Requests and their answers, one behind another.
+#[derive(Drop)]
+pub struct Exchange {
+    pub requests: Vec<u8>,
+    pub answers: Vec<u8>,
+}
+
+/// A question, a put whose body is fed, a put whose body is read whole, and an order over that: the first so many of them.
+pub fn first_exchanges(alloc: Global, count: usize) -> Result<Exchange, AllocError> {
+    let mut requests = Vec::new(alloc);
+    let mut answers = Vec::new(alloc);
+    if count > 0 {
+        ask(alloc, &mut requests, "GET /v1/senders/PB000000012", b"")?;
+        let text = "{\"front\":0,\"held\":[]}";
+        answer(alloc, &mut answers, "200 OK", "", text)?;
+    }
+    if count > 1 {
+        put(alloc, &mut requests, REGISTERED.len(), REGISTERED)?;
+        let text = "{\"front\":1,\"state\":\"applied\"}";
+        answer(alloc, &mut answers, "201 Created", "", text)?;
+    }
+    if count > 2 {
+        let body = b"isrc,plays,seconds\nATABC2600001,10,200\n";
+        ask(alloc, &mut requests, "PUT /v1/returns/RADIO1/7", body)?;
+        let text = "{\"state\":\"stored\"}";
+        answer(alloc, &mut answers, "201 Created", "", text)?;
+    }
+    if count > 3 {
+        let body = b"{\"amount\":1,\"cut\":[],\"returns\":[[\"RADIO1\",7]]}";
+        ask(alloc, &mut requests, "PUT /v1/pools/1", body)?;
+        let text = "{\"pool\":1,\"state\":\"closed\"}";
+        answer(alloc, &mut answers, "201 Created", "", text)?;
+    }
+    Ok(Exchange { requests, answers })
+}

@@ -17,7 +17,8 @@ pub enum File {
 }
 
 impl File {
-    fn as_bytes(self) -> &'static [u8] {
+    /// Its bytes.
+    pub fn as_bytes(self) -> &'static [u8] {
         match self {
             File::Empty => EMPTY,
             File::Registered => REGISTERED,
@@ -45,11 +46,19 @@ pub fn office(society: u16) -> Result<Office, Fail> {
 }
 
 /// The first return of a reporter.
-fn first_return() -> Result<ReturnKey, Fail> {
+pub fn first_return() -> Result<ReturnKey, Fail> {
     Ok(ReturnKey {
         reporter: Reporter::from_bytes(b"RADIO1").ok().ok_or("a reporter")?,
         number: ReturnNumber::from_u32(1).ok_or("a number")?,
     })
+}
+
+/// An order over the sender's files up to this number and the first return.
+pub fn order(alloc: Global, kind: Kind, amount: u64, cut: u64) -> Result<PoolOrder, Fail> {
+    let cuts = [(sender()?, cut)];
+    let returns = [(first_return()?.reporter, 1)];
+    let order = PoolOrder::new(alloc, kind, amount, &cuts, &returns);
+    Ok(order.ok().ok_or("an order")?)
 }
 
 /// Sends a request, and tells why it is refused, where it is.
@@ -73,16 +82,7 @@ fn send<S: Store>(alloc: Global, desk: &mut Desk<S>, step: Step) -> Result<Optio
             Ok(desk.put_return(alloc, &key, body.as_bytes()).err())
         }
         Step::Close(amount, cut) => {
-            let key = first_return()?;
-            let order = PoolOrder::new(
-                alloc,
-                Kind::Performing,
-                amount,
-                &[(sender, cut)],
-                &[(key.reporter, 1)],
-            )
-            .ok()
-            .ok_or("an order")?;
+            let order = order(alloc, Kind::Performing, amount, cut)?;
             let pool = PoolNumber::from_u32(7).ok_or("a pool")?;
             Ok(desk.close_pool(alloc, pool, &order).err())
         }
@@ -90,7 +90,7 @@ fn send<S: Store>(alloc: Global, desk: &mut Desk<S>, step: Step) -> Result<Optio
 }
 
 /// Sends requests to a store that does not fail.
-fn send_all<S: Store>(alloc: Global, desk: &mut Desk<S>, steps: &[Step]) -> Result<(), Fail> {
+pub fn send_all<S: Store>(alloc: Global, desk: &mut Desk<S>, steps: &[Step]) -> Result<(), Fail> {
     for step in steps {
         if send(alloc, desk, *step)? == Some(Refusal::Unavailable) {
             return Err(Fail::new("a store that does not fail"));

@@ -1,5 +1,5 @@
-//! Tests of the office's tables: candidates of a pool, the rows that requests leave, and databases that are opened, damaged ones among
-//! them. Requests and their answers are in the crate office_rows.
+//! Tests of the office's tables: candidates of a pool, what each call of a store answers, the rows that requests leave, and databases that
+//! are opened, damaged ones among them. Requests and their answers as bytes are in the crate office_rows.
 #![tactic(auto)]
 
 #[cfg(test)]
@@ -16,3 +16,5 @@ mod listing;
 mod open_tests;
 #[cfg(test)]
 mod row_tests;
+#[cfg(test)]
+mod typed_tests;
