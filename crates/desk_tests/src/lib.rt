@@ -1,5 +1,5 @@
-//! Tests of the desk and of the desk over bytes, over what the two crates make public: calls of the desk, streams that fail, and peers
-//! that wait. Rows over bytes are in the crate office_rows.
+//! Tests of the desk and of the desk over bytes, over what the two crates make public: calls of the desk, streams that fail, peers that
+//! wait, and what a second connection finds. Rows over bytes are in the crate office_rows.
 #![tactic(auto)]
 
 #[cfg(test)]

@@ -42,7 +42,7 @@ fn ask<S: Store>(
     name: &str,
     row: Row,
 ) -> Result<(), Fail> {
-    let sender = sender()?;
+    let (sender, key) = (sender()?, first_return()?);
     match row {
         Row::Known(rank, file, wanted) => {
             let seen = store.known(&sender, number(rank)?, file.as_bytes());
@@ -58,21 +58,13 @@ fn ask<S: Store>(
             told(rt, name, &seen.as_ref().map(|all| all.as_slice()), &wanted);
         }
         Row::KnownReturn(body, wanted) => {
-            let seen = store.known_return(&first_return()?, body);
-            told(rt, name, &seen, &Ok(wanted));
+            told(rt, name, &store.known_return(&key, body), &Ok(wanted));
         }
-        Row::NoReturn => {
-            let seen = store.payment(&first_return()?);
-            told(rt, name, &seen, &Ok(Payment::Unknown));
-        }
-        Row::Unpaid => {
-            let seen = store.payment(&first_return()?);
-            told(rt, name, &seen, &Ok(Payment::Unpaid));
-        }
+        Row::NoReturn => told(rt, name, &store.payment(&key), &Ok(Payment::Unknown)),
+        Row::Unpaid => told(rt, name, &store.payment(&key), &Ok(Payment::Unpaid)),
         Row::Paid(pool) => {
             let pool = PoolNumber::from_u32(pool).ok_or("a pool")?;
-            let seen = store.payment(&first_return()?);
-            told(rt, name, &seen, &Ok(Payment::Paid(pool)));
+            told(rt, name, &store.payment(&key), &Ok(Payment::Paid(pool)));
         }
         Row::KnownPool(pool, kind, amount, cut, wanted) => {
             let pool = PoolNumber::from_u32(pool).ok_or("a pool")?;
