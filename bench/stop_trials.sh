@@ -29,6 +29,10 @@ trial a_new_office_stops_in_its_log Gap Opening Log
 trial a_new_office_stops_in_its_database Gap Opening Database
 trial an_opening_stops_in_the_log Repeats Opening Log
 trial an_opening_stops_in_the_database Repeats Opening Database
+trial layout_1_stops_in_the_log First Opening Log
+trial layout_1_stops_in_the_database First Opening Database
+trial layout_2_stops_in_the_log Second Opening Log
+trial layout_2_stops_in_the_database Second Opening Database
 trial a_gap_is_filled_over_stops_in_the_log Gap Requests Log
 trial a_gap_is_filled_over_stops_in_the_database Gap Requests Database
 trial a_pool_is_closed_over_stops_in_the_log Pool Requests Log

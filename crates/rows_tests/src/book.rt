@@ -26,7 +26,7 @@ pub fn begin<S: Alter>(conn: &mut Idle<S>) -> Result<(), RowFault> {
                 name: b"EXAMPLE SOCIETY",
             },
         ),
-        Found::Layout | Found::Other => Err(RowFault::Schema),
+        Found::Layout | Found::Older(_) | Found::Other => Err(RowFault::Schema),
     }
 }
 

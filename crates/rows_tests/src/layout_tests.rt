@@ -2,7 +2,7 @@
 
 use crate::book::book;
 use crate::checks::told;
-use society_rows::{Found, Idle, RowFault, layout_found};
+use society_rows::{Found, Idle, OlderLayout, RowFault, layout_found};
 use sqlite::{Alter, Connection};
 use std::process::Abort;
 use std::test::Fail;
@@ -34,7 +34,7 @@ const CHANGES: [(&str, Found); 8] = [
     // The tables of layout 2.
     (
         "DROP TABLE mechanical_pools; DROP TABLE segment_ends",
-        Found::Other,
+        Found::Older(OlderLayout::Second),
     ),
 ];
 

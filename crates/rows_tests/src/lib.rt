@@ -14,6 +14,8 @@ mod layout_tests;
 #[cfg(test)]
 mod lists;
 #[cfg(test)]
+mod raising_tests;
+#[cfg(test)]
 mod reads;
 #[cfg(test)]
 mod rows_tests;

@@ -14,7 +14,7 @@ use Rattle.share_rules.specs.declared.office.Office.{Office}
 use Rattle.society_core.specs.Book.{Book}
 use Rattle.society_core.specs.State.{State}
 use Rattle.society_book.specs.BookRows.{book_of}
-use Rattle.society_tables.specs.Opening.{HoldsOne}
+use Rattle.society_tables.specs.Older.{HoldsOne}
 
 -- the database file alone, with no log, holds tables of the office with this book, as it reads now and after a crash
 pub record HoldsBookAlone {D : Type 0} (g : Ghosts D) (office : Office) (book : Book) (files : Files D) : Type 0 where

@@ -14,17 +14,21 @@ use Rattle.sqlite.specs.Held.{Held}
 use Rattle.sqlite.specs.Start.{FindsIn}
 use Rattle.sqlite.specs.State as connection
 use Rattle.sqlite.specs.Recovery.{Image}
+use Rattle.sqlite_trees.specs.Tree.{Trees}
 use Rattle.sqlite_disk.specs.declared.Disk.{Ghosts}
 use Rattle.sqlite_store.specs.declared.store.FileStore.{FileStore}
-use Rattle.society_core.specs.Book.{empty_book}
+use Rattle.society_core.specs.Book.{Book, empty_book}
 use Rattle.society_core.specs.Requests.{Reply}
 use Rattle.society_core.specs.State.{HasFailed, Rises, State}
 use Rattle.society_rows.specs.Effects.{MayFail}
+use Rattle.society_rows.specs.Layouts.{HasOlder}
 use Rattle.society_rows.specs.NewBook.{IsBare}
 use Rattle.society_rows.specs.Stored.{HasLayout}
+use Rattle.society_rows.specs.declared.older.OlderLayout.{OlderLayout}
 use Rattle.society_book.specs.BookRows.{book_of}
-use Rattle.society_tables.specs.Existing.{FindsOffice, WhenOpen}
-use Rattle.society_tables.specs.Opening.{HoldsOne, IsOpenable, ShowsAs, SurvivesOpening, TellsDatabase}
+use Rattle.society_tables.specs.Existing.{FindsSoundly, SurvivesTaking, WhenOpen}
+use Rattle.society_tables.specs.Older.{HoldsOne, Takes}
+use Rattle.society_tables.specs.Opening.{HasAnyLayout, IsOpenable, ShowsAs, SurvivesOpening, TellsDatabase}
 use Rattle.society_tables.specs.declared.open_fault.OpenFault.{OpenFault}
 use Rattle.society_tables.specs.declared.open_fault.OpenFault.TheVariants.{Empty, Store}
 use Rattle.society_commands.specs.Closing.{IsLeftClosed}
@@ -103,28 +107,35 @@ StopsServingStore state desk new_desk contents out new_out connections =
     ((new_desk ≡ desk) × (new_out ≡ out))
     ⊎ ((count : ℕ) × (count < connections) × ServesStore state desk new_desk contents out new_out count)
 
+-- a book is that of the tables that older ones of an office were taken over into
+abbrev pub IsTakenBook : Office → OlderLayout → Trees → Book → Type 0
+IsTakenBook office layout old book = (new : Trees) × Takes office layout old new × (book ≡ book_of new)
+
 -- What a store shows that is opened over what a connection was found with: it is the office's; where there was no table its book is
--- empty, and where there were those of layout 3 they held a sound book with what is derived from it, and that is its book. Where the
--- database had to be an office's already, there were. Over a connection that was found open it is clean, unless its disk failed or did
--- not tell the truth.
+-- empty, where there were those of layout 3 they held a sound book with what is derived from it, and that is its book, and where there
+-- were those of an older layout its book is that of what they were taken over into. Where the database had to be an office's already,
+-- there were tables. Over a connection that was found open it is clean, unless its disk failed or did not tell the truth.
 pub record IsOver (office : Office) (existing : Bool) (found : connection.State) (begun : State) : Type 0 where
   pub office_is : begun.office ≡ office
   pub faults : found.faults ≤ begun.faults
   pub clean : IsTrue begun.is_honest → IsTrue found.is_open → IsTrue begun.is_clean ⊎ HasFailed found.faults begun.faults
-  pub there : IsTrue existing → IsTrue found.is_open → IsTrue begun.is_clean → HasLayout found.committed
+  pub there : IsTrue existing → IsTrue found.is_open → IsTrue begun.is_clean → HasAnyLayout found.committed
   pub known : IsTrue found.is_open → IsTrue begun.is_clean → IsOpenable found.committed
   pub bare : IsTrue found.is_open → IsTrue begun.is_clean → IsBare found.committed → begun.book ≡ empty_book
   pub kept : IsTrue found.is_open → IsTrue begun.is_clean → HasLayout found.committed
       → HoldsOne office found.committed.trees × (begun.book ≡ book_of found.committed.trees)
+  pub taken : IsTrue found.is_open → IsTrue begun.is_clean → (layout : OlderLayout) → HasOlder layout found.committed
+      → IsTakenBook office layout found.committed.trees begun.book
 
 -- what a connection shows of a file that was opened and held this: over a disk that tells the truth it is open, and shows the database
 -- that the file and its log recover to
 abbrev pub IsFoundIn : Image → connection.State → Type 0
 IsFoundIn image s = connection.HasCleanDisk s → connection.Opens s × connection.IsLive s × FindsIn image s
 
--- what a crash leaves in an opening: what it left before, or also the new book of the office, where one may begin and no table was there
+-- what a crash leaves in an opening: what it left before, or the whole of what older tables become, or also the new book of the office,
+-- where one may begin and no table was there
 abbrev pub LeavesOpening : Bool → Office → connection.State → connection.State → Type 0
-LeavesOpening true office found left = connection.Survives found left (λ db. ⊥)
+LeavesOpening true office found left = SurvivesTaking office found left
 LeavesOpening false office found left = SurvivesOpening office found left
 
 -- A database was not opened as the office's: this is why, its connection shows what was committed, and a crash leaves what it left
@@ -138,9 +149,10 @@ pub record IsNotOpened (office : Office) (existing : Bool) (found left : connect
   pub unchanged : connection.HasCleanDisk left → ShowsAs found.committed left
   pub crash : LeavesOpening existing office found left
 
--- a database was found to hold a sound book of the office with what is derived from it; it shows that still, and a crash leaves what it left before
+-- a database was found to hold a sound book of the office with what is derived from it, or to be of an older layout and stand for one that
+-- does; it shows that still, and a crash leaves what it left before
 pub record IsSoundDatabase (office : Office) (found left : connection.State) : Type 0 where
-  pub sound : FindsOffice office found left
+  pub sound : FindsSoundly office found left
   pub crash : connection.Survives found left (λ db. ⊥)
 
 -- a database in files that was opened so was audited and is sound, and `sound` was printed

@@ -9,7 +9,7 @@ use crate::opening::open_fault;
 use crate::replaying::SERVED;
 use http_desk::Counted;
 use share_rules::Office;
-use society_tables::Tables;
+use society_tables::audit_existing;
 use society_words::Database;
 use sqlite::{Alter, Connection};
 use std::alloc::Global;
@@ -43,7 +43,8 @@ pub fn audit_file<H: OpenDatabase, W: Write, E: Write>(
     }
 }
 
-/// Audits a database as the office's, and writes nothing to it. Prints `sound` and answers 0 where it holds the office's book; else
+/// Audits a database as the office's, and writes nothing to it. Prints `sound` and answers 0 where it holds the office's book, or is of
+/// an older layout and could be taken over; else
 /// writes one line on `err`, prints nothing, and answers 1. The connection comes back.
 pub fn audit_database<M: Alter + Drop, W: Write, E: Write>(
     alloc: Global,
@@ -59,10 +60,10 @@ pub fn audit_database<M: Alter + Drop, W: Write, E: Write>(
     ensures fault { result.0 ≡ 1 → IsNotOpened office.now true (state M.Store connection) (state M.Store result.1)
         × (out.new ≡ out.old) }
 {
-    match Tables::open_existing(alloc, connection, office) {
-        Ok(tables) => {
+    match audit_existing(alloc, connection, office) {
+        Ok(connection) => {
             print(out, b"sound\n");
-            (SERVED, tables.into_connection())
+            (SERVED, connection)
         }
         Err((fault, connection)) => (open_fault(fault, err), connection),
     }

@@ -2,12 +2,14 @@
 pub mod Adds
 pub mod Casts
 pub mod Columns
+pub mod Commands
 pub mod Effects
 pub mod Inserts
 pub mod ListWrites
 pub mod Parts
 pub mod Puts
 pub mod References
+pub mod Renaming
 pub mod Rowids
 pub mod UpsertParts
 pub mod Upserts

@@ -2,6 +2,9 @@
 pub mod Booleans
 pub mod Called
 pub mod Creates
+pub mod FirstTables
+pub mod LayoutAlone
+pub mod Missing
 pub mod NewBooks
 pub mod OneChecks
 pub mod Texts

@@ -10,9 +10,13 @@ use Rattle.society_rows.specs.declared.fault.RowFault.TheVariants.{Memory}
 use Rattle.society_rows.specs.Faults.{fault_of_error, IsFailure}
 use Rattle.society_rows.specs.Stored.{HasLayout}
 
--- over layout 3, and where the disk told the truth, the fault is such a failure
+-- where the database was of a kind and the disk told the truth, the fault is such a failure
+abbrev pub IsFailureOver : (Database → Type 0) → State → State → RowFault → Type 0
+IsFailureOver Was old new fault = HasCleanDisk new → Was old.now → IsFailure fault
+
+-- the same over layout 3
 abbrev pub IsFailureOf : State → State → RowFault → Type 0
-IsFailureOf old new fault = HasCleanDisk new → HasLayout old.now → IsFailure fault
+IsFailureOf = IsFailureOver HasLayout
 
 -- where the database was of a kind and the disk told the truth, the call errs only by such a failure
 abbrev pub OnlyFailsOver : {X : Type 0} → (Database → Type 0) → State → State → Result X RowFault → Type 0
@@ -30,9 +34,13 @@ OnlyFailsInside Was old new result = IsTrue old.in_transaction → OnlyFailsOver
 abbrev pub MayFail : State → State → Type 0
 MayFail old new = MoreFaults old.faults new.faults ⊎ ((old.is_open ≡ false) ⊎ IsSome old.step_limit)
 
--- over layout 3, and where the disk told the truth, the reading errs by want of memory, or where it may fail
+-- where the database was of a kind and the disk told the truth, the reading errs by want of memory, or where it may fail
+abbrev pub ErrsByMediumOver : {X : Type 0} → (Database → Type 0) → State → State → Result X RowFault → Type 0
+ErrsByMediumOver Was old new result = HasCleanDisk new → Was old.now → IfErr result (λ fault. (fault ≡ Memory) ⊎ MayFail old new)
+
+-- the same over layout 3
 abbrev pub ErrsByMedium : {X : Type 0} → State → State → Result X RowFault → Type 0
-ErrsByMedium old new result = HasCleanDisk new → HasLayout old.now → IfErr result (λ fault. (fault ≡ Memory) ⊎ MayFail old new)
+ErrsByMedium = ErrsByMediumOver HasLayout
 
 -- the statement ran, or its error is told
 abbrev pub RanAs : List ℕ → Row → State → State → Result (Unit {0}) RowFault → Type 0

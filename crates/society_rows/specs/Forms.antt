@@ -38,9 +38,13 @@ IsOfForms forms row = (length row ≡ length forms) × HaveForms 0 forms row
 abbrev pub IsRead : {X : Type 0} → List Form → Row → Result X RowFault → Type 0
 IsRead forms row result = IsOfForms forms row → IsOk result
 
--- one, layout, society, territory, name
+-- one, layout, society, territory, name, under some layout
+abbrev pub office_forms_under : ℕ → List Form
+office_forms_under layout = Only 1 ∷ Only layout ∷ Count ∷ Count ∷ Words ∷ []
+
+-- the same under layout 3
 abbrev pub office_forms : List Form
-office_forms = Only 1 ∷ Only 3 ∷ Count ∷ Count ∷ Words ∷ []
+office_forms = office_forms_under 3
 
 -- sender, number, body
 abbrev pub transmission_forms : List Form

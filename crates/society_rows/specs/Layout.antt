@@ -138,11 +138,16 @@ unfoldable pub all_tables : List Table
 all_tables =
     office ∷ transmissions ∷ returns ∷ pools ∷ pool_cuts ∷ pool_returns ∷ fronts ∷ verdicts ∷ versions ∷ recordings ∷ credits_table ∷ balances ∷ segment_ends ∷ mechanical_pools ∷ []
 
--- the schema of layout 3
+-- the same, with these references of cuts and of payments
+unfoldable pub tables_with : List Reference → List Reference → List Table
+tables_with cuts payments =
+    office ∷ transmissions ∷ returns ∷ pools ∷ (record pool_cuts { references = cuts }) ∷ (record pool_returns { references = payments }) ∷ fronts ∷ verdicts ∷ versions ∷ recordings ∷ credits_table ∷ balances ∷ segment_ends ∷ mechanical_pools ∷ []
+
+-- the schema of layout 3, with its references as they are listed above
 unfoldable pub layout : Schema
 layout = fold created no_schema all_tables
 
 -- opens the layout and each of its tables
 unfoldable pub written_out : Unit {0}
-unfolding layout all_tables office transmissions returns pools pool_cuts pool_returns fronts verdicts versions recordings credits_table balances segment_ends mechanical_pools
+unfolding layout all_tables tables_with office transmissions returns pools pool_cuts pool_returns fronts verdicts versions recordings credits_table balances segment_ends mechanical_pools
 written_out = tt

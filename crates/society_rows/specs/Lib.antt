@@ -7,9 +7,11 @@ pub mod Folds
 pub mod Forms
 pub mod KeyLaws
 pub mod Layout
+pub mod Layouts
 pub mod Listings
 pub mod NewBook
 pub mod Questions
+pub mod Raising
 pub mod Reads
 pub mod Rows
 pub mod SegmentColumns

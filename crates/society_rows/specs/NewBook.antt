@@ -13,7 +13,7 @@ abbrev pub IsBare : Database → Type 0
 IsBare db = db.schema ≡ no_schema
 
 -- the first tables of the layout are there, and empty
-pub record HasTables (count : ℕ) (db : Database) : Type 0 where
+pub record HasEmpty (count : ℕ) (db : Database) : Type 0 where
   pub schema : db.schema ≡ fold created no_schema (take count all_tables)
   pub empty : AllByRecursion (λ t. db.trees t.tree ≡ []) db.schema.tables
 

@@ -3,6 +3,7 @@ use Rattle.std.specs.Prelude.{◌≡◌, pos, true, List, [], ◌∷◌, Result,
 use Rattle.sqlite_value.specs.declared.value.Value.TheVariants.{Int, Text}
 use Rattle.sqlite_value.specs.Order.{Row}
 use Rattle.sqlite_trees.specs.Tree.{Trees}
+use Rattle.sqlite.specs.Effect.{Database}
 use Rattle.sqlite.specs.State.{State, HasCleanDisk, Survives}
 use Rattle.society_rows.specs.declared.fault.RowFault.{RowFault}
 use Rattle.society_rows.specs.declared.questions.Question.{Question}
@@ -32,12 +33,16 @@ RowsAnswer (question.LastVersion sender work) = IsFirstOf versions (has_key (Tex
 RowsAnswer (question.Credits pool) = Lists credits_table (has_key (Int (pos pool) ∷ [])) 2
 RowsAnswer (question.Balance account) = Lists balances (has_key (Text account.now ∷ [])) 1
 
--- A question on a connection at rest, which shows its last commit where it is open: over layout 3 it finds this, an answer comes from an
--- open connection alone, it leaves the last commit, and a crash leaves what it left before.
-pub record Asks {X : Type 0} (old new : State) (result : Result X RowFault) (Found : Trees → X → Type 0) : Type 0 where
+-- A question on a connection at rest, which shows its last commit where it is open: where the database is of a kind it finds this, an answer
+-- comes from an open connection alone, it leaves the last commit, and a crash leaves what it left before.
+pub record AsksOver {X : Type 0} (Was : Database → Type 0) (old new : State) (result : Result X RowFault) (Found : Trees → X → Type 0) : Type 0 where
   pub settled : IsTrue old.is_open → old.now ≡ old.committed
-  pub found : HasCleanDisk new → HasLayout old.now → IfOk result (Found old.now.trees)
+  pub found : HasCleanDisk new → Was old.now → IfOk result (Found old.now.trees)
   pub answered : HasCleanDisk new → OnOk result (IsTrue old.is_open)
   pub was_open : HasCleanDisk new → IsTrue new.is_open → IsTrue old.is_open
   pub undone : HasCleanDisk new → IsTrue new.is_open → (new.now ≡ old.committed) × (new.committed ≡ old.committed)
   pub survives : Survives old new (λ _. ⊥)
+
+-- the same over layout 3
+abbrev pub Asks : {X : Type 0} → State → State → Result X RowFault → (Trees → X → Type 0) → Type 0
+Asks = AsksOver HasLayout

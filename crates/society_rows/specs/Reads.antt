@@ -8,6 +8,7 @@ use Rattle.sqlite_sql.specs.Query.{key_cmp}
 use Rattle.sqlite_schema.specs.declared.schema.Table.{Table}
 use Rattle.std.specs.declared.alloc.Global.{Global}
 use Rattle.sqlite.specs.declared.error.Error.{Error}
+use Rattle.sqlite.specs.Effect.{Database}
 use Rattle.sqlite_value.specs.declared.keys.Collation.TheVariants.{Binary}
 use Rattle.sqlite_value.specs.declared.value.Value.{Value}
 use Rattle.sqlite_sql.specs.declared.ops.BinaryOp.TheVariants.{Compare}
@@ -76,13 +77,17 @@ Selected text params old new (Ok rows) = Shown text params old new rows.items
 Selected text params old new (Err fault) =
     (error : Error) × (fault ≡ fault_of_error error) × (FailsToQuery text params old new error ⊎ IsTooLate text params old new error)
 
--- A reading: over layout 3 it finds this, it changes nothing unless a failure undoes the whole transaction, and it commits nothing. An
--- answer comes from an open connection alone.
-pub record Reads {X : Type 0} (old new : State) (result : Result X RowFault) (Found : Trees → X → Type 0) : Type 0 where
-  pub found : HasCleanDisk new → HasLayout old.now → IfOk result (Found old.now.trees)
-  pub same : HasCleanDisk new → HasLayout old.now → OnOk result (IsUnchanged old new)
+-- A reading: where the database is of a kind it finds this, it changes nothing unless a failure undoes the whole transaction, and it commits
+-- nothing. An answer comes from an open connection alone.
+pub record ReadsOver {X : Type 0} (Was : Database → Type 0) (old new : State) (result : Result X RowFault) (Found : Trees → X → Type 0) : Type 0 where
+  pub found : HasCleanDisk new → Was old.now → IfOk result (Found old.now.trees)
+  pub same : HasCleanDisk new → Was old.now → OnOk result (IsUnchanged old new)
   pub whole : HasCleanDisk new → OnErr result (IsUnchanged old new ⊎ IsRolledBack old new)
   pub was_open : HasCleanDisk new → OnOk result (IsTrue old.is_open)
   pub inside : HasCleanDisk new → IsTrue old.in_transaction → OnOk result (IsTrue new.in_transaction)
   pub kept : HasCleanDisk new → IsTrue old.in_transaction → KeepsCommit old new
   pub survives : Survives old new (λ _. ⊥)
+
+-- the same over layout 3
+abbrev pub Reads : {X : Type 0} → State → State → Result X RowFault → (Trees → X → Type 0) → Type 0
+Reads = ReadsOver HasLayout

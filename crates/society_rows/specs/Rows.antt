@@ -1,5 +1,5 @@
 -- The values of each table's rows, in the order of its columns.
-use Rattle.std.specs.Prelude.{pos, [], ◌∷◌}
+use Rattle.std.specs.Prelude.{ℕ, pos, [], ◌∷◌}
 use Rattle.sqlite_value.specs.declared.value.Value.TheVariants.{Int, Text, Blob}
 use Rattle.sqlite_value.specs.Order.{Row}
 use Rattle.society_rows.specs.declared.office.OfficeRow.{OfficeRow}
@@ -20,9 +20,13 @@ use Rattle.society_rows.specs.declared.versions.VersionRow.{VersionRow}
 use Rattle.society_rows.specs.SegmentColumns.{segment_column}
 use Rattle.work_ids.specs.Segments.{index_of}
 
--- one, layout, society, territory, name
+-- one, layout, society, territory, name, under some layout
+abbrev pub office_values_under : ℕ → OfficeRow → Row
+office_values_under layout r = Int (pos 1) ∷ Int (pos layout) ∷ Int (pos r.society) ∷ Int (pos r.territory) ∷ Text r.name.now ∷ []
+
+-- the same under layout 3
 abbrev pub office_values : OfficeRow → Row
-office_values r = Int (pos 1) ∷ Int (pos 3) ∷ Int (pos r.society) ∷ Int (pos r.territory) ∷ Text r.name.now ∷ []
+office_values = office_values_under 3
 
 -- sender, number, body
 abbrev pub transmission_values : TransmissionRow → Row

@@ -10,7 +10,8 @@ use Rattle.sqlite_schema.specs.declared.schema.Table.{Table}
 use Rattle.sqlite_schema.specs.Names.{place_of}
 use Rattle.sqlite_schema.specs.Rules.{equal}
 use Rattle.sqlite.specs.Effect.{Database}
-use Rattle.society_rows.specs.Layout.{layout, all_tables}
+use Rattle.society_rows.specs.Layout.{all_tables}
+use Rattle.society_rows.specs.Layouts.{HasFirst}
 
 -- the values of a stored row, a column each
 abbrev pub values_of : Table → Row → Row
@@ -20,9 +21,9 @@ values_of table row = map (λ at. column row (place_of table at)) (range_with_le
 abbrev pub rows_in : Table → Trees → List Row
 rows_in table db = map (values_of table) (db table.tree)
 
--- the schema of the database is that of layout 3
+-- the database has the fourteen tables of layout 3, and nothing else
 abbrev pub HasLayout : Database → Type 0
-HasLayout db = db.schema ≡ layout
+HasLayout = HasFirst 14
 
 -- each row has a whole number as its rowid
 abbrev pub AreNumbered : Table → Trees → Type 0

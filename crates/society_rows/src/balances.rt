@@ -11,7 +11,7 @@ ghost use Rattle.society_rows.specs.Forms.{IsRead, balance_forms};
 ghost use Rattle.society_rows.specs.Layout.{balances};
 ghost use Rattle.society_rows.specs.Reads.{Lists, Reads, has_key};
 ghost use Rattle.society_rows.specs.Rows.{balance_values};
-ghost use Rattle.society_rows.specs.Stored.{HasLayout, Puts};
+ghost use Rattle.society_rows.specs.Stored.{Adds, HasLayout, Puts};
 ghost use Rattle.society_rows.specs.Between.{within};
 
 use crate::RowFault;
@@ -44,6 +44,24 @@ impl<'a> BalanceRow<'a> {
             units: integer(row, 1)?,
         })
     }
+}
+
+/// Adds a balance, whose key has to be free.
+pub fn add_balance<S: Alter>(
+    tx: &mut Transaction<'_, S>,
+    row: &BalanceRow<'_>,
+) -> Result<(), RowFault>
+    ensures same_reference { tx.new.conn.ghost_name ≡ tx.old.conn.ghost_name }
+    ensures written { within S.Store tx.old tx.new Writes result
+        (Adds balances (balance_values row.now ∷ [])) }
+    ensures whole { within S.Store tx.old tx.new IsAllOrNothing result }
+    ensures told { within S.Store tx.old tx.new OnlyFails result }
+{
+    run(
+        tx,
+        "INSERT INTO balances (account, units) VALUES (?1, ?2)",
+        &[ValueRef::Text(row.account), (&row.units).to_sql()],
+    )
 }
 
 /// Puts a balance, in place of the one that is there under its key.

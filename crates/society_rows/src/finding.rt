@@ -1,12 +1,13 @@
-//! What a database holds: nothing, layout 3, or something else.
-ghost use Rattle.std.specs.Prelude.{◌≡◌, ◌↔◌, [], map, IsTrue};
+//! What a database holds: nothing, one of the layouts, or something else.
+ghost use Rattle.std.specs.Prelude.{◌≡◌, ◌↔◌, map, IsTrue};
 ghost use Rattle.sqlite.specs.Held.{state};
-ghost use Rattle.society_rows.specs.Finding.{IsFound, index_called};
-ghost use Rattle.society_rows.specs.Layout.{layout, no_schema};
-ghost use Rattle.society_rows.specs.TableNames.{table_called};
+ghost use Rattle.society_rows.specs.Finding.{IsFound, IsMade, IsMadeOf, IsMadeWith, index_called, table_with};
+ghost use Rattle.society_rows.specs.Layout.{no_schema};
+ghost use Rattle.society_rows.specs.Layouts.{IsFirst, tables_of};
+ghost use Rattle.society_rows.specs.Shapes.{refers_to};
 
 use crate::shapes::{Parent, is_guard, is_keyed, is_numbered};
-use crate::{Idle, TableName};
+use crate::{Idle, OlderLayout, TableName};
 use sqlite::Alter;
 use sqlite_schema::schema::{Index, Kind, Schema, Table};
 
@@ -17,6 +18,8 @@ pub enum Found {
     Nothing,
     /// The tables of layout 3, and nothing else.
     Layout,
+    /// The tables of an older layout, and nothing else.
+    Older(OlderLayout),
     /// Anything else.
     Other,
 }
@@ -141,32 +144,40 @@ const SEGMENT_ENDS: [(&str, Kind); 4] = [
 const MECHANICAL_POOLS: [(&str, Kind); 1] = [("pool", Kind::Integer)];
 
 /// What a cut refers to: its pool, and its transmission.
-const CUT_PARENTS: [Parent<'static>; 2] = [
-    Parent {
-        columns: &[1],
-        parent: "pools",
-        parent_columns: &["pool"],
-    },
-    Parent {
-        columns: &[2, 3],
-        parent: "transmissions",
-        parent_columns: &["sender", "number"],
-    },
-];
+const CUT_PARENTS: [Parent<'static>; 2] = [CUT_POOL, CUT_TRANSMISSION];
+
+/// The same, named in the other order.
+const CUT_PARENTS_TURNED: [Parent<'static>; 2] = [CUT_TRANSMISSION, CUT_POOL];
+
+const CUT_POOL: Parent<'static> = Parent {
+    columns: &[1],
+    parent: "pools",
+    parent_columns: &["pool"],
+};
+
+const CUT_TRANSMISSION: Parent<'static> = Parent {
+    columns: &[2, 3],
+    parent: "transmissions",
+    parent_columns: &["sender", "number"],
+};
 
 /// What a payment refers to: its return, and its pool.
-const PAYMENT_PARENTS: [Parent<'static>; 2] = [
-    Parent {
-        columns: &[1, 2],
-        parent: "returns",
-        parent_columns: &["reporter", "number"],
-    },
-    Parent {
-        columns: &[3],
-        parent: "pools",
-        parent_columns: &["pool"],
-    },
-];
+const PAYMENT_PARENTS: [Parent<'static>; 2] = [PAYMENT_RETURN, PAYMENT_POOL];
+
+/// The same, named in the other order.
+const PAYMENT_PARENTS_TURNED: [Parent<'static>; 2] = [PAYMENT_POOL, PAYMENT_RETURN];
+
+const PAYMENT_RETURN: Parent<'static> = Parent {
+    columns: &[1, 2],
+    parent: "returns",
+    parent_columns: &["reporter", "number"],
+};
+
+const PAYMENT_POOL: Parent<'static> = Parent {
+    columns: &[3],
+    parent: "pools",
+    parent_columns: &["pool"],
+};
 
 /// What a pool of mechanical rights refers to: its pool, by its rowid.
 const MECHANICAL_PARENTS: [Parent<'static>; 1] = [Parent {
@@ -175,9 +186,9 @@ const MECHANICAL_PARENTS: [Parent<'static>; 1] = [Parent {
     parent_columns: &["pool"],
 }];
 
-// Whether a table is that of layout 3 under a name.
-fn is_called(table: &Table, name: TableName) -> bool
-    ensures { IsTrue result ↔ (table.now ≡ table_called name) }
+// Whether a table is that of layout 3 under a name, with these references of cuts and of payments.
+fn is_called(table: &Table, name: TableName, cuts: &[Parent<'_>], payments: &[Parent<'_>]) -> bool
+    ensures { IsTrue result ↔ (table.now ≡ table_with (map refers_to cuts.now) (map refers_to payments.now) name) }
 {
     match name {
         TableName::Office => is_numbered(table, "office", 0, &OFFICE, true, &[]),
@@ -191,14 +202,14 @@ fn is_called(table: &Table, name: TableName) -> bool
         ),
         TableName::Returns => is_keyed(table, "returns", 3, &RETURNS, &[1, 2], &[]),
         TableName::Pools => is_numbered(table, "pools", 5, &POOLS, false, &[]),
-        TableName::PoolCuts => is_keyed(table, "pool_cuts", 6, &POOL_CUTS, &[1, 2], &CUT_PARENTS),
+        TableName::PoolCuts => is_keyed(table, "pool_cuts", 6, &POOL_CUTS, &[1, 2], cuts),
         TableName::PoolReturns => is_keyed(
             table,
             "pool_returns",
             8,
             &POOL_RETURNS,
             &[1, 2],
-            &PAYMENT_PARENTS,
+            payments,
         ),
         TableName::Fronts => is_keyed(table, "fronts", 10, &FRONTS, &[1], &[]),
         TableName::Verdicts => is_keyed(table, "verdicts", 12, &VERDICTS, &[1, 2, 3], &[]),
@@ -218,15 +229,20 @@ fn is_called(table: &Table, name: TableName) -> bool
     }
 }
 
-// Whether tables are those of these names, in their order.
-fn are_called(tables: &[Table], names: &[TableName]) -> bool
-    ensures { IsTrue result ↔ (tables.now ≡ map table_called names.now) }
+// Whether tables are those of these names, in their order, with these references of cuts and of payments.
+fn are_called(
+    tables: &[Table],
+    names: &[TableName],
+    cuts: &[Parent<'_>],
+    payments: &[Parent<'_>],
+) -> bool
+    ensures { IsTrue result ↔ (tables.now ≡ map (table_with (map refers_to cuts.now) (map refers_to payments.now)) names.now) }
 {
     if tables.len() != names.len() {
         return false;
     }
     for at in 0..names.len() {
-        if !is_called(&tables[at], names[at]) {
+        if !is_called(&tables[at], names[at], cuts, payments) {
             return false;
         }
     }
@@ -294,20 +310,57 @@ fn are_guards(indexes: &[Index], names: &[TableName]) -> bool
     true
 }
 
-// Whether a schema has the tables of these names, the indexes for the keys of those, and nothing else.
-fn is_made_of(schema: &Schema, names: &[TableName], keyed: &[TableName]) -> bool
-    ensures { IsTrue result ↔ (schema.now ≡ record { tables = map table_called names.now; indexes = map index_called keyed.now; views = [] }) }
+// Whether a schema has the tables of these names, with these references, the indexes for the keys of those, and nothing else.
+fn is_made_of(
+    schema: &Schema,
+    names: &[TableName],
+    keyed: &[TableName],
+    cuts: &[Parent<'_>],
+    payments: &[Parent<'_>],
+) -> bool
+    ensures { IsTrue result ↔ IsMadeOf names.now keyed.now (map refers_to cuts.now) (map refers_to payments.now) schema.now }
 {
-    are_called(schema.tables.as_slice(), names)
+    are_called(schema.tables.as_slice(), names, cuts, payments)
         && are_guards(schema.indexes.as_slice(), keyed)
         && schema.views.is_empty()
 }
 
+// Whether it has them with these references of cuts, and with those of payments in either order.
+fn is_made_with(
+    schema: &Schema,
+    names: &[TableName],
+    keyed: &[TableName],
+    cuts: &[Parent<'_>],
+) -> bool
+    ensures { IsTrue result ↔ IsMadeWith names.now keyed.now (map refers_to cuts.now) schema.now }
+{
+    is_made_of(schema, names, keyed, cuts, &PAYMENT_PARENTS)
+        || is_made_of(schema, names, keyed, cuts, &PAYMENT_PARENTS_TURNED)
+}
+
+// Whether it has them with references in either order.
+fn is_made(schema: &Schema, names: &[TableName], keyed: &[TableName]) -> bool
+    ensures { IsTrue result ↔ IsMade names.now keyed.now schema.now }
+{
+    is_made_with(schema, names, keyed, &CUT_PARENTS)
+        || is_made_with(schema, names, keyed, &CUT_PARENTS_TURNED)
+}
+
 // Whether a schema is that of layout 3.
 fn is_layout(schema: &Schema) -> bool
-    ensures { IsTrue result ↔ (schema.now ≡ layout) }
+    ensures { IsTrue result ↔ IsFirst 14 schema.now }
 {
-    is_made_of(schema, &ALL, &KEYED)
+    is_made(schema, &ALL, &KEYED)
+}
+
+// Whether a schema is that of an older layout.
+fn is_older(schema: &Schema, layout: OlderLayout) -> bool
+    ensures { IsTrue result ↔ IsFirst (tables_of layout) schema.now }
+{
+    match layout {
+        OlderLayout::First => is_made(schema, &ALL[..6], &KEYED[..4]),
+        OlderLayout::Second => is_made(schema, &ALL[..12], &KEYED[..10]),
+    }
 }
 
 // Whether a schema has no table, index or view.
@@ -317,7 +370,8 @@ fn is_bare(schema: &Schema) -> bool
     schema.tables.is_empty() && schema.indexes.is_empty() && schema.views.is_empty()
 }
 
-/// What a database holds, as its connection sees it; it reads no row and changes nothing.
+/// What a database holds, as its connection sees it; it reads no row and changes nothing. A table that refers to two others may name
+/// them in either order.
 pub fn layout_found<S: Alter>(conn: &Idle<S>) -> Found
     ensures found { IsFound (state S.Store conn.now).now result }
     ensures settled { IsTrue (state S.Store conn.now).is_open → (state S.Store conn.now).now ≡ (state S.Store conn.now).committed }
@@ -326,6 +380,10 @@ pub fn layout_found<S: Alter>(conn: &Idle<S>) -> Found
     let schema = conn.connection.schema();
     if is_layout(schema) {
         Found::Layout
+    } else if is_older(schema, OlderLayout::Second) {
+        Found::Older(OlderLayout::Second)
+    } else if is_older(schema, OlderLayout::First) {
+        Found::Older(OlderLayout::First)
     } else if is_bare(schema) {
         Found::Nothing
     } else {

@@ -2,11 +2,9 @@
 ghost use Rattle.std.specs.Prelude.{◌≡◌, [], false, true, length, IfErr, OnOk};
 ghost use Rattle.sqlite_value.specs.Order.{Row as SqlRow};
 ghost use Rattle.sqlite.specs.State.{Shown};
-ghost use Rattle.sqlite.specs.Listing.{understood};
 ghost use Rattle.sqlite.specs.Values.{bound};
-ghost use Rattle.society_rows.specs.Folds.{StopsListing, StopsShowing, IsAsked, ReadsAlone, ReadsInside, HasTaken, IsRun, AreFirst, AreShownFirst, StopsOver, StopsRun};
-ghost use Rattle.society_rows.specs.Layout.{layout, transmissions};
-ghost use Rattle.society_rows.specs.Reads.{Lists};
+ghost use Rattle.society_rows.specs.Folds.{HasTaken, IsRun, ReadsAlone, ReadsAloneOver, ReadsInside, ReadsShown, StopsListing, StopsRun, StopsShowing};
+ghost use Rattle.society_rows.specs.Layouts.{HasTable};
 ghost use Rattle.society_rows.specs.Listings.{ListsAll};
 ghost use Rattle.society_rows.specs.Between.{between, within};
 
@@ -31,16 +29,14 @@ pub trait RowFold {
         ensures told { IfErr result (refusal self.old row.now) };
 }
 
-// Goes over the rows that a query shows.
+// Goes over the rows that a query shows; what is said holds where the text is one query of the database.
 fn fold_shown<S: Alter, F: RowFold>(
     conn: &mut Connection<S>,
     sql: &str,
     params: &[ValueRef<'_>],
     into: &mut F,
 ) -> Result<(), RowFault>
-    requires { IsAsked sql.now (length (bound params.now)) (understood layout sql.now) }
-    ensures taken { between S.Store conn.old conn.new (λ old new. ReadsAlone old new result
-        (λ _ _. HasTaken F.step (Shown sql.now (bound params.now) old new) into.old into.new)) }
+    ensures taken { between S.Store conn.old conn.new (ReadsShown F.step sql.now (bound params.now) into.old into.new) result }
     ensures mode { conn.old.in_transaction ≡ false → conn.new.in_transaction ≡ false }
     ensures told { IfErr result (between S.Store conn.old conn.new
         (StopsShowing F.step F.refusal sql.now (bound params.now) into.old)) }
@@ -63,6 +59,19 @@ pub fn fold_table<S: Alter, F: RowFold>(
     into: &mut F,
 ) -> Result<(), RowFault>
     ensures taken { between S.Store conn.old conn.new ReadsAlone result
+        (λ db _. HasTaken F.step (ListsAll table db) into.old into.new) }
+    ensures told { IfErr result (between S.Store conn.old conn.new (StopsListing F.step F.refusal table into.old)) }
+{
+    fold_table_there(conn, table, into)
+}
+
+// The same where the database has the table, also one of an older layout.
+fn fold_table_there<S: Alter, F: RowFold>(
+    conn: &mut Idle<S>,
+    table: TableName,
+    into: &mut F,
+) -> Result<(), RowFault>
+    ensures taken { between S.Store conn.old conn.new (ReadsAloneOver (HasTable table)) result
         (λ db _. HasTaken F.step (ListsAll table db) into.old into.new) }
     ensures told { IfErr result (between S.Store conn.old conn.new (StopsListing F.step F.refusal table into.old)) }
 {

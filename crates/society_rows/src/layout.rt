@@ -16,7 +16,7 @@ use crate::{Idle, OfficeRow, RowFault};
 use sqlite::{Alter, Transaction};
 
 /// The tables of layout 3, each after those that it refers to.
-const TABLES: [&str; 14] = [
+pub(crate) const TABLES: [&str; 14] = [
     "CREATE TABLE office (one INTEGER NOT NULL PRIMARY KEY CHECK (one = 1), layout INTEGER NOT NULL, society INTEGER NOT NULL, territory INTEGER NOT NULL, name TEXT NOT NULL) STRICT",
     "CREATE TABLE transmissions (sender TEXT NOT NULL, number INTEGER NOT NULL, body BLOB NOT NULL, PRIMARY KEY (sender, number)) STRICT",
     "CREATE TABLE returns (reporter TEXT NOT NULL, number INTEGER NOT NULL, body BLOB NOT NULL, PRIMARY KEY (reporter, number)) STRICT",

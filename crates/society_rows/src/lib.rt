@@ -7,6 +7,7 @@
 #![tactic(auto)]
 
 mod balances;
+mod copying;
 mod credits;
 mod fault;
 mod finding;
@@ -18,11 +19,13 @@ mod layout;
 mod mechanical_pools;
 mod numbering;
 mod office;
+mod older;
 mod pairing;
 mod pool_cuts;
 mod pool_returns;
 mod pools;
 mod questions;
+mod raising;
 mod reading;
 mod recordings;
 mod returns;
@@ -34,24 +37,27 @@ mod transmissions;
 mod verdicts;
 mod versions;
 
-pub use balances::{BalanceRow, add_units, balance_at, put_balance, units_of};
+pub use balances::{BalanceRow, add_balance, add_units, balance_at, put_balance, units_of};
+pub use copying::add_derived_rows;
 pub use credits::{CreditRow, add_credit, add_credits, credits_of};
 pub use fault::RowFault;
 pub use finding::{Found, layout_found};
 pub use folding::{RowFold, fold_run, fold_table};
-pub use fronts::{FrontRow, front_at, put_front};
+pub use fronts::{FrontRow, add_front, front_at, put_front};
 pub use idle::Idle;
 pub use keys::keys_are_values;
 pub use layout::create;
 pub use mechanical_pools::{MechanicalPoolRow, add_mechanical_pool, mechanical_at};
 pub use numbering::are_numbered;
 pub use office::{LAYOUT, OfficeRow, all_offices};
+pub use older::OlderLayout;
 pub use pool_cuts::{PoolCutRow, add_pool_cut, add_pool_cuts, cuts_of};
 pub use pool_returns::{
     PoolReturnRow, add_pool_return, add_pool_returns, pool_return_at, returns_of_pool,
 };
 pub use pools::{PoolRow, add_pool, pool_at};
 pub use questions::{Question, answer, ask};
+pub use raising::raise_inside;
 pub use recordings::{RecordingRow, add_recording, add_recordings};
 pub use returns::{ReturnRow, add_return, add_returns, return_at, return_known};
 pub use segment_ends::{SegmentEndRow, add_segment_end, ends_of};

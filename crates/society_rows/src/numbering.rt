@@ -3,8 +3,9 @@ ghost use Rattle.std.specs.Prelude.{◌≡◌, ◌↔◌, IsTrue};
 ghost use Rattle.std.specs.List.{list_all};
 ghost use Rattle.sqlite_value.specs.Order.{column};
 ghost use Rattle.sqlite_trees.specs.View.{is_int};
-ghost use Rattle.society_rows.specs.Effects.{ErrsByMedium, OnlyFails};
-ghost use Rattle.society_rows.specs.Reads.{Reads};
+ghost use Rattle.society_rows.specs.Effects.{ErrsByMediumOver, OnlyFailsOver};
+ghost use Rattle.society_rows.specs.Layouts.{HasTable};
+ghost use Rattle.society_rows.specs.Reads.{ReadsOver};
 ghost use Rattle.society_rows.specs.Stored.{AreNumbered};
 ghost use Rattle.society_rows.specs.TableNames.{table_called, rowids_text};
 ghost use Rattle.society_rows.specs.Between.{within};
@@ -50,16 +51,17 @@ fn begin_whole(rows: &[Row]) -> bool
     rows.iter().all(|row| begins_whole(row))
 }
 
-/// Whether each row of a table has a whole number as its rowid, as every row has that SQLite wrote.
+/// Whether each row of a table has a whole number as its rowid, as every row has that SQLite wrote; also in a database of an older layout
+/// that has it.
 pub fn are_numbered<S: Alter>(
     tx: &mut Transaction<'_, S>,
     table: TableName,
 ) -> Result<bool, RowFault>
     ensures same_reference { tx.new.conn.ghost_name ≡ tx.old.conn.ghost_name }
-    ensures read { within S.Store tx.old tx.new Reads result
+    ensures read { within S.Store tx.old tx.new (ReadsOver (HasTable table)) result
         (λ db yes. IsTrue yes ↔ AreNumbered (table_called table) db) }
-    ensures told { within S.Store tx.old tx.new OnlyFails result }
-    ensures medium { within S.Store tx.old tx.new ErrsByMedium result }
+    ensures told { within S.Store tx.old tx.new (OnlyFailsOver (HasTable table)) result }
+    ensures medium { within S.Store tx.old tx.new (ErrsByMediumOver (HasTable table)) result }
 {
     let rows = select(tx, rowids(table), &[])?;
     Ok(begin_whole(&rows))

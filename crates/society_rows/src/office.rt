@@ -2,10 +2,10 @@
 ghost use Rattle.std.specs.Prelude.{◌≡◌, [], ◌∷◌, true, IfOk, IfErr};
 ghost use Rattle.society_rows.specs.declared.fault.RowFault.TheVariants.{Unread};
 ghost use Rattle.society_rows.specs.Effects.{Writes, OnlyFails};
-ghost use Rattle.society_rows.specs.Forms.{IsRead, office_forms};
+ghost use Rattle.society_rows.specs.Forms.{IsRead, office_forms, office_forms_under};
 ghost use Rattle.society_rows.specs.Layout.{office};
 ghost use Rattle.society_rows.specs.Reads.{Lists, Reads};
-ghost use Rattle.society_rows.specs.Rows.{office_values};
+ghost use Rattle.society_rows.specs.Rows.{office_values, office_values_under};
 ghost use Rattle.society_rows.specs.Stored.{Adds};
 ghost use Rattle.society_rows.specs.Between.{within};
 
@@ -34,12 +34,21 @@ impl<'a> OfficeRow<'a> {
         ensures read { IsRead office_forms row.now result }
         ensures fault { IfErr result (λ e. e ≡ Unread) }
     {
+        OfficeRow::from_row_under(row, LAYOUT)
+    }
+
+    /// The row that these values are under a layout, by its number; else `Unread`, also where the layout is another.
+    pub fn from_row_under(row: &'a Row, layout: u32) -> Result<OfficeRow<'a>, RowFault>
+        ensures value { IfOk result (λ x. office_values_under layout x ≡ row.now) }
+        ensures read { IsRead (office_forms_under layout) row.now result }
+        ensures fault { IfErr result (λ e. e ≡ Unread) }
+    {
         if row.column_count() != 5 {
             return Err(RowFault::Unread);
         }
         let one = whole(row, 0)?;
-        let layout = whole(row, 1)?;
-        if one != 1 || layout != LAYOUT {
+        let said = whole(row, 1)?;
+        if one != 1 || said != layout {
             return Err(RowFault::Unread);
         }
         Ok(OfficeRow {

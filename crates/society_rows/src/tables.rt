@@ -1,8 +1,9 @@
 //! The tables by name, and the query that shows all rows of each.
 ghost use Rattle.std.specs.Prelude.{◌≡◌, true};
-ghost use Rattle.society_rows.specs.Effects.{ErrsByMedium, OnlyFails};
+ghost use Rattle.society_rows.specs.Effects.{ErrsByMediumOver, OnlyFailsOver};
+ghost use Rattle.society_rows.specs.Layouts.{HasTable};
 ghost use Rattle.society_rows.specs.Listings.{ListsAll};
-ghost use Rattle.society_rows.specs.Reads.{Reads};
+ghost use Rattle.society_rows.specs.Reads.{ReadsOver};
 ghost use Rattle.society_rows.specs.TableNames.{listing_text};
 ghost use Rattle.society_rows.specs.Between.{within};
 
@@ -71,16 +72,17 @@ pub(crate) fn listing(table: TableName) -> &'static str
     }
 }
 
-/// All rows of a table, by its key, and then, where the list says so, by its other columns.
+/// All rows of a table, by its key, and then, where the list says so, by its other columns; also in a database of an older layout that
+/// has it.
 pub fn all_rows<S: Alter>(
     tx: &mut Transaction<'_, S>,
     table: TableName,
 ) -> Result<Vec<Row>, RowFault>
     ensures same_reference { tx.new.conn.ghost_name ≡ tx.old.conn.ghost_name }
-    ensures read { within S.Store tx.old tx.new Reads result
+    ensures read { within S.Store tx.old tx.new (ReadsOver (HasTable table)) result
         (λ db rows. ListsAll table db rows.items) }
-    ensures told { within S.Store tx.old tx.new OnlyFails result }
-    ensures medium { within S.Store tx.old tx.new ErrsByMedium result }
+    ensures told { within S.Store tx.old tx.new (OnlyFailsOver (HasTable table)) result }
+    ensures medium { within S.Store tx.old tx.new (ErrsByMediumOver (HasTable table)) result }
 {
     select(tx, listing(table), &[])
 }

@@ -3,4 +3,5 @@ pub mod audit
 pub mod anew
 pub mod alike
 pub mod opened
+pub mod taking
 mod Worked

@@ -7,3 +7,4 @@ pub mod ComesAgain
 pub mod PoolsAgain
 pub mod OrdersAgain
 pub mod PoolsWhole
+pub mod OwnLemmas

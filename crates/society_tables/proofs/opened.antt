@@ -3,3 +3,4 @@ pub mod OpenLemmas
 pub mod OpenTold
 pub mod OpenedLemmas
 pub mod Failing
+pub mod AuditedLemmas

@@ -2,16 +2,19 @@
 use Rattle.std.specs.Prelude.{ℕ, ◌≡◌, List, Some, Result}
 use Rattle.std.specs.List.{AllByRecursion}
 use Rattle.sqlite.specs.Held.{Held}
-use Rattle.sqlite.specs.State.{HasCleanDisk, State}
 use Rattle.sqlite_trees.specs.declared.memory.MemStore.{MemStore}
 use Rattle.sqlite_value.specs.Order.{Row}
-use Rattle.society_core.specs.Book.{Book, IsSound, order_at}
+use Rattle.society_core.specs.Book.{Book, IsSound, empty_book, order_at}
 use Rattle.society_core.specs.Orders.{Order}
 use Rattle.society_book.specs.BookRows.{cut_rows, is_of_pool, mechanical_rows, paid_rows, pool_rows}
 use Rattle.society_book.specs.Columns.{HasRows, whole_number_at}
 use Rattle.society_tables.specs.InMemory.{memory_book}
-use Rattle.society_tables.specs.Rebuilding.{AllReported, AllSent, AllStated, ClosedOn, ComesFrom, IsClosed, IsReported, IsSent, IsStated, IsUpToPools, IsWithin, Passes, ReportedOn, SentOn, StatedOn, without_pools}
+use Rattle.society_tables.specs.OwnRows.{AreLines, AreOwn, ArePools}
+use Rattle.society_tables.specs.Rebuilding.{AllReported, AllSent, AllStated, ClosedOn, IsClosed, IsReported, IsSent, IsStated, IsUpToPools, IsWithin, Passes, ReportedOn, SentOn, StatedOn, lines_alone, without_pools}
 use Rattle.society_tables.specs.declared.audit_fault.AuditFault.{AuditFault}
+use Rattle.society_tables.specs.declared.own_rows.LineRows.{LineRows}
+use Rattle.society_tables.specs.declared.own_rows.OwnRows.{OwnRows}
+use Rattle.society_tables.specs.declared.own_rows.PoolRows.{PoolRows}
 
 -- a transmission of the book passes
 abbrev pub PassesSent : Row → Book → Book → Result (Unit {0}) AuditFault → Type 0
@@ -78,32 +81,17 @@ PassesPools rows cuts paid marks old new result =
     → HasRows (is_of_pool 0) (mechanical_rows b) marks → old ≡ without_pools b
     → Passes result (λ _. new ≡ b)
 
--- what a database has of a book passes: tables in memory that had one part of it have another then
-abbrev pub PassesFrom : (Book → Book) → (Book → Book) → Held MemStore → Held MemStore → Result (Unit {0}) AuditFault → State → State → Type 0
-PassesFrom part more first last result old new =
-    (b : Book) → HasCleanDisk new → ComesFrom b old → memory_book first ≡ part b
-    → Passes result (λ _. memory_book last ≡ more b)
+-- the rows of a book's lines pass: tables in memory to which nothing had come have its transmissions and its ends then
+abbrev pub PassesLines : LineRows → Held MemStore → Held MemStore → Result (Unit {0}) AuditFault → Type 0
+PassesLines rows first last result =
+    (b : Book) → IsSound b → AreLines b rows → memory_book first ≡ empty_book → Passes result (λ _. memory_book last ≡ lines_alone b)
 
--- all of a book
-abbrev pub whole_book : Book → Book
-whole_book b = b
+-- the rows of its pools pass: tables that had all but its pools have the whole book then
+abbrev pub PassesOwnPools : PoolRows → Held MemStore → Held MemStore → Result (Unit {0}) AuditFault → Type 0
+PassesOwnPools rows first last result =
+    (b : Book) → IsSound b → ArePools b rows → memory_book first ≡ without_pools b → Passes result (λ _. memory_book last ≡ b)
 
--- the rows of pools pass that a database has of a book
-abbrev pub PassesRowsOfPools : List Row → Held MemStore → Held MemStore → Result (Unit {0}) AuditFault → State → State → Type 0
-PassesRowsOfPools rows first last result old new =
-    (b : Book) → HasCleanDisk new → ComesFrom b old → HasRows (is_of_pool 0) (pool_rows b) rows → memory_book first ≡ without_pools b
-    → Passes result (λ _. memory_book last ≡ b)
-
--- the rows of pools and of cuts pass that a database has of a book
-abbrev pub PassesRowsOfCuts : List Row → List Row → Held MemStore → Held MemStore → Result (Unit {0}) AuditFault → State → State → Type 0
-PassesRowsOfCuts rows cuts first last result old new =
-    (b : Book) → HasCleanDisk new → ComesFrom b old → HasRows (is_of_pool 0) (pool_rows b) rows → HasRows (is_of_pool 0) (cut_rows b) cuts → memory_book first ≡ without_pools b
-    → Passes result (λ _. memory_book last ≡ b)
-
--- the rows of pools, of cuts and of returns that are paid pass that a database has of a book
-abbrev pub PassesRowsOfPaid : List Row → List Row → List Row → Held MemStore → Held MemStore → Result (Unit {0}) AuditFault → State → State → Type 0
-PassesRowsOfPaid rows cuts paid first last result old new =
-    (b : Book) → HasCleanDisk new → ComesFrom b old
-    → HasRows (is_of_pool 0) (pool_rows b) rows → HasRows (is_of_pool 0) (cut_rows b) cuts → HasRows (is_of_pool 2) (paid_rows b) paid
-    → memory_book first ≡ without_pools b
-    → Passes result (λ _. memory_book last ≡ b)
+-- the rows of a book pass: tables to which nothing had come have the whole book then
+abbrev pub PassesOwn : OwnRows → Held MemStore → Held MemStore → Result (Unit {0}) AuditFault → Type 0
+PassesOwn rows first last result =
+    (b : Book) → IsSound b → AreOwn b rows → memory_book first ≡ empty_book → Passes result (λ _. memory_book last ≡ b)

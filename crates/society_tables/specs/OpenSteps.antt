@@ -4,16 +4,18 @@ use Rattle.share_rules.specs.declared.office.Office.{Office}
 use Rattle.sqlite.specs.State.{HasCleanDisk, State}
 use Rattle.sqlite_schema.specs.declared.schema.Table.{Table}
 use Rattle.society_core.specs.Book.{Book, IsSound}
-use Rattle.society_rows.specs.Layout as layout
-use Rattle.society_rows.specs.Stored.{AreNumbered, HasLayout, rows_in}
-use Rattle.society_tables.specs.Opening.{HoldsOne, IsOpenable, ShowsAs, TellsDatabase, TellsOffice}
+use Rattle.society_rows.specs.Layouts.{HasOlder}
+use Rattle.society_rows.specs.Stored.{AreNumbered, HasLayout}
+use Rattle.society_rows.specs.declared.older.OlderLayout.{OlderLayout}
+use Rattle.society_tables.specs.Older.{HoldsOne, IsTakenOver}
+use Rattle.society_tables.specs.Opening.{IsOpenable, ShowsAs, TellsDatabase, TellsOfficeIn}
 use Rattle.society_tables.specs.Rebuilding.{Passes, ShowsBook}
 use Rattle.society_tables.specs.declared.audit_fault.AuditFault.{AuditFault}
 use Rattle.society_tables.specs.declared.open_fault.OpenFault.{OpenFault}
 
 -- over layout 3 a fault says this of the rows of the office
 abbrev pub TellsOfOffice : {X : Type 0} → Office → Result X OpenFault → State → State → Type 0
-TellsOfOffice office result old new = HasCleanDisk new → HasLayout old.now → IfErr result (TellsOffice office (rows_in layout.office old.now.trees))
+TellsOfOffice office result old new = HasCleanDisk new → HasLayout old.now → IfErr result (TellsOfficeIn 3 office old.now)
 
 -- a table passes whose rowids are whole numbers
 abbrev pub PassesNumbered : {X : Type 0} → Table → Result X AuditFault → State → State → Type 0
@@ -32,7 +34,12 @@ PassesOffice office result old new = (b : Book) → HasCleanDisk new → IsSound
 abbrev pub AuditsOffice : Office → State → State → Type 0
 AuditsOffice office old new = HasCleanDisk new → IsTrue old.is_open → HasLayout old.committed → HoldsOne office old.committed.trees × ShowsAs old.committed new
 
--- what was committed had no table, or those of layout 3
+-- what was committed of an older layout is taken over
+abbrev pub TakesCommitted : Office → State → State → Type 0
+TakesCommitted office old new =
+    HasCleanDisk new → IsTrue old.is_open → (layout : OlderLayout) → HasOlder layout old.committed → IsTakenOver office layout old.committed new
+
+-- what was committed had no table, or those of a layout
 abbrev pub WasOpenable : State → State → Type 0
 WasOpenable old new = HasCleanDisk new → IsTrue old.is_open → IsOpenable old.committed
 

@@ -1,5 +1,5 @@
 -- How a database is opened as an office's tables.
-use Rattle.std.specs.Prelude.{◌≡◌, ◌≢◌, ◌⊎◌, List, [], ◌∷◌, Result, IsTrue, IsPermutation, OnOk, OnErr, IfOk, IfErr}
+use Rattle.std.specs.Prelude.{◌≡◌, ◌≢◌, ◌⊎◌, ℕ, List, [], ◌∷◌, Result, IsTrue, IsPermutation, OnOk, OnErr, IfOk, IfErr}
 use Rattle.std.specs.List.{AllByRecursion}
 use Rattle.share_rules.specs.declared.office.Office.{Office}
 use Rattle.sqlite_trees.specs.Tree.{Trees}
@@ -7,18 +7,21 @@ use Rattle.sqlite.specs.Effect.{Database}
 use Rattle.sqlite.specs.State as connection
 use Rattle.sqlite_value.specs.Order.{Row}
 use Rattle.society_rows.specs.Effects.{MayFail}
-use Rattle.society_rows.specs.Forms.{IsOfForms, office_forms}
+use Rattle.society_rows.specs.Forms.{IsOfForms, office_forms_under}
 use Rattle.society_rows.specs.Layout as layout
+use Rattle.society_rows.specs.Layouts.{HasOlder, number_of}
 use Rattle.society_rows.specs.NewBook.{IsBare, IsNewBook}
 use Rattle.society_rows.specs.Stored.{AreNumbered, HasLayout, rows_in}
 use Rattle.society_rows.specs.TableNames.{table_called}
 use Rattle.society_rows.specs.declared.fault.RowFault.{RowFault}
 use Rattle.society_rows.specs.declared.fault.RowFault.TheVariants as row
+use Rattle.society_rows.specs.declared.older.OlderLayout.{OlderLayout}
 use Rattle.society_rows.specs.declared.tables.TableName.{TableName}
 use Rattle.society_rows.specs.declared.tables.TableName.TheVariants as name
 use Rattle.society_core.specs.Book.{empty_book}
 use Rattle.society_book.specs.BookRows.{book_of}
 use Rattle.society_book.specs.Kept.{HoldsOwnBook, Rests, office_row}
+use Rattle.society_tables.specs.Older.{HoldsOlder, HoldsOne, IsTakenOver, Takes, office_row_under}
 use Rattle.society_tables.specs.declared.audit_fault.AuditFault.{AuditFault}
 use Rattle.society_tables.specs.declared.audit_fault.AuditFault.TheVariants as audit
 use Rattle.society_tables.specs.declared.open_fault.OpenFault.{OpenFault}
@@ -38,31 +41,48 @@ open_fault_by audit.Memory = fault.Memory
 open_fault_by audit.Store = fault.Store
 open_fault_by audit.Damaged = fault.Damaged
 
--- one office is told of, by a row that can be read: one, layout 3, society, territory, name
-abbrev pub IsOneOffice : List Row → Type 0
-IsOneOffice [] = ⊥
-IsOneOffice (row ∷ []) = IsOfForms office_forms row
-IsOneOffice (row ∷ other ∷ rows) = ⊥
+-- one office is told of, by a row that can be read under that layout
+abbrev pub IsOneOffice : ℕ → List Row → Type 0
+IsOneOffice layout [] = ⊥
+IsOneOffice layout (row ∷ []) = IsOfForms (office_forms_under layout) row
+IsOneOffice layout (row ∷ other ∷ rows) = ⊥
 
--- what a fault says of the rows of offices: that no office can be read, that it is another, or that it is this one; where there are such rows none says `Empty`
-abbrev pub TellsOffice : Office → List Row → OpenFault → Type 0
-TellsOffice office rows fault.Memory = Unit {0}
-TellsOffice office rows fault.Store = Unit {0}
-TellsOffice office rows fault.Empty = ⊥
-TellsOffice office rows fault.Schema = ¬ IsOneOffice rows
-TellsOffice office rows fault.OtherOffice = IsOneOffice rows × (rows ≢ office_row office ∷ [])
-TellsOffice office rows fault.Damaged = rows ≡ office_row office ∷ []
+-- what a fault says of the rows of offices under a layout: that no office can be read, that it is another, or that it is this one; where
+-- there are such rows none says `Empty`
+abbrev pub TellsOffice : ℕ → Office → List Row → OpenFault → Type 0
+TellsOffice layout office rows fault.Memory = Unit {0}
+TellsOffice layout office rows fault.Store = Unit {0}
+TellsOffice layout office rows fault.Empty = ⊥
+TellsOffice layout office rows fault.Schema = ¬ IsOneOffice layout rows
+TellsOffice layout office rows fault.OtherOffice = IsOneOffice layout rows × (rows ≢ office_row_under layout office ∷ [])
+TellsOffice layout office rows fault.Damaged = rows ≡ office_row_under layout office ∷ []
 
--- What a fault says of a database: `Empty` that it has no table; `Schema` that it has tables, and not those of layout 3 with an
--- office that can be read; `OtherOffice` that it has those of another office; `Damaged` that it has those of this office, and they
--- hold no sound book with exactly what is derived from it.
+-- so it says of the rows that a database has
+abbrev pub TellsOfficeIn : ℕ → Office → Database → OpenFault → Type 0
+TellsOfficeIn number office db = TellsOffice number office (rows_in layout.office db.trees)
+
+-- the tables are those of layout 3 of this office, and they hold no sound book with exactly what is derived from it
+abbrev pub IsDamaged : Office → Database → Type 0
+IsDamaged office db = HasLayout db × TellsOfficeIn 3 office db fault.Damaged × (¬ HoldsOwnBook office db.trees)
+
+-- they are those of an older layout of this office, and stand for no tables that hold such a book
+abbrev pub IsDamagedOlder : Office → OlderLayout → Database → Type 0
+IsDamagedOlder office layout db = HasOlder layout db × TellsOfficeIn (number_of layout) office db fault.Damaged × (¬ HoldsOlder office layout db.trees)
+
+-- What a fault says of a database: `Empty` that it has no table; `Schema` that it has tables, and not those of a layout with an
+-- office that can be read under it; `OtherOffice` that it has those of another office; `Damaged` that it has those of this office, and
+-- they hold no sound book with exactly what is derived from it, or, of an older layout, stand for no tables that do.
 abbrev pub TellsDatabase : Office → Database → OpenFault → Type 0
 TellsDatabase office db fault.Memory = Unit {0}
 TellsDatabase office db fault.Store = Unit {0}
 TellsDatabase office db fault.Empty = IsBare db
-TellsDatabase office db fault.Schema = (¬ IsBare db) × (HasLayout db → TellsOffice office (rows_in layout.office db.trees) fault.Schema)
-TellsDatabase office db fault.OtherOffice = HasLayout db × TellsOffice office (rows_in layout.office db.trees) fault.OtherOffice
-TellsDatabase office db fault.Damaged = HasLayout db × TellsOffice office (rows_in layout.office db.trees) fault.Damaged × (¬ HoldsOwnBook office db.trees)
+TellsDatabase office db fault.Schema =
+    (¬ IsBare db) × (HasLayout db → TellsOfficeIn 3 office db fault.Schema)
+    × ((layout : OlderLayout) → HasOlder layout db → TellsOfficeIn (number_of layout) office db fault.Schema)
+TellsDatabase office db fault.OtherOffice =
+    (HasLayout db × TellsOfficeIn 3 office db fault.OtherOffice)
+    ⊎ ((layout : OlderLayout) × HasOlder layout db × TellsOfficeIn (number_of layout) office db fault.OtherOffice)
+TellsDatabase office db fault.Damaged = IsDamaged office db ⊎ ((layout : OlderLayout) × IsDamagedOlder office layout db)
 
 -- a fault that says nothing of what the database has: memory was refused, or the database failed
 abbrev pub IsOutside : OpenFault → Type 0
@@ -106,10 +126,6 @@ pub record Inspects {X E : Type 0} (old new : connection.State) (result : Result
 abbrev pub TellsFailure : {X E : Type 0} → E → connection.State → connection.State → Result X E → Type 0
 TellsFailure told old new result = connection.HasCleanDisk new → HasLayout old.now → IfErr result (λ e. e ≡ told → MayFail old new)
 
--- the tables hold a sound book of the office, with exactly what is derived from it
-abbrev pub HoldsOne : Office → Trees → Type 0
-HoldsOne office db = ∥ HoldsOwnBook office db ∥₁
-
 -- what is put over another row has a whole number as its rowid
 abbrev pub IsNumbered : Trees → Type 0
 IsNumbered db = AreNumbered layout.fronts db × AreNumbered layout.balances db
@@ -118,21 +134,34 @@ IsNumbered db = AreNumbered layout.fronts db × AreNumbered layout.balances db
 abbrev pub HoldsNumbered : Office → Trees → Type 0
 HoldsNumbered office db = IsNumbered db → HoldsOne office db
 
--- the database has no table, or those of layout 3
-abbrev pub IsOpenable : Database → Type 0
-IsOpenable db = IsBare db ⊎ HasLayout db
+-- the database has the tables of a layout, and nothing else
+abbrev pub HasAnyLayout : Database → Type 0
+HasAnyLayout db = HasLayout db ⊎ ((layout : OlderLayout) × HasOlder layout db)
 
--- a crash leaves what it left before, or, only where the database had no table, the new book of the office
+-- the database has no table, or those of a layout
+abbrev pub IsOpenable : Database → Type 0
+IsOpenable db = IsBare db ⊎ HasAnyLayout db
+
+-- where the database had the tables of an older layout, a crash may leave those that it was taken over into
+abbrev pub IsLeftTaken : Office → Database → Trees → Type 0
+IsLeftTaken office old db = (layout : OlderLayout) × HasOlder layout old × Takes office layout old.trees db
+
+-- where the database had no table, a crash may leave the new book of the office
+abbrev pub IsLeftBegun : Office → Database → Trees → Type 0
+IsLeftBegun office old db = IsBare old × IsNewBook (office_row office) db
+
+-- a crash leaves what it left before, or, only where the database had no table or was of an older layout, the whole of what becomes of it
 abbrev pub SurvivesOpening : Office → connection.State → connection.State → Type 0
-SurvivesOpening office old new = connection.Survives old new (λ db. IsBare old.now × IsNewBook (office_row office) db)
+SurvivesOpening office old new = connection.Survives old new (λ db. IsLeftBegun office old.now db ⊎ IsLeftTaken office old.now db)
 
 -- A database becomes an office's tables or is left as it is: one that had no table begins an empty book, one of layout 3 held a sound
--- book with what is derived from it and is shown as it was, a fault says what the database has, layout 3 is told as a failure of the store
--- only where it failed, and a crash leaves what it left before or the new book.
+-- book with what is derived from it and is shown as it was, one of an older layout is taken over, a fault says what the database has,
+-- layout 3 is told as a failure of the store only where it failed, and a crash leaves what it left before or the whole of what becomes of it.
 pub record Opens (office : Office) (old new : connection.State) (result : Result (Unit {0}) OpenFault) : Type 0 where
   pub rests : OnOk result ∥ Rests office new ∥₁
   pub begun : connection.HasCleanDisk new → IsTrue old.is_open → IsBare old.committed → OnOk result (book_of new.now.trees ≡ empty_book)
   pub audited : connection.HasCleanDisk new → IsTrue old.is_open → HasLayout old.committed → OnOk result (HoldsOne office old.committed.trees × ShowsAs old.committed new)
+  pub taken : connection.HasCleanDisk new → IsTrue old.is_open → (layout : OlderLayout) → HasOlder layout old.committed → OnOk result (IsTakenOver office layout old.committed new)
   pub known : connection.HasCleanDisk new → IsTrue old.is_open → OnOk result (IsOpenable old.committed)
   pub unchanged : connection.HasCleanDisk new → OnErr result (ShowsAs old.committed new)
   pub told : connection.HasCleanDisk new → IsTrue old.is_open → IfErr result (TellsDatabase office old.committed)

@@ -6,13 +6,13 @@ use Rattle.std.specs.List.{AllByRecursion}
 use Rattle.sqlite_value.specs.Order.{Row}
 use Rattle.sqlite.specs.State as connection
 use Rattle.society_rows.specs.Stored.{HasLayout}
-use Rattle.society_core.specs.Book.{Book, IsSound, order_at}
+use Rattle.society_core.specs.Book.{Book, order_at}
 use Rattle.society_core.specs.Orders.{Order}
 use Rattle.work_ids.specs.Blanks.{fill}
 use Rattle.work_ids.specs.Reporter.{reporter_of}
 use Rattle.work_ids.specs.SenderKey.{is_sender_key}
 use Rattle.society_rows.specs.Forms.{IsOfForms, mechanical_pool_forms, pool_cut_forms, pool_return_forms}
-use Rattle.society_book.specs.BookRows.{AreOfBook, segment_key_of, end_of, end_row, pool_row, return_key_of, return_row, transmission_key_of, transmission_row}
+use Rattle.society_book.specs.BookRows.{segment_key_of, end_of, end_row, pool_row, return_key_of, return_row, transmission_key_of, transmission_row}
 use Rattle.share_rules.specs.declared.office.Office.{Office}
 use Rattle.society_book.specs.Kept.{HoldsBook}
 use Rattle.society_book.specs.Columns.{blob_at, whole_number_at, text_at}
@@ -118,11 +118,6 @@ lines_alone book = record { transmissions = book.transmissions; ends = book.ends
 -- of a book all but the pools
 abbrev pub without_pools : Book → Book
 without_pools book = record { transmissions = book.transmissions; ends = book.ends; returns = book.returns; pools = finite.empty }
-
--- what an open connection shows is a sound book
-pub record ComesFrom (book : Book) (s : connection.State) : Type 0 where
-  pub shows : IsTrue s.is_open → HasLayout s.now × AreOfBook book s.now.trees
-  pub sound : IsSound book
 
 -- what an open connection shows is a book of the office
 abbrev pub ShowsBook : Office → Book → connection.State → Type 0

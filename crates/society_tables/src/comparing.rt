@@ -17,7 +17,7 @@ use sqlite::{Alter, MemStore, Row};
 use sqlite_value::order::is_same;
 
 /// The tables after the first.
-const OTHER_TABLES: [TableName; 13] = [
+pub(crate) const OTHER_TABLES: [TableName; 13] = [
     TableName::Transmissions,
     TableName::Returns,
     TableName::Pools,
@@ -57,8 +57,11 @@ pub(crate) fn rows_of_table<S: Alter>(
     Ok(listed(conn, table)?)
 }
 
-// All rows of a table in memory, whose database stays as it is.
-fn rows_in_memory(memory: &mut Idle<MemStore>, table: TableName) -> Result<Vec<Row>, AuditFault>
+/// All rows of a table in memory, whose database stays as it is.
+pub(crate) fn rows_in_memory(
+    memory: &mut Idle<MemStore>,
+    table: TableName,
+) -> Result<Vec<Row>, AuditFault>
     ensures rows { HasLayout (in_memory memory.old) → IfOk result (λ rows. ListsAll table (in_memory memory.old).trees rows.items) }
     ensures memory { IfErr result (λ e. e ≡ Memory) }
     ensures same { in_memory memory.new ≡ in_memory memory.old }
@@ -89,8 +92,8 @@ fn is_same_row(row: &Row, other: &Row) -> bool
     true
 }
 
-// Whether two lists have the same rows.
-fn are_same_rows(rows: &[Row], others: &[Row]) -> bool
+/// Whether two lists have the same rows.
+pub(crate) fn are_same_rows(rows: &[Row], others: &[Row]) -> bool
     ensures same { IsTrue result → rows.now ≡ others.now }
     ensures alike { rows.now ≡ others.now → IsTrue result }
 {

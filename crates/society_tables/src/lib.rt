@@ -2,6 +2,7 @@
 #![tactic(auto)]
 
 mod audit_fault;
+mod auditing;
 mod comparing;
 mod confirming;
 mod entries;
@@ -11,11 +12,14 @@ mod lines;
 mod money;
 mod open_fault;
 mod opening;
+mod own_rows;
 mod rebuilding;
 mod references;
 mod tables;
+mod taking_over;
 
 pub use audit_fault::AuditFault;
+pub use auditing::audit_existing;
 pub use confirming::confirm;
 pub use laws::{open_after_crash, reopen};
 pub use open_fault::OpenFault;

@@ -1,9 +1,11 @@
 //! Why a database is not opened.
 ghost use Rattle.std.specs.Prelude.{◌≡◌};
+ghost use Rattle.society_rows.specs.Faults.{fault_of_error};
 ghost use Rattle.society_tables.specs.Opening.{audit_fault_by, open_fault_by};
 
 use crate::audit_fault::AuditFault;
 use society_rows::RowFault;
+use sqlite::Error;
 
 /// Why a database is not opened as an office's tables.
 #[derive(Clone, Copy, Debug, PartialEq, Eq, thiserror::Error)]
@@ -17,7 +19,7 @@ pub enum OpenFault {
     /// The database has no table, and was to be an office's.
     #[error("empty")]
     Empty,
-    /// The database has tables, and they are not those of layout 3, or its office cannot be read.
+    /// The database has tables, and they are not those of layout 1, 2 or 3, or its office cannot be read.
     #[error("schema")]
     Schema,
     /// The tables are those of another office.
@@ -33,6 +35,14 @@ impl From<RowFault> for OpenFault {
 
     fn from(fault: RowFault) -> OpenFault {
         OpenFault::from(AuditFault::from(fault))
+    }
+}
+
+impl From<Error> for OpenFault {
+    ghost from_gives = { λ error told. told ≡ open_fault_by (audit_fault_by (fault_of_error error)) };
+
+    fn from(error: Error) -> OpenFault {
+        OpenFault::from(RowFault::from(error))
     }
 }
 

@@ -12,32 +12,35 @@ ghost use Rattle.society_rows.specs.Questions.{Asks};
 ghost use Rattle.society_rows.specs.Stored.{AreNumbered, HasLayout, rows_in};
 ghost use Rattle.society_rows.specs.TableNames.{table_called};
 ghost use Rattle.society_book.specs.Kept.{HoldsOwnBook, office_row};
-ghost use Rattle.society_tables.specs.Existing.{FailsByStore, FindsOffice, SparesCommitted, WhenOpen};
-ghost use Rattle.society_tables.specs.Opening.{HoldsOne, Inspects, IsOutside, Opens, ShowsAs, SurvivesOpening, TellsFailure, TellsOffice, IsNumbered, HoldsNumbered};
+ghost use Rattle.society_tables.specs.Existing.{FailsByStore, FindsOffice, SparesCommitted, SparesOlder, SurvivesTaking, WhenOpen};
+ghost use Rattle.society_tables.specs.Older.{HoldsOne, office_row_under};
+ghost use Rattle.society_tables.specs.Opening.{Inspects, IsOutside, Opens, ShowsAs, SurvivesOpening, TellsFailure, TellsOffice, IsNumbered, HoldsNumbered};
 ghost use Rattle.society_tables.specs.declared.audit_fault.AuditFault.TheVariants as audit;
 ghost use Rattle.society_tables.specs.declared.open_fault.OpenFault.TheVariants as fault;
 ghost use Rattle.society_tables.specs.declared.open_fault.OpenFault.TheVariants.{Damaged, Empty};
 ghost use Rattle.society_rows.specs.Between.{between};
 ghost use Rattle.society_tables.specs.InMemory.{memory_book};
-ghost use Rattle.society_tables.specs.OpenSteps.{TellsOfOffice, PassesNumbered, PassesBook, PassesOffice, AuditsOffice, WasOpenable, TellsCommitted, ShowsCommitted};
+ghost use Rattle.society_tables.specs.OpenSteps.{TellsOfOffice, PassesNumbered, PassesBook, PassesOffice, AuditsOffice, TakesCommitted, WasOpenable, TellsCommitted, ShowsCommitted};
 
 use crate::audit_fault::AuditFault;
 use crate::comparing::{listed, tables_agree};
 use crate::confirming::confirm;
+use crate::own_rows::listed_own;
 use crate::rebuilding::rebuild;
+use crate::taking_over::take_over;
 use crate::{OpenFault, Tables};
 use share_rules::Office;
 use society_core::Store;
 use society_rows::{
-    Found, Idle, OfficeRow, RowFault, TableName, are_numbered, create, layout_found,
+    Found, Idle, LAYOUT, OfficeRow, RowFault, TableName, are_numbered, create, layout_found,
 };
 use sqlite::{Alter, Connection, MemStore, Row};
 use std::alloc::Global;
 
-// That the rows of offices are the one row of this office; `Schema` where it cannot be read.
-fn check_office(rows: &[Row], office: &Office) -> Result<(), OpenFault>
-    ensures same { IfOk result (λ _. rows.now ≡ office_row office.now ∷ []) }
-    ensures told { IfErr result (TellsOffice office.now rows.now) }
+/// That the rows of offices are the one row of this office under a layout; `Schema` where it cannot be read.
+pub(crate) fn check_office(rows: &[Row], office: &Office, layout: u32) -> Result<(), OpenFault>
+    ensures same { IfOk result (λ _. rows.now ≡ office_row_under layout office.now ∷ []) }
+    ensures told { IfErr result (TellsOffice layout office.now rows.now) }
     ensures other { IfErr result (λ e. e ≢ Damaged) }
     ensures there { IfErr result (λ e. e ≢ Empty) }
     ensures read { IfErr result (λ e. e ≢ fault.Store) }
@@ -45,7 +48,7 @@ fn check_office(rows: &[Row], office: &Office) -> Result<(), OpenFault>
     let [row] = rows else {
         return Err(OpenFault::Schema);
     };
-    let Ok(row) = OfficeRow::from_row(row) else {
+    let Ok(row) = OfficeRow::from_row_under(row, layout) else {
         return Err(OpenFault::Schema);
     };
     if row.society == u32::from(office.society)
@@ -67,7 +70,7 @@ fn office_agrees<S: Alter>(conn: &mut Idle<S>, office: &Office) -> Result<(), Op
     ensures there { IfErr result (λ e. e ≢ Empty) }
 {
     let rows = listed(conn, TableName::Office)?;
-    check_office(rows.as_slice(), office)
+    check_office(rows.as_slice(), office, LAYOUT)
 }
 
 // Whether each row of a table has a whole number as its rowid, read in a transaction that is rolled back.
@@ -127,7 +130,8 @@ fn check_rebuilt<S: Alter>(
     ensures passes { between S.Store conn.old conn.new (PassesOffice office.now result) }
     ensures failed { between S.Store conn.old conn.new (TellsFailure audit.Store) result }
 {
-    let tables = rebuild(alloc, conn, office)?;
+    let rows = listed_own(conn)?;
+    let tables = rebuild(alloc, office, &rows)?;
     agrees_with(conn, tables)
 }
 
@@ -159,8 +163,12 @@ fn check_whole<S: Alter>(
     check_own(alloc, conn, office)
 }
 
-// That the tables are this office's, and whole.
-fn audit<S: Alter>(alloc: Global, conn: &mut Idle<S>, office: &Office) -> Result<(), OpenFault>
+/// That the tables are this office's, and whole.
+pub(crate) fn audit<S: Alter>(
+    alloc: Global,
+    conn: &mut Idle<S>,
+    office: &Office,
+) -> Result<(), OpenFault>
     ensures whole { between S.Store conn.old conn.new Inspects result (λ db _. HoldsOne office.now db) }
     ensures told { between S.Store conn.old conn.new (TellsOfOffice office.now result) }
     ensures damaged { between S.Store conn.old conn.new (λ old new. HasCleanDisk new → HasLayout old.now → IfErr result (λ e. e ≡ Damaged → ¬ HoldsOwnBook office.now old.now.trees)) }
@@ -197,6 +205,7 @@ fn prepare<S: Alter>(alloc: Global, conn: &mut Idle<S>, office: &Office) -> Resu
     match layout_found(conn) {
         Found::Nothing => begin(conn, office),
         Found::Layout => audit(alloc, conn, office),
+        Found::Older(layout) => take_over(alloc, conn, office, layout),
         Found::Other => Err(OpenFault::Schema),
     }
 }
@@ -212,7 +221,9 @@ impl<S: Alter> Tables<S> {
     /// The tables of an office in a database, which gets them where it has no table, index or view.
     ///
     /// Where it has those of layout 3 they are audited: they have to be this office's, and exactly what the requests that
-    /// they keep make of an empty book. The audit changes no row. `Schema` where there is something else, or no office that can
+    /// they keep make of an empty book. The audit changes no row. Those of layout 1 or 2 are taken over: audited in the same way, of
+    /// layout 1 what there is, and made tables of layout 3 in one transaction, so that a stop leaves one or the other, whole; all
+    /// their pools are of the performing right. `Schema` where there is something else, or no office that can
     /// be read; `OtherOffice` where the tables are another office's; `Damaged` where they are not what they should be; `Memory`
     /// and `Store` where memory or the database failed, so tables that hold a sound book of the office are opened else. Of tables
     /// of layout 3 `Store` says that the medium failed in this opening, or the connection was shut or has a limit of steps. After a
@@ -228,10 +239,12 @@ impl<S: Alter> Tables<S> {
         ensures uncounted { IfOk result (λ t. (⟦<Tables<S> as Store>⟧.state t).failures ≡ 0) }
         ensures begun { IfOk result (λ t. WhenOpen (state S.Store connection) (state S.Store t.conn) (IsBare (state S.Store connection).committed → (⟦<Tables<S> as Store>⟧.state t).book ≡ empty_book)) }
         ensures audited { IfOk result (λ t. between S.Store connection t.conn (AuditsOffice office.now)) }
+        ensures taken { IfOk result (λ t. between S.Store connection t.conn (TakesCommitted office.now)) }
         ensures known { IfOk result (λ t. between S.Store connection t.conn WasOpenable) }
         ensures told { IfErr result (λ e. between S.Store connection e.1 (TellsCommitted office.now e.0)) }
         ensures begins { IfErr result (λ e. e.0 ≢ Empty) }
         ensures opens { IfErr result (λ e. SparesCommitted office.now (state S.Store connection) (state S.Store e.1) e.0) }
+        ensures takes { IfErr result (λ e. SparesOlder office.now (state S.Store connection) (state S.Store e.1) e.0) }
         ensures failed { IfErr result (λ e. between S.Store connection e.1 (FailsByStore e.0)) }
         ensures unchanged { IfErr result (λ e. between S.Store connection e.1 ShowsCommitted) }
         ensures idle { IfErr result (λ e. e.1.in_transaction ≡ false) }
@@ -248,7 +261,7 @@ impl<S: Alter> Tables<S> {
     ///
     /// `Empty` where the database has no table, index or view, so where `open` would begin a book: then the connection comes back
     /// as it was. Otherwise the outcome is that of `open`. After any fault the database is as it was committed, and a crash leaves
-    /// what it left before.
+    /// what it left before, or, where the tables are of layout 1 or 2, the whole of those of layout 3.
     pub fn open_existing(
         alloc: Global,
         connection: Connection<S>,
@@ -262,12 +275,12 @@ impl<S: Alter> Tables<S> {
         ensures audited { IfOk result (λ t. FindsOffice office.now (state S.Store connection) (state S.Store t.conn)) }
         ensures told { IfErr result (λ e. between S.Store connection e.1 (TellsCommitted office.now e.0)) }
         ensures opens { IfErr result (λ e. SparesCommitted office.now (state S.Store connection) (state S.Store e.1) e.0) }
+        ensures takes { IfErr result (λ e. SparesOlder office.now (state S.Store connection) (state S.Store e.1) e.0) }
         ensures untouched { IfErr result (λ e. e.0 ≡ Empty → e.1 ≡ connection) }
         ensures failed { IfErr result (λ e. between S.Store connection e.1 (FailsByStore e.0)) }
         ensures unchanged { IfErr result (λ e. between S.Store connection e.1 ShowsCommitted) }
         ensures idle { IfErr result (λ e. e.1.in_transaction ≡ false) }
-        // A crash leaves what it left before.
-        ensures crash { MatchResult result (λ t. between S.Store connection t.conn Survives (λ _. ⊥)) (λ e. between S.Store connection e.1 Survives (λ _. ⊥)) }
+        ensures crash { MatchResult result (λ t. between S.Store connection t.conn (SurvivesTaking office.now)) (λ e. between S.Store connection e.1 (SurvivesTaking office.now)) }
     {
         let conn = Idle { connection };
         conn.see_last_commit();

@@ -1,29 +1,27 @@
-//! The book of a database's own rows, built anew in memory.
-ghost use Rattle.std.specs.Prelude.{◌≡◌, ◌≢◌, ℕ, pos, Some, None, if◌then◌else◌, map, filter, IfErr, IfOk, ⊤};
+//! The book of own rows, built anew in memory.
+ghost use Rattle.std.specs.Prelude.{◌≡◌, ◌≢◌, ℕ, pos, Some, None, if◌then◌else◌, map, filter, IfErr, IfOk};
 ghost use Rattle.std.specs.List.{AllByRecursion};
-ghost use Rattle.sqlite.specs.State.{HasCleanDisk};
 ghost use Rattle.share_rules.specs.declared.kind.Kind.TheVariants.{Mechanical};
-ghost use Rattle.society_core.specs.Book.{Book, empty_book};
+ghost use Rattle.society_core.specs.Book.{Book, IsSound};
 ghost use Rattle.society_core.specs.Orders.{order_fault, order_of};
 ghost use Rattle.society_core.specs.declared.refusal.Refusal.TheVariants.{Unavailable};
 ghost use Rattle.society_book.specs.BookRows.{is_of_pool, kind_marked};
-ghost use Rattle.society_tables.specs.Opening.{Inspects, TellsFailure};
 ghost use Rattle.society_tables.specs.declared.audit_fault.AuditFault.TheVariants.{Store};
-ghost use Rattle.society_tables.specs.Rebuilding.{ComesFrom, IsAside, IsCut, IsMark, IsPaid, Passes, cut_pair, lines_alone, paid_pair, sent_alone, without_pools};
-ghost use Rattle.society_rows.specs.Between.{between};
+ghost use Rattle.society_tables.specs.OwnRows.{AreOwn};
+ghost use Rattle.society_tables.specs.Rebuilding.{IsAside, IsCut, IsMark, IsPaid, Passes, cut_pair, paid_pair};
 ghost use Rattle.society_tables.specs.InMemory.{memory_book};
-ghost use Rattle.society_tables.specs.Again.{PassesSent, PassesStated, PassesReported, PassesClosed, PassesOrder, PassesPool, PassesAllSent, PassesAllStated, PassesAllReported, PassesPools, PassesFrom, whole_book, PassesRowsOfPools, PassesRowsOfCuts, PassesRowsOfPaid};
+ghost use Rattle.society_tables.specs.Again.{PassesSent, PassesStated, PassesReported, PassesClosed, PassesOrder, PassesPool, PassesAllSent, PassesAllStated, PassesAllReported, PassesPools, PassesLines, PassesOwn, PassesOwnPools};
 
 use crate::Tables;
 use crate::audit_fault::AuditFault;
-use crate::comparing::rows_of_table;
+use crate::own_rows::{LineRows, OwnRows, PoolRows};
 use share_rules::{Kind, Office};
 use society_core::{Desk, OrderError, PoolOrder, Refusal, ReturnKey, Store};
 use society_rows::{
-    Idle, MechanicalPoolRow, PoolCutRow, PoolReturnRow, PoolRow, ReturnRow, SegmentEndRow,
-    TableName, TransmissionRow,
+    MechanicalPoolRow, PoolCutRow, PoolReturnRow, PoolRow, ReturnRow, SegmentEndRow,
+    TransmissionRow,
 };
-use sqlite::{Alter, MemStore, Row};
+use sqlite::{MemStore, Row};
 use std::alloc::Global;
 use work_ids::{PoolNumber, Reporter, ReturnNumber, SegmentEnd, SenderKey, TransmissionNumber};
 
@@ -307,175 +305,58 @@ fn close_pools(
     Ok(())
 }
 
-// Puts the transmissions of a database.
-fn transmissions_from<S: Alter>(
-    alloc: Global,
-    conn: &mut Idle<S>,
-    desk: &mut Anew,
-) -> Result<(), AuditFault>
-    ensures asked { between S.Store conn.old conn.new Inspects result (λ _ _. ⊤) }
-    ensures failed { between S.Store conn.old conn.new (TellsFailure Store) result }
+// Puts the transmissions of a book's own rows, and states its ends.
+fn lines_from(alloc: Global, desk: &mut Anew, rows: &LineRows) -> Result<(), AuditFault>
     ensures office { desk.new.office ≡ desk.old.office }
-    ensures passes { between S.Store conn.old conn.new (PassesFrom (λ _. empty_book) sent_alone desk.old.conn desk.new.conn result) }
+    ensures passes { PassesLines rows.now desk.old.conn desk.new.conn result }
+    ensures judged { IfErr result (λ e. e ≢ Store) }
 {
-    let rows = rows_of_table(conn, TableName::Transmissions)?;
-    put_transmissions(alloc, desk, rows.as_slice())
+    put_transmissions(alloc, desk, rows.transmissions.as_slice())?;
+    put_ends(alloc, desk, rows.ends.as_slice())
 }
 
-// States the ends of a database.
-fn ends_from<S: Alter>(alloc: Global, conn: &mut Idle<S>, desk: &mut Anew) -> Result<(), AuditFault>
-    ensures asked { between S.Store conn.old conn.new Inspects result (λ _ _. ⊤) }
-    ensures failed { between S.Store conn.old conn.new (TellsFailure Store) result }
+// Closes the pools of a book's own rows.
+fn pools_from(alloc: Global, desk: &mut Anew, rows: &PoolRows) -> Result<(), AuditFault>
     ensures office { desk.new.office ≡ desk.old.office }
-    ensures passes { between S.Store conn.old conn.new (PassesFrom sent_alone lines_alone desk.old.conn desk.new.conn result) }
+    ensures passes { PassesOwnPools rows.now desk.old.conn desk.new.conn result }
+    ensures judged { IfErr result (λ e. e ≢ Store) }
 {
-    let rows = rows_of_table(conn, TableName::SegmentEnds)?;
-    put_ends(alloc, desk, rows.as_slice())
+    close_pools(
+        alloc,
+        desk,
+        rows.pools.as_slice(),
+        rows.cuts.as_slice(),
+        rows.paid.as_slice(),
+        rows.marks.as_slice(),
+    )
 }
 
-// Puts the transmissions and states the ends of a database.
-fn lines_from<S: Alter>(
-    alloc: Global,
-    conn: &mut Idle<S>,
-    desk: &mut Anew,
-) -> Result<(), AuditFault>
-    ensures asked { between S.Store conn.old conn.new Inspects result (λ _ _. ⊤) }
-    ensures failed { between S.Store conn.old conn.new (TellsFailure Store) result }
+// Puts the requests of a book's own rows, in the order of their keys.
+fn requests_from(alloc: Global, desk: &mut Anew, rows: &OwnRows) -> Result<(), AuditFault>
     ensures office { desk.new.office ≡ desk.old.office }
-    ensures passes { between S.Store conn.old conn.new (PassesFrom (λ _. empty_book) lines_alone desk.old.conn desk.new.conn result) }
+    ensures passes { PassesOwn rows.now desk.old.conn desk.new.conn result }
+    ensures judged { IfErr result (λ e. e ≢ Store) }
 {
-    transmissions_from(alloc, conn, desk)?;
-    ends_from(alloc, conn, desk)
+    lines_from(alloc, desk, &rows.lines)?;
+    put_returns(alloc, desk, rows.returns.as_slice())?;
+    pools_from(alloc, desk, &rows.pools)
 }
 
-// Puts the returns of a database.
-fn returns_from<S: Alter>(
+/// Tables in memory to which the requests of a book's own rows have come.
+pub(crate) fn rebuild(
     alloc: Global,
-    conn: &mut Idle<S>,
-    desk: &mut Anew,
-) -> Result<(), AuditFault>
-    ensures asked { between S.Store conn.old conn.new Inspects result (λ _ _. ⊤) }
-    ensures failed { between S.Store conn.old conn.new (TellsFailure Store) result }
-    ensures office { desk.new.office ≡ desk.old.office }
-    ensures passes { between S.Store conn.old conn.new (PassesFrom lines_alone without_pools desk.old.conn desk.new.conn result) }
-{
-    let rows = rows_of_table(conn, TableName::Returns)?;
-    put_returns(alloc, desk, rows.as_slice())
-}
-
-// Closes the pools of a database, with the rows of all cuts and of all returns that are paid.
-fn pools_with_paid<S: Alter>(
-    alloc: Global,
-    conn: &mut Idle<S>,
-    desk: &mut Anew,
-    rows: &[Row],
-    cuts: &[Row],
-    paid: &[Row],
-) -> Result<(), AuditFault>
-    ensures asked { between S.Store conn.old conn.new Inspects result (λ _ _. ⊤) }
-    ensures failed { between S.Store conn.old conn.new (TellsFailure Store) result }
-    ensures office { desk.new.office ≡ desk.old.office }
-    ensures passes { between S.Store conn.old conn.new (PassesRowsOfPaid rows.now cuts.now paid.now desk.old.conn desk.new.conn result) }
-{
-    let marks = rows_of_table(conn, TableName::MechanicalPools)?;
-    close_pools(alloc, desk, rows, cuts, paid, marks.as_slice())
-}
-
-// Closes the pools of a database, with the rows of all cuts.
-fn pools_with_cuts<S: Alter>(
-    alloc: Global,
-    conn: &mut Idle<S>,
-    desk: &mut Anew,
-    rows: &[Row],
-    cuts: &[Row],
-) -> Result<(), AuditFault>
-    ensures asked { between S.Store conn.old conn.new Inspects result (λ _ _. ⊤) }
-    ensures failed { between S.Store conn.old conn.new (TellsFailure Store) result }
-    ensures office { desk.new.office ≡ desk.old.office }
-    ensures passes { between S.Store conn.old conn.new (PassesRowsOfCuts rows.now cuts.now desk.old.conn desk.new.conn result) }
-{
-    let paid = rows_of_table(conn, TableName::PoolReturns)?;
-    pools_with_paid(alloc, conn, desk, rows, cuts, paid.as_slice())
-}
-
-// Closes the pools of a database.
-fn pools_of_rows<S: Alter>(
-    alloc: Global,
-    conn: &mut Idle<S>,
-    desk: &mut Anew,
-    rows: &[Row],
-) -> Result<(), AuditFault>
-    ensures asked { between S.Store conn.old conn.new Inspects result (λ _ _. ⊤) }
-    ensures failed { between S.Store conn.old conn.new (TellsFailure Store) result }
-    ensures office { desk.new.office ≡ desk.old.office }
-    ensures passes { between S.Store conn.old conn.new (PassesRowsOfPools rows.now desk.old.conn desk.new.conn result) }
-{
-    let cuts = rows_of_table(conn, TableName::PoolCuts)?;
-    pools_with_cuts(alloc, conn, desk, rows, cuts.as_slice())
-}
-
-// Closes the pools of a database.
-fn pools_from<S: Alter>(
-    alloc: Global,
-    conn: &mut Idle<S>,
-    desk: &mut Anew,
-) -> Result<(), AuditFault>
-    ensures asked { between S.Store conn.old conn.new Inspects result (λ _ _. ⊤) }
-    ensures failed { between S.Store conn.old conn.new (TellsFailure Store) result }
-    ensures office { desk.new.office ≡ desk.old.office }
-    ensures passes { between S.Store conn.old conn.new (PassesFrom without_pools whole_book desk.old.conn desk.new.conn result) }
-{
-    let rows = rows_of_table(conn, TableName::Pools)?;
-    pools_of_rows(alloc, conn, desk, rows.as_slice())
-}
-
-// Puts the returns of a database, and closes its pools.
-fn money_from<S: Alter>(
-    alloc: Global,
-    conn: &mut Idle<S>,
-    desk: &mut Anew,
-) -> Result<(), AuditFault>
-    ensures asked { between S.Store conn.old conn.new Inspects result (λ _ _. ⊤) }
-    ensures failed { between S.Store conn.old conn.new (TellsFailure Store) result }
-    ensures office { desk.new.office ≡ desk.old.office }
-    ensures passes { between S.Store conn.old conn.new (PassesFrom lines_alone whole_book desk.old.conn desk.new.conn result) }
-{
-    returns_from(alloc, conn, desk)?;
-    pools_from(alloc, conn, desk)
-}
-
-// Puts the requests of a database's own rows, in the order of their keys.
-fn requests_from<S: Alter>(
-    alloc: Global,
-    conn: &mut Idle<S>,
-    desk: &mut Anew,
-) -> Result<(), AuditFault>
-    ensures asked { between S.Store conn.old conn.new Inspects result (λ _ _. ⊤) }
-    ensures failed { between S.Store conn.old conn.new (TellsFailure Store) result }
-    ensures office { desk.new.office ≡ desk.old.office }
-    ensures passes { between S.Store conn.old conn.new (PassesFrom (λ _. empty_book) whole_book desk.old.conn desk.new.conn result) }
-{
-    lines_from(alloc, conn, desk)?;
-    money_from(alloc, conn, desk)
-}
-
-/// Tables in memory to which the requests of a database's own rows have come.
-pub(crate) fn rebuild<S: Alter>(
-    alloc: Global,
-    conn: &mut Idle<S>,
     office: &Office,
+    rows: &OwnRows,
 ) -> Result<Tables<MemStore>, AuditFault>
-    ensures asked { between S.Store conn.old conn.new Inspects result (λ _ _. ⊤) }
-    ensures failed { between S.Store conn.old conn.new (TellsFailure Store) result }
     ensures office { IfOk result (λ t. t.office ≡ office.now) }
-    ensures passes { between S.Store conn.old conn.new (λ old new. (b : Book) → HasCleanDisk new → ComesFrom b old → Passes result (λ t. memory_book t.conn ≡ b)) }
+    ensures passes { (b : Book) → IsSound b → AreOwn b rows.now → Passes result (λ t. memory_book t.conn ≡ b) }
+    ensures judged { IfErr result (λ e. e ≢ Store) }
 {
-    conn.see_last_commit();
     let Ok(tables) = Tables::in_memory(alloc, office) else {
         // Tables in memory fail by want of memory alone.
         return Err(AuditFault::Memory);
     };
     let mut desk = Desk::new(tables);
-    requests_from(alloc, conn, &mut desk)?;
+    requests_from(alloc, &mut desk, rows)?;
     Ok(desk.into_store())
 }

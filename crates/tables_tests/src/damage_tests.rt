@@ -73,10 +73,6 @@ const STRAYS: &[&str] = &[
     "CREATE TABLE stray (one INTEGER) STRICT",
 ];
 
-/// The tables of layout 2, which had two tables fewer.
-const LAYOUT_2: &str =
-    "DROP TABLE mechanical_pools; DROP TABLE segment_ends; UPDATE office SET layout = 2";
-
 /// Changes of the rows of an office to which a file has come that waits.
 const WAITING_DAMAGES: &[&str] = &[
     "UPDATE balances SET units = 502",
@@ -90,11 +86,8 @@ const WAITING_DAMAGES: &[&str] = &[
     "INSERT INTO mechanical_pools (pool) VALUES (7)",
 ];
 
-/// How many tables layout 2 had, the first ones of those that are listed.
-const OLDER: usize = 12;
-
 /// Opens a database, and checks the fault that is told, and that what these statements read is as before.
-fn check_opened<S: Alter + Drop>(
+pub fn check_opened<S: Alter + Drop>(
     rt: &impl Abort,
     alloc: Global,
     row: &str,
@@ -227,19 +220,6 @@ fn check_opening(rt: &impl Abort, alloc: Global, opening: &Opening) -> Result<()
 fn openings(rt: HostRuntime) -> Result<(), Fail> {
     for opening in OPENINGS {
         check_opening(&rt, rt.alloc(), &opening)?;
-    }
-    Ok(())
-}
-
-#[test]
-fn the_tables_of_layout_2_are_no_office(rt: HostRuntime) -> Result<(), Fail> {
-    let alloc = rt.alloc();
-    let tables = TABLES;
-    let (older, _) = tables.split_at(OLDER);
-    for steps in [CLOSED_AT_A_CUT, ONE_WAITS] {
-        let mut conn = left_by(alloc, steps)?;
-        change(&mut conn, LAYOUT_2)?;
-        check_opened(&rt, alloc, LAYOUT_2, conn, older, (900, SCHEMA))?;
     }
     Ok(())
 }

@@ -13,6 +13,8 @@ mod left;
 #[cfg(test)]
 mod listing;
 #[cfg(test)]
+mod older_tests;
+#[cfg(test)]
 mod open_tests;
 #[cfg(test)]
 mod row_tests;

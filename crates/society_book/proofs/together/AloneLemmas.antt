@@ -7,8 +7,9 @@ use Rattle.sqlite.specs.Held.{Held, state}
 use Rattle.sqlite.specs.State.{HasCleanDisk, Shows, State, Survives}
 use Rattle.sqlite_trees.specs.Tree.{Trees}
 use Rattle.sqlite_trees.specs.declared.store.Store.{Ghosts}
+use Rattle.society_rows.specs.Effects.{IsAllOrNothing, Writes}
 use Rattle.society_rows.specs.Stored.{HasLayout}
-use Rattle.society_book.specs.Shown.{AddsAlone}
+use Rattle.society_book.specs.Shown.{AddsAlone, SurvivesChange}
 use Rattle.society_book.specs.Steps.{DoesOpen}
 
 module _ {S X : Type 0} (g : Ghosts S) (old : Held S) (later new : State) (x : X) (Change : Trees → Trees → Type 0) (Says : Trees → X → Type 0)
@@ -42,6 +43,18 @@ module _ {S X : Type 0} (g : Ghosts S) (old : Held S) (later new : State) (x : X
     neither = λ clean is_open. tt;
     survives = alone_survives;
   }
+
+-- a statement that wrote, in a transaction of its own: a crash leaves what it left before, or the tables with what it wrote
+pub written_survives : {S : Type 0} (g : Ghosts S) (old : Held S) (later new : State) (Wrote : Database → Database → Type 0) (Change : Trees → Trees → Type 0)
+    → Writes {X = Unit {0}} (state g (record old { in_transaction = true })) later (Ok tt) Wrote → IsAllOrNothing {X = Unit {0}} (state g (record old { in_transaction = true })) later (Ok tt)
+    → ((d e : Database) → Wrote d e → Change d.trees e.trees) → Survives later new (λ db. db ≡ later.now.trees) → SurvivesChange Change (state g old) new
+written_survives g old later new Wrote Change wrote whole changes commits =
+    let begun = state g (record old { in_transaction = true }) in
+    let Leaves : Trees → Type 0 = λ db. IsTrue (state g old).is_open × (HasLayout (state g old).now → Change (state g old).now.trees db) in
+    let clean_later = λ (clean : HasCleanDisk new). let fell = commits.clean in let was : HasCleanDisk later = omega (clean, fell, arith) in was in
+    survives_begin g old new Leaves
+    (survives_then begun later new (λ _. ⊥) (λ db. db ≡ later.now.trees) Leaves (λ clean db never. absurd never)
+    (λ clean db same. (whole (clean_later clean) refl, λ has. subst (λ (trees : Trees). Change (state g old).now.trees trees) (sym same) (changes begun.now later.now (wrote.change (clean_later clean) refl has)))) wrote.survives commits)
 
 -- the same of a state that is that one
 pub at_end : (P : State → Type 0) (done last : State) → last ≡ done → P done → P last

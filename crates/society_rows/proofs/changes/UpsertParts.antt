@@ -13,6 +13,7 @@ use Rattle.sqlite_sql.specs.declared.ops.CompareOp.TheVariants.{Eq}
 use Rattle.sqlite_sql.specs.Term.{Term, col, op2}
 use Rattle.sqlite_schema.specs.declared.program.Program.{Program}
 use Rattle.sqlite_schema.specs.declared.schema.Keys.TheVariants.{Enforced}
+use Rattle.sqlite_schema.specs.declared.schema.Reference.{Reference}
 use Rattle.sqlite_schema.specs.declared.schema.Table.{Table}
 use Rattle.sqlite_schema.specs.declared.schema.Schema.{Schema}
 use Rattle.sqlite_schema.specs.declared.command.Command.TheVariants.{InsertOr}
@@ -30,14 +31,15 @@ use Rattle.sqlite_rules.specs.Lists.{Has}
 use Rattle.sqlite_rules.proofs.ListLemmas.{all_from}
 use Rattle.sqlite.specs.Effect.{Database, value_rows}
 use Rattle.sqlite.specs.Rows.{Task, Written, shown, rowids_for, count_of, Tries, TriesEach, Upserts, Judged, Meets, Clears, Puts as PutsRow, Updates, nothing}
-use Rattle.sqlite.specs.Does.{Tally, Does, AtPlace, OnRows}
-use Rattle.sqlite.specs.Listing.{understood}
+use Rattle.sqlite.specs.Does.{Tally, AtPlace, OnRows}
 use Rattle.sqlite.specs.State.{State, mode_of, ExecutesInside}
-use Rattle.sqlite.proofs.Callers.{IsPlain, command_of, statement_of, runs_as, one_step}
-use Rattle.society_rows.specs.Layout.{layout}
+use Rattle.sqlite.proofs.Callers.{runs_as, one_step}
+use Rattle.society_rows.specs.Layouts.{IsFirst, schema_to}
 use Rattle.society_rows.specs.Stored.{HasLayout, Puts}
+use Rattle.society_rows.proofs.definitions.FirstTables.{ordered}
 use Rattle.society_rows.proofs.readings.Answers.{picked, answers_are, passes_in, shown_in}
-use Rattle.society_rows.proofs.changes.Inserts.{IsSettled, uncounted, unstamped}
+use Rattle.society_rows.proofs.changes.Inserts.{IsSettled, alone_in, uncounted, unstamped}
+use Rattle.society_rows.proofs.changes.Commands.{IsCommand, command_in}
 use Rattle.society_rows.proofs.changes.Parts.{went, same_value}
 use Rattle.society_rows.proofs.changes.References.{no_works}
 use Rattle.society_rows.proofs.changes.Upserts.{IsUpserted, put_new, put_over, shown_over}
@@ -54,13 +56,13 @@ pub record IsUpdate (table : Table) (params values : Row) (place : ℕ) (news : 
   pub finds : (there : Value) (id : ℤ) (r : Row) → passes_in (op2 (Compare Eq Binary) (col 1 0) (col 0 place) ∷ []) (params ++ there ∷ shown table (Int id ∷ values)) r ≡ equal Binary (rowid r) there
   pub sets : (there : Value) (id : ℤ) (r : Row) → shown_in (col 1 0 ∷ col 1 0 ∷ news) (params ++ there ∷ shown table (Int id ∷ values)) r ≡ column r 0 ∷ column r 0 ∷ values
 
-module _ (table : Table) (at : ℕ) (settled : IsSettled table at) (values : Row) (is : IsUpserted table values) (params : Row) (place : ℕ) (news : List Term) (update : IsUpdate table params values place news)
+module _ (schema : Schema) (laid : IsFirst 14 schema) (table : Table) (at : ℕ) (settled : IsSettled table at) (values : Row) (is : IsUpserted schema table values) (params : Row) (place : ℕ) (news : List Term) (update : IsUpdate table params values place news)
     (limit : Option ℕ) (db : Trees) where
   abbrev task : Task
-  task = record { limit = limit; keys = Enforced; schema = layout; table = table; params = params }
+  task = record { limit = limit; keys = Enforced; schema = schema; table = table; params = params }
 
   abbrev after : Trees → Database
-  after trees = record { schema = layout; trees = trees }
+  after trees = record { schema = schema; trees = trees }
 
   abbrev Put : Trees → Type 0
   Put trees = Puts table values (after db) (after trees)
@@ -69,9 +71,9 @@ module _ (table : Table) (at : ℕ) (settled : IsSettled table at) (values : Row
   puts_row id one none h =
       let done = went h in
       let edit = edit_of db table [] Given 0 ((Int id ∷ values) ∷ []) in
-      let applied = one_step layout Enforced db done.0 edit (no_works table.tree (taken_by db edit) edit.news) done.1 in
+      let applied = one_step schema Enforced db done.0 edit (no_works schema laid table.tree (taken_by db edit) edit.news) done.1 in
       let is_it : done.0 ≡ one.trees = ap (λ (w : Written). w.trees) (sym (same_value done.2)) in
-      subst Put is_it (put_new table values is db id (after done.0) refl none applied)
+      subst Put is_it (put_new schema laid table values is db id (after done.0) refl none applied)
 
   clears : (id : ℤ) (one : Written) (found : List Row) → AllByRecursion (λ r. equal Binary (column r 1) (column values 0) ≡ false) (db table.tree) → Clears task Abort (Int id ∷ values) db found (Ok one) → Put one.trees
   clears id one [] none h = puts_row id one none h
@@ -83,23 +85,23 @@ module _ (table : Table) (at : ℕ) (settled : IsSettled table at) (values : Row
       let read = went h in
       let done = went read.2 in
       let edit = edit_of db table (ids_of read.0) Given 1 read.0 in
-      let applied = one_step layout Enforced db done.0 edit (no_works table.tree (taken_by db edit) edit.news) done.1 in
+      let applied = one_step schema Enforced db done.0 edit (no_works schema laid table.tree (taken_by db edit) edit.news) done.1 in
       let is_it : done.0 ≡ one.trees = ap (λ (w : Written). w.trees) (sym (same_value done.2)) in
       let answer = answers_are table.tree _ _ [] db (params ++ rowid was ∷ shown table (Int id ∷ values)) read.0 (read.1.answer Null) in
       let given = params ++ rowid was ∷ shown table (Int id ∷ values) in
       let found = filter (λ r. equal Binary (rowid r) (rowid was)) (db table.tree) in
-      let seen : IsPermutation (map (shown_over table values is db) found) read.0 = subst (λ l. IsPermutation l read.0)
+      let seen : IsPermutation (map (shown_over schema laid table values is db) found) read.0 = subst (λ l. IsPermutation l read.0)
       (ap (map (shown_in (col 1 0 ∷ col 1 0 ∷ news) given)) (filter_same (passes_in (op2 (Compare Eq Binary) (col 1 0) (col 0 place) ∷ []) given) (λ r. equal Binary (rowid r) (rowid was)) (db table.tree)
       (all_from _ (db table.tree) (λ r has. update.finds (rowid was) id r))) ∙ (λ i. map (λ r. update.sets (rowid was) id r i) found)) answer in
-      subst Put is_it (put_over table values is db was read.0 (after done.0) refl there hit seen applied)
+      subst Put is_it (put_over schema laid table values is db was read.0 (after done.0) refl there hit seen applied)
 
   abbrev clauses : List Upsert
   clauses = clause_of table.tree place news ∷ []
 
-  meets : (id : ℤ) (one : Written) (found : List Row) → AreConflicts (Some (1 ∷ [])) layout.indexes table (db table.tree) (Int id ∷ values) found
+  meets : (id : ℤ) (one : Written) (found : List Row) → AreConflicts (Some (1 ∷ [])) schema.indexes table (db table.tree) (Int id ∷ values) found
       → Meets task (Upserts task Abort (Int id ∷ values) db []) (Int id ∷ values) db (clause_of table.tree place news) found (Ok one) → Put one.trees
   meets id one [] conf h =
-      clears id one h.0 (all_from _ (db table.tree) (λ r has. elim (cases_Bool (conflicts (Some (1 ∷ [])) layout.indexes table (Int id ∷ values) r)) [
+      clears id one h.0 (all_from _ (db table.tree) (λ r has. elim (cases_Bool (conflicts (Some (1 ∷ [])) schema.indexes table (Int id ∷ values) r)) [
         | inl meets_it ↦ absurd (conf.complete r has meets_it)
         | inr free ↦ sym (is.conflicts_are id r) ∙ free
       ])) h.2
@@ -142,17 +144,18 @@ module _ (table : Table) (at : ℕ) (settled : IsSettled table at) (values : Row
       let is_new : after tried.0.0.trees ≡ new = sym (now ∙ ap after trees) in
       subst (Puts table values (after db)) is_new put
 
-pub puts : (table : Table) (at : ℕ) → IsSettled table at → (values : Row) → IsUpserted table values → (params : Row) (place : ℕ) (news : List Term) → IsUpdate table params values place news
-    → (terms : List Term) (width : ℕ) → value_rows params width (length terms / width) terms ≡ (Null ∷ values) ∷ [] → (old new : State) (text : List ℕ) (count : ℕ)
-    → command_of (understood layout text) ≡ InsertOr at Abort (Values terms width) (clause_of table.tree place news ∷ []) → IsPlain (understood layout text)
-    → HasLayout old.now → ExecutesInside 0 text params old new (Ok count) → Puts table values old.now new.now
-puts table at settled values is params place news update terms width given old new text count command plain has h =
+pub puts : (table : Table) (at : ℕ) (settled : IsSettled table at) → ((cuts payments : List Reference) → settled.refers cuts payments ≡ table.references) → (values : Row)
+    → ((cuts payments : List Reference) → IsUpserted (schema_to 14 cuts payments) table values) → (params : Row) (place : ℕ) (news : List Term) → IsUpdate table params values place news
+    → (terms : List Term) (width : ℕ) → value_rows params width (length terms / width) terms ≡ (Null ∷ values) ∷ [] → (old new : State) (text : List ℕ) (rows : ℕ) {count : ℕ}
+    → IsCommand text count (InsertOr at Abort (Values terms width) (clause_of table.tree place news ∷ []))
+    → HasLayout old.now → ExecutesInside 0 text params old new (Ok rows) → Puts table values old.now new.now
+puts table at settled alone values upserted_as params place news update terms width given old new text rows means has h =
+    let schema = old.now.schema in
     let act = InsertOr at Abort (Values terms width) (clause_of table.tree place news ∷ []) in
-    let w = runs_as text params old new layout has act command plain count h.0 in
-    let said = statement_of text (understood layout text) in
+    let it = command_in text _ act means schema has in
+    let is = subst (λ s. IsUpserted s table values) (sym (ordered has).is) (upserted_as (ordered has).cuts (ordered has).payments) in
+    let w = runs_as text params old new schema refl act it.command it.plain rows h.0 in
     let db = old.now.trees in
-    let task : Task = record { limit = old.step_limit; keys = Enforced; schema = layout; table = table; params = params } in
+    let task : Task = record { limit = old.step_limit; keys = Enforced; schema = schema; table = table; params = params } in
     let at_table = λ (o : Option Table). AtPlace {X = Table} {A = Tally × Database} (λ t. OnRows (record task { table = t }) (mode_of old) None act db) o (Ok (w.tally, new.now)) in
-    let does = subst (λ s. Does old.step_limit (mode_of old) params (record old.now { schema = s }) said None act (Ok (w.tally, new.now))) has w.changed in
-    let same : old.now ≡ record { schema = layout; trees = db } = ap (λ (s : Schema). let d : Database = record { schema = s; trees = db } in d) has in
-    subst (λ d. Puts table values d new.now) (sym same) (upserted table at settled values is params place news update old.step_limit db terms width given old w.tally new.now (subst at_table settled.listed does))
+    upserted schema has table at settled values is params place news update old.step_limit db terms width given old w.tally new.now (subst at_table (alone_in table at settled alone schema has) w.changed)

@@ -17,6 +17,7 @@ use Rattle.sqlite_trees.proofs.ListLemmas.{filter_same, all-permutation}
 use Rattle.sqlite_keyed.proofs.ListLemmas.{filter-map, filter_all}
 use Rattle.sqlite_schema.specs.declared.schema.Keys.TheVariants.{Enforced}
 use Rattle.sqlite_schema.specs.declared.schema.Constraint.TheVariants.{Unique}
+use Rattle.sqlite_schema.specs.declared.schema.Schema.{Schema}
 use Rattle.sqlite_schema.specs.declared.schema.Table.{Table}
 use Rattle.sqlite_schema.specs.Rules.{equal, differ, passes}
 use Rattle.sqlite_rules.specs.declared.error.Rowids.TheVariants.{Given}
@@ -29,27 +30,27 @@ use Rattle.sqlite_rules.proofs.ListLemmas.{all_has, all_from, has_kept, has_filt
 use Rattle.sqlite_rules.proofs.TableLemmas.{int_is, without_all_has, put_all_keeps, put_all_adds}
 use Rattle.sqlite_rules.proofs.PlaceLemmas.{given}
 use Rattle.sqlite.specs.Effect.{Database}
-use Rattle.society_rows.specs.Layout.{layout}
+use Rattle.society_rows.specs.Layouts.{IsFirst}
 use Rattle.society_rows.specs.Stored.{values_of, rows_in, AreNumbered, has_first, Puts}
 use Rattle.society_rows.proofs.changes.Puts.{put_all_permutes, put_all_numbered}
 use Rattle.society_rows.proofs.changes.Rowids.{equal_rowid, differ_rowid, same_rowid, fresh_alone}
-use Rattle.society_rows.proofs.definitions.Texts.{layout_is}
+use Rattle.society_rows.proofs.definitions.FirstTables.{all_laid}
 
 abbrev is_number : Row → Type 0
 is_number r = is_int (rowid r) ≡ true
 
--- what an upsert asks of its table and of the row that it writes
-pub record IsUpserted (table : Table) (values : Row) : Type 0 where
+-- what an upsert asks of its table in a schema, and of the row that it writes
+pub record IsUpserted (schema : Schema) (table : Table) (values : Row) : Type 0 where
   -- the row is stored as it is
   pub cast_none : cast_row table (Null ∷ values) ≡ Null ∷ values
   pub cast_some : (id : ℤ) → cast_row table (Int id ∷ values) ≡ Int id ∷ values
   pub shows : (id : ℤ) → values_of table (Int id ∷ values) ≡ values
   -- the key is the first column, which has a unique index and nothing else has
   pub first : (r : Row) → column (values_of table r) 0 ≡ column r 1
-  pub conflicts_are : (id : ℤ) (r : Row) → conflicts (Some (1 ∷ [])) layout.indexes table (Int id ∷ values) r ≡ equal Binary (column r 1) (column values 0)
-  pub unique : (db : Trees) (id : ℤ) (r : Row) → passes Unique layout db table (Int id ∷ values) ≡ true → Has (db table.tree) r → equal Binary (column r 1) (column values 0) ≡ true
+  pub conflicts_are : (id : ℤ) (r : Row) → conflicts (Some (1 ∷ [])) schema.indexes table (Int id ∷ values) r ≡ equal Binary (column r 1) (column values 0)
+  pub unique : (db : Trees) (id : ℤ) (r : Row) → passes Unique schema db table (Int id ∷ values) ≡ true → Has (db table.tree) r → equal Binary (column r 1) (column values 0) ≡ true
       → differ (rowid r) (Int id) ≡ false
-  pub listed : Has layout.tables table
+  pub listed : Has schema.tables table
 
 map_same : {X Y : Type 0} (f : X → Y) (y : Y) (xs : List X) → AllByRecursion (λ x. f x ≡ y) xs → AllByRecursion (λ z. z ≡ y) (map f xs)
 map_same f y [] all = tt
@@ -65,7 +66,7 @@ none_has : {X : Type 0} (xs : List X) (x : X) → length xs ≡ 0 → Has xs x �
 none_has [] x none has = has
 none_has (y ∷ xs) x none has = omega arith
 
-module _ (table : Table) (values : Row) (is : IsUpserted table values) (db : Trees) where
+module _ (schema : Schema) (laid : IsFirst 14 schema) (table : Table) (values : Row) (is : IsUpserted schema table values) (db : Trees) where
   abbrev key : Value
   key = column values 0
 
@@ -79,38 +80,38 @@ module _ (table : Table) (values : Row) (is : IsUpserted table values) (db : Tre
       ∙ ap (map (values_of table)) (filter_same (λ x. not (has_first key (values_of table x))) (λ x. not (same x)) (db table.tree) (all_from _ (db table.tree) (λ x has. ap (λ v. not (equal Binary v key)) (is.first x))))
 
   -- the edit put the row under a rowid that was left free
-  put_as : (id : ℤ) (left : List Row) (new : Database) → new.schema ≡ layout → are_fresh left ((Int id ∷ values) ∷ []) ≡ true → new.trees table.tree ≡ put_all left ((Int id ∷ values) ∷ [])
+  put_as : (id : ℤ) (left : List Row) (new : Database) → new.schema ≡ schema → are_fresh left ((Int id ∷ values) ∷ []) ≡ true → new.trees table.tree ≡ put_all left ((Int id ∷ values) ∷ [])
       → left ≡ filter (λ r. not (same r)) (db table.tree) → IsPermutation (values ∷ filter (λ r. not (has_first key r)) (rows_in table db)) (rows_in table new.trees)
   put_as id left new has fresh rows left_is =
       subst₂ (λ (x y : List Row). IsPermutation x y) (ap₂ (λ (v : Row) (vs : List Row). v ∷ vs) (is.shows id) (ap (map (values_of table)) left_is ∙ sym others_show)) (ap (map (values_of table)) (sym rows))
       (IsPermutation-map (values_of table) ((Int id ∷ values) ∷ left) _ (put_all_permutes ((Int id ∷ values) ∷ []) left fresh))
 
   -- no row had the key
-  pub put_new : (id : ℤ) (new : Database) → new.schema ≡ layout → AllByRecursion (λ r. same r ≡ false) (db table.tree) → Applies layout Enforced db (edit_of db table [] Given 0 ((Int id ∷ values) ∷ [])) new.trees
-      → Puts table values (record { schema = layout; trees = db }) new
+  pub put_new : (id : ℤ) (new : Database) → new.schema ≡ schema → AllByRecursion (λ r. same r ≡ false) (db table.tree) → Applies schema Enforced db (edit_of db table [] Given 0 ((Int id ∷ values) ∷ [])) new.trees
+      → Puts table values (record { schema = schema; trees = db }) new
   put_new id new has none h =
       let news : (edit_of db table [] Given 0 ((Int id ∷ values) ∷ [])).news ≡ (Int id ∷ values) ∷ [] = given (db table.tree) _ ∙ ap (λ (r : Row). r ∷ []) (is.cast_some id) in
       record {
-        layout = has;
+        layout = subst (IsFirst 14) (sym has) laid;
         rows = λ _. put_as id (db table.tree) new has (subst (λ n. are_fresh (db table.tree) n ≡ true) news h.fresh) (h.rows ∙ ap (put_all (db table.tree)) news)
             (sym (filter_all (λ r. not (same r)) (db table.tree) (all_from _ (db table.tree) (λ x there. ap not (all_has _ (db table.tree) x none there)))));
         numbered = λ old. subst (AllByRecursion is_number) (sym h.rows) (put_all_numbered (edit_of db table [] Given 0 ((Int id ∷ values) ∷ [])).news (db table.tree) h.keyed old);
-        others = subst (AllByRecursion (λ t. t.tree ≢ table.tree → new.trees t.tree ≡ db t.tree)) layout_is h.tables;
+        others = all_laid (λ n. n ≢ table.tree → new.trees n ≡ db n) schema laid h.tables;
       }
 
   -- the one row that had the rowid gave way
-  over_one : (id : ℤ) (was : Row) (rows : List Row) (new : Database) → new.schema ≡ layout → AreNumbered table db → Has (db table.tree) was → same was ≡ true
-      → rows ≡ (Int id ∷ Int id ∷ values) ∷ [] → filter (has_rowid id) (db table.tree) ≡ was ∷ [] → Applies layout Enforced db (edit_of db table (ids_of rows) Given 1 rows) new.trees
+  over_one : (id : ℤ) (was : Row) (rows : List Row) (new : Database) → new.schema ≡ schema → AreNumbered table db → Has (db table.tree) was → same was ≡ true
+      → rows ≡ (Int id ∷ Int id ∷ values) ∷ [] → filter (has_rowid id) (db table.tree) ≡ was ∷ [] → Applies schema Enforced db (edit_of db table (ids_of rows) Given 1 rows) new.trees
       → IsPermutation (values ∷ filter (λ r. not (has_first key r)) (rows_in table db)) (rows_in table new.trees)
   over_one id was rows new has old there hit one only h =
-      let done : Applies layout Enforced db (edit_of db table (id ∷ []) Given 1 ((Int id ∷ Int id ∷ values) ∷ [])) new.trees = subst (λ l. Applies layout Enforced db (edit_of db table (ids_of l) Given 1 l) new.trees) one h in
+      let done : Applies schema Enforced db (edit_of db table (id ∷ []) Given 1 ((Int id ∷ Int id ∷ values) ∷ [])) new.trees = subst (λ l. Applies schema Enforced db (edit_of db table (ids_of l) Given 1 l) new.trees) one h in
       let left = filter (λ r. not (has_rowid id r)) (db table.tree) in
       let news : (edit_of db table (id ∷ []) Given 1 ((Int id ∷ Int id ∷ values) ∷ [])).news ≡ (Int id ∷ values) ∷ [] = given left _ ∙ ap (λ (r : Row). r ∷ []) (is.cast_some id) in
       let fresh : are_fresh left ((Int id ∷ values) ∷ []) ≡ true = subst (λ n. are_fresh left n ≡ true) news done.fresh in
       let put : new.trees table.tree ≡ put_all left ((Int id ∷ values) ∷ []) = done.rows ∙ ap (put_all left) news in
       let here : Has (new.trees table.tree) (Int id ∷ values) = subst (λ l. Has l (Int id ∷ values)) (sym put) (put_all_adds ((Int id ∷ values) ∷ []) left (Int id ∷ values) fresh (inl refl)) in
-      let rule = all_has _ layout.tables table (done.fits.rules Unique (λ e. cc)) is.listed in
-      let passing : passes Unique layout new.trees table (Int id ∷ values) ≡ true = all_has _ (new.trees table.tree) (Int id ∷ values) rule here in
+      let rule = all_has _ schema.tables table (done.fits.rules Unique (λ e. cc)) is.listed in
+      let passing : passes Unique schema new.trees table (Int id ∷ values) ≡ true = all_has _ (new.trees table.tree) (Int id ∷ values) rule here in
       let apart : (r : Row) → Has (db table.tree) r → has_rowid id r ≡ false → same r ≡ true → ⊥ = λ r in_table other key_is.
       let stays = subst (λ l. Has l r) (sym put) (put_all_keeps ((Int id ∷ values) ∷ []) left r fresh (has_kept (λ x. not (has_rowid id x)) (db table.tree) r in_table (ap not other))) in
       let far = is.unique new.trees id r passing stays key_is in
@@ -146,11 +147,11 @@ module _ (table : Table) (values : Row) (is : IsUpserted table values) (db : Tre
       rows_named (r ∷ rs) h = (ap (λ (l : Row). rowid (cast_row table (drop 1 l))) h.0 ∙ ap rowid (is.cast_some id), rows_named rs h.1)
 
   -- a row had the key, and the query shows the rows with its rowid
-  pub put_over : (was : Row) (rows : List Row) (new : Database) → new.schema ≡ layout → Has (db table.tree) was → same was ≡ true
+  pub put_over : (was : Row) (rows : List Row) (new : Database) → new.schema ≡ schema → Has (db table.tree) was → same was ≡ true
       → IsPermutation (map shown_over (filter (λ r. equal Binary (rowid r) (rowid was)) (db table.tree))) rows
-      → Applies layout Enforced db (edit_of db table (ids_of rows) Given 1 rows) new.trees → Puts table values (record { schema = layout; trees = db }) new
+      → Applies schema Enforced db (edit_of db table (ids_of rows) Given 1 rows) new.trees → Puts table values (record { schema = schema; trees = db }) new
   put_over was rows new has there hit shown h = record {
-    layout = has;
+    layout = subst (IsFirst 14) (sym has) laid;
     rows = λ old.
         let id = id_in (rowid was) in
         let named : rowid was ≡ Int id = int_is (rowid was) (all_has _ (db table.tree) was old there) in
@@ -171,5 +172,5 @@ module _ (table : Table) (values : Row) (is : IsUpserted table values) (db : Tre
         let edit = edit_of db table (ids_of rows) Given 1 rows in
         let left = without_all (db table.tree) (ids_of rows) in
         subst (AllByRecursion is_number) (sym h.rows) (put_all_numbered edit.news left h.keyed (all_from _ left (λ x in_left. all_has _ (db table.tree) x old (without_all_has (ids_of rows) (db table.tree) x in_left))));
-    others = subst (AllByRecursion (λ t. t.tree ≢ table.tree → new.trees t.tree ≡ db t.tree)) layout_is h.tables;
+    others = all_laid (λ n. n ≢ table.tree → new.trees n ≡ db n) schema laid h.tables;
   }

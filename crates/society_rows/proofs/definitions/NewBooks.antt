@@ -12,14 +12,15 @@ use Rattle.sqlite.specs.State.{State, HasCleanDisk, ExecutesInside}
 use Rattle.society_rows.specs.declared.fault.RowFault.{RowFault}
 use Rattle.society_rows.specs.Effects.{OnlyFailsOver, RanAs}
 use Rattle.society_rows.specs.Faults.{IsFailure}
-use Rattle.society_rows.specs.Layout.{layout, all_tables, no_schema, office}
-use Rattle.society_rows.specs.NewBook.{IsBare, HasTables, IsEmptyBook}
+use Rattle.society_rows.specs.Layout.{layout, all_tables, no_schema, office, written_out}
+use Rattle.society_rows.specs.Layouts.{IsFirst}
+use Rattle.society_rows.specs.NewBook.{IsBare, HasEmpty, IsEmptyBook}
 use Rattle.society_rows.specs.Texts.{all_texts}
 use Rattle.society_rows.proofs.definitions.Creates.{IsDefinition, IsMade, creates}
 use Rattle.society_rows.proofs.definitions.Texts.{AreDefinitions, all_are, layout_is}
 use Rattle.society_rows.proofs.errors.ToldTables.{create_tells}
 
-defined_at : (before : Schema) (texts : List (List ℕ)) (tables : List Table) (d : Table) → AreDefinitions before texts tables → (i : ℕ) → i < length texts
+pub defined_at : (before : Schema) (texts : List (List ℕ)) (tables : List Table) (d : Table) → AreDefinitions before texts tables → (i : ℕ) → i < length texts
     → IsDefinition (fold created before (take i tables)) (get_or texts i []) (get_or tables i d)
 defined_at before [] tables d all i within = absurd (omega arith)
 defined_at before (text ∷ texts) [] d all i within = absurd all
@@ -32,7 +33,7 @@ as_long before [] (table ∷ tables) all = absurd all
 as_long before (text ∷ texts) [] all = absurd all
 as_long before (text ∷ texts) (table ∷ tables) all = omega (arith, as_long (created before table) texts tables all.1)
 
-one_more : (i : ℕ) (table : Table) (old new : Database) → HasTables i old → take (i + 1) all_tables ≡ take i all_tables ++ table ∷ [] → IsMade (fold created no_schema (take i all_tables)) table old new → HasTables (i + 1) new
+one_more : (i : ℕ) (table : Table) (old new : Database) → HasEmpty i old → take (i + 1) all_tables ≡ take i all_tables ++ table ∷ [] → IsMade (fold created no_schema (take i all_tables)) table old new → HasEmpty (i + 1) new
 one_more i table old new has more made =
     let before = fold created no_schema (take i all_tables) in
     let there : AllByRecursion (λ t. old.trees t.tree ≡ []) before.tables = subst (λ (s : Schema). AllByRecursion (λ t. old.trees t.tree ≡ []) s.tables) has.schema has.empty in
@@ -49,7 +50,7 @@ as_many : length all_texts ≡ length all_tables
 as_many = as_long no_schema all_texts all_tables all_are
 
 -- the next text makes the next table
-pub next_table : (i : ℕ) → i < length all_texts → (text : List ℕ) → text ≡ get_or all_texts i [] → (old new : State) (count : ℕ) → HasTables i old.now → ExecutesInside 0 text [] old new (Ok count) → HasTables (i + 1) new.now
+pub next_table : (i : ℕ) → i < length all_texts → (text : List ℕ) → text ≡ get_or all_texts i [] → (old new : State) (count : ℕ) → HasEmpty i old.now → ExecutesInside 0 text [] old new (Ok count) → HasEmpty (i + 1) new.now
 next_table i within text is old new count has h =
     let d : Table = office in
     let definition = defined_at no_schema all_texts all_tables d all_are i within in
@@ -58,16 +59,16 @@ next_table i within text is old new count has h =
 
 -- what the next text tells of an error
 pub next_tells : (i : ℕ) → i < length all_texts → (text : List ℕ) → text ≡ get_or all_texts i [] → (old new : State) (result : Result (Unit {0}) RowFault) → (old.in_transaction ≡ false → IfErr result IsFailure)
-    → (HasCleanDisk new → IsTrue old.in_transaction → RanAs text [] old new result) → OnlyFailsOver (HasTables i) old new result
+    → (HasCleanDisk new → IsTrue old.in_transaction → RanAs text [] old new result) → OnlyFailsOver (HasEmpty i) old new result
 next_tells i within text is old new result ended ran clean has =
     create_tells _ _ _ (defined_at no_schema all_texts all_tables office all_are i within) old new result ended (λ clean inside. subst (λ t. RanAs t [] old new result) is (ran clean inside)) clean has.schema
 
 -- no table yet
-pub first_tables : (d : Database) → IsBare d → HasTables 0 d
+pub first_tables : (d : Database) → IsBare d → HasEmpty 0 d
 first_tables d bare = record { schema = bare; empty = subst (λ (s : Schema). AllByRecursion (λ t. d.trees t.tree ≡ []) s.tables) (sym bare) tt }
 
-pub last_tables : (i : ℕ) → length all_texts ≤ i → (d : Database) → HasTables i d → IsEmptyBook d
-unfolding layout
+pub last_tables : (i : ℕ) → length all_texts ≤ i → (d : Database) → HasEmpty i d → IsEmptyBook d
+unfolding IsFirst written_out
 last_tables i past d has =
     let is : d.schema ≡ layout = has.schema ∙ ap (fold created no_schema) (take_all i all_tables (omega (arith, as_many))) in
-    record { layout = is; empty = subst (AllByRecursion (λ t. d.trees t.tree ≡ [])) layout_is (subst (λ (s : Schema). AllByRecursion (λ t. d.trees t.tree ≡ []) s.tables) is has.empty) }
+    record { layout = inl (inl is); empty = subst (AllByRecursion (λ t. d.trees t.tree ≡ [])) layout_is (subst (λ (s : Schema). AllByRecursion (λ t. d.trees t.tree ≡ []) s.tables) is has.empty) }

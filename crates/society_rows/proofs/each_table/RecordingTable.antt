@@ -1,5 +1,5 @@
 -- The statements over the table of recordings of versions.
-use Rattle.std.proofs.Common.{◌≡◌, ℕ, ℤ, true, List, [], ◌∷◌, codes, Ok, refl, ◌++◌}
+use Rattle.std.proofs.Common.{lit≤, ℕ, ℤ, true, List, [], ◌∷◌, codes, Ok, refl, ◌++◌}
 use Rattle.sqlite_value.specs.declared.value.Value.TheVariants.{Null, Int, Text}
 use Rattle.sqlite_value.specs.declared.keys.Collation.TheVariants.{Binary}
 use Rattle.sqlite_value.specs.declared.keys.Key.{Key}
@@ -11,21 +11,21 @@ use Rattle.sqlite_schema.specs.declared.command.Source.TheVariants.{Values}
 use Rattle.sqlite_tied.specs.Compute.{everything}
 use Rattle.sqlite.specs.Listing.{understood}
 use Rattle.sqlite.specs.State.{State, ExecutesInside, Shown}
-use Rattle.sqlite.proofs.Callers.{IsPlain, command_of}
-use Rattle.society_rows.specs.Layout.{written_out, layout, recordings}
+use Rattle.society_rows.specs.Layout.{written_out, recordings}
+use Rattle.society_rows.specs.Layouts.{HasTables}
 use Rattle.society_rows.specs.Reads.{Lists}
 use Rattle.society_rows.specs.Rows.{recording_values}
 use Rattle.society_rows.specs.declared.recordings.RecordingRow.{RecordingRow}
 use Rattle.society_rows.specs.Stored.{HasLayout, Adds}
 use Rattle.society_rows.proofs.readings.Answers.{picked}
 use Rattle.society_rows.proofs.changes.Casts.{cast_null, cast_int}
-use Rattle.society_rows.proofs.errors.Failures.{IsSingle}
+use Rattle.society_rows.proofs.changes.Commands.{IsCommand}
 use Rattle.society_rows.proofs.changes.Inserts.{IsSettled, Stores, inserts}
 use Rattle.society_rows.proofs.readings.Queries.{IsQuery, IsListing, lists_by}
 
 pub settled : IsSettled recordings 9
 unfolding understood everything written_out
-settled = record { listed = refl; uncounted = refl; unstamped = refl }
+settled = record { refers = λ _ _. []; listed = λ cuts payments. refl; uncounted = refl; unstamped = refl }
 
 abbrev terms : List Term
 terms = lit Null ∷ col 0 0 ∷ col 0 1 ∷ col 0 2 ∷ col 0 3 ∷ []
@@ -33,9 +33,9 @@ terms = lit Null ∷ col 0 0 ∷ col 0 1 ∷ col 0 2 ∷ col 0 3 ∷ []
 abbrev pub insert_text : List ℕ
 insert_text = codes "INSERT INTO recordings (sender, work, revision, isrc) VALUES (?1, ?2, ?3, ?4)"
 
-pub insert_is : (command_of (understood layout insert_text) ≡ Insert 9 (Values terms 5)) × IsPlain (understood layout insert_text) × IsSingle insert_text 4 (understood layout insert_text)
+pub insert_is : IsCommand insert_text 4 (Insert 9 (Values terms 5))
 unfolding understood everything written_out
-insert_is = (refl, (refl, refl), (refl, refl))
+insert_is cuts payments = record { command = refl; plain = (refl, refl); single = (refl, refl) }
 
 abbrev row_of : List ℕ → List ℕ → ℤ → List ℕ → Row
 row_of sender work revision isrc = Text sender ∷ Text work ∷ Int revision ∷ Text isrc ∷ []
@@ -46,7 +46,7 @@ stores sender work revision isrc rows = rw (cast_null, cast_int revision)
 
 pub adds_row : (sender : List ℕ) (work : List ℕ) (revision : ℤ) (isrc : List ℕ) (old new : State) (count : ℕ) → HasLayout old.now → ExecutesInside 0 insert_text (row_of sender work revision isrc) old new (Ok count) → Adds recordings (row_of sender work revision isrc ∷ []) old.now new.now
 adds_row sender work revision isrc old new count has h =
-    inserts recordings 9 settled old new insert_text (row_of sender work revision isrc) terms 5 ((Null ∷ Text sender ∷ Text work ∷ Int revision ∷ Text isrc ∷ []) ∷ []) (row_of sender work revision isrc ∷ []) (Ok count) insert_is.0 insert_is.1 refl (stores sender work revision isrc, tt) has h
+    inserts recordings 9 settled old new insert_text (row_of sender work revision isrc) terms 5 ((Null ∷ Text sender ∷ Text work ∷ Int revision ∷ Text isrc ∷ []) ∷ []) (row_of sender work revision isrc ∷ []) (Ok count) insert_is refl (stores sender work revision isrc, tt) has h
 
 abbrev pair_terms : List Term
 pair_terms = lit Null ∷ col 0 0 ∷ col 0 1 ∷ col 0 2 ∷ col 0 3 ∷ lit Null ∷ col 0 4 ∷ col 0 5 ∷ col 0 6 ∷ col 0 7 ∷ []
@@ -54,13 +54,13 @@ pair_terms = lit Null ∷ col 0 0 ∷ col 0 1 ∷ col 0 2 ∷ col 0 3 ∷ lit Nu
 abbrev pub pair_text : List ℕ
 pair_text = codes "INSERT INTO recordings (sender, work, revision, isrc) VALUES (?1, ?2, ?3, ?4), (?5, ?6, ?7, ?8)"
 
-pub pair_is : (command_of (understood layout pair_text) ≡ Insert 9 (Values pair_terms 5)) × IsPlain (understood layout pair_text) × IsSingle pair_text 8 (understood layout pair_text)
+pub pair_is : IsCommand pair_text 8 (Insert 9 (Values pair_terms 5))
 unfolding understood everything written_out
-pair_is = (refl, (refl, refl), (refl, refl))
+pair_is cuts payments = record { command = refl; plain = (refl, refl); single = (refl, refl) }
 
 pub adds_pair : (r s : RecordingRow) (old new : State) (count : ℕ) → HasLayout old.now → ExecutesInside 0 pair_text (recording_values r ++ recording_values s) old new (Ok count) → Adds recordings (recording_values r ∷ recording_values s ∷ []) old.now new.now
 adds_pair r s old new count has h =
-    inserts recordings 9 settled old new pair_text (recording_values r ++ recording_values s) pair_terms 5 ((Null ∷ recording_values r) ∷ (Null ∷ recording_values s) ∷ []) (recording_values r ∷ recording_values s ∷ []) (Ok count) pair_is.0 pair_is.1 refl
+    inserts recordings 9 settled old new pair_text (recording_values r ++ recording_values s) pair_terms 5 ((Null ∷ recording_values r) ∷ (Null ∷ recording_values s) ∷ []) (recording_values r ∷ recording_values s ∷ []) (Ok count) pair_is refl
     (stores r.sender.now r.work.now r.revision r.isrc.now, (stores s.sender.now s.work.now s.revision s.isrc.now, tt)) has h
 
 abbrev project : List Term
@@ -75,14 +75,14 @@ shown_names = codes "sender" ∷ codes "work" ∷ codes "revision" ∷ codes "is
 abbrev pub all_recordings_text : List ℕ
 all_recordings_text = codes "SELECT sender, work, revision, isrc FROM recordings ORDER BY sender, work, revision, isrc"
 
-pub all_recordings_is : IsQuery all_recordings_text 0 (picked 16 ([]) project order) shown_names
+pub all_recordings_is : IsQuery 12 all_recordings_text 0 (picked 16 ([]) project order) shown_names
 unfolding understood everything written_out
-all_recordings_is = record { command = refl; plain = (refl, refl); unlisted = refl; single = (refl, refl) }
+all_recordings_is = record { few = lit≤ tt; under = λ cuts payments more indexes. record { command = refl; plain = (refl, refl); unlisted = refl; single = (refl, refl) } }
 
 all_recordings_listing : IsListing recordings ([]) project order ([]) (λ _. true) 4
 unfolding written_out
 all_recordings_listing = record { shows = λ r. refl; tests = λ r. refl; orders = λ a b. refl }
 
-pub all_recordings_lists : (old new : State) (rows : List Row) → HasLayout old.now → Shown all_recordings_text ([]) old new rows → Lists recordings (λ _. true) 4 old.now.trees rows
+pub all_recordings_lists : (old new : State) (rows : List Row) → HasTables 12 old.now → Shown all_recordings_text ([]) old new rows → Lists recordings (λ _. true) 4 old.now.trees rows
 unfolding written_out
 all_recordings_lists = lists_by recordings all_recordings_text ([]) project order shown_names all_recordings_is ([]) (λ _. true) 4 all_recordings_listing

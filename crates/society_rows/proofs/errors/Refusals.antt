@@ -1,8 +1,8 @@
 -- What the parts of a write are refused for.
-use Rattle.std.proofs.Common.{◌≡◌, ◌⊎◌, ℕ, ℤ, Bool, true, false, MatchBool, List, [], ◌∷◌, slice_get, Option, Some, None, option_map, Ok, Err, refl, ap, subst, ◌∙◌, inl, inr}
+use Rattle.std.proofs.Common.{◌≡◌, ◌⊎◌, ℕ, ℤ, Bool, true, false, MatchBool, List, [], ◌∷◌, slice_get, Option, Some, None, option_map, Ok, Err, refl, subst, inl, inr}
 use Rattle.sqlite_value.specs.Order.{Row}
 use Rattle.sqlite_trees.specs.Tree.{Trees}
-use Rattle.sqlite_schema.specs.declared.command.Command.TheVariants.{Insert, InsertOr}
+use Rattle.sqlite_schema.specs.declared.command.Command.TheVariants.{Insert, InsertOr, Update}
 use Rattle.sqlite_schema.specs.declared.command.Conflict.{Conflict}
 use Rattle.sqlite_schema.specs.declared.command.Conflict.TheVariants.{Abort, Ignore, Replace}
 use Rattle.sqlite_schema.specs.declared.command.Source.{Source}
@@ -25,9 +25,9 @@ use Rattle.sqlite.specs.declared.run.Mode.{Mode}
 use Rattle.sqlite.specs.Does.{AtPlace, Concludes, Does, OnRows, Tally, Tested}
 use Rattle.sqlite.specs.Effect.{Database, edit_error}
 use Rattle.sqlite.specs.Rows.{Outcome, Part, Clears, Counter, Counts, Edited, Gives, Inserts, InsertsOr, Judged, Meets, Puts, Resolves, Sourced, Task, Tries, TriesEach, Updates, Upserts, Written, nothing, passes_over}
-use Rattle.society_rows.specs.Layout.{layout}
+use Rattle.society_rows.specs.Stored.{HasLayout}
 use Rattle.society_rows.proofs.errors.Failures.{IsCoded, refused_coded}
-use Rattle.society_rows.proofs.changes.Inserts.{IsSettled, uncounted}
+use Rattle.society_rows.proofs.changes.Inserts.{IsSettled, listed_in, table_in, uncounted}
 
 abbrev AreCoded : {A : Type 0} → Part A → Type 0
 AreCoded P = (e : Error) → P (Err (Some e)) → IsCoded e
@@ -137,13 +137,13 @@ module _ (task : Task) (free : task.table.is_counted ≡ false) where
       stopped e h (sourced_coded task.limit (seen db) _ from e) (λ rows. stopped e rows.2 (counter_coded db e) (λ counter. stopped e counter.2 (tries_each_coded way clauses rows.0 _ _ e)
       (λ done. stopped e done.2 (counts_coded done.0.0.trees counter.0 done.0.1 e) (λ next. gave e next.2))))
 
-module _ (table : Table) (at : ℕ) (settled : IsSettled table at) (limit : Option ℕ) (mode : Mode) (params : Row) (db : Database) (has : db.schema ≡ layout) (text : List ℕ) where
+module _ (table : Table) (at : ℕ) (settled : IsSettled table at) (limit : Option ℕ) (mode : Mode) (params : Row) (db : Database) (has : HasLayout db) (text : List ℕ) where
   abbrev this : Task
-  this = record { limit = limit; keys = mode.keys; schema = db.schema; table = table; params = params }
+  this = record { limit = limit; keys = mode.keys; schema = db.schema; table = table_in table at settled db.schema has; params = params }
 
   -- the table stands at that place of the layout
   placed : (P : Task → Part (Tally × Database)) (out : Outcome (Tally × Database)) → AtPlace (λ t. P (record this { table = t })) (slice_get db.schema.tables at) out → P this out
-  placed P out h = subst (λ o. AtPlace {X = Table} {A = Tally × Database} (λ t. P (record this { table = t })) o out) (ap (λ (s : Schema). slice_get s.tables at) has ∙ settled.listed) h
+  placed P out h = subst (λ o. AtPlace {X = Table} {A = Tally × Database} (λ t. P (record this { table = t })) o out) (listed_in table at settled db.schema has) h
 
   pub insert_coded : (from : Source) → AreCoded (Does limit mode params db text None (Insert at from))
   insert_coded from e h =
@@ -152,4 +152,9 @@ module _ (table : Table) (at : ℕ) (settled : IsSettled table at) (limit : Opti
   pub insert_or_coded : (way : Conflict) (clauses : List Upsert) (from : Source) → AreCoded (Does limit mode params db text None (InsertOr at way from clauses))
   insert_or_coded way clauses from e h =
       stopped e (placed (λ task. OnRows task mode None (InsertOr at way from clauses) db.trees) (Err (Some e)) h) (inserts_or_coded this settled.uncounted way clauses from db.trees e)
+      (λ w. concluded_coded this mode w.0 e w.2)
+
+  pub update_coded : (q : Program) → AreCoded (Does limit mode params db text None (Update at q))
+  update_coded q e h =
+      stopped e (placed (λ task. OnRows task mode None (Update at q) db.trees) (Err (Some e)) h) (updates_coded this settled.uncounted q params db.trees e)
       (λ w. concluded_coded this mode w.0 e w.2)

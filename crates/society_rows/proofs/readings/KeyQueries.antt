@@ -1,5 +1,5 @@
 -- Queries that show the keys of rows alone.
-use Rattle.std.proofs.Common.{◌≡◌, ℕ, ℤ, Bool, List, [], ◌∷◌, take, codes, refl}
+use Rattle.std.proofs.Common.{lit≤, ◌≡◌, ℕ, ℤ, Bool, List, [], ◌∷◌, take, codes, refl}
 use Rattle.sqlite_value.specs.declared.value.Value.TheVariants.{Int, Text}
 use Rattle.sqlite_value.specs.declared.keys.Collation.TheVariants.{Binary}
 use Rattle.sqlite_value.specs.declared.keys.Key.{Key}
@@ -15,7 +15,7 @@ use Rattle.sqlite.specs.Listing.{understood}
 use Rattle.sqlite.specs.State.{State, Shown}
 use Rattle.society_rows.specs.Layout.{written_out, transmissions, returns}
 use Rattle.society_rows.specs.Reads.{ListsKeys, has_key, is_above, is_above_and_below}
-use Rattle.society_rows.specs.Stored.{HasLayout}
+use Rattle.society_rows.specs.Layouts.{HasTables}
 use Rattle.society_rows.proofs.readings.Answers.{picked}
 use Rattle.society_rows.proofs.readings.CutRows.{whole_answer}
 use Rattle.society_rows.proofs.readings.Queries.{IsQuery, IsListing, answer_of, listed}
@@ -23,9 +23,9 @@ use Rattle.society_rows.proofs.each_table.ReturnTable.{return_at_listing}
 use Rattle.society_rows.proofs.each_table.TransmissionTable.{transmissions_above_listing, transmissions_between_listing}
 
 -- what is shown of a row's columns is its first ones
-keys_by : (table : Table) (text : List ℕ) {count : ℕ} (filters project cut : List Term) (order : List (Term × Key)) (names : List (List ℕ)) → IsQuery text count (picked table.tree filters cut order) names
+keys_by : (table : Table) (text : List ℕ) {tables count : ℕ} (filters project cut : List Term) (order : List (Term × Key)) (names : List (List ℕ)) → IsQuery tables text count (picked table.tree filters cut order) names
     → (params : Row) (passes : Row → Bool) (width : ℕ) → IsListing table filters project order params passes width → ((env : Env) → eval_all cut env ≡ take width (eval_all project env))
-    → (old new : State) (rows : List Row) → HasLayout old.now → Shown text params old new rows → ListsKeys table passes width old.now.trees rows
+    → (old new : State) (rows : List Row) → HasTables tables old.now → Shown text params old new rows → ListsKeys table passes width old.now.trees rows
 keys_by table text filters project cut order names is params passes width listing cuts old new rows has h =
     let answer = whole_answer table.tree filters project cut order width cuts (overlay old.now.trees []) params rows (answer_of text (picked table.tree filters cut order) names is params old new rows has h) in
     let found = listed table filters project order params passes (rising width []) listing old.now.trees answer.0 answer.1 in
@@ -49,11 +49,11 @@ same_key = op2 (Compare Eq Binary) (col 1 1) (col 0 0) ∷ op2 (Compare Eq Binar
 abbrev pub numbers_above_text : List ℕ
 numbers_above_text = codes "SELECT sender, number FROM transmissions WHERE sender = ?1 AND number > ?2 ORDER BY sender, number"
 
-pub numbers_above_is : IsQuery numbers_above_text 2 (picked 1 above cut order) (codes "sender" ∷ codes "number" ∷ [])
+pub numbers_above_is : IsQuery 6 numbers_above_text 2 (picked 1 above cut order) (codes "sender" ∷ codes "number" ∷ [])
 unfolding understood everything written_out
-numbers_above_is = record { command = refl; plain = (refl, refl); unlisted = refl; single = (refl, refl) }
+numbers_above_is = record { few = lit≤ tt; under = λ cuts payments more indexes. record { command = refl; plain = (refl, refl); unlisted = refl; single = (refl, refl) } }
 
-pub numbers_above_lists : (sender : List ℕ) (number : ℤ) (old new : State) (rows : List Row) → HasLayout old.now → Shown numbers_above_text (Text sender ∷ Int number ∷ []) old new rows → ListsKeys transmissions (is_above (Text sender) (Int number)) 2 old.now.trees rows
+pub numbers_above_lists : (sender : List ℕ) (number : ℤ) (old new : State) (rows : List Row) → HasTables 6 old.now → Shown numbers_above_text (Text sender ∷ Int number ∷ []) old new rows → ListsKeys transmissions (is_above (Text sender) (Int number)) 2 old.now.trees rows
 unfolding written_out
 numbers_above_lists sender number =
     keys_by transmissions numbers_above_text above project cut order (codes "sender" ∷ codes "number" ∷ []) numbers_above_is (Text sender ∷ Int number ∷ []) (is_above (Text sender) (Int number)) 2 (transmissions_above_listing sender number) (λ env. refl)
@@ -64,11 +64,11 @@ between = op2 (Compare Eq Binary) (col 1 1) (col 0 0) ∷ op2 (Compare Gt Binary
 abbrev pub numbers_between_text : List ℕ
 numbers_between_text = codes "SELECT sender, number FROM transmissions WHERE sender = ?1 AND number > ?2 AND number < ?3 ORDER BY sender, number"
 
-pub numbers_between_is : IsQuery numbers_between_text 3 (picked 1 between cut order) (codes "sender" ∷ codes "number" ∷ [])
+pub numbers_between_is : IsQuery 6 numbers_between_text 3 (picked 1 between cut order) (codes "sender" ∷ codes "number" ∷ [])
 unfolding understood everything written_out
-numbers_between_is = record { command = refl; plain = (refl, refl); unlisted = refl; single = (refl, refl) }
+numbers_between_is = record { few = lit≤ tt; under = λ cuts payments more indexes. record { command = refl; plain = (refl, refl); unlisted = refl; single = (refl, refl) } }
 
-pub numbers_between_lists : (sender : List ℕ) (low high : ℤ) (old new : State) (rows : List Row) → HasLayout old.now → Shown numbers_between_text (Text sender ∷ Int low ∷ Int high ∷ []) old new rows → ListsKeys transmissions (is_above_and_below (Text sender) (Int low) (Int high)) 2 old.now.trees rows
+pub numbers_between_lists : (sender : List ℕ) (low high : ℤ) (old new : State) (rows : List Row) → HasTables 6 old.now → Shown numbers_between_text (Text sender ∷ Int low ∷ Int high ∷ []) old new rows → ListsKeys transmissions (is_above_and_below (Text sender) (Int low) (Int high)) 2 old.now.trees rows
 unfolding written_out
 numbers_between_lists sender low high =
     keys_by transmissions numbers_between_text between project cut order (codes "sender" ∷ codes "number" ∷ []) numbers_between_is (Text sender ∷ Int low ∷ Int high ∷ []) (is_above_and_below (Text sender) (Int low) (Int high)) 2 (transmissions_between_listing sender low high) (λ env. refl)
@@ -76,11 +76,11 @@ numbers_between_lists sender low high =
 abbrev pub return_known_text : List ℕ
 return_known_text = codes "SELECT reporter, number FROM returns WHERE reporter = ?1 AND number = ?2 ORDER BY reporter, number"
 
-pub return_known_is : IsQuery return_known_text 2 (picked 3 same_key cut order) (codes "reporter" ∷ codes "number" ∷ [])
+pub return_known_is : IsQuery 6 return_known_text 2 (picked 3 same_key cut order) (codes "reporter" ∷ codes "number" ∷ [])
 unfolding understood everything written_out
-return_known_is = record { command = refl; plain = (refl, refl); unlisted = refl; single = (refl, refl) }
+return_known_is = record { few = lit≤ tt; under = λ cuts payments more indexes. record { command = refl; plain = (refl, refl); unlisted = refl; single = (refl, refl) } }
 
-pub return_known_lists : (reporter : List ℕ) (number : ℤ) (old new : State) (rows : List Row) → HasLayout old.now → Shown return_known_text (Text reporter ∷ Int number ∷ []) old new rows → ListsKeys returns (has_key (Text reporter ∷ Int number ∷ [])) 2 old.now.trees rows
+pub return_known_lists : (reporter : List ℕ) (number : ℤ) (old new : State) (rows : List Row) → HasTables 6 old.now → Shown return_known_text (Text reporter ∷ Int number ∷ []) old new rows → ListsKeys returns (has_key (Text reporter ∷ Int number ∷ [])) 2 old.now.trees rows
 unfolding written_out
 return_known_lists reporter number =
     keys_by returns return_known_text same_key project cut order (codes "reporter" ∷ codes "number" ∷ []) return_known_is (Text reporter ∷ Int number ∷ []) (has_key (Text reporter ∷ Int number ∷ [])) 2 (return_at_listing reporter number) (λ env. refl)

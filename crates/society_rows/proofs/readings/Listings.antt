@@ -3,20 +3,20 @@ use Rattle.std.proofs.Common.{List, [], ◌++◌, Vec, Result, true, refl}
 use Rattle.std.specs.declared.alloc.Global.{Global}
 use Rattle.sqlite_value.specs.Order.{Row}
 use Rattle.sqlite_tied.specs.Compute.{everything}
+use Rattle.sqlite.specs.Effect.{Database}
 use Rattle.sqlite.specs.Listing.{understood}
 use Rattle.sqlite.specs.State.{State, HasCleanDisk, IsUnchanged, Shown, Begins}
-use Rattle.sqlite.proofs.Callers.{IsPlain}
 use Rattle.society_rows.specs.declared.fault.RowFault.{RowFault}
 use Rattle.society_rows.specs.declared.tables.TableName.{TableName}
 use Rattle.society_rows.specs.declared.tables.TableName.TheVariants as name
-use Rattle.society_rows.specs.Effects.{ErrsByMedium, OnlyFails}
-use Rattle.society_rows.specs.Folds.{IsAsked}
-use Rattle.society_rows.specs.Layout.{layout, written_out}
+use Rattle.society_rows.specs.Effects.{ErrsByMediumOver, OnlyFailsOver}
+use Rattle.society_rows.specs.Folds.{IsAskedOf}
+use Rattle.society_rows.specs.Layout.{written_out}
+use Rattle.society_rows.specs.Layouts.{HasTable}
 use Rattle.society_rows.specs.Reads.{Lists, Selected}
-use Rattle.society_rows.specs.Stored.{HasLayout}
 use Rattle.society_rows.specs.TableNames.{table_called, listing_width, listing_text}
 use Rattle.society_rows.proofs.readings.RowFolds.{query_asked, whole_listed}
-use Rattle.society_rows.proofs.errors.Told.{query_reads, query_tells}
+use Rattle.society_rows.proofs.errors.Told.{query_reads, query_tells_over}
 use Rattle.society_rows.proofs.each_table.OfficeTable.{all_offices_is, all_offices_lists}
 use Rattle.society_rows.proofs.each_table.TransmissionTable.{all_transmissions_is, all_transmissions_lists}
 use Rattle.society_rows.proofs.each_table.ReturnTable.{all_returns_is, all_returns_lists}
@@ -32,23 +32,7 @@ use Rattle.society_rows.proofs.each_table.BalanceTable.{all_balances_is, all_bal
 use Rattle.society_rows.proofs.each_table.SegmentEndTable.{all_segment_ends_is, all_segment_ends_lists}
 use Rattle.society_rows.proofs.each_table.MechanicalPoolTable.{all_mechanical_pools_is, all_mechanical_pools_lists}
 
-pub is_plain : (table : TableName) → IsPlain (understood layout (listing_text table))
-is_plain name.Office = all_offices_is.plain
-is_plain name.Transmissions = all_transmissions_is.plain
-is_plain name.Returns = all_returns_is.plain
-is_plain name.Pools = all_pools_is.plain
-is_plain name.PoolCuts = all_pool_cuts_is.plain
-is_plain name.PoolReturns = all_pool_returns_is.plain
-is_plain name.Fronts = all_fronts_is.plain
-is_plain name.Verdicts = all_verdicts_is.plain
-is_plain name.Versions = all_versions_is.plain
-is_plain name.Recordings = all_recordings_is.plain
-is_plain name.Credits = all_credits_is.plain
-is_plain name.Balances = all_balances_is.plain
-is_plain name.SegmentEnds = all_segment_ends_is.plain
-is_plain name.MechanicalPools = all_mechanical_pools_is.plain
-
-pub lists_called : (table : TableName) (old new : State) (rows : List Row) → HasLayout old.now → Shown (listing_text table) [] old new rows → Lists (table_called table) (λ _. true) (listing_width table) old.now.trees rows
+pub lists_called : (table : TableName) (old new : State) (rows : List Row) → HasTable table old.now → Shown (listing_text table) [] old new rows → Lists (table_called table) (λ _. true) (listing_width table) old.now.trees rows
 lists_called name.Office = all_offices_lists
 lists_called name.Transmissions = all_transmissions_lists
 lists_called name.Returns = all_returns_lists
@@ -64,71 +48,71 @@ lists_called name.Balances = all_balances_lists
 lists_called name.SegmentEnds = all_segment_ends_lists
 lists_called name.MechanicalPools = all_mechanical_pools_lists
 
-pub is_asked : (table : TableName) → IsAsked (listing_text table) 0 (understood layout (listing_text table))
-is_asked name.Office = query_asked _ all_offices_is
-is_asked name.Transmissions = query_asked _ all_transmissions_is
-is_asked name.Returns = query_asked _ all_returns_is
-is_asked name.Pools = query_asked _ all_pools_is
-is_asked name.PoolCuts = query_asked _ all_pool_cuts_is
-is_asked name.PoolReturns = query_asked _ all_pool_returns_is
-is_asked name.Fronts = query_asked _ all_fronts_is
-is_asked name.Verdicts = query_asked _ all_verdicts_is
-is_asked name.Versions = query_asked _ all_versions_is
-is_asked name.Recordings = query_asked _ all_recordings_is
-is_asked name.Credits = query_asked _ all_credits_is
-is_asked name.Balances = query_asked _ all_balances_is
-is_asked name.SegmentEnds = query_asked _ all_segment_ends_is
-is_asked name.MechanicalPools = query_asked _ all_mechanical_pools_is
+pub is_asked : (table : TableName) (db : Database) → HasTable table db → IsAskedOf (listing_text table) 0 db
+is_asked name.Office = query_asked all_offices_is
+is_asked name.Transmissions = query_asked all_transmissions_is
+is_asked name.Returns = query_asked all_returns_is
+is_asked name.Pools = query_asked all_pools_is
+is_asked name.PoolCuts = query_asked all_pool_cuts_is
+is_asked name.PoolReturns = query_asked all_pool_returns_is
+is_asked name.Fronts = query_asked all_fronts_is
+is_asked name.Verdicts = query_asked all_verdicts_is
+is_asked name.Versions = query_asked all_versions_is
+is_asked name.Recordings = query_asked all_recordings_is
+is_asked name.Credits = query_asked all_credits_is
+is_asked name.Balances = query_asked all_balances_is
+is_asked name.SegmentEnds = query_asked all_segment_ends_is
+is_asked name.MechanicalPools = query_asked all_mechanical_pools_is
 
 -- what it tells of an error
-pub listing_tells : (table : TableName) (old new : State) (result : Result (Vec Row Global) RowFault) → (HasCleanDisk new → Selected (listing_text table) [] old new result) → OnlyFails old new result
-listing_tells name.Office = query_tells all_offices_is [] refl
-listing_tells name.Transmissions = query_tells all_transmissions_is [] refl
-listing_tells name.Returns = query_tells all_returns_is [] refl
-listing_tells name.Pools = query_tells all_pools_is [] refl
-listing_tells name.PoolCuts = query_tells all_pool_cuts_is [] refl
-listing_tells name.PoolReturns = query_tells all_pool_returns_is [] refl
-listing_tells name.Fronts = query_tells all_fronts_is [] refl
-listing_tells name.Verdicts = query_tells all_verdicts_is [] refl
-listing_tells name.Versions = query_tells all_versions_is [] refl
-listing_tells name.Recordings = query_tells all_recordings_is [] refl
-listing_tells name.Credits = query_tells all_credits_is [] refl
-listing_tells name.Balances = query_tells all_balances_is [] refl
-listing_tells name.SegmentEnds = query_tells all_segment_ends_is [] refl
-listing_tells name.MechanicalPools = query_tells all_mechanical_pools_is [] refl
+pub listing_tells : (table : TableName) (old new : State) (result : Result (Vec Row Global) RowFault) → (HasCleanDisk new → Selected (listing_text table) [] old new result) → OnlyFailsOver (HasTable table) old new result
+listing_tells name.Office = query_tells_over all_offices_is [] refl
+listing_tells name.Transmissions = query_tells_over all_transmissions_is [] refl
+listing_tells name.Returns = query_tells_over all_returns_is [] refl
+listing_tells name.Pools = query_tells_over all_pools_is [] refl
+listing_tells name.PoolCuts = query_tells_over all_pool_cuts_is [] refl
+listing_tells name.PoolReturns = query_tells_over all_pool_returns_is [] refl
+listing_tells name.Fronts = query_tells_over all_fronts_is [] refl
+listing_tells name.Verdicts = query_tells_over all_verdicts_is [] refl
+listing_tells name.Versions = query_tells_over all_versions_is [] refl
+listing_tells name.Recordings = query_tells_over all_recordings_is [] refl
+listing_tells name.Credits = query_tells_over all_credits_is [] refl
+listing_tells name.Balances = query_tells_over all_balances_is [] refl
+listing_tells name.SegmentEnds = query_tells_over all_segment_ends_is [] refl
+listing_tells name.MechanicalPools = query_tells_over all_mechanical_pools_is [] refl
 
 -- it errs by want of memory, or where it may fail
-pub listing_reads : (table : TableName) (old new : State) (result : Result (Vec Row Global) RowFault) → (HasCleanDisk new → Selected (listing_text table) [] old new result) → ErrsByMedium old new result
+pub listing_reads : (table : TableName) (old new : State) (result : Result (Vec Row Global) RowFault) → (HasCleanDisk new → Selected (listing_text table) [] old new result) → ErrsByMediumOver (HasTable table) old new result
 unfolding understood everything written_out
-listing_reads name.Office = query_reads all_offices_is refl
-listing_reads name.Transmissions = query_reads all_transmissions_is refl
-listing_reads name.Returns = query_reads all_returns_is refl
-listing_reads name.Pools = query_reads all_pools_is refl
-listing_reads name.PoolCuts = query_reads all_pool_cuts_is refl
-listing_reads name.PoolReturns = query_reads all_pool_returns_is refl
-listing_reads name.Fronts = query_reads all_fronts_is refl
-listing_reads name.Verdicts = query_reads all_verdicts_is refl
-listing_reads name.Versions = query_reads all_versions_is refl
-listing_reads name.Recordings = query_reads all_recordings_is refl
-listing_reads name.Credits = query_reads all_credits_is refl
-listing_reads name.Balances = query_reads all_balances_is refl
-listing_reads name.SegmentEnds = query_reads all_segment_ends_is refl
-listing_reads name.MechanicalPools = query_reads all_mechanical_pools_is refl
+listing_reads name.Office = query_reads all_offices_is (λ cuts payments more indexes. refl)
+listing_reads name.Transmissions = query_reads all_transmissions_is (λ cuts payments more indexes. refl)
+listing_reads name.Returns = query_reads all_returns_is (λ cuts payments more indexes. refl)
+listing_reads name.Pools = query_reads all_pools_is (λ cuts payments more indexes. refl)
+listing_reads name.PoolCuts = query_reads all_pool_cuts_is (λ cuts payments more indexes. refl)
+listing_reads name.PoolReturns = query_reads all_pool_returns_is (λ cuts payments more indexes. refl)
+listing_reads name.Fronts = query_reads all_fronts_is (λ cuts payments more indexes. refl)
+listing_reads name.Verdicts = query_reads all_verdicts_is (λ cuts payments more indexes. refl)
+listing_reads name.Versions = query_reads all_versions_is (λ cuts payments more indexes. refl)
+listing_reads name.Recordings = query_reads all_recordings_is (λ cuts payments more indexes. refl)
+listing_reads name.Credits = query_reads all_credits_is (λ cuts payments more indexes. refl)
+listing_reads name.Balances = query_reads all_balances_is (λ cuts payments more indexes. refl)
+listing_reads name.SegmentEnds = query_reads all_segment_ends_is (λ cuts payments more indexes. refl)
+listing_reads name.MechanicalPools = query_reads all_mechanical_pools_is (λ cuts payments more indexes. refl)
 
 -- what such a query shows first is the first of the table's rows
-pub first_called : (table : TableName) (old new : State) (rows : List Row) → HasLayout old.now → Begins (listing_text table) [] old rows × IsUnchanged old new
+pub first_called : (table : TableName) (old new : State) (rows : List Row) → HasTable table old.now → Begins (listing_text table) [] old rows × IsUnchanged old new
     → (after : List Row) × Lists (table_called table) (λ _. true) (listing_width table) old.now.trees (rows ++ after)
-first_called name.Office old new = whole_listed _ _ _ all_offices_is [] old new (Lists (table_called name.Office) (λ _. true) (listing_width name.Office)) (all_offices_lists old new)
-first_called name.Transmissions old new = whole_listed _ _ _ all_transmissions_is [] old new (Lists (table_called name.Transmissions) (λ _. true) (listing_width name.Transmissions)) (all_transmissions_lists old new)
-first_called name.Returns old new = whole_listed _ _ _ all_returns_is [] old new (Lists (table_called name.Returns) (λ _. true) (listing_width name.Returns)) (all_returns_lists old new)
-first_called name.Pools old new = whole_listed _ _ _ all_pools_is [] old new (Lists (table_called name.Pools) (λ _. true) (listing_width name.Pools)) (all_pools_lists old new)
-first_called name.PoolCuts old new = whole_listed _ _ _ all_pool_cuts_is [] old new (Lists (table_called name.PoolCuts) (λ _. true) (listing_width name.PoolCuts)) (all_pool_cuts_lists old new)
-first_called name.PoolReturns old new = whole_listed _ _ _ all_pool_returns_is [] old new (Lists (table_called name.PoolReturns) (λ _. true) (listing_width name.PoolReturns)) (all_pool_returns_lists old new)
-first_called name.Fronts old new = whole_listed _ _ _ all_fronts_is [] old new (Lists (table_called name.Fronts) (λ _. true) (listing_width name.Fronts)) (all_fronts_lists old new)
-first_called name.Verdicts old new = whole_listed _ _ _ all_verdicts_is [] old new (Lists (table_called name.Verdicts) (λ _. true) (listing_width name.Verdicts)) (all_verdicts_lists old new)
-first_called name.Versions old new = whole_listed _ _ _ all_versions_is [] old new (Lists (table_called name.Versions) (λ _. true) (listing_width name.Versions)) (all_versions_lists old new)
-first_called name.Recordings old new = whole_listed _ _ _ all_recordings_is [] old new (Lists (table_called name.Recordings) (λ _. true) (listing_width name.Recordings)) (all_recordings_lists old new)
-first_called name.Credits old new = whole_listed _ _ _ all_credits_is [] old new (Lists (table_called name.Credits) (λ _. true) (listing_width name.Credits)) (all_credits_lists old new)
-first_called name.Balances old new = whole_listed _ _ _ all_balances_is [] old new (Lists (table_called name.Balances) (λ _. true) (listing_width name.Balances)) (all_balances_lists old new)
-first_called name.SegmentEnds old new = whole_listed _ _ _ all_segment_ends_is [] old new (Lists (table_called name.SegmentEnds) (λ _. true) (listing_width name.SegmentEnds)) (all_segment_ends_lists old new)
-first_called name.MechanicalPools old new = whole_listed _ _ _ all_mechanical_pools_is [] old new (Lists (table_called name.MechanicalPools) (λ _. true) (listing_width name.MechanicalPools)) (all_mechanical_pools_lists old new)
+first_called name.Office old new = whole_listed all_offices_is [] old new (Lists (table_called name.Office) (λ _. true) (listing_width name.Office)) (all_offices_lists old new)
+first_called name.Transmissions old new = whole_listed all_transmissions_is [] old new (Lists (table_called name.Transmissions) (λ _. true) (listing_width name.Transmissions)) (all_transmissions_lists old new)
+first_called name.Returns old new = whole_listed all_returns_is [] old new (Lists (table_called name.Returns) (λ _. true) (listing_width name.Returns)) (all_returns_lists old new)
+first_called name.Pools old new = whole_listed all_pools_is [] old new (Lists (table_called name.Pools) (λ _. true) (listing_width name.Pools)) (all_pools_lists old new)
+first_called name.PoolCuts old new = whole_listed all_pool_cuts_is [] old new (Lists (table_called name.PoolCuts) (λ _. true) (listing_width name.PoolCuts)) (all_pool_cuts_lists old new)
+first_called name.PoolReturns old new = whole_listed all_pool_returns_is [] old new (Lists (table_called name.PoolReturns) (λ _. true) (listing_width name.PoolReturns)) (all_pool_returns_lists old new)
+first_called name.Fronts old new = whole_listed all_fronts_is [] old new (Lists (table_called name.Fronts) (λ _. true) (listing_width name.Fronts)) (all_fronts_lists old new)
+first_called name.Verdicts old new = whole_listed all_verdicts_is [] old new (Lists (table_called name.Verdicts) (λ _. true) (listing_width name.Verdicts)) (all_verdicts_lists old new)
+first_called name.Versions old new = whole_listed all_versions_is [] old new (Lists (table_called name.Versions) (λ _. true) (listing_width name.Versions)) (all_versions_lists old new)
+first_called name.Recordings old new = whole_listed all_recordings_is [] old new (Lists (table_called name.Recordings) (λ _. true) (listing_width name.Recordings)) (all_recordings_lists old new)
+first_called name.Credits old new = whole_listed all_credits_is [] old new (Lists (table_called name.Credits) (λ _. true) (listing_width name.Credits)) (all_credits_lists old new)
+first_called name.Balances old new = whole_listed all_balances_is [] old new (Lists (table_called name.Balances) (λ _. true) (listing_width name.Balances)) (all_balances_lists old new)
+first_called name.SegmentEnds old new = whole_listed all_segment_ends_is [] old new (Lists (table_called name.SegmentEnds) (λ _. true) (listing_width name.SegmentEnds)) (all_segment_ends_lists old new)
+first_called name.MechanicalPools old new = whole_listed all_mechanical_pools_is [] old new (Lists (table_called name.MechanicalPools) (λ _. true) (listing_width name.MechanicalPools)) (all_mechanical_pools_lists old new)

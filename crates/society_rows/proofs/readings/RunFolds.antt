@@ -1,5 +1,5 @@
 -- The transmissions of a sender, one number after another.
-use Rattle.std.proofs.Common.{IsTrue, ◌≡◌, ◌∙◌, ℕ, suc, pos, ◌+◌, ◌^◌, ◌<◌, ◌≤◌, length, List, [], ◌∷◌, ◌++◌, Vec, Result, Ok, Err, IfErr, IsErrAnd, sym, ap, subst, refl, inl, inr, arith}
+use Rattle.std.proofs.Common.{IsTrue, ◌≡◌, ◌∙◌, ℕ, suc, pos, ◌+◌, ◌^◌, ◌<◌, ◌≤◌, length, List, [], ◌∷◌, ◌++◌, Vec, Result, Ok, Err, IfErr, IsErr, IsErrAnd, sym, ap, subst, refl, inl, inr, arith}
 use Rattle.std.specs.declared.alloc.Global.{Global}
 use Rattle.std.proofs.lemmas.Bool.{cases_lt}
 use Rattle.std.proofs.lemmas.List.{length-append}
@@ -119,6 +119,18 @@ module _ {S : Type 0} (g : Ghosts S) {F : Type 0} (step : F → Row → F) (send
         record {
           why = inr (inl (record { before = gone.rows; row = row; first = run_more row one gone.rows gone.these.0 gone.these.1; refused = subst (λ f. refusal f row fault) gone.folded told }));
         }
+
+    -- what has gone over the rows took no more
+    pub run_stops : (result : Result (Unit {0}) RowFault) → IsErr result → (Any : Trees → Unit {0} → Type 0) → ReadsInside (state g old) (state g new) result Any
+    run_stops (Ok x) is Any = absurd cc
+    run_stops (Err e) is Any = record {
+      found = λ clean has. tt;
+      same = λ clean has. tt;
+      whole = λ clean has. inl (same_first clean has);
+      inside = λ clean inside. tt;
+      kept = kept_on;
+      survives = survives_on read.survives;
+    }
 
     pub run_doubled : (refusal : F → Row → RowFault → Type 0) → 2 ≤ length rows.items → StopsRun step refusal (state g old) (state g new) sender first begun Unread
     run_doubled refusal several =

@@ -14,12 +14,12 @@ use Rattle.society_rows.specs.Reads.{Lists}
 use Rattle.society_rows.specs.Stored.{HasLayout, rows_in}
 use Rattle.society_rows.specs.declared.fault.RowFault.{RowFault}
 use Rattle.society_rows.specs.declared.fault.RowFault.TheVariants as row
-use Rattle.society_book.specs.BookRows.{AreOfBook, end_rows, is_end_row, is_return_row, is_transmission_row, return_rows, transmission_rows}
+use Rattle.society_book.specs.BookRows.{end_rows, is_end_row, is_return_row, is_transmission_row, return_rows, transmission_rows}
 use Rattle.society_book.specs.Columns.{HasRows}
 use Rattle.share_rules.specs.declared.office.Office.{Office}
 use Rattle.society_book.specs.Kept.{HoldsBook}
 use Rattle.society_tables.specs.Opening.{Inspects, audit_fault_by}
-use Rattle.society_tables.specs.Rebuilding.{AllReported, AllSent, AllStated, ComesFrom, IsAside, IsWithin, Passes, ShowsBook, lines_alone, sent_alone, without_pools}
+use Rattle.society_tables.specs.Rebuilding.{AllReported, AllSent, AllStated, IsAside, IsWithin, Passes, ShowsBook, lines_alone, sent_alone, without_pools}
 use Rattle.society_tables.specs.declared.audit_fault.AuditFault.{AuditFault}
 use Rattle.std.specs.Prelude.{⊤}
 use Rattle.society_tables.specs.declared.audit_fault.AuditFault.TheVariants as audit
@@ -50,16 +50,6 @@ pub listed_rows : {K : Type 0} (is_of : K → Row → Bool) (expected : K → Li
 listed_rows is_of expected table width db xs has lists q =
     let all : IsPermutation (rows_in table db) xs = subst (λ rows. IsPermutation rows xs) (all_pass (rows_in table db)) lists.rows in
     IsPermutation-trans (expected q) (filter (is_of q) (rows_in table db)) (filter (is_of q) xs) (has q) (IsPermutation-filter (is_of q) (rows_in table db) xs all)
-
--- after a question the connection shows the same book
-pub comes_still : {X E : Type 0} (b : Book) (old mid : State) (x : X) (Found : Trees → X → Type 0) → Inspects {E = E} old mid (Ok x) Found → HasCleanDisk mid → ComesFrom b old → ComesFrom b mid
-comes_still b old mid x Found first clean comes = record {
-  shows = λ is_open.
-      let was = first.was_open clean is_open in
-      let same : mid.now ≡ old.now = (first.undone clean is_open).0 ∙ sym (first.settled was) in
-      subst (λ (db : Database). HasLayout db × AreOfBook b db.trees) (sym same) (comes.shows was);
-  sound = comes.sound;
-}
 
 -- nothing is within a book
 pub empty_within : (b old : Book) → old ≡ empty_book → IsWithin old.transmissions b.transmissions

@@ -1,5 +1,5 @@
 -- What the fault of an opening says of the office.
-use Rattle.std.proofs.Common.{◌≡◌, ◌≢◌, ◌∙◌, ◌<◌, length, ◌^◌, ◌&&◌, ℕ, nat_le, leb-true, arith, Bool, true, false, List, [], ◌∷◌, Result, Ok, Err, IfErr, IsPermutation, ap, refl, subst, sym}
+use Rattle.std.proofs.Common.{◌≡◌, ◌≢◌, ◌∙◌, inl, inr, ◌<◌, length, ◌^◌, ◌&&◌, ℕ, nat_le, leb-true, arith, lit≤, Bool, true, false, List, [], ◌∷◌, Result, Ok, Err, IfErr, IfOk, IsPermutation, ap, refl, subst, sym}
 use Rattle.std.specs.Result.{IsErrAnd}
 use Rattle.std.proofs.lemmas.Bool.{false≢true}
 use Rattle.std.proofs.Math.Logic.{∥∥₁_elim}
@@ -8,31 +8,39 @@ use Rattle.std.proofs.lemmas.List.Sorted.{IsPermutation-sym}
 use Rattle.share_rules.specs.declared.office.Office.{Office}
 use Rattle.sqlite.specs.Effect.{Database}
 use Rattle.sqlite_schema.specs.declared.schema.Schema.{Schema}
+use Rattle.sqlite_trees.specs.Tree.{Trees}
 use Rattle.sqlite_value.specs.Order.{Row}
 use Rattle.society_rows.specs.Layout as layout
-use Rattle.society_rows.specs.Layout.{no_schema}
+use Rattle.society_rows.specs.Reads.{Lists}
+use Rattle.society_rows.specs.Layouts.{HasOlder, HasTable, number_of}
+use Rattle.society_rows.specs.declared.tables.TableName.TheVariants as name
 use Rattle.society_rows.specs.NewBook.{IsBare}
 use Rattle.society_rows.specs.Stored.{HasLayout, rows_in}
+use Rattle.society_rows.specs.declared.older.OlderLayout.{OlderLayout}
+use Rattle.society_rows.specs.declared.older.OlderLayout.TheVariants as older
 use Rattle.society_rows.specs.declared.fault.RowFault.{RowFault}
 use Rattle.society_rows.specs.declared.fault.RowFault.TheVariants as row
-use Rattle.society_book.specs.Kept.{HoldsOwnBook, office_row}
-use Rattle.society_tables.specs.Opening.{HoldsOne, IsOneOffice, IsOutside, TellsDatabase, TellsOffice, audit_fault_by, open_fault_by}
+use Rattle.society_book.specs.Kept.{HoldsOwnBook}
+use Rattle.society_tables.specs.Older.{HoldsOlder, HoldsOne, office_row_under}
+use Rattle.society_tables.specs.Opening.{IsDamagedOlder, IsOneOffice, IsOutside, TellsDatabase, TellsOffice, TellsOfficeIn, audit_fault_by, open_fault_by}
 use Rattle.society_tables.specs.Rebuilding.{IsAside}
+use Rattle.society_rows.proofs.definitions.FirstTables.{first_long, has_tables}
 use Rattle.society_tables.specs.declared.audit_fault.AuditFault.{AuditFault}
 use Rattle.society_tables.specs.declared.audit_fault.AuditFault.TheVariants as audit
 use Rattle.society_tables.specs.declared.open_fault.OpenFault.{OpenFault}
 use Rattle.society_tables.specs.declared.open_fault.OpenFault.TheVariants as fault
 use Rattle.society_book.proofs.shown.AskLemmas.{first_true, second_true}
+use Rattle.society_tables.proofs.alike.SameTables.{all_pass}
 use Rattle.society_tables.proofs.anew.ComesAgain.{failed_aside}
 use Rattle.society_book.proofs.rows_alike.RowLemmas.{one_else}
 
 -- a failed statement says nothing of the office
-pub failed_office : (o : Office) (rows : List Row) (e : RowFault) → TellsOffice o rows (open_fault_by (audit_fault_by e))
-failed_office o rows row.Memory = tt
-failed_office o rows row.Schema = tt
-failed_office o rows row.Unread = tt
-failed_office o rows row.Overflow = tt
-failed_office o rows (row.Refused error) = tt
+pub failed_office : (n : ℕ) (o : Office) (rows : List Row) (e : RowFault) → TellsOffice n o rows (open_fault_by (audit_fault_by e))
+failed_office n o rows row.Memory = tt
+failed_office n o rows row.Schema = tt
+failed_office n o rows row.Unread = tt
+failed_office n o rows row.Overflow = tt
+failed_office n o rows (row.Refused error) = tt
 
 -- nor of the database
 pub failed_outside : (e : RowFault) → IsOutside (open_fault_by (audit_fault_by e))
@@ -73,42 +81,103 @@ there_by f (Ok x) h = tt
 there_by f (Err e) h = λ is. opened_there f (sym h ∙ is)
 
 -- rows that do not pass are still this office's
-pub audited_office : (o : Office) (rows : List Row) (f : AuditFault) → rows ≡ office_row o ∷ [] → TellsOffice o rows (open_fault_by f)
-audited_office o rows audit.Memory is = tt
-audited_office o rows audit.Store is = tt
-audited_office o rows audit.Damaged is = is
+pub audited_office : (n : ℕ) (o : Office) (rows : List Row) (f : AuditFault) → rows ≡ office_row_under n o ∷ [] → TellsOffice n o rows (open_fault_by f)
+audited_office n o rows audit.Memory is = tt
+audited_office n o rows audit.Store is = tt
+audited_office n o rows audit.Damaged is = is
 
 -- one office in any order of the rows is one office
-one_likewise : (one two : List Row) → IsPermutation one two → IsOneOffice one → IsOneOffice two
-one_likewise [] two same one = absurd one
-one_likewise (r ∷ []) two same one = subst IsOneOffice (sym (one_else r two same)) one
-one_likewise (r ∷ s ∷ rows) two same one = absurd one
+one_likewise : (n : ℕ) (one two : List Row) → IsPermutation one two → IsOneOffice n one → IsOneOffice n two
+one_likewise n [] two same one = absurd one
+one_likewise n (r ∷ []) two same one = subst (IsOneOffice n) (sym (one_else r two same)) one
+one_likewise n (r ∷ s ∷ rows) two same one = absurd one
 
 -- what is said of the rows is said of them in any order
-pub told_likewise : (o : Office) (one two : List Row) (e : OpenFault) → IsPermutation one two → TellsOffice o two e → TellsOffice o one e
-told_likewise o one two fault.Memory same told = tt
-told_likewise o one two fault.Store same told = tt
-told_likewise o one two fault.Empty same told = absurd told
-told_likewise o one two fault.Schema same told = λ is. told (one_likewise one two same is)
-told_likewise o one two fault.OtherOffice same told =
-    (one_likewise two one (IsPermutation-sym one two same) told.0, λ is. told.1 (one_else (office_row o) two (subst (λ rows. IsPermutation rows two) is same)))
-told_likewise o one two fault.Damaged same told = one_else (office_row o) one (subst (λ rows. IsPermutation rows one) told (IsPermutation-sym one two same))
+pub told_likewise : (n : ℕ) (o : Office) (one two : List Row) (e : OpenFault) → IsPermutation one two → TellsOffice n o two e → TellsOffice n o one e
+told_likewise n o one two fault.Memory same told = tt
+told_likewise n o one two fault.Store same told = tt
+told_likewise n o one two fault.Empty same told = absurd told
+told_likewise n o one two fault.Schema same told = λ is. told (one_likewise n one two same is)
+told_likewise n o one two fault.OtherOffice same told =
+    (one_likewise n two one (IsPermutation-sym one two same) told.0, λ is. told.1 (one_else (office_row_under n o) two (subst (λ rows. IsPermutation rows two) is same)))
+told_likewise n o one two fault.Damaged same told = one_else (office_row_under n o) one (subst (λ rows. IsPermutation rows one) told (IsPermutation-sym one two same))
 
--- what is said of the office is said of a database of layout 3
-pub told_of_layout : (o : Office) (db : Database) (e : OpenFault) → HasLayout db → (IsBare db → ⊥) → TellsOffice o (rows_in layout.office db.trees) e → (e ≡ fault.Damaged → ¬ HoldsOwnBook o db.trees) → TellsDatabase o db e
-told_of_layout o db fault.Memory has bare told damaged = tt
-told_of_layout o db fault.Store has bare told damaged = tt
-told_of_layout o db fault.Empty has bare told damaged = absurd told
-told_of_layout o db fault.Schema has bare told damaged = (bare, λ _. told)
-told_of_layout o db fault.OtherOffice has bare told damaged = (has, told)
-told_of_layout o db fault.Damaged has bare told damaged = (has, told, damaged refl)
+any_order : (db : Trees) (rows : List Row) (width : ℕ) → Lists layout.office (λ _. true) width db rows → IsPermutation (rows_in layout.office db) rows
+any_order db rows width lists = subst (λ l. IsPermutation l rows) (all_pass (rows_in layout.office db)) lists.rows
+
+-- what is said of the rows that are listed is said of the table's
+pub here_listed : (n : ℕ) (o : Office) (db : Trees) (rows : List Row) (width : ℕ) (r : Result (Unit {0}) OpenFault) → Lists layout.office (λ _. true) width db rows → IfOk r (λ _. rows ≡ office_row_under n o ∷ [])
+    → IfOk r (λ _. rows_in layout.office db ≡ office_row_under n o ∷ [])
+here_listed n o db rows width (Ok x) lists is = told_likewise n o (rows_in layout.office db) rows fault.Damaged (any_order db rows width lists) is
+here_listed n o db rows width (Err e) lists is = tt
+
+pub told_listed : (n : ℕ) (o : Office) (db : Trees) (rows : List Row) (width : ℕ) (r : Result (Unit {0}) OpenFault) → Lists layout.office (λ _. true) width db rows → IfErr r (TellsOffice n o rows) → IfErr r (TellsOffice n o (rows_in layout.office db))
+told_listed n o db rows width (Ok x) lists told = tt
+told_listed n o db rows width (Err e) lists told = told_likewise n o (rows_in layout.office db) rows e (any_order db rows width lists) told
+
+-- what is said of the office when a statement fails, and when rows do not pass
+pub told_failed : (n : ℕ) (o : Office) (rows : List Row) (f : RowFault) (r : Result (Unit {0}) OpenFault) → IsErrAnd r (λ e. e ≡ open_fault_by (audit_fault_by f)) → IfErr r (TellsOffice n o rows)
+told_failed n o rows f (Ok x) h = tt
+told_failed n o rows f (Err e) h = subst (TellsOffice n o rows) (sym h) (failed_office n o rows f)
+
+pub told_judged : (n : ℕ) (o : Office) (rows : List Row) (f : AuditFault) (r : Result (Unit {0}) OpenFault) → rows ≡ office_row_under n o ∷ [] → IsErrAnd r (λ e. e ≡ open_fault_by f) → IfErr r (TellsOffice n o rows)
+told_judged n o rows f (Ok x) is h = tt
+told_judged n o rows f (Err e) is h = subst (TellsOffice n o rows) (sym h) (audited_office n o rows f is)
+
+-- what a fault says is said where it is passed on
+pub told_on : (n : ℕ) (o : Office) (rows : List Row) (f : OpenFault) (r : Result (Unit {0}) OpenFault) → TellsOffice n o rows f → IsErrAnd r (λ e. e ≡ f) → IfErr r (TellsOffice n o rows)
+told_on n o rows f (Ok x) told h = tt
+told_on n o rows f (Err e) told h = subst (TellsOffice n o rows) (sym h) told
 
 -- a database is not both bare and of the layout
-pub not_both : (s : Schema) → s ≡ no_schema → s ≡ layout.layout → ⊥
-unfolding layout.layout layout.written_out
-not_both s bare has =
-    let e : 0 ≡ 14 = ap (λ (z : Schema). length z.tables) (sym bare ∙ has) in
-    omega (e, arith)
+pub not_both : (db : Database) → IsBare db → HasLayout db → ⊥
+not_both db bare has =
+    let e : length db.schema.tables ≡ 0 = ap (λ (z : Schema). length z.tables) bare in
+    omega (e, first_long 14 (lit≤ tt) db has, arith)
+
+-- an older layout has the table of the office
+pub has_office : (layout : OlderLayout) (db : Database) → HasOlder layout db → HasTable name.Office db
+has_office older.First db was = has_tables 6 6 (lit≤ tt) db was
+has_office older.Second db was = has_tables 6 12 (lit≤ tt) db was
+
+-- nor an older layout
+pub not_older : (layout : OlderLayout) (db : Database) → IsBare db → HasOlder layout db → ⊥
+not_older older.First db bare has = let e : length db.schema.tables ≡ 0 = ap (λ (z : Schema). length z.tables) bare in omega (e, first_long 6 (lit≤ tt) db has, arith)
+not_older older.Second db bare has = let e : length db.schema.tables ≡ 0 = ap (λ (z : Schema). length z.tables) bare in omega (e, first_long 12 (lit≤ tt) db has, arith)
+
+-- an older layout is not layout 3
+pub older_apart : (layout : OlderLayout) (db : Database) → HasOlder layout db → HasLayout db → ⊥
+older_apart older.First db was has = omega (first_long 6 (lit≤ tt) db was, first_long 14 (lit≤ tt) db has, arith)
+older_apart older.Second db was has = omega (first_long 12 (lit≤ tt) db was, first_long 14 (lit≤ tt) db has, arith)
+
+-- nor is it another older one
+pub older_once : (one two : OlderLayout) (db : Database) → HasOlder one db → HasOlder two db → one ≡ two
+older_once older.First older.First db was also = refl
+older_once older.Second older.Second db was also = refl
+older_once older.First older.Second db was also = absurd (omega (first_long 6 (lit≤ tt) db was, first_long 12 (lit≤ tt) db also, arith))
+older_once older.Second older.First db was also = absurd (omega (first_long 12 (lit≤ tt) db was, first_long 6 (lit≤ tt) db also, arith))
+
+-- what is said of the office is said of a database of layout 3
+pub told_of_layout : (o : Office) (db : Database) (e : OpenFault) → HasLayout db → TellsOfficeIn 3 o db e → (e ≡ fault.Damaged → ¬ HoldsOwnBook o db.trees) → TellsDatabase o db e
+told_of_layout o db fault.Memory has told damaged = tt
+told_of_layout o db fault.Store has told damaged = tt
+told_of_layout o db fault.Empty has told damaged = absurd told
+told_of_layout o db fault.Schema has told damaged = (λ bare. not_both db bare has, λ _. told, λ layout was. absurd (older_apart layout db was has))
+told_of_layout o db fault.OtherOffice has told damaged = inl (has, told)
+told_of_layout o db fault.Damaged has told damaged = inl (has, told, damaged refl)
+
+-- and of one of an older layout
+pub told_of_older : (o : Office) (layout : OlderLayout) (db : Database) (e : OpenFault) → HasOlder layout db → TellsOfficeIn (number_of layout) o db e → (e ≡ fault.Damaged → ¬ HoldsOlder o layout db.trees) → TellsDatabase o db e
+told_of_older o layout db fault.Memory was told damaged = tt
+told_of_older o layout db fault.Store was told damaged = tt
+told_of_older o layout db fault.Empty was told damaged = absurd told
+told_of_older o layout db fault.Schema was told damaged = (
+  λ bare. not_older layout db bare was,
+  λ has. absurd (older_apart layout db was has),
+  λ other also. subst (λ (l : OlderLayout). TellsOfficeIn (number_of l) o db fault.Schema) (older_once layout other db was also) told,
+)
+told_of_older o layout db fault.OtherOffice was told damaged = inr (layout, was, told)
+told_of_older o layout db fault.Damaged was told damaged = inr (layout, (was, told, damaged refl))
 
 nothing_alone : (x y : ⊥) → x ≡ y
 nothing_alone x y = absurd x
@@ -121,8 +190,8 @@ small : (n most : ℕ) → nat_le n most ≡ true → most < 2 ^ 32 → n < 2 ^ 
 small n most within few = let low = leb-true n most within in omega (low, few, arith)
 
 -- the row of an office can be read
-own_office : (o : Office) → IsOneOffice (office_row o ∷ [])
-own_office o =
+own_office : (n : ℕ) (o : Office) → IsOneOffice n (office_row_under n o ∷ [])
+own_office n o =
     let numbers = first_true ((nat_le 1 o.society && nat_le o.society 999) && (nat_le 1 o.territory && nat_le o.territory 9999)) _ o.within_limits in
     let society = second_true (nat_le 1 o.society) (nat_le o.society 999) (first_true (nat_le 1 o.society && nat_le o.society 999) (nat_le 1 o.territory && nat_le o.territory 9999) numbers) in
     let territory = second_true (nat_le 1 o.territory) (nat_le o.territory 9999) (second_true (nat_le 1 o.society && nat_le o.society 999) (nat_le 1 o.territory && nat_le o.territory 9999) numbers) in
@@ -132,10 +201,31 @@ own_office o =
 pub opened_else : (o : Office) (db : Database) (e : OpenFault) → HasLayout db → HoldsOne o db.trees → TellsDatabase o db e → IsOutside e
 opened_else o db fault.Memory has holds told = tt
 opened_else o db fault.Store has holds told = tt
-opened_else o db fault.Empty has holds told = absurd (not_both db.schema told has)
-opened_else o db fault.Schema has holds told = refuted o db holds (λ h. told.1 has (subst IsOneOffice (sym h.registered) (own_office o)))
-opened_else o db fault.OtherOffice has holds told = refuted o db holds (λ h. told.1.1 h.registered)
-opened_else o db fault.Damaged has holds told = refuted o db holds told.2
+opened_else o db fault.Empty has holds told = absurd (not_both db told has)
+opened_else o db fault.Schema has holds told = refuted o db holds (λ h. told.1 has (subst (IsOneOffice 3) (sym h.registered) (own_office 3 o)))
+opened_else o db fault.OtherOffice has holds told = elim told [
+  | inl newest ↦ refuted o db holds (λ h. newest.1.1 h.registered)
+  | inr older ↦ absurd (older_apart older.0 db older.1 has)
+]
+opened_else o db fault.Damaged has holds told = elim told [
+  | inl newest ↦ refuted o db holds newest.2
+  | inr older ↦ absurd (older_apart older.0 db older.1.0 has)
+]
+
+-- so of one of an older layout that stands for tables that do
+pub opened_older : (o : Office) (layout : OlderLayout) (db : Database) (e : OpenFault) → HasOlder layout db → HoldsOlder o layout db.trees → TellsDatabase o db e → IsOutside e
+opened_older o layout db fault.Memory was held told = tt
+opened_older o layout db fault.Store was held told = tt
+opened_older o layout db fault.Empty was held told = absurd (not_older layout db told was)
+opened_older o layout db fault.Schema was held told = absurd (told.2 layout was (subst (IsOneOffice (number_of layout)) (sym held.registered) (own_office (number_of layout) o)))
+opened_older o layout db fault.OtherOffice was held told = elim told [
+  | inl newest ↦ absurd (older_apart layout db was newest.0)
+  | inr other ↦ absurd ((subst (λ (l : OlderLayout). TellsOfficeIn (number_of l) o db fault.OtherOffice) (older_once other.0 layout db other.1 was) other.2).1 held.registered)
+]
+opened_older o layout db fault.Damaged was held told = elim told [
+  | inl newest ↦ absurd (older_apart layout db was newest.0)
+  | inr other ↦ absurd ((subst (λ (l : OlderLayout). IsDamagedOlder o l db) (older_once other.0 layout db other.1.0 was) other.1).2 held)
+]
 
 -- a fault that is aside is not told as damage
 abbrev is_damage : OpenFault → Bool

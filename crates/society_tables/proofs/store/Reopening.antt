@@ -7,19 +7,19 @@ use Rattle.sqlite.specs.Effect.{Database}
 use Rattle.sqlite.specs.State.{HasCleanDisk, IsLive, State}
 use Rattle.sqlite_trees.specs.Tree.{Trees}
 use Rattle.sqlite_trees.specs.Objects.{catalog_tree}
-use Rattle.sqlite_schema.specs.declared.schema.Schema.{Schema}
-use Rattle.sqlite_schema.specs.contracts.schema.Schema.{the_row}
 use Rattle.sqlite_catalog.specs.Listing.{IsSound, Lists}
 use Rattle.sqlite_catalog.proofs.ReadLemmas.{lists_once}
 use Rattle.society_core.specs.PlainMaps.{coded_book}
-use Rattle.society_rows.specs.Layout.{layout}
+use Rattle.society_rows.specs.Layouts.{IsFirst}
 use Rattle.society_rows.specs.Stored.{HasLayout}
 use Rattle.society_book.specs.BookRows.{book_of}
 use Rattle.society_book.specs.Kept.{HoldsOwnBook, IsAtRest, LeftBy, Rests}
 use Rattle.society_tables.specs.Laws.{IsLeftBy}
-use Rattle.society_tables.specs.Opening.{HoldsOne, IsOutside, ShowsAs}
+use Rattle.society_tables.specs.Older.{HoldsOne}
+use Rattle.society_tables.specs.Opening.{IsOutside, ShowsAs}
 use Rattle.society_tables.specs.declared.open_fault.OpenFault.{OpenFault}
 use Rattle.society_tables.specs.declared.open_fault.OpenFault.TheVariants as fault
+use Rattle.society_rows.proofs.definitions.LayoutAlone.{layout_alone}
 use Rattle.society_book.proofs.shown.AskLemmas.{clean_is, first_true, second_true}
 
 -- that a fault is outside is one fact
@@ -50,19 +50,20 @@ module _ (o : Office) (s found : State) (rests : ∥ Rests o s ∥₁) (live : I
   same_trees : Rests o s → found.committed.trees ≡ s.now.trees
   same_trees r = settled found.committed.trees (second_true s.is_clean s.is_open live) left.left ∙ sym (ap (λ (db : Database). db.trees) (r live).same)
 
-  -- what a crash leaves of a store at rest lists the tables of layout 3
+  -- what a crash leaves of a store at rest lists the tables that it had
   laid : Rests o s → HasLayout found.committed
   laid r =
       let sound_now : IsSound s.now.schema s.now.trees = (sound (second_true s.is_clean s.is_open live)).0 in
-      let listed : Lists (s.now.trees catalog_tree) layout = (subst (λ (z : Schema). IsSound z s.now.trees) (r live).kept.layout sound_now).lists in
       let shown : IsSound found.committed.schema found.committed.trees = (sound_too left.is_open).1 in
-      lists_once (found.committed.trees catalog_tree) found.committed.schema layout shown.lists (subst (λ (db : Trees). Lists (db catalog_tree) layout) (sym (same_trees r)) listed)
+      let same : found.committed.schema ≡ s.now.schema =
+      lists_once (found.committed.trees catalog_tree) found.committed.schema s.now.schema shown.lists (subst (λ (db : Trees). Lists (db catalog_tree) s.now.schema) (sym (same_trees r)) sound_now.lists) in
+      subst (IsFirst 14) (sym same) (r live).kept.layout
 
   holds_left : Rests o s → HoldsOwnBook o found.committed.trees
   holds_left r = subst (HoldsOwnBook o) (sym (same_trees r)) (r live).kept.holds
 
   pub taken_left : HasLayout found.committed × HoldsOne o found.committed.trees
-  taken_left = (∥∥₁_elim rests (Coded-set the_row.coded _ _) laid, ∥∥₁_map rests holds_left)
+  taken_left = (∥∥₁_elim rests (layout_alone found.committed.schema) laid, ∥∥₁_map rests holds_left)
 
   -- the opening of it shows the book of the store
   pub kept_left : (new : State) → IsTrue (new.is_clean && new.is_open)

@@ -1,19 +1,19 @@
 use Rattle.std.proofs.Common.{arith, refl}
+use Rattle.society_commands.proofs.DatabaseLemmas.{crash_there}
 use Rattle.society_commands.proofs.auditing.audit_database.Goals as goal
 
 pub returns-in-Ok-clause-sound : goal.returns-in-Ok-clause-sound
-returns-in-Ok-clause-sound g c = λ zero.
-    (rw c.into_connection.ensures.same (record { sound = c.in-Ok.ensures.audited; crash = c.in-Ok.ensures.crash }), c.print.ensures)
+returns-in-Ok-clause-sound g c = λ zero. (record { sound = c.in-Ok.ensures.sound; crash = c.in-Ok.ensures.crash }, c.print.ensures)
 
 pub returns-in-Err-clause-fault : goal.returns-in-Err-clause-fault
 returns-in-Err-clause-fault g c = λ one. (
   record {
     fault = c.in-Err.fault;
     told = c.in-Err.ensures.told;
-    empty = λ existing opened none. (c.in-Err.ensures.empty opened none).0;
+    empty = λ existing opened none. c.in-Err.ensures.empty opened none;
     failed = c.in-Err.ensures.failed;
     unchanged = c.in-Err.ensures.unchanged;
-    crash = c.in-Err.ensures.crash;
+    crash = crash_there c.args.office.now _ _ c.in-Err.ensures.crash;
   },
   refl,
 )

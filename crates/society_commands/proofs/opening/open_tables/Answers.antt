@@ -18,7 +18,7 @@ pub returns-else-existing-clause-over : goal.returns-else-existing-clause-over
 returns-else-existing-clause-over g c =
     rw c.if-existing.false
     (over_any c.args.office.now (state g.M.Store c.args.connection) (λ t. t.office) (λ t. state g.M.Store t.conn) (λ t. t.failures) (state g.M.Store)
-    c.open.result c.open.ensures.office c.open.ensures.known c.open.ensures.begun c.open.ensures.audited c.open.ensures.crash)
+    c.open.result c.open.ensures.office c.open.ensures.known c.open.ensures.begun c.open.ensures.audited c.open.ensures.taken c.open.ensures.crash)
 
 pub returns-else-existing-clause-fault : goal.returns-else-existing-clause-fault
 returns-else-existing-clause-fault g c =

@@ -3,8 +3,8 @@ use Rattle.sqlite_value.specs.declared.value.Value.TheVariants.{Text}
 use Rattle.sqlite.specs.Held.{state}
 use Rattle.society_rows.specs.Layout.{balances}
 use Rattle.society_rows.specs.Reads.{Lists, has_key}
-use Rattle.society_rows.proofs.readings.Queries.{reads_by}
-use Rattle.society_rows.proofs.each_table.BalanceTable.{balance_at_text, balance_at_is, balance_at_lists}
+use Rattle.society_rows.proofs.readings.Queries.{reads_laid}
+use Rattle.society_rows.proofs.each_table.BalanceTable.{balance_at_is, balance_at_lists}
 use Rattle.society_rows.proofs.errors.Told.{query_tells}
 use Rattle.society_rows.proofs.balances.balance_at.Goals as goal
 
@@ -12,7 +12,7 @@ pub returns-clause-read : goal.returns-clause-read
 returns-clause-read g c =
     let old = state g.S.Store c.args.tx.now.conn.now in
     let new = state g.S.Store c.select.new.tx.conn.now in
-    reads_by balance_at_text (Text c.args.account.now ∷ []) old new c.select.result (λ db rows. Lists balances (has_key (Text c.args.account.now ∷ [])) 1 db rows.items) balance_at_is.plain (λ clean. c.select.ensures.selected clean) c.select.ensures.survives
+    reads_laid balance_at_is (Text c.args.account.now ∷ []) old new c.select.result (λ db rows. Lists balances (has_key (Text c.args.account.now ∷ [])) 1 db rows.items) (λ clean. c.select.ensures.selected clean) c.select.ensures.survives
     (λ rows. balance_at_lists c.args.account.now old new rows.items)
 
 pub returns-clause-told : goal.returns-clause-told

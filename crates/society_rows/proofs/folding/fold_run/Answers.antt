@@ -2,7 +2,7 @@ use Rattle.std.proofs.Common.{◌∙◌, ◌+◌, length, refl, sym, ap, arith}
 use Rattle.society_rows.specs.declared.fault.RowFault.TheVariants.{Unread}
 use Rattle.society_rows.proofs.readings.RowFolds.{err_as}
 use Rattle.society_rows.proofs.readings.Alike.{only_one}
-use Rattle.society_rows.proofs.readings.RunFolds.{none_there, runs_to_first, runs_on, run_doubled, run_ends, run_fills, run_overflows, run_refused, run_told}
+use Rattle.society_rows.proofs.readings.RunFolds.{none_there, runs_to_first, runs_on, run_doubled, run_ends, run_fills, run_overflows, run_refused, run_stops, run_told}
 use Rattle.society_rows.proofs.folding.fold_run.Goals as goal
 
 pub loop-number-init : goal.loop-number-init
@@ -49,3 +49,8 @@ pub returns-in_err-rows-clause-told : goal.returns-in_err-rows-clause-told
 returns-in_err-rows-clause-told g c =
     run_told g.S.Store g.F.RowFold.step c.args.sender.now c.args.tx.now.conn.now c.loop-number.tx.conn.now c.transmission_at.new.tx.conn.now c.args.first c.loop-number.number c.args.into.now c.loop-number.into
     c.loop-number.auto.number c.loop-number.invariant.taken g.F.RowFold.refusal c.in_err-rows.field-0.0 c.from_residual.result c.from_residual.ensures.1 c.in_err-rows.ensures.read.survives c.in_err-rows.ensures.told
+
+pub returns-in_err-take-in-len1-clause-taken : goal.returns-in_err-take-in-len1-clause-taken
+returns-in_err-take-in-len1-clause-taken g c =
+    run_stops g.S.Store g.F.RowFold.step c.args.sender.now c.args.tx.now.conn.now c.loop-number.tx.conn.now c.transmission_at.new.tx.conn.now c.args.first c.loop-number.number c.args.into.now c.loop-number.into
+    c.loop-number.auto.number c.loop-number.invariant.taken c.in_ok-rows.rows c.in_ok-rows.ensures.read c.from_residual-in_err-take-in-len1.result c.from_residual-in_err-take-in-len1.ensures.0 _

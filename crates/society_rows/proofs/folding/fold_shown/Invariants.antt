@@ -1,9 +1,8 @@
-use Rattle.std.proofs.Common.{◌≡◌, false}
+use Rattle.std.proofs.Common.{◌≡◌, false, length}
 use Rattle.sqlite.specs.State.{HasCleanDisk, IsUnchanged, Survives}
 use Rattle.sqlite.specs.Held.{state}
 use Rattle.sqlite.specs.Values.{bound}
-use Rattle.society_rows.specs.Folds.{HasTaken, OfOtherLayout}
-use Rattle.society_rows.specs.Stored.{HasLayout}
+use Rattle.society_rows.specs.Folds.{HasTaken, IsAskedOf, WasOther}
 use Rattle.society_rows.proofs.readings.RowFolds.{HasGone}
 use Rattle.society_rows.proofs.folding.fold_shown.Given as goal
 
@@ -13,8 +12,8 @@ invariant-rows g l =
     let now = state g.S.Store l.rows.conn.now in
     record {
       same_reference : l.rows.conn.ghost_name ≡ l.initial.rows.conn.ghost_name;
-      survives : Survives old now (OfOtherLayout old);
+      survives : Survives old now (WasOther (IsAskedOf l.sql (length (bound l.params))) old);
       mode : l.fn.conn.in_transaction ≡ false → l.rows.conn.now.in_transaction ≡ false;
-      same : HasCleanDisk now → HasLayout old.now → IsUnchanged old now;
+      same : HasCleanDisk now → IsAskedOf l.sql (length (bound l.params)) old.now → IsUnchanged old now;
       gone : HasTaken g.F.RowFold.step (HasGone g.S.Store l.sql (bound l.params) old l.rows.conn.now l.count) l.initial.into l.into;
     }

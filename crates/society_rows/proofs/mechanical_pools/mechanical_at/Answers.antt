@@ -3,8 +3,8 @@ use Rattle.sqlite_value.specs.declared.value.Value.TheVariants.{Int}
 use Rattle.sqlite.specs.Held.{state}
 use Rattle.society_rows.specs.Layout.{mechanical_pools}
 use Rattle.society_rows.specs.Reads.{Lists, has_key}
-use Rattle.society_rows.proofs.readings.Queries.{reads_by}
-use Rattle.society_rows.proofs.each_table.MechanicalPoolTable.{mechanical_at_text, mechanical_at_is, mechanical_at_lists}
+use Rattle.society_rows.proofs.readings.Queries.{reads_laid}
+use Rattle.society_rows.proofs.each_table.MechanicalPoolTable.{mechanical_at_is, mechanical_at_lists}
 use Rattle.society_rows.proofs.errors.Told.{query_tells}
 use Rattle.society_rows.proofs.mechanical_pools.mechanical_at.Goals as goal
 
@@ -12,7 +12,7 @@ pub returns-clause-read : goal.returns-clause-read
 returns-clause-read g c =
     let old = state g.S.Store c.args.tx.now.conn.now in
     let new = state g.S.Store c.select.new.tx.conn.now in
-    reads_by mechanical_at_text (Int (pos c.args.pool) ∷ []) old new c.select.result (λ db rows. Lists mechanical_pools (has_key (Int (pos c.args.pool) ∷ [])) 1 db rows.items) mechanical_at_is.plain (λ clean. rw (c.to_sql.ensures) at (c.select.ensures.selected clean)) c.select.ensures.survives
+    reads_laid mechanical_at_is (Int (pos c.args.pool) ∷ []) old new c.select.result (λ db rows. Lists mechanical_pools (has_key (Int (pos c.args.pool) ∷ [])) 1 db rows.items) (λ clean. rw (c.to_sql.ensures) at (c.select.ensures.selected clean)) c.select.ensures.survives
     (λ rows. mechanical_at_lists (pos c.args.pool) old new rows.items)
 
 pub returns-clause-told : goal.returns-clause-told

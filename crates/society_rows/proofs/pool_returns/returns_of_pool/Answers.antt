@@ -3,8 +3,8 @@ use Rattle.sqlite_value.specs.declared.value.Value.TheVariants.{Int}
 use Rattle.sqlite.specs.Held.{state}
 use Rattle.society_rows.specs.Layout.{pool_returns}
 use Rattle.society_rows.specs.Reads.{Lists, has_at}
-use Rattle.society_rows.proofs.readings.Queries.{reads_by}
-use Rattle.society_rows.proofs.each_table.PoolReturnTable.{returns_of_pool_text, returns_of_pool_is, returns_of_pool_lists}
+use Rattle.society_rows.proofs.readings.Queries.{reads_laid}
+use Rattle.society_rows.proofs.each_table.PoolReturnTable.{returns_of_pool_is, returns_of_pool_lists}
 use Rattle.society_rows.proofs.errors.Told.{query_tells}
 use Rattle.society_rows.proofs.pool_returns.returns_of_pool.Goals as goal
 
@@ -12,7 +12,7 @@ pub returns-clause-read : goal.returns-clause-read
 returns-clause-read g c =
     let old = state g.S.Store c.args.tx.now.conn.now in
     let new = state g.S.Store c.select.new.tx.conn.now in
-    reads_by returns_of_pool_text (Int (pos c.args.pool) ∷ []) old new c.select.result (λ db rows. Lists pool_returns (has_at 2 (Int (pos c.args.pool))) 2 db rows.items) returns_of_pool_is.plain (λ clean. rw (c.to_sql.ensures) at (c.select.ensures.selected clean)) c.select.ensures.survives
+    reads_laid returns_of_pool_is (Int (pos c.args.pool) ∷ []) old new c.select.result (λ db rows. Lists pool_returns (has_at 2 (Int (pos c.args.pool))) 2 db rows.items) (λ clean. rw (c.to_sql.ensures) at (c.select.ensures.selected clean)) c.select.ensures.survives
     (λ rows. returns_of_pool_lists (pos c.args.pool) old new rows.items)
 
 pub returns-clause-told : goal.returns-clause-told

@@ -3,8 +3,8 @@ use Rattle.sqlite_value.specs.declared.value.Value.TheVariants.{Int, Text}
 use Rattle.sqlite.specs.Held.{state}
 use Rattle.society_rows.specs.Layout.{returns}
 use Rattle.society_rows.specs.Reads.{ListsKeys, has_key}
-use Rattle.society_rows.proofs.readings.Queries.{reads_by}
-use Rattle.society_rows.proofs.readings.KeyQueries.{return_known_text, return_known_is, return_known_lists}
+use Rattle.society_rows.proofs.readings.Queries.{reads_laid}
+use Rattle.society_rows.proofs.readings.KeyQueries.{return_known_is, return_known_lists}
 use Rattle.society_rows.proofs.errors.Told.{query_tells}
 use Rattle.society_rows.proofs.returns.return_known.Goals as goal
 
@@ -12,7 +12,7 @@ pub returns-clause-read : goal.returns-clause-read
 returns-clause-read g c =
     let old = state g.S.Store c.args.tx.now.conn.now in
     let new = state g.S.Store c.select.new.tx.conn.now in
-    reads_by return_known_text (Text c.args.reporter.now ∷ Int (pos c.args.number) ∷ []) old new c.select.result (λ db rows. ListsKeys returns (has_key (Text c.args.reporter.now ∷ Int (pos c.args.number) ∷ [])) 2 db rows.items) return_known_is.plain (λ clean. rw (c.to_sql.ensures) at (c.select.ensures.selected clean)) c.select.ensures.survives
+    reads_laid return_known_is (Text c.args.reporter.now ∷ Int (pos c.args.number) ∷ []) old new c.select.result (λ db rows. ListsKeys returns (has_key (Text c.args.reporter.now ∷ Int (pos c.args.number) ∷ [])) 2 db rows.items) (λ clean. rw (c.to_sql.ensures) at (c.select.ensures.selected clean)) c.select.ensures.survives
     (λ rows. return_known_lists c.args.reporter.now (pos c.args.number) old new rows.items)
 
 pub returns-clause-told : goal.returns-clause-told

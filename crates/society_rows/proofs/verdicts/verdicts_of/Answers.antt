@@ -3,8 +3,8 @@ use Rattle.sqlite_value.specs.declared.value.Value.TheVariants.{Int, Text}
 use Rattle.sqlite.specs.Held.{state}
 use Rattle.society_rows.specs.Layout.{verdicts}
 use Rattle.society_rows.specs.Reads.{Lists, has_key}
-use Rattle.society_rows.proofs.readings.Queries.{reads_by}
-use Rattle.society_rows.proofs.each_table.VerdictTable.{verdicts_of_text, verdicts_of_is, verdicts_of_lists}
+use Rattle.society_rows.proofs.readings.Queries.{reads_laid}
+use Rattle.society_rows.proofs.each_table.VerdictTable.{verdicts_of_is, verdicts_of_lists}
 use Rattle.society_rows.proofs.errors.Told.{query_tells}
 use Rattle.society_rows.proofs.verdicts.verdicts_of.Goals as goal
 
@@ -12,7 +12,7 @@ pub returns-clause-read : goal.returns-clause-read
 returns-clause-read g c =
     let old = state g.S.Store c.args.tx.now.conn.now in
     let new = state g.S.Store c.select.new.tx.conn.now in
-    reads_by verdicts_of_text (Text c.args.sender.now ∷ Int (pos c.args.number) ∷ []) old new c.select.result (λ db rows. Lists verdicts (has_key (Text c.args.sender.now ∷ Int (pos c.args.number) ∷ [])) 3 db rows.items) verdicts_of_is.plain (λ clean. rw (c.to_sql.ensures) at (c.select.ensures.selected clean)) c.select.ensures.survives
+    reads_laid verdicts_of_is (Text c.args.sender.now ∷ Int (pos c.args.number) ∷ []) old new c.select.result (λ db rows. Lists verdicts (has_key (Text c.args.sender.now ∷ Int (pos c.args.number) ∷ [])) 3 db rows.items) (λ clean. rw (c.to_sql.ensures) at (c.select.ensures.selected clean)) c.select.ensures.survives
     (λ rows. verdicts_of_lists c.args.sender.now (pos c.args.number) old new rows.items)
 
 pub returns-clause-told : goal.returns-clause-told

@@ -3,8 +3,8 @@ use Rattle.sqlite_value.specs.declared.value.Value.TheVariants.{Text}
 use Rattle.sqlite.specs.Held.{state}
 use Rattle.society_rows.specs.Layout.{versions}
 use Rattle.society_rows.specs.Reads.{IsFirstOf, has_key}
-use Rattle.society_rows.proofs.readings.Queries.{reads_by}
-use Rattle.society_rows.proofs.each_table.VersionTable.{last_version_of_text, last_version_of_is, last_version_of_shows}
+use Rattle.society_rows.proofs.readings.Queries.{reads_laid}
+use Rattle.society_rows.proofs.each_table.VersionTable.{last_version_of_is, last_version_of_shows}
 use Rattle.society_rows.proofs.errors.Told.{query_tells}
 use Rattle.society_rows.proofs.versions.last_version_of.Goals as goal
 
@@ -12,7 +12,7 @@ pub returns-clause-read : goal.returns-clause-read
 returns-clause-read g c =
     let old = state g.S.Store c.args.tx.now.conn.now in
     let new = state g.S.Store c.select.new.tx.conn.now in
-    reads_by last_version_of_text (Text c.args.sender.now ∷ Text c.args.work.now ∷ []) old new c.select.result (λ db rows. IsFirstOf versions (has_key (Text c.args.sender.now ∷ Text c.args.work.now ∷ [])) 3 db rows.items) last_version_of_is.plain (λ clean. c.select.ensures.selected clean) c.select.ensures.survives
+    reads_laid last_version_of_is (Text c.args.sender.now ∷ Text c.args.work.now ∷ []) old new c.select.result (λ db rows. IsFirstOf versions (has_key (Text c.args.sender.now ∷ Text c.args.work.now ∷ [])) 3 db rows.items) (λ clean. c.select.ensures.selected clean) c.select.ensures.survives
     (λ rows. last_version_of_shows c.args.sender.now c.args.work.now old new rows.items)
 
 pub returns-clause-told : goal.returns-clause-told

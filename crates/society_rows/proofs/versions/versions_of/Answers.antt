@@ -3,8 +3,8 @@ use Rattle.sqlite_value.specs.declared.value.Value.TheVariants.{Text}
 use Rattle.sqlite.specs.Held.{state}
 use Rattle.society_rows.specs.Layout.{versions}
 use Rattle.society_rows.specs.Reads.{Lists, has_key}
-use Rattle.society_rows.proofs.readings.Queries.{reads_by}
-use Rattle.society_rows.proofs.each_table.VersionTable.{versions_of_text, versions_of_is, versions_of_lists}
+use Rattle.society_rows.proofs.readings.Queries.{reads_laid}
+use Rattle.society_rows.proofs.each_table.VersionTable.{versions_of_is, versions_of_lists}
 use Rattle.society_rows.proofs.errors.Told.{query_tells}
 use Rattle.society_rows.proofs.versions.versions_of.Goals as goal
 
@@ -12,7 +12,7 @@ pub returns-clause-read : goal.returns-clause-read
 returns-clause-read g c =
     let old = state g.S.Store c.args.tx.now.conn.now in
     let new = state g.S.Store c.select.new.tx.conn.now in
-    reads_by versions_of_text (Text c.args.sender.now ∷ Text c.args.work.now ∷ []) old new c.select.result (λ db rows. Lists versions (has_key (Text c.args.sender.now ∷ Text c.args.work.now ∷ [])) 3 db rows.items) versions_of_is.plain (λ clean. c.select.ensures.selected clean) c.select.ensures.survives
+    reads_laid versions_of_is (Text c.args.sender.now ∷ Text c.args.work.now ∷ []) old new c.select.result (λ db rows. Lists versions (has_key (Text c.args.sender.now ∷ Text c.args.work.now ∷ [])) 3 db rows.items) (λ clean. c.select.ensures.selected clean) c.select.ensures.survives
     (λ rows. versions_of_lists c.args.sender.now c.args.work.now old new rows.items)
 
 pub returns-clause-told : goal.returns-clause-told

@@ -1,22 +1,12 @@
-use Rattle.std.proofs.Common.{◌≡◌, List, [], ◌∷◌, Result, Ok, Err, IfErr, subst, sym}
-use Rattle.std.specs.Result.{IsErrAnd}
-use Rattle.share_rules.specs.declared.office.Office.{Office}
-use Rattle.sqlite_value.specs.Order.{Row}
-use Rattle.society_book.specs.Kept.{office_row}
-use Rattle.society_tables.specs.Opening.{TellsOffice, open_fault_by}
+use Rattle.std.proofs.Common.{Ok}
 use Rattle.society_tables.specs.declared.audit_fault.AuditFault.{AuditFault}
-use Rattle.society_tables.specs.declared.open_fault.OpenFault.{OpenFault}
 use Rattle.society_tables.proofs.opened.OpenLemmas.{inspected_then, same_answer}
 use Rattle.society_tables.proofs.anew.ComesAgain.{clean_before, shows_still}
-use Rattle.society_tables.proofs.opened.OpenTold.{audited_office, damaged_so, undamaged}
+use Rattle.society_tables.proofs.opened.OpenTold.{damaged_so, told_judged, undamaged}
 use Rattle.society_tables.proofs.opened.OpenTold.{there_by}
 use Rattle.society_tables.proofs.opened.Failing.{failed_opened, failed_passed, failed_then}
 use Rattle.society_tables.specs.declared.open_fault.OpenFault.TheVariants.{Store}
 use Rattle.society_tables.proofs.opening.audit.Goals as goal
-
-fails : (o : Office) (rows : List Row) (f : AuditFault) (r : Result (Unit {0}) OpenFault) → rows ≡ office_row o ∷ [] → IsErrAnd r (λ e. e ≡ open_fault_by f) → IfErr r (TellsOffice o rows)
-fails o rows f (Ok x) is h = tt
-fails o rows f (Err e) is h = subst (TellsOffice o rows) (sym h) (audited_office o rows f is)
 
 pub returns-clause-whole : goal.returns-clause-whole
 returns-clause-whole g c =
@@ -25,7 +15,7 @@ returns-clause-whole g c =
 
 pub returns-in_err-check_whole-clause-told : goal.returns-in_err-check_whole-clause-told
 returns-in_err-check_whole-clause-told g c clean has =
-    fails c.args.office.now _ c.in_err-check_whole.field-0.0 c.from_residual-in_err-check_whole.result (c.in_ok-office_agrees.ensures.asked.found (clean_before _ _ c.in_err-check_whole.ensures.whole.survives clean) has) c.from_residual-in_err-check_whole.ensures.1
+    told_judged 3 c.args.office.now _ c.in_err-check_whole.field-0.0 c.from_residual-in_err-check_whole.result (c.in_ok-office_agrees.ensures.asked.found (clean_before _ _ c.in_err-check_whole.ensures.whole.survives clean) has) c.from_residual-in_err-check_whole.ensures.1
 
 pub returns-in_err-office_agrees-clause-damaged : goal.returns-in_err-office_agrees-clause-damaged
 returns-in_err-office_agrees-clause-damaged g c clean has = undamaged _ c.in_err-office_agrees.field-0.0 c.from_residual.result c.from_residual.ensures.1 c.in_err-office_agrees.ensures.other

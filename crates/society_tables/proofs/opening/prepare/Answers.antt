@@ -1,4 +1,5 @@
-use Rattle.society_tables.proofs.opened.OpenedLemmas.{no_failure, opens_audited, opens_begun, opens_other}
+use Rattle.sqlite.specs.Held.{state}
+use Rattle.society_tables.proofs.opened.OpenedLemmas.{found_no_older, no_failure, opens_audited, opens_begun, opens_other, opens_taken}
 use Rattle.society_tables.specs.declared.open_fault.OpenFault.TheVariants.{Schema}
 use Rattle.society_tables.proofs.opening.prepare.Goals as goal
 
@@ -12,6 +13,11 @@ returns-in-Layout-clause-opens g c =
     opens_audited c.args.office.now _ _ c.audit.result c.in-Layout.ensures.settled
     c.in-Layout.ensures.found c.audit.ensures.whole c.audit.ensures.told c.audit.ensures.damaged c.audit.ensures.failed
 
+pub returns-in-Older-clause-opens : goal.returns-in-Older-clause-opens
+returns-in-Older-clause-opens g c =
+    opens_taken c.args.office.now c.in-Older.layout _ _ c.take_over.result c.in-Older.ensures.found c.take_over.ensures.takes
+
 pub returns-in-Other-clause-opens : goal.returns-in-Other-clause-opens
 returns-in-Other-clause-opens g c =
-    opens_other c.args.office.now _ Schema no_failure c.in-Other.ensures.settled (c.in-Other.ensures.found.0, λ has. absurd (c.in-Other.ensures.found.1 has))
+    opens_other c.args.office.now _ Schema no_failure c.in-Other.ensures.settled
+    (c.in-Other.ensures.found.0, λ has. absurd (c.in-Other.ensures.found.1 has), λ layout was. absurd (found_no_older (state g.S.Store c.args.conn.now).now c.in-Other.ensures.found layout was))

@@ -1,24 +1,20 @@
-use Rattle.society_tables.proofs.anew.ComesAgain.{clean_before, comes_still}
-use Rattle.society_tables.proofs.opened.OpenLemmas.{inspected_then}
-use Rattle.society_tables.proofs.anew.RowsAgain.{aside_told}
-use Rattle.society_tables.proofs.opened.Failing.{failed_passed, failed_then}
-use Rattle.society_tables.specs.declared.audit_fault.AuditFault.TheVariants.{Store}
+use Rattle.std.proofs.Common.{List, Ok, subst, sym}
+use Rattle.sqlite_value.specs.Order.{Row}
+use Rattle.society_book.specs.BookRows.{end_rows, is_end_row, is_transmission_row, transmission_rows}
+use Rattle.society_book.specs.Columns.{HasRows}
+use Rattle.society_tables.proofs.anew.ComesAgain.{empty_within, ends_within, no_ends_within, sent_end, sent_within, stated_end}
+use Rattle.society_tables.proofs.anew.EndsAgain.{all_stated}
+use Rattle.society_tables.proofs.anew.RowsAgain.{all_sent, aside_told}
 use Rattle.society_tables.proofs.rebuilding.lines_from.Goals as goal
 
-pub returns-clause-asked : goal.returns-clause-asked
-returns-clause-asked g c =
-    inspected_then _ _ _ _ c.ends_from.result _ _ _ c.in_ok-transmissions_from.ensures.asked c.ends_from.ensures.asked (λ y a b. tt)
-
 pub returns-clause-passes : goal.returns-clause-passes
-returns-clause-passes g c b clean comes is =
-    let mid = clean_before _ _ c.ends_from.ensures.asked.survives clean in
-    c.ends_from.ensures.passes b clean (comes_still b _ _ _ _ c.in_ok-transmissions_from.ensures.asked mid comes) (c.in_ok-transmissions_from.ensures.passes b mid comes is)
+returns-clause-passes c b sound are empty =
+    let sent = subst (λ (rows : List Row). HasRows is_transmission_row (transmission_rows b) rows) (sym c.as_slice.ensures.value) are.0 in
+    let stated = subst (λ (rows : List Row). HasRows is_end_row (end_rows b) rows) (sym c.as_slice-2.ensures.value) are.1 in
+    let first = sent_end b _ _ c.as_slice.result.now (Ok tt) sent empty (c.in_ok-put_transmissions.ensures.passes b sound (all_sent b c.as_slice.result.now sent) (empty_within b _ empty) (no_ends_within b _ empty)) in
+    stated_end b _ _ c.as_slice-2.result.now c.put_ends.result stated first (c.put_ends.ensures.passes b sound (all_stated b c.as_slice-2.result.now stated) (sent_within b _ first) (ends_within b _ first))
 
-pub returns-in_err-transmissions_from-clause-passes : goal.returns-in_err-transmissions_from-clause-passes
-returns-in_err-transmissions_from-clause-passes g c b clean comes is = aside_told _ _ c.from_residual.result c.from_residual.ensures.1 (c.in_err-transmissions_from.ensures.passes b clean comes is)
-
-pub returns-in_err-transmissions_from-clause-failed : goal.returns-in_err-transmissions_from-clause-failed
-returns-in_err-transmissions_from-clause-failed g c = failed_passed Store _ _ c.in_err-transmissions_from.field-0.0 c.from_residual.result _ c.in_err-transmissions_from.ensures.asked c.in_err-transmissions_from.ensures.failed c.from_residual.ensures.1
-
-pub returns-clause-failed : goal.returns-clause-failed
-returns-clause-failed g c = failed_then Store _ _ _ _ c.ends_from.result _ c.in_ok-transmissions_from.ensures.asked c.ends_from.ensures.asked.survives c.ends_from.ensures.failed
+pub returns-in_err-put_transmissions-clause-passes : goal.returns-in_err-put_transmissions-clause-passes
+returns-in_err-put_transmissions-clause-passes c b sound are empty =
+    let sent = subst (λ (rows : List Row). HasRows is_transmission_row (transmission_rows b) rows) (sym c.as_slice.ensures.value) are.0 in
+    aside_told _ _ c.from_residual.result c.from_residual.ensures.1 (c.in_err-put_transmissions.ensures.passes b sound (all_sent b c.as_slice.result.now sent) (empty_within b _ empty) (no_ends_within b _ empty))

@@ -1,24 +1,23 @@
-use Rattle.society_tables.proofs.anew.ComesAgain.{clean_before, comes_still}
-use Rattle.society_tables.proofs.opened.OpenLemmas.{inspected_then}
-use Rattle.society_tables.proofs.anew.RowsAgain.{aside_told}
-use Rattle.society_tables.proofs.opened.Failing.{failed_passed, failed_then}
-use Rattle.society_tables.specs.declared.audit_fault.AuditFault.TheVariants.{Store}
+use Rattle.std.proofs.Common.{List, Ok, subst, sym}
+use Rattle.sqlite_value.specs.Order.{Row}
+use Rattle.society_book.specs.BookRows.{is_return_row, return_rows}
+use Rattle.society_book.specs.Columns.{HasRows}
+use Rattle.society_tables.proofs.anew.ComesAgain.{no_returns_within, reported_end}
+use Rattle.society_tables.proofs.anew.RowsAgain.{all_reported, aside_told}
 use Rattle.society_tables.proofs.rebuilding.requests_from.Goals as goal
 
-pub returns-clause-asked : goal.returns-clause-asked
-returns-clause-asked g c =
-    inspected_then _ _ _ _ c.money_from.result _ _ _ c.in_ok-lines_from.ensures.asked c.money_from.ensures.asked (λ y a b. tt)
-
 pub returns-clause-passes : goal.returns-clause-passes
-returns-clause-passes g c b clean comes is =
-    let mid = clean_before _ _ c.money_from.ensures.asked.survives clean in
-    c.money_from.ensures.passes b clean (comes_still b _ _ _ _ c.in_ok-lines_from.ensures.asked mid comes) (c.in_ok-lines_from.ensures.passes b mid comes is)
+returns-clause-passes c b sound are empty =
+    let here = subst (λ (rows : List Row). HasRows is_return_row (return_rows b) rows) (sym c.as_slice.ensures.value) are.returns in
+    let lines = c.in_ok-lines_from.ensures.passes b sound are.lines empty in
+    c.pools_from.ensures.passes b sound are.pools
+    (reported_end b _ _ c.as_slice.result.now (Ok tt) here lines (c.in_ok-put_returns.ensures.passes b sound (all_reported b c.as_slice.result.now sound here) (no_returns_within b _ lines)))
 
 pub returns-in_err-lines_from-clause-passes : goal.returns-in_err-lines_from-clause-passes
-returns-in_err-lines_from-clause-passes g c b clean comes is = aside_told _ _ c.from_residual.result c.from_residual.ensures.1 (c.in_err-lines_from.ensures.passes b clean comes is)
+returns-in_err-lines_from-clause-passes c b sound are empty = aside_told _ _ c.from_residual.result c.from_residual.ensures.1 (c.in_err-lines_from.ensures.passes b sound are.lines empty)
 
-pub returns-in_err-lines_from-clause-failed : goal.returns-in_err-lines_from-clause-failed
-returns-in_err-lines_from-clause-failed g c = failed_passed Store _ _ c.in_err-lines_from.field-0.0 c.from_residual.result _ c.in_err-lines_from.ensures.asked c.in_err-lines_from.ensures.failed c.from_residual.ensures.1
-
-pub returns-clause-failed : goal.returns-clause-failed
-returns-clause-failed g c = failed_then Store _ _ _ _ c.money_from.result _ c.in_ok-lines_from.ensures.asked c.money_from.ensures.asked.survives c.money_from.ensures.failed
+pub returns-in_err-put_returns-clause-passes : goal.returns-in_err-put_returns-clause-passes
+returns-in_err-put_returns-clause-passes c b sound are empty =
+    let here = subst (λ (rows : List Row). HasRows is_return_row (return_rows b) rows) (sym c.as_slice.ensures.value) are.returns in
+    let lines = c.in_ok-lines_from.ensures.passes b sound are.lines empty in
+    aside_told _ _ c.from_residual-in_err-put_returns.result c.from_residual-in_err-put_returns.ensures.1 (c.in_err-put_returns.ensures.passes b sound (all_reported b c.as_slice.result.now sound here) (no_returns_within b _ lines))

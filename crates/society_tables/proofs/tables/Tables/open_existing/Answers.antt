@@ -1,10 +1,11 @@
 use Rattle.std.proofs.Common.{◌≡◌, ◌∙◌, refl, subst, sym}
 use Rattle.std.proofs.lemmas.Bool.{false≢true}
 use Rattle.sqlite.specs.Held.{state}
-use Rattle.sqlite.specs.State.{HasCleanDisk, Survives}
+use Rattle.sqlite.specs.State.{HasCleanDisk}
+use Rattle.society_tables.specs.Existing.{SurvivesTaking}
 use Rattle.society_tables.specs.Opening.{ShowsAs}
 use Rattle.society_rows.specs.NewBook.{IsBare}
-use Rattle.society_tables.proofs.opened.OpenTold.{not_both}
+use Rattle.society_tables.proofs.opened.OpenTold.{not_both, not_older}
 use Rattle.society_tables.proofs.opened.OpenedLemmas.{audited_there, err_empty, survived_there, survives_same}
 use Rattle.society_tables.proofs.tables.Tables.open_existing.Goals as goal
 
@@ -14,7 +15,7 @@ returns-then-is_bare-clause-told g c clean is_open =
 
 pub returns-then-is_bare-clause-opens : goal.returns-then-is_bare-clause-opens
 returns-then-is_bare-clause-opens g c clean is_open has holds =
-    not_both _ (subst IsBare (c.see_last_commit.ensures.settled is_open) (c.is_bare.ensures.0 c.if-is_bare.true)) has
+    not_both (state g.S.Store c.args.connection).committed (subst IsBare (c.see_last_commit.ensures.settled is_open) (c.is_bare.ensures.0 c.if-is_bare.true)) has
 
 pub returns-then-is_bare-clause-unchanged : goal.returns-then-is_bare-clause-unchanged
 returns-then-is_bare-clause-unchanged g c =
@@ -23,7 +24,7 @@ returns-then-is_bare-clause-unchanged g c =
 
 pub returns-then-is_bare-clause-crash : goal.returns-then-is_bare-clause-crash
 returns-then-is_bare-clause-crash g c =
-    subst (λ h. Survives (state g.S.Store c.args.connection) (state g.S.Store h) (λ _. ⊥)) (sym c.into_connection.ensures.same) (survives_same _)
+    subst (λ h. SurvivesTaking c.args.office.now (state g.S.Store c.args.connection) (state g.S.Store h)) (sym c.into_connection.ensures.same) (survives_same _ _)
 
 pub returns-clause-empty : goal.returns-clause-empty
 returns-clause-empty g c is_open bare =
@@ -35,7 +36,7 @@ returns-clause-audited g c =
     let settled = c.see_last_commit.ensures.settled in
     audited_there c.args.office.now (state g.S.Store c.args.connection) c.open.result (λ t. state g.S.Store t.conn)
     (λ bare. false≢true (sym c.if-is_bare.false ∙ c.is_bare.ensures.1 bare)) settled
-    (rw c.into_connection-2.ensures.same at c.open.ensures.known) (rw c.into_connection-2.ensures.same at c.open.ensures.audited)
+    (rw c.into_connection-2.ensures.same at c.open.ensures.known) (rw c.into_connection-2.ensures.same at c.open.ensures.audited) (rw c.into_connection-2.ensures.same at c.open.ensures.taken)
 
 pub returns-clause-untouched : goal.returns-clause-untouched
 returns-clause-untouched g c = err_empty (λ back. back ≡ c.args.connection) c.open.result c.open.ensures.begins
@@ -56,3 +57,10 @@ returns-clause-failed g c = rw c.into_connection-2.ensures.same at c.open.ensure
 
 pub returns-clause-unchanged : goal.returns-clause-unchanged
 returns-clause-unchanged g c = rw c.into_connection-2.ensures.same at c.open.ensures.unchanged
+
+pub returns-then-is_bare-clause-takes : goal.returns-then-is_bare-clause-takes
+returns-then-is_bare-clause-takes g c clean is_open layout was held =
+    not_older layout (state g.S.Store c.args.connection).committed (subst IsBare (c.see_last_commit.ensures.settled is_open) (c.is_bare.ensures.0 c.if-is_bare.true)) was
+
+pub returns-clause-takes : goal.returns-clause-takes
+returns-clause-takes g c = rw c.into_connection-2.ensures.same at c.open.ensures.takes

@@ -1,0 +1,24 @@
+use Rattle.std.proofs.Common.{[], ◌∷◌, pos, refl}
+use Rattle.sqlite.specs.Held.{state}
+use Rattle.society_rows.specs.Layout.{fronts}
+use Rattle.society_rows.specs.Rows.{front_values}
+use Rattle.society_rows.specs.Stored.{HasLayout, Adds}
+use Rattle.society_rows.proofs.changes.Effects.{writes_by}
+use Rattle.society_rows.proofs.each_table.FrontTable.{insert_text, adds_row, settled, insert_is}
+use Rattle.society_rows.proofs.errors.Told.{insert_tells}
+use Rattle.society_rows.proofs.fronts.add_front.Goals as goal
+
+pub returns-clause-written : goal.returns-clause-written
+returns-clause-written g c =
+    let row = c.args.row.now in
+    let old = state g.S.Store c.args.tx.now.conn.now in
+    let new = state g.S.Store c.run.new.tx.conn.now in
+    writes_by HasLayout old new insert_text (front_values row) c.run.result (Adds fronts (front_values row ∷ [])) (λ clean inside. rw (c.to_sql.ensures, c.to_sql-2.ensures) at (c.run.ensures.ran clean inside)) c.run.ensures.survives
+    (λ count. adds_row row.sender.now (pos row.front) row.works old new count)
+
+pub returns-clause-told : goal.returns-clause-told
+returns-clause-told g c =
+    let row = c.args.row.now in
+    let old = state g.S.Store c.args.tx.now.conn.now in
+    let new = state g.S.Store c.run.new.tx.conn.now in
+    insert_tells insert_text settled insert_is (front_values row) refl old new c.run.result c.run.ensures.ended (λ clean inside. rw (c.to_sql.ensures, c.to_sql-2.ensures) at (c.run.ensures.ran clean inside))

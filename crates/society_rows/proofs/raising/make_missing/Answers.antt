@@ -1,0 +1,65 @@
+use Rattle.std.proofs.Common.{◌≡◌, ◌∙◌, ◌+◌, ◌<◌, ℕ, List, [], Bor, length, get_or, Ok, Err, refl, sym, ap, subst, arith}
+use Rattle.std.proofs.lemmas.List.{length-map, get_or-map}
+use Rattle.sqlite.specs.Held.{state}
+use Rattle.sqlite.specs.Effect.{Database}
+use Rattle.society_rows.specs.Layouts.{HasFirst}
+use Rattle.society_rows.specs.Raising.{Extends}
+use Rattle.society_rows.specs.Texts.{all_texts}
+use Rattle.society_rows.proofs.changes.Effects.{writes_none, writes_by, writes_then, writes_fail, writes_as}
+use Rattle.society_rows.proofs.definitions.FirstTables.{first_of}
+use Rattle.society_rows.proofs.definitions.Missing.{Grows, none_made, next_made, next_made_tells, all_made}
+use Rattle.society_rows.proofs.errors.Told.{tells_after}
+use Rattle.society_rows.proofs.raising.make_missing.Goals as goal
+
+pub loop-at-init : goal.loop-at-init
+loop-at-init g c = record { same_reference = refl; made = writes_none (HasFirst c.args.from) (state g.S.Store c.args.tx.now.conn.now) (Grows c.args.from c.args.from) (none_made c.args.from _) }
+
+pub loop-at-preserved : goal.loop-at-preserved
+loop-at-preserved g c =
+    let i = c.loop-at.at in
+    let from = c.args.from in
+    let first = state g.S.Store c.args.tx.now.conn.now in
+    let old = state g.S.Store c.loop-at.tx.conn.now in
+    let new = state g.S.Store c.run.new.tx.conn.now in
+    let none : Bor (List ℕ) = record { ref_ptr = (0, 0); now = [] } in
+    let text = get_or c.args.texts.now i none in
+    let is : text.now ≡ get_or all_texts i [] = sym (get_or-map (λ (t : Bor (List ℕ)). t.now) c.args.texts.now i none [] c.loop-at-test.true) ∙ ap (λ l. get_or l i []) c.requires.all in
+    let within : i < length all_texts = subst (λ l. i < length l) c.requires.all (omega (arith, c.loop-at-test.true, length-map c.args.texts.now (λ (t : Bor (List ℕ)). t.now))) in
+    let one = writes_by (λ d. (was : Database) × Grows from i was d) old new text.now [] (Ok tt) (λ d e. (was : Database) → Grows from i was d → Grows from (i + 1) was e) c.in_ok-run.ensures.ran c.in_ok-run.ensures.survives
+    (λ count has h was grown. next_made from i (omega (arith, c.requires.book, c.loop-at.auto.at)) within text.now is was old new count grown h) in
+    record {
+      same_reference = c.run.ensures.same_reference ∙ c.loop-at.invariant.same_reference;
+      made = writes_then (HasFirst from) (λ d. (was : Database) × Grows from i was d) first old new tt (Ok tt) (Grows from i) (λ d e. (was : Database) → Grows from i was d → Grows from (i + 1) was e) (Grows from (i + 1)) (λ d e h. (d, h)) (λ d e f p q. q d p) c.loop-at.invariant.made one;
+    }
+
+pub returns-clause-made : goal.returns-clause-made
+returns-clause-made g c =
+    let from = c.args.from in
+    let long = ap length c.requires.all in
+    let map_long = length-map c.args.texts.now (λ (t : Bor (List ℕ)). t.now) in
+    writes_as (HasFirst from) (state g.S.Store c.args.tx.now.conn.now) (state g.S.Store c.loop-at.tx.conn.now) (Ok tt) (Grows from c.loop-at.at) (Extends from)
+    (all_made from c.loop-at.at (omega (arith, long, map_long, c.requires.some)) (omega (arith, c.loop-at-test.false, long, map_long))) c.loop-at.invariant.made
+
+pub returns-in_err-run-clause-made : goal.returns-in_err-run-clause-made
+returns-in_err-run-clause-made g c =
+    let i = c.loop-at.at in
+    let from = c.args.from in
+    let first = state g.S.Store c.args.tx.now.conn.now in
+    let old = state g.S.Store c.loop-at.tx.conn.now in
+    let new = state g.S.Store c.run.new.tx.conn.now in
+    writes_fail (HasFirst from) (HasFirst i) first old new tt (Grows from i) (Extends from) (λ d e h. first_of h.first) _ _ c.in_err-run.field-0.0 c.from_residual.result c.from_residual.ensures.0 c.loop-at.invariant.made
+    c.in_err-run.ensures.ran c.in_err-run.ensures.survives
+
+pub returns-in_err-run-clause-told : goal.returns-in_err-run-clause-told
+returns-in_err-run-clause-told g c =
+    let i = c.loop-at.at in
+    let from = c.args.from in
+    let first = state g.S.Store c.args.tx.now.conn.now in
+    let old = state g.S.Store c.loop-at.tx.conn.now in
+    let new = state g.S.Store c.run.new.tx.conn.now in
+    let none : Bor (List ℕ) = record { ref_ptr = (0, 0); now = [] } in
+    let text = get_or c.args.texts.now i none in
+    let is : text.now ≡ get_or all_texts i [] = sym (get_or-map (λ (t : Bor (List ℕ)). t.now) c.args.texts.now i none [] c.loop-at-test.true) ∙ ap (λ l. get_or l i []) c.requires.all in
+    let within : i < length all_texts = subst (λ l. i < length l) c.requires.all (omega (arith, c.loop-at-test.true, length-map c.args.texts.now (λ (t : Bor (List ℕ)). t.now))) in
+    tells_after (HasFirst from) (HasFirst i) first old new c.loop-at.invariant.made (λ d e h. first_of h.first) c.in_err-run.field-0.0 c.from_residual.result c.from_residual.ensures.1 c.in_err-run.ensures.survives
+    (next_made_tells i (omega (arith, c.requires.book, c.loop-at.auto.at)) within text.now is old new (Err c.in_err-run.field-0.0) c.in_err-run.ensures.ended c.in_err-run.ensures.ran)

@@ -1,0 +1,21 @@
+use Rattle.std.proofs.Common.{refl}
+use Rattle.sqlite.specs.Held.{state}
+use Rattle.society_rows.specs.Raising.{Renames}
+use Rattle.society_rows.specs.Stored.{HasLayout}
+use Rattle.society_rows.proofs.changes.Effects.{writes_by}
+use Rattle.society_rows.proofs.changes.Renaming.{newest, renames, update_is, update_text}
+use Rattle.society_rows.proofs.each_table.OfficeTable.{settled}
+use Rattle.society_rows.proofs.errors.Told.{update_tells}
+use Rattle.society_rows.proofs.raising.rename.Goals as goal
+
+pub returns-clause-renamed : goal.returns-clause-renamed
+returns-clause-renamed g c =
+    let old = state g.S.Store c.args.tx.now.conn.now in
+    let new = state g.S.Store c.run.new.tx.conn.now in
+    writes_by HasLayout old new update_text newest c.run.result Renames (λ clean inside. rw (c.to_sql.ensures) at (c.run.ensures.ran clean inside)) c.run.ensures.survives (renames old new)
+
+pub returns-clause-told : goal.returns-clause-told
+returns-clause-told g c =
+    let old = state g.S.Store c.args.tx.now.conn.now in
+    let new = state g.S.Store c.run.new.tx.conn.now in
+    update_tells update_text settled update_is newest refl old new c.run.result c.run.ensures.ended (λ clean inside. rw (c.to_sql.ensures) at (c.run.ensures.ran clean inside))

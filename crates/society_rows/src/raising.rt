@@ -1,0 +1,60 @@
+//! How a database of an older layout gets layout 3.
+ghost use Rattle.std.specs.Prelude.{◌≡◌, ◌≤◌, ℕ, List, length, map};
+ghost use Rattle.std.specs.Borrow.{Bor};
+ghost use Rattle.sqlite.specs.Held.{state};
+ghost use Rattle.society_rows.specs.Effects.{OnlyFails, OnlyFailsInside, Writes, WritesOver};
+ghost use Rattle.society_rows.specs.Layouts.{HasFirst, HasOlder};
+ghost use Rattle.society_rows.specs.Raising.{BecomesNewest, Extends, Renames};
+ghost use Rattle.society_rows.specs.Texts.{all_texts};
+ghost use Rattle.society_rows.specs.Between.{within};
+
+use crate::layout::TABLES;
+use crate::office::LAYOUT;
+use crate::statement::run;
+use crate::{OlderLayout, RowFault};
+use sqlite::types::ToSql;
+use sqlite::{Alter, Transaction};
+
+// Makes the tables of the texts behind the first ones, so many.
+fn make_missing<S: Alter>(
+    tx: &mut Transaction<'_, S>,
+    texts: &[&str],
+    from: usize,
+) -> Result<(), RowFault>
+    requires all { map (λ (t : Bor (List ℕ)). t.now) texts.now ≡ all_texts }
+    requires book { 6 ≤ from }
+    requires some { from ≤ length texts.now }
+    ensures same_reference { tx.new.conn.ghost_name ≡ tx.old.conn.ghost_name }
+    ensures made { within S.Store tx.old tx.new (WritesOver (HasFirst from)) result
+        (Extends from) }
+    ensures told { within S.Store tx.old tx.new (OnlyFailsInside (HasFirst from)) result }
+{
+    for at in from..texts.len() {
+        run(tx, texts[at], &[])?;
+    }
+    Ok(())
+}
+
+// Says layout 3 in the row of the office.
+fn rename<S: Alter>(tx: &mut Transaction<'_, S>) -> Result<(), RowFault>
+    ensures same_reference { tx.new.conn.ghost_name ≡ tx.old.conn.ghost_name }
+    ensures renamed { within S.Store tx.old tx.new Writes result Renames }
+    ensures told { within S.Store tx.old tx.new OnlyFails result }
+{
+    run(tx, "UPDATE office SET layout = ?1", &[LAYOUT.to_sql()])
+}
+
+/// Makes the tables that an older layout lacks, and says layout 3 in the row of the office, whatever layout it said. The tables that are
+/// made are empty, and can be filled in the same transaction.
+pub fn raise_inside<S: Alter>(
+    tx: &mut Transaction<'_, S>,
+    from: OlderLayout,
+) -> Result<(), RowFault>
+    ensures same_reference { tx.new.conn.ghost_name ≡ tx.old.conn.ghost_name }
+    ensures raised { within S.Store tx.old tx.new (WritesOver (HasOlder from)) result
+        (BecomesNewest from) }
+    ensures told { within S.Store tx.old tx.new (OnlyFailsInside (HasOlder from)) result }
+{
+    make_missing(tx, &TABLES, from.table_count())?;
+    rename(tx)
+}
