@@ -1,0 +1,132 @@
+#!/usr/bin/env python3
+"""Opens files of older layouts, and measures how long taking one over takes.
+
+With a folder of samples: each NAME.layoutN*.db is audited, which writes nothing to it, opened, and sent NAME.later.http, whose answers have
+to be those of NAME.later.answers, byte for byte. Then changed rows of each are refused, and the file's bytes stay.
+
+With --measure: a file of so many transmissions of one work is filled, made a file of layout 2 and one of layout 1 by `sqlite3`, and opened in
+each layout; reported are the seconds that passed and the peak memory until it listens. Ends with status 1 where anything differs.
+"""
+import pathlib
+import shutil
+import socket
+import sqlite3
+import subprocess
+import sys
+import tempfile
+
+import audit_times
+import common
+from common import OFFICE, Server
+
+# What makes layout 2 of layout 3, and layout 1 of layout 2.
+SECOND = "DROP TABLE mechanical_pools; DROP TABLE segment_ends; UPDATE office SET layout = 2;"
+FIRST = "".join(f"DROP TABLE {it}; " for it in ("balances", "credits", "recordings", "versions", "verdicts", "fronts"))
+FIRST += "UPDATE office SET layout = 1;"
+
+# A change, the layouts in which it is no more a right file, and what is told.
+CHANGES = [
+    ("UPDATE transmissions SET body = x'00' WHERE rowid = (SELECT min(rowid) FROM transmissions)", (1, 2), "damaged"),
+    ("UPDATE returns SET body = x'00' WHERE rowid = (SELECT min(rowid) FROM returns)", (1, 2), "damaged"),
+    ("UPDATE pools SET amount = -1 WHERE pool = (SELECT min(pool) FROM pools)", (1, 2), "damaged"),
+    ("UPDATE pools SET amount = amount + 1 WHERE pool = (SELECT min(pool) FROM pools)", (2,), "damaged"),
+    ("UPDATE fronts SET front = front + 1", (2,), "damaged"),
+    ("UPDATE verdicts SET fault = 5 WHERE rowid = (SELECT min(rowid) FROM verdicts)", (2,), "damaged"),
+    ("DELETE FROM versions WHERE rowid = (SELECT min(rowid) FROM versions)", (2,), "damaged"),
+    ("UPDATE recordings SET isrc = 'GBXYZ2600002' WHERE rowid = (SELECT min(rowid) FROM recordings)", (2,), "damaged"),
+    ("UPDATE credits SET units = units + 1 WHERE rowid = (SELECT min(rowid) FROM credits)", (2,), "damaged"),
+    ("UPDATE balances SET units = units + 1 WHERE rowid = (SELECT min(rowid) FROM balances)", (2,), "damaged"),
+    ("UPDATE office SET society = 901", (1, 2), "of another office"),
+    ("UPDATE office SET layout = 9", (1, 2), "schema"),
+    ("UPDATE office SET layout = 3", (1, 2), "schema"),
+]
+
+
+def changed_by(path, statements):
+    """Runs statements on a file with sqlite3, so that nothing is left beside it."""
+    connection = sqlite3.connect(path)
+    connection.executescript(statements)
+    connection.execute("PRAGMA wal_checkpoint(TRUNCATE)")
+    connection.close()
+
+
+def answers_to(server, stream):
+    """What a server writes on one connection to requests that are all sent at once."""
+    with socket.create_connection(("127.0.0.1", server.port)) as it:
+        it.sendall(stream)
+        it.shutdown(socket.SHUT_WR)
+        return b"".join(iter(lambda: it.recv(1 << 16), b""))
+
+
+def audited(program, path):
+    """What `society audit` says of a file, and whether the file is as it was."""
+    before = path.read_bytes()
+    run = subprocess.run([program, "audit", "--db", path, *OFFICE], stdout=subprocess.PIPE, stderr=subprocess.STDOUT)
+    return run.stdout.decode().strip(), path.read_bytes() == before
+
+
+def refused(program, path):
+    """What is told where a file is not opened, and whether it is as it was."""
+    before = path.read_bytes()
+    options = ["--db", path, "--port", str(common.free_port()), "--connections", "1", *OFFICE]
+    run = subprocess.run([program, "serve", *options], stdout=subprocess.PIPE, stderr=subprocess.STDOUT, timeout=60)
+    return run.stdout.decode().strip(), path.read_bytes() == before
+
+
+def try_sample(program, folder, sample):
+    """Opens a sample, and then each changed one; answers what differs."""
+    name, layout = sample.name.split(".")[0], int(sample.name.split(".layout")[1][0])
+    work, wrong = folder / "office.db", []
+    shutil.copy(sample, work)
+    work.chmod(0o600)
+    if audited(program, work) != ("sound", True):
+        wrong.append("audit")
+    with Server(program, work) as server:
+        seen = answers_to(server, sample.with_name(f"{name}.later.http").read_bytes())
+    if seen != sample.with_name(f"{name}.later.answers").read_bytes():
+        wrong.append("later answers")
+    for statements, layouts, told in CHANGES:
+        if layout in layouts:
+            for it in folder.glob("office.db*"):
+                it.unlink()
+            shutil.copy(sample, work)
+            work.chmod(0o600)
+            changed_by(work, statements)
+            if refused(program, work) != (f"society: database {told}", True):
+                wrong.append(statements)
+    return wrong
+
+
+def try_samples(program, samples):
+    failed = False
+    for sample in sorted(samples.glob("*.layout*.db")):
+        with tempfile.TemporaryDirectory() as folder:
+            wrong = try_sample(program, pathlib.Path(folder), sample)
+        print(f"{sample.name}: {', '.join(wrong) or 'ok'}")
+        failed |= bool(wrong)
+    return failed
+
+
+def measure(program, count):
+    path = common.new_database()
+    audit_times.filled(program, path, audit_times.files(count, 1))
+    for layout, statements in (3, ""), (2, SECOND), (1, FIRST):
+        changed_by(path, statements)
+        copy = path.with_name(f"layout{layout}.db")
+        shutil.copy(path, copy)
+        size = copy.stat().st_size / 1_000_000
+        processor, passed, peak = audit_times.opened(program, copy)
+        print(f"{count:,} transmissions, layout {layout}: {size:.0f} MB, {processor:.1f} s of processor, {passed:.1f} s, {peak:.0f} MB", flush=True)
+
+
+def main():
+    options = common.parser(__doc__)
+    options.add_argument("samples", nargs="?", type=pathlib.Path, help="a folder of samples")
+    options.add_argument("--measure", type=int, metavar="COUNT", help="how many transmissions the file has")
+    words = options.parse_args()
+    if words.measure:
+        measure(words.program, words.measure)
+    sys.exit(words.samples is not None and try_samples(words.program, words.samples))
+
+
+main()
