@@ -68,8 +68,11 @@ const OLDER: [(&str, OlderLayout, [&str; 5]); 4] = [
 ];
 
 /// Runs texts in a transaction of their own, and the book's rows.
-fn make<S: Alter>(conn: &mut Idle<S>, texts: &[&str]) -> Result<(), RowFault> {
-    let mut tx = conn.connection.transaction();
+fn make<S: Alter>(conn: &mut Connection<S>, texts: [&str; 5]) -> Result<(), RowFault> {
+    if !conn.is_autocommit() {
+        return Err(RowFault::Unread);
+    }
+    let mut tx = conn.transaction();
     for text in texts {
         tx.execute_batch(text)?;
     }
@@ -117,11 +120,14 @@ fn read_some<S: Alter>(tx: &mut Transaction<'_, S>, alloc: Global) -> Result<Str
 
 /// Raises and writes in one transaction.
 fn raise_full<S: Alter>(
-    conn: &mut Idle<S>,
+    conn: &mut Connection<S>,
     layout: OlderLayout,
     alloc: Global,
 ) -> Result<String, RowFault> {
-    let mut tx = conn.connection.transaction();
+    if !conn.is_autocommit() {
+        return Err(RowFault::Unread);
+    }
+    let mut tx = conn.transaction();
     raise_inside(&mut tx, layout)?;
     write_more(&mut tx)?;
     let seen = read_some(&mut tx, alloc)?;
@@ -133,27 +139,37 @@ fn raise_full<S: Alter>(
 const RAISED: &str =
     "1|3|900|40|EXAMPLE SOCIETY|;7|1001|;RADIO1|3|7|;RADIO1|4|7|;7|0|-|UNCLAIMED|1001|;";
 
-fn check_raised<S: Alter>(
+/// What a database holds, which comes back.
+fn found<S: Alter + Drop>(conn: Connection<S>) -> Result<(Found, Connection<S>), Fail> {
+    let Ok(idle) = Idle::new(conn) else {
+        return Err(Fail::new("no transaction"));
+    };
+    let found = layout_found(&idle);
+    Ok((found, idle.into_connection()))
+}
+
+fn check_raised<S: Alter + Drop>(
     rt: &impl Abort,
     alloc: Global,
     row: &str,
-    conn: &mut Idle<S>,
+    conn: Connection<S>,
     layout: OlderLayout,
 ) -> Result<(), Fail> {
-    told(rt, row, layout_found(conn), Found::Older(layout));
-    let seen = raise_full(conn, layout, alloc)?;
+    let (before, mut conn) = found(conn)?;
+    told(rt, row, before, Found::Older(layout));
+    let seen = raise_full(&mut conn, layout, alloc)?;
     told(rt, row, seen.as_str(), RAISED);
-    told(rt, row, layout_found(conn), Found::Layout);
+    let (after, _) = found(conn)?;
+    told(rt, row, after, Found::Layout);
     Ok(())
 }
 
 #[test]
 fn older_layouts_are_raised(rt: HostRuntime) -> Result<(), Fail> {
     for (row, layout, texts) in OLDER {
-        let connection = Connection::open_in_memory(rt.alloc())?;
-        let mut conn = Idle { connection };
-        make(&mut conn, &texts)?;
-        check_raised(&rt, rt.alloc(), row, &mut conn, layout)?;
+        let mut conn = Connection::open_in_memory(rt.alloc())?;
+        make(&mut conn, texts)?;
+        check_raised(&rt, rt.alloc(), row, conn, layout)?;
     }
     Ok(())
 }
