@@ -1,6 +1,5 @@
 //! Identifiers: what their texts are read as, how they are printed, and the faults of other texts.
 use crate::checks::told;
-use std::alloc::{AllocError, Global};
 use std::process::Abort;
 use std::test::Fail;
 use work_ids::{
@@ -9,459 +8,316 @@ use work_ids::{
     WorkNumber, check_digit, dated_text, read_file_name,
 };
 
-/// What a text is read as, and which text of it is looked at.
-enum Id {
-    Sender,
-    SenderType,
-    SenderId,
-    Work,
-    /// A field, by how its identifier is printed.
-    Iswc,
-    IswcBytes,
-    IswcText,
-    /// A field, by how its identifier is printed.
-    Isrc,
-    IsrcText,
-    IsrcBytes,
-    IpiName,
-    Party,
-    Reporter,
-    /// By the number of a party, behind its sender or by itself.
-    Account,
-}
-
-/// A text with blanks of value 0 behind it.
-type Shown = [u8; 15];
-
-/// Where there is no identifier, as in a blank field.
-const NONE: Shown = [0; 15];
-
-fn shown(text: &[u8]) -> Shown {
-    let mut all = NONE;
-    for (place, byte) in all.iter_mut().zip(text) {
-        *place = *byte;
-    }
-    all
-}
-
-/// Reads an identifier.
-fn read(id: &Id, text: &[u8]) -> Result<Shown, IdFault> {
-    Ok(match id {
-        Id::Sender => shown(SenderKey::from_bytes(text)?.as_bytes()),
-        Id::SenderType => shown(SenderKey::from_bytes(text)?.sender_type()),
-        Id::SenderId => shown(SenderKey::from_bytes(text)?.sender_id()),
-        Id::Work => shown(WorkNumber::from_bytes(text)?.as_bytes()),
-        Id::IswcText => shown(Iswc::from_text(text)?.as_bytes()),
-        Id::IsrcText => shown(&Isrc::from_text(text)?.to_text()),
-        Id::IsrcBytes => shown(Isrc::from_text(text)?.as_bytes()),
-        Id::Reporter => shown(Reporter::from_bytes(text)?.as_bytes()),
-        Id::Party => {
-            let number = PartyNumber::from_field(text)?;
-            let is_blank = number.is_blank();
-            if is_blank {
-                NONE
-            } else {
-                shown(number.as_bytes())
-            }
-        }
-        Id::Account => {
-            let account = Account::from_bytes(text)?;
-            match &account {
-                Account::Unclaimed => NONE,
-                Account::Ipi(name) => shown(name.as_bytes()),
-                Account::Party(_, _) => shown(account.pieces().2),
-            }
-        }
-        Id::Iswc | Id::IswcBytes | Id::Isrc | Id::IpiName => read_field(id, text)?,
-    })
-}
-
-/// Reads an identifier of a field that may be blank.
-fn read_field(id: &Id, field: &[u8]) -> Result<Shown, IdFault> {
-    Ok(match id {
-        Id::Isrc => match Isrc::from_field(field)? {
-            Some(isrc) => shown(&isrc.to_text()),
-            None => NONE,
-        },
-        Id::IpiName => match IpiName::from_field(field)? {
-            Some(name) => shown(name.as_bytes()),
-            None => NONE,
-        },
-        _ => match (Iswc::from_field(field)?, id) {
-            (Some(iswc), Id::Iswc) => shown(&iswc.to_text()),
-            (Some(iswc), _) => shown(iswc.as_bytes()),
-            (None, _) => NONE,
-        },
-    })
-}
-
-/// A text, what it is read as, and what is shown of it, or its fault.
-type IdRow = (Id, &'static str, Result<&'static str, IdFault>);
-
-const IDS: &[IdRow] = &[
-    (Id::Sender, "PB000000012", Ok("PB000000012")),
-    (Id::SenderType, "PB000000012", Ok("PB")),
-    (Id::SenderId, "PB000000012", Ok("000000012")),
-    (Id::Sender, "PB00000001", Err(IdFault::Length)),
-    (Id::Sender, "pb000000012", Err(IdFault::Character)),
-    (Id::Work, "W1            ", Ok("W1")),
-    (Id::Work, "  ", Err(IdFault::Length)),
-    (Id::Work, "123456789012345", Err(IdFault::Length)),
-    (Id::Work, "W\t1", Err(IdFault::Character)),
-    (Id::Iswc, "T0345246801", Ok("T-034.524.680-1")),
-    (Id::IswcBytes, "T0345246801", Ok("T0345246801")),
-    (Id::IswcText, "T-034.524.680-1", Ok("T0345246801")),
-    (Id::IswcText, "T-034.524-680-1", Err(IdFault::Character)),
-    (Id::Iswc, "T0345246802", Err(IdFault::CheckDigit)),
-    (Id::Iswc, "T0000000010", Ok("T-000.000.001-0")),
-    (Id::Iswc, "           ", Ok("")),
-    (Id::Iswc, "X0345246801", Err(IdFault::Character)),
-    (Id::Iswc, "T034524680", Err(IdFault::Length)),
-    (Id::IsrcBytes, "at-abc-26-00001", Ok("ATABC2600001")),
-    (Id::IsrcText, "at-abc-26-00001", Ok("AT-ABC-26-00001")),
-    (Id::IsrcText, "AT", Err(IdFault::Length)),
-    (Id::Isrc, "ATABC2600001", Ok("AT-ABC-26-00001")),
-    (Id::Isrc, "            ", Ok("")),
-    (Id::Isrc, "atabc2600001", Err(IdFault::Character)),
-    (Id::Isrc, "A1ABC2600001", Err(IdFault::Character)),
-    (Id::IpiName, "199        ", Ok("00000000199")),
-    (Id::IpiName, "199", Ok("00000000199")),
-    (Id::IpiName, "0000000019A", Err(IdFault::Character)),
-    (Id::IpiName, "00000000000", Ok("")),
-    (Id::IpiName, "000000000199", Err(IdFault::Length)),
-    (Id::Party, " P1      ", Ok("P1")),
-    (Id::Party, "1234567890", Err(IdFault::Length)),
-    (Id::Reporter, "RADIO1", Ok("RADIO1")),
-    (Id::Reporter, "", Err(IdFault::Length)),
-    (Id::Account, "PPB000000012P1", Ok("P1")),
-    (Id::Account, "UNCLAIMED", Ok("")),
-    (Id::Account, "I00000000199", Ok("00000000199")),
-    (Id::Account, "I00000000000", Err(IdFault::Character)),
-    (Id::Account, "PPB000000012 P1", Err(IdFault::Character)),
-    (Id::Account, "I0000000019", Err(IdFault::Length)),
-    (Id::Account, "UNCLAIMEE", Err(IdFault::Character)),
-    (Id::Account, "", Err(IdFault::Length)),
-];
-
 #[test]
-fn identifiers(rt: HostRuntime) {
-    for (id, text, wanted) in IDS {
-        let wanted = match wanted {
-            Ok(wanted) => Ok(shown(wanted.as_bytes())),
-            Err(fault) => Err(*fault),
-        };
-        told(&rt, text, read(id, text.as_bytes()), wanted);
-    }
-}
-
-/// What is asked for a number.
-#[derive(Debug)]
-enum Asked {
-    CheckDigit(&'static [u8; 9]),
-    Transmission(u32),
-    Return(u32),
-    Pool(u32),
-    TransmissionText(&'static str),
-    ReturnText(&'static str),
-    PoolText(&'static str),
-    /// The rank of a number of a segment.
-    Rank(Segment, u32),
-    /// The rank of a plain number.
-    Plain(u32),
-    Spelled(SpelledNumber),
-    /// The rank in the name of a file that is sent to a society.
-    Name(&'static str, u16),
-    /// The least fault of the end of a segment: its last number, and the next year.
-    EndFault(Segment, u64, u64),
-}
-
-/// The number that is asked for, where there is one.
-fn number_of(asked: &Asked) -> Option<u32> {
-    Some(match *asked {
-        Asked::CheckDigit(digits) => u32::from(check_digit(digits)?),
-        Asked::Transmission(number) => TransmissionNumber::from_u32(number)?.value(),
-        Asked::Return(number) => ReturnNumber::from_u32(number)?.value(),
-        Asked::Pool(number) => PoolNumber::from_u32(number)?.value(),
-        Asked::TransmissionText(text) => TransmissionNumber::from_text(text.as_bytes())?.value(),
-        Asked::ReturnText(text) => ReturnNumber::from_text(text.as_bytes())?.value(),
-        Asked::PoolText(text) => PoolNumber::from_text(text.as_bytes())?.value(),
-        Asked::Rank(segment, sequence) => TransmissionNumber::new(segment, sequence)?.value(),
-        Asked::Plain(number) => TransmissionNumber::plain(number)?.value(),
-        Asked::Spelled(spelled) => spelled.number()?.value(),
-        Asked::Name(name, society) => read_file_name(name.as_bytes(), society)?.value(),
-        Asked::EndFault(segment, last, next) => {
-            u32::from(SegmentEnd::new(segment, last, next).err()?.number())
-        }
-    })
-}
-
-/// Numbers from outside, below and above those that are none, and check digits.
-const NUMBERS: &[(Asked, Option<u32>)] = &[
-    (Asked::Transmission(0), None),
-    (Asked::Return(0), None),
-    (Asked::Pool(0), None),
-    (Asked::Transmission(1), Some(1)),
-    (Asked::Return(1), Some(1)),
-    (Asked::Pool(1), Some(1)),
-    (Asked::Transmission(99_999), Some(99_999)),
-    (Asked::Return(99_999), Some(99_999)),
-    (Asked::Pool(99_999), Some(99_999)),
-    (Asked::Transmission(100_000), Some(100_000)),
-    (Asked::Return(100_000), Some(100_000)),
-    (Asked::Pool(100_000), None),
-    (Asked::Transmission(999_999), Some(999_999)),
-    (Asked::Return(999_999), Some(999_999)),
-    (Asked::Pool(999_999), None),
-    (Asked::Transmission(1_000_000), None),
-    (Asked::Return(1_000_000), None),
-    (Asked::Pool(1_000_000), None),
-    (Asked::CheckDigit(b"034524680"), Some(b'1' as u32)),
-    (Asked::CheckDigit(b"999999999"), Some(b'4' as u32)),
-    (Asked::CheckDigit(b"03452468X"), None),
-];
-
-/// Texts of numbers. None is spelled with a leading zero, by zero, nothing, a letter, a blank or a sign, nor where it is far too great.
-const TEXTS: &[(Asked, Option<u32>)] = &[
-    (Asked::TransmissionText("1"), Some(1)),
-    (Asked::ReturnText("1"), Some(1)),
-    (Asked::PoolText("1"), Some(1)),
-    (Asked::TransmissionText("99999"), Some(99_999)),
-    (Asked::ReturnText("99999"), Some(99_999)),
-    (Asked::PoolText("99999"), Some(99_999)),
-    (Asked::TransmissionText("100000"), Some(100_000)),
-    (Asked::ReturnText("100000"), Some(100_000)),
-    (Asked::PoolText("100000"), None),
-    (Asked::TransmissionText("999999"), Some(999_999)),
-    (Asked::ReturnText("999999"), Some(999_999)),
-    (Asked::PoolText("999999"), None),
-    (Asked::TransmissionText("1000000"), None),
-    (Asked::ReturnText("1000000"), None),
-    (Asked::PoolText("1000000"), None),
-    (Asked::TransmissionText("1260001"), None),
-    (Asked::ReturnText("1260001"), None),
-    (Asked::PoolText("1260001"), None),
-    (Asked::TransmissionText("01"), None),
-    (Asked::ReturnText("01"), None),
-    (Asked::PoolText("01"), None),
-    (Asked::TransmissionText("0"), None),
-    (Asked::ReturnText("0"), None),
-    (Asked::PoolText("0"), None),
-    (Asked::TransmissionText(""), None),
-    (Asked::ReturnText(""), None),
-    (Asked::PoolText(""), None),
-    (Asked::TransmissionText("1a"), None),
-    (Asked::ReturnText("1a"), None),
-    (Asked::PoolText("1a"), None),
-    (Asked::TransmissionText(" 1"), None),
-    (Asked::ReturnText(" 1"), None),
-    (Asked::PoolText(" 1"), None),
-    (Asked::TransmissionText("+1"), None),
-    (Asked::ReturnText("+1"), None),
-    (Asked::PoolText("+1"), None),
-    (Asked::TransmissionText("99999999999999999999"), None),
-    (Asked::ReturnText("99999999999999999999"), None),
-    (Asked::PoolText("99999999999999999999"), None),
-];
-
-/// Numbers of segments, of which some have no such number, and spelled ones.
-const SEGMENTS: &[(Asked, Option<u32>)] = &[
-    (Asked::Rank(Segment::Plain, 1), Some(1)),
-    (Asked::Rank(Segment::Plain, 999_999), Some(999_999)),
-    (Asked::Rank(Segment::Year(0), 1), Some(1_000_001)),
-    (Asked::Rank(Segment::Year(0), 9_999), Some(1_009_999)),
-    (Asked::Rank(Segment::Year(1), 1), Some(1_010_001)),
-    (Asked::Rank(Segment::Year(26), 1), Some(1_260_001)),
-    (Asked::Rank(Segment::Year(99), 9_999), Some(1_999_999)),
-    (Asked::Rank(Segment::Plain, 0), None),
-    (Asked::Rank(Segment::Plain, 1_000_000), None),
-    (Asked::Rank(Segment::Year(26), 0), None),
-    (Asked::Rank(Segment::Year(26), 10_000), None),
-    (Asked::Rank(Segment::Year(100), 1), None),
-    (Asked::Rank(Segment::Year(255), 1), None),
-    (Asked::Plain(0), None),
-    (Asked::Plain(1_000_000), None),
-    (Asked::Plain(1_260_001), None),
-    (Asked::Spelled(SpelledNumber::Plain(0)), None),
-    (Asked::Spelled(SpelledNumber::Plain(1)), Some(1)),
-    (Asked::Spelled(SpelledNumber::Plain(999_999)), Some(999_999)),
-    (Asked::Spelled(SpelledNumber::Plain(1_260_001)), None),
-    (Asked::Spelled(SpelledNumber::Plain(4_294_967_297)), None),
-    (
-        Asked::Spelled(SpelledNumber::Dated {
-            year: 26,
-            sequence: 0,
-        }),
-        None,
-    ),
-    (
-        Asked::Spelled(SpelledNumber::Dated {
-            year: 26,
-            sequence: 1,
-        }),
-        Some(1_260_001),
-    ),
-];
-
-/// Names of files that are sent to a society.
-const NAMES: &[(Asked, Option<u32>)] = &[
-    (Asked::Name("CW260001EXA_900.V22", 900), Some(1_260_001)),
-    (Asked::Name("CW260001EXA_900.V21", 900), Some(1_260_001)),
-    (Asked::Name("cw260001ex_900.v21", 900), Some(1_260_001)),
-    (Asked::Name("Cw00999912_900.V22", 900), Some(1_009_999)),
-    (Asked::Name("cW990001e9Z_900.v22", 900), Some(1_990_001)),
-    (Asked::Name("CW260000EXA_900.V22", 900), None),
-    (Asked::Name("CW260001EXA_901.V22", 900), None),
-    (Asked::Name("CW260001EXA_90.V22", 900), None),
-    (Asked::Name("CW260001EXA_900.V20", 900), None),
-    (Asked::Name("CW260001EXA_900.V23", 900), None),
-    (Asked::Name("CW260001EXA_900.V30", 900), None),
-    (Asked::Name("CW260001EXA_900.V2", 900), None),
-    (Asked::Name("CW260001E_900.V22", 900), None),
-    (Asked::Name("CW260001EXAM_900.V22", 900), None),
-    (Asked::Name("CW260001E-A_900.V22", 900), None),
-    (Asked::Name("CW260001EXA-900.V22", 900), None),
-    (Asked::Name("CW260001ÉX_900.V22", 900), None),
-    (Asked::Name("CW260001EXA_900_V22", 900), None),
-    (Asked::Name("CW260001EXA_900.W22", 900), None),
-    (Asked::Name("CW260001EXA_900.V22x", 900), None),
-    (Asked::Name("CW260001EXA_900.V22 ", 900), None),
-    (Asked::Name("CW260001EXA_09.V22", 900), None),
-    (Asked::Name("CW260001EXA_9OO.V22", 900), None),
-    (Asked::Name("CW2026001EX_900.V22", 900), Some(1_202_600)),
-    (Asked::Name("CW26001EXA_900.V22", 900), None),
-    (Asked::Name("CW26O001EXA_900.V22", 900), None),
-    (Asked::Name("CX260001EXA_900.V22", 900), None),
-    (Asked::Name(" CW260001EX_900.V22", 900), None),
-    (Asked::Name("", 900), None),
-    (Asked::Name("CW260012EXA_007.V22", 7), Some(1_260_012)),
-];
-
-/// Ends of segments.
-const ENDS: &[(Asked, Option<u32>)] = &[
-    (Asked::EndFault(Segment::Plain, 1, 26), None),
-    (Asked::EndFault(Segment::Plain, 0, 0), None),
-    (Asked::EndFault(Segment::Plain, 999_999, 99), None),
-    (Asked::EndFault(Segment::Plain, 1_000_000, 26), Some(2)),
-    (Asked::EndFault(Segment::Plain, 1, 100), Some(2)),
-    (Asked::EndFault(Segment::Plain, 1_000_000, 100), Some(2)),
-    (Asked::EndFault(Segment::Year(0), 0, 1), None),
-    (Asked::EndFault(Segment::Year(0), 0, 0), Some(3)),
-    (Asked::EndFault(Segment::Year(98), 9_999, 99), None),
-    (Asked::EndFault(Segment::Year(26), 9_999, 27), None),
-    (Asked::EndFault(Segment::Year(26), 3, 26), Some(3)),
-    (Asked::EndFault(Segment::Year(26), 3, 25), Some(3)),
-    (Asked::EndFault(Segment::Year(26), 10_000, 26), Some(2)),
-    (Asked::EndFault(Segment::Year(26), 10_000, 0), Some(2)),
-    (Asked::EndFault(Segment::Year(200), 1, 99), Some(3)),
-    (Asked::EndFault(Segment::Year(99), 1, 99), Some(3)),
-    (Asked::EndFault(Segment::Year(99), 1, 100), Some(2)),
-    (Asked::EndFault(Segment::Year(0), 4_294_967_296, 1), Some(2)),
-    (Asked::EndFault(Segment::Year(0), 1, 257), Some(2)),
-    (
-        Asked::EndFault(Segment::Year(26), u64::MAX, u64::MAX),
-        Some(2),
-    ),
-];
-
-fn check_numbers(
-    rt: &impl Abort,
-    alloc: Global,
-    rows: &[(Asked, Option<u32>)],
-) -> Result<(), AllocError> {
-    for (asked, wanted) in rows {
-        let row = format!(in alloc; "{asked:?}")?;
-        told(rt, &row, number_of(asked), *wanted);
+fn sender_keys(rt: HostRuntime) -> Result<(), Fail> {
+    let key = SenderKey::from_bytes(b"PB000000012")?;
+    told(&rt, "key", key.as_bytes(), b"PB000000012");
+    told(&rt, "type", key.sender_type(), b"PB");
+    told(&rt, "id", key.sender_id(), b"000000012");
+    for (text, fault) in [
+        ("PB00000001", IdFault::Length),
+        ("pb000000012", IdFault::Character),
+    ] {
+        let read = SenderKey::from_bytes(text.as_bytes());
+        told(&rt, text, read.err(), Some(fault));
     }
     Ok(())
 }
 
 #[test]
-fn numbers(rt: HostRuntime) -> Result<(), Fail> {
-    check_numbers(&rt, rt.alloc(), NUMBERS)?;
-    check_numbers(&rt, rt.alloc(), TEXTS)?;
-    check_numbers(&rt, rt.alloc(), SEGMENTS)?;
-    check_numbers(&rt, rt.alloc(), NAMES)?;
-    check_numbers(&rt, rt.alloc(), ENDS)?;
+fn work_numbers(rt: HostRuntime) -> Result<(), Fail> {
+    let number = WorkNumber::from_bytes(b"W1            ")?;
+    told(&rt, "number", number.as_bytes(), b"W1");
+    for (text, fault) in [
+        ("  ", IdFault::Length),
+        ("123456789012345", IdFault::Length),
+        ("W\t1", IdFault::Character),
+    ] {
+        let read = WorkNumber::from_bytes(text.as_bytes());
+        told(&rt, text, read.err(), Some(fault));
+    }
     Ok(())
-}
-
-/// A rank, the segment and the number there that have it, and the segment to which it belongs.
-type RankRow = (u32, Option<(Segment, u32)>, Option<Segment>);
-
-const RANKS: &[RankRow] = &[
-    (0, None, Some(Segment::Plain)),
-    (1, Some((Segment::Plain, 1)), Some(Segment::Plain)),
-    (
-        999_999,
-        Some((Segment::Plain, 999_999)),
-        Some(Segment::Plain),
-    ),
-    (1_000_000, None, Some(Segment::Year(0))),
-    (
-        1_000_001,
-        Some((Segment::Year(0), 1)),
-        Some(Segment::Year(0)),
-    ),
-    (
-        1_009_999,
-        Some((Segment::Year(0), 9_999)),
-        Some(Segment::Year(0)),
-    ),
-    (1_010_000, None, Some(Segment::Year(1))),
-    (
-        1_010_001,
-        Some((Segment::Year(1), 1)),
-        Some(Segment::Year(1)),
-    ),
-    (1_260_000, None, Some(Segment::Year(26))),
-    (
-        1_260_001,
-        Some((Segment::Year(26), 1)),
-        Some(Segment::Year(26)),
-    ),
-    (1_990_000, None, Some(Segment::Year(99))),
-    (
-        1_999_999,
-        Some((Segment::Year(99), 9_999)),
-        Some(Segment::Year(99)),
-    ),
-    (2_000_000, None, None),
-    (2_000_001, None, None),
-    (u32::MAX, None, None),
-];
-
-/// The segment and the number there that have a rank.
-fn parts_of(rank: u32) -> Option<(Segment, u32)> {
-    let number = TransmissionNumber::from_u32(rank)?;
-    Some((number.segment(), number.sequence()))
 }
 
 #[test]
-fn ranks_and_segments(rt: HostRuntime) -> Result<(), Fail> {
-    let end = SegmentEnd::new(Segment::Year(26), 3, 28)?;
-    let seen = (end.segment(), end.last(), end.next());
-    told(&rt, "end", seen, (Segment::Year(26), 3, 28));
-    let same = SegmentEnd::new(Segment::Year(26), 3, 28);
-    told(&rt, "same", same, Ok(end));
-    let earlier = SegmentEnd::new(Segment::Year(26), 3, 2);
-    told(&rt, "kind", earlier, Err(SegmentFault::NotLater));
-    let year = SegmentEnd::new(Segment::Year(27), 0, 28)?.place();
-    for (rank, parts, segment) in RANKS {
-        told(&rt, "parts", (*rank, parts_of(*rank)), (*rank, *parts));
-        if let Some(segment) = segment
-            && *rank <= 1_999_999
-        {
-            let place = SegmentPlace::of_rank(*rank);
-            let seen = (*rank, place.segment(), place >= year);
-            told(&rt, "place", seen, (*rank, *segment, *rank >= 1_270_000));
+fn check_digits(rt: HostRuntime) {
+    for (digits, wanted) in [
+        (b"034524680", Some(b'1')),
+        (b"999999999", Some(b'4')),
+        (b"03452468X", None),
+    ] {
+        let text = str::from_utf8(digits).unwrap_or("");
+        told(&rt, text, check_digit(digits), wanted);
+    }
+}
+
+#[test]
+fn iswc_fields(rt: HostRuntime) -> Result<(), Fail> {
+    let iswc = Iswc::from_field(b"T0345246801")?.ok_or("an ISWC")?;
+    told(&rt, "text", iswc.to_text().as_slice(), b"T-034.524.680-1");
+    told(&rt, "bytes", iswc.as_bytes(), b"T0345246801");
+    told(
+        &rt,
+        "back",
+        Iswc::from_text(b"T-034.524.680-1").ok(),
+        Some(iswc),
+    );
+    let other = Iswc::from_text(b"T-034.524-680-1");
+    told(&rt, "marks", other.err(), Some(IdFault::Character));
+    for (field, wanted) in [
+        ("T0345246802", Err(IdFault::CheckDigit)),
+        ("T0000000010", Ok(true)),
+        ("           ", Ok(false)),
+        ("X0345246801", Err(IdFault::Character)),
+        ("T034524680", Err(IdFault::Length)),
+    ] {
+        let read = Iswc::from_field(field.as_bytes());
+        told(&rt, field, read.map(|iswc| iswc.is_some()), wanted);
+    }
+    Ok(())
+}
+
+#[test]
+fn isrcs(rt: HostRuntime) -> Result<(), Fail> {
+    let isrc = Isrc::from_text(b"at-abc-26-00001")?;
+    told(&rt, "bytes", isrc.as_bytes(), b"ATABC2600001");
+    told(&rt, "text", isrc.to_text().as_slice(), b"AT-ABC-26-00001");
+    let short = Isrc::from_text(b"AT");
+    told(&rt, "AT", short.err(), Some(IdFault::Length));
+    for (field, wanted) in [
+        ("ATABC2600001", Ok(Some(isrc))),
+        ("            ", Ok(None)),
+        ("atabc2600001", Err(IdFault::Character)),
+        ("A1ABC2600001", Err(IdFault::Character)),
+    ] {
+        told(&rt, field, Isrc::from_field(field.as_bytes()), wanted);
+    }
+    Ok(())
+}
+
+#[test]
+fn ipi_names(rt: HostRuntime) -> Result<(), Fail> {
+    let name = IpiName::from_field(b"199        ")?.ok_or("an IPI name number")?;
+    told(&rt, "name", name.as_bytes(), b"00000000199");
+    for (field, wanted) in [
+        ("199", Ok(true)),
+        ("0000000019A", Err(IdFault::Character)),
+        ("00000000000", Ok(false)),
+        ("000000000199", Err(IdFault::Length)),
+    ] {
+        let read = IpiName::from_field(field.as_bytes());
+        told(&rt, field, read.map(|name| name.is_some()), wanted);
+    }
+    Ok(())
+}
+
+#[test]
+fn parties(rt: HostRuntime) -> Result<(), Fail> {
+    let number = PartyNumber::from_field(b" P1      ")?;
+    told(&rt, "number", number.as_bytes(), b"P1");
+    told(&rt, "blank", number.is_blank(), false);
+    let long = PartyNumber::from_field(b"1234567890");
+    told(&rt, "1234567890", long.err(), Some(IdFault::Length));
+    let reporter = Reporter::from_bytes(b"RADIO1")?;
+    told(&rt, "reporter", reporter.as_bytes(), b"RADIO1");
+    let nobody = Reporter::from_bytes(b"");
+    told(&rt, "nobody", nobody.err(), Some(IdFault::Length));
+    Ok(())
+}
+
+#[test]
+fn accounts(rt: HostRuntime) -> Result<(), Fail> {
+    let party = Account::from_bytes(b"PPB000000012P1")?;
+    told(&rt, "number", party.pieces().2, b"P1");
+    let unclaimed = Account::from_bytes(b"UNCLAIMED");
+    told(&rt, "UNCLAIMED", unclaimed, Ok(Account::Unclaimed));
+    let named = Account::from_bytes(b"I00000000199");
+    told(
+        &rt,
+        "I00000000199",
+        matches!(named, Ok(Account::Ipi(_))),
+        true,
+    );
+    for (text, fault) in [
+        ("I00000000000", IdFault::Character),
+        ("PPB000000012 P1", IdFault::Character),
+        ("I0000000019", IdFault::Length),
+        ("UNCLAIMEE", IdFault::Character),
+        ("", IdFault::Length),
+    ] {
+        let read = Account::from_bytes(text.as_bytes());
+        told(&rt, text, read.err(), Some(fault));
+    }
+    Ok(())
+}
+
+/// Numbers from outside, below and above those that are none.
+#[test]
+fn numbers_of_transmissions_returns_and_pools(rt: HostRuntime) {
+    for (number, is_six, is_five) in [
+        (0, false, false),
+        (1, true, true),
+        (99_999, true, true),
+        (100_000, true, false),
+        (999_999, true, false),
+        (1_000_000, false, false),
+    ] {
+        let transmission = TransmissionNumber::from_u32(number).is_some();
+        let performances = ReturnNumber::from_u32(number).is_some();
+        let pool = PoolNumber::from_u32(number).is_some();
+        let seen = (number, transmission, performances, pool);
+        told(&rt, "number", seen, (number, is_six, is_six, is_five));
+    }
+}
+
+/// A text, and the number of a transmission or a return that it spells, and of a pool. None is spelled with a leading zero, by
+/// zero, nothing, a letter, a blank or a sign, nor where it is far too great.
+const TEXTS: [(&str, Option<u32>, Option<u32>); 13] = [
+    ("1", Some(1), Some(1)),
+    ("99999", Some(99_999), Some(99_999)),
+    ("100000", Some(100_000), None),
+    ("999999", Some(999_999), None),
+    ("1000000", None, None),
+    ("1260001", None, None),
+    ("01", None, None),
+    ("0", None, None),
+    ("", None, None),
+    ("1a", None, None),
+    (" 1", None, None),
+    ("+1", None, None),
+    ("99999999999999999999", None, None),
+];
+
+#[test]
+fn texts_of_numbers(rt: HostRuntime) {
+    for (text, six, five) in TEXTS {
+        let transmission = TransmissionNumber::from_text(text.as_bytes());
+        told(&rt, text, transmission.map(|number| number.value()), six);
+        let performances = ReturnNumber::from_text(text.as_bytes());
+        told(&rt, text, performances.map(|number| number.value()), six);
+        let pool = PoolNumber::from_text(text.as_bytes());
+        told(&rt, text, pool.map(|number| number.value()), five);
+    }
+}
+
+/// A rank, and the segment and the number there that have it.
+const RANKS: [(u32, Option<(Segment, u32)>); 14] = [
+    (0, None),
+    (1, Some((Segment::Plain, 1))),
+    (999_999, Some((Segment::Plain, 999_999))),
+    (1_000_000, None),
+    (1_000_001, Some((Segment::Year(0), 1))),
+    (1_009_999, Some((Segment::Year(0), 9_999))),
+    (1_010_000, None),
+    (1_010_001, Some((Segment::Year(1), 1))),
+    (1_260_000, None),
+    (1_260_001, Some((Segment::Year(26), 1))),
+    (1_999_999, Some((Segment::Year(99), 9_999))),
+    (2_000_000, None),
+    (2_000_001, None),
+    (u32::MAX, None),
+];
+
+/// Checks that a number of a segment has this rank, and is the number with it.
+fn check_rank(rt: &impl Abort, segment: Segment, sequence: u32, rank: u32) {
+    let ranked = TransmissionNumber::from_u32(rank);
+    told(
+        rt,
+        "made",
+        TransmissionNumber::new(segment, sequence),
+        ranked,
+    );
+    let made = TransmissionNumber::new(segment, sequence).map(|number| number.value());
+    told(rt, "rank", made, Some(rank));
+}
+
+#[test]
+fn ranks_of_transmission_numbers(rt: HostRuntime) {
+    for (rank, wanted) in RANKS {
+        let parts = TransmissionNumber::from_u32(rank).map(|number| (
+            number.segment(),
+            number.sequence(),
+        ));
+        told(&rt, "parts", (rank, parts), (rank, wanted));
+        if let Some((segment, sequence)) = wanted {
+            check_rank(&rt, segment, sequence, rank);
+        }
+    }
+}
+
+/// Numbers that their segments do not have.
+const BEYOND: [(Segment, u32); 6] = [
+    (Segment::Plain, 0),
+    (Segment::Plain, 1_000_000),
+    (Segment::Year(26), 0),
+    (Segment::Year(26), 10_000),
+    (Segment::Year(100), 1),
+    (Segment::Year(255), 1),
+];
+
+#[test]
+fn numbers_that_no_segment_has(rt: HostRuntime) {
+    for (segment, sequence) in BEYOND {
+        let number = TransmissionNumber::new(segment, sequence);
+        told(
+            &rt,
+            "number",
+            (segment, sequence, number),
+            (segment, sequence, None),
+        );
+    }
+    for rank in [0, 1_000_000, 1_260_001] {
+        told(
+            &rt,
+            "plain",
+            (rank, TransmissionNumber::plain(rank)),
+            (rank, None),
+        );
+    }
+}
+
+/// A rank and the segment to which it belongs, ascending.
+const PLACES: [(u32, Segment); 8] = [
+    (0, Segment::Plain),
+    (999_999, Segment::Plain),
+    (1_000_000, Segment::Year(0)),
+    (1_009_999, Segment::Year(0)),
+    (1_010_000, Segment::Year(1)),
+    (1_260_001, Segment::Year(26)),
+    (1_990_000, Segment::Year(99)),
+    (1_999_999, Segment::Year(99)),
+];
+
+#[test]
+fn places_of_segments(rt: HostRuntime) -> Result<(), Fail> {
+    for (rank, segment) in PLACES {
+        if rank <= 1_999_999 {
+            let place = SegmentPlace::of_rank(rank);
+            let is_behind_27 = place >= SegmentEnd::new(Segment::Year(27), 0, 28)?.place();
+            let seen = (rank, place.segment(), is_behind_27);
+            told(&rt, "place", seen, (rank, segment, rank >= 1_270_000));
         }
     }
     Ok(())
+}
+
+#[test]
+fn order_of_transmission_numbers(rt: HostRuntime) {
+    let ascending = [
+        TransmissionNumber::new(Segment::Plain, 2),
+        TransmissionNumber::new(Segment::Plain, 999_999),
+        TransmissionNumber::new(Segment::Year(0), 9_999),
+        TransmissionNumber::new(Segment::Year(25), 9_999),
+        TransmissionNumber::new(Segment::Year(26), 1),
+    ];
+    for index in 1..ascending.len() {
+        let is_less = ascending[index - 1] < ascending[index];
+        told(&rt, "order", (index, is_less), (index, true));
+    }
 }
 
 /// A text, and the year and number that it spells.
-
-const DATED_TEXTS: &[(&str, Option<(u8, u16)>)] = &[
+const DATED_TEXTS: [(&str, Option<(u8, u16)>); 15] = [
     ("26-0001", Some((26, 1))),
     ("00-0000", Some((0, 0))),
     ("99-9999", Some((99, 9_999))),
@@ -480,33 +336,144 @@ const DATED_TEXTS: &[(&str, Option<(u8, u16)>)] = &[
 ];
 
 #[test]
-fn texts_of_years_and_order(rt: HostRuntime) {
-    let plain = TransmissionNumber::new(Segment::Plain, 2);
-    let last_plain = TransmissionNumber::new(Segment::Plain, 999_999);
-    let first_year = TransmissionNumber::new(Segment::Year(0), 9_999);
-    let year_25 = TransmissionNumber::new(Segment::Year(25), 9_999);
-    let year_26 = TransmissionNumber::new(Segment::Year(26), 1);
-    let ascend = [
-        plain < last_plain,
-        last_plain < first_year,
-        first_year < year_25,
-        year_25 < year_26,
-    ];
-    told(&rt, "order", ascend, [true; 4]);
+fn texts_of_years(rt: HostRuntime) {
     for (text, wanted) in DATED_TEXTS {
-        let spelled = match *wanted {
-            Some((year, sequence)) => {
-                let written = dated_text(year, sequence);
-                told(&rt, text, written.as_slice(), text.as_bytes());
-                Some(SpelledNumber::Dated { year, sequence })
-            }
-            None => None,
-        };
+        let read = SpelledNumber::from_text(text.as_bytes());
+        let spelled = wanted.map(|(year, sequence)| SpelledNumber::Dated { year, sequence });
+        told(&rt, text, read, spelled);
+        if let Some((year, sequence)) = wanted {
+            let written = dated_text(year, sequence);
+            told(&rt, text, written.as_slice(), text.as_bytes());
+        }
+    }
+}
+
+#[test]
+fn spelled_numbers(rt: HostRuntime) {
+    for (spelled, wanted) in [
+        (SpelledNumber::Plain(0), None),
+        (SpelledNumber::Plain(1), Some(1)),
+        (SpelledNumber::Plain(999_999), Some(999_999)),
+        (SpelledNumber::Plain(1_260_001), None),
+        (SpelledNumber::Plain(4_294_967_297), None),
+        (
+            SpelledNumber::Dated {
+                year: 26,
+                sequence: 0,
+            },
+            None,
+        ),
+        (
+            SpelledNumber::Dated {
+                year: 26,
+                sequence: 1,
+            },
+            Some(1_260_001),
+        ),
+    ] {
+        let rank = spelled.number().map(|number| number.value());
+        told(&rt, "rank", (spelled, rank), (spelled, wanted));
+    }
+}
+
+/// A name of a file that is sent to society 900, and the rank of its number.
+const NAMES: [(&str, Option<u32>); 29] = [
+    ("CW260001EXA_900.V22", Some(1_260_001)),
+    ("CW260001EXA_900.V21", Some(1_260_001)),
+    ("cw260001ex_900.v21", Some(1_260_001)),
+    ("Cw00999912_900.V22", Some(1_009_999)),
+    ("cW990001e9Z_900.v22", Some(1_990_001)),
+    ("CW260000EXA_900.V22", None),
+    ("CW260001EXA_901.V22", None),
+    ("CW260001EXA_90.V22", None),
+    ("CW260001EXA_900.V20", None),
+    ("CW260001EXA_900.V23", None),
+    ("CW260001EXA_900.V30", None),
+    ("CW260001EXA_900.V2", None),
+    ("CW260001E_900.V22", None),
+    ("CW260001EXAM_900.V22", None),
+    ("CW260001E-A_900.V22", None),
+    ("CW260001EXA-900.V22", None),
+    ("CW260001ÉX_900.V22", None),
+    ("CW260001EXA_900_V22", None),
+    ("CW260001EXA_900.W22", None),
+    ("CW260001EXA_900.V22x", None),
+    ("CW260001EXA_900.V22 ", None),
+    ("CW260001EXA_09.V22", None),
+    ("CW260001EXA_9OO.V22", None),
+    ("CW2026001EX_900.V22", Some(1_202_600)),
+    ("CW26001EXA_900.V22", None),
+    ("CW26O001EXA_900.V22", None),
+    ("CX260001EXA_900.V22", None),
+    (" CW260001EX_900.V22", None),
+    ("", None),
+];
+
+#[test]
+fn file_names(rt: HostRuntime) {
+    for (name, wanted) in NAMES {
+        let number = read_file_name(name.as_bytes(), 900);
+        told(&rt, name, number.map(|number| number.value()), wanted);
+    }
+    let small = read_file_name(b"CW260012EXA_007.V22", 7);
+    told(
+        &rt,
+        "007",
+        small.map(|number| number.value()),
+        Some(1_260_012),
+    );
+}
+
+/// A segment, its last number and the next year, and the least fault of that end.
+const ENDS: [(Segment, u64, u64, Option<u8>); 20] = [
+    (Segment::Plain, 1, 26, None),
+    (Segment::Plain, 0, 0, None),
+    (Segment::Plain, 999_999, 99, None),
+    (Segment::Plain, 1_000_000, 26, Some(2)),
+    (Segment::Plain, 1, 100, Some(2)),
+    (Segment::Plain, 1_000_000, 100, Some(2)),
+    (Segment::Year(0), 0, 1, None),
+    (Segment::Year(0), 0, 0, Some(3)),
+    (Segment::Year(98), 9_999, 99, None),
+    (Segment::Year(26), 9_999, 27, None),
+    (Segment::Year(26), 3, 26, Some(3)),
+    (Segment::Year(26), 3, 25, Some(3)),
+    (Segment::Year(26), 10_000, 26, Some(2)),
+    (Segment::Year(26), 10_000, 0, Some(2)),
+    (Segment::Year(200), 1, 99, Some(3)),
+    (Segment::Year(99), 1, 99, Some(3)),
+    (Segment::Year(99), 1, 100, Some(2)),
+    (Segment::Year(0), 4_294_967_296, 1, Some(2)),
+    (Segment::Year(0), 1, 257, Some(2)),
+    (Segment::Year(26), u64::MAX, u64::MAX, Some(2)),
+];
+
+#[test]
+fn segment_ends(rt: HostRuntime) -> Result<(), Fail> {
+    for (segment, last, next, wanted) in ENDS {
+        let fault = SegmentEnd::new(segment, last, next).err();
+        let number = fault.map(|fault| fault.number());
         told(
             &rt,
-            text,
-            SpelledNumber::from_text(text.as_bytes()),
-            spelled,
+            "fault",
+            (segment, last, next, number),
+            (segment, last, next, wanted),
         );
     }
+    let end = SegmentEnd::new(Segment::Year(26), 3, 28)?;
+    let seen = (end.segment(), end.last(), end.next());
+    told(&rt, "end", seen, (Segment::Year(26), 3, 28));
+    told(
+        &rt,
+        "same",
+        SegmentEnd::new(Segment::Year(26), 3, 28) == Ok(end),
+        true,
+    );
+    told(
+        &rt,
+        "kind",
+        SegmentEnd::new(Segment::Year(26), 3, 2).err(),
+        Some(SegmentFault::NotLater),
+    );
+    Ok(())
 }

@@ -4,6 +4,7 @@ use pool_split::{Claim, Credit, Holders, are_payable, credits, split};
 use share_rules::Holder;
 use std::alloc::Global;
 use std::test::Fail;
+use test_bodies::holders;
 use work_ids::{Account, Isrc};
 
 #[test]
@@ -24,196 +25,141 @@ fn splits(rt: HostRuntime) -> Result<(), Fail> {
     Ok(())
 }
 
-/// An account, and its weight.
-type HolderRow = (&'static str, u64);
-
-/// The ISRC of a recording, its points, and the holders of its owner's work, where it has an owner.
-type ClaimRow = (&'static str, u64, Option<&'static [HolderRow]>);
-
-/// The recording, the account and the units of a credit.
-type CreditRow = (Option<&'static str>, &'static str, u64);
-
-/// A name, claims, whether they can be paid, and an amount, with what is credited of it.
-type Row = (
-    &'static str,
-    &'static [ClaimRow],
-    bool,
-    Option<(u64, &'static [CreditRow])>,
-);
-
-fn holders_of(alloc: Global, rows: &[HolderRow]) -> Result<Holders, Fail> {
-    let mut list = Vec::new(alloc);
-    for (account, weight) in rows {
-        list.push(Holder {
-            account: Account::from_bytes(account.as_bytes())?,
-            weight: *weight,
-        })?;
-    }
-    Ok(Holders::from_vec(list))
+/// A claim of a recording that nobody owns.
+fn unowned(isrc: &[u8], points: u64) -> Result<Claim, Fail> {
+    Ok(Claim {
+        isrc: Isrc::from_text(isrc)?,
+        points,
+        holders: None,
+    })
 }
 
-fn claims_of(alloc: Global, rows: &[ClaimRow]) -> Result<Vec<Claim>, Fail> {
-    let mut claims = Vec::new(alloc);
-    for (isrc, points, holders) in rows {
-        let holders = match holders {
-            Some(rows) => Some(holders_of(alloc, rows)?),
-            None => None,
-        };
-        claims.push(Claim {
-            isrc: Isrc::from_text(isrc.as_bytes())?,
-            points: *points,
-            holders,
-        })?;
+/// What nobody is credited for a recording, or for none.
+fn unclaimed(isrc: Option<Isrc>, units: u64) -> Credit {
+    Credit {
+        isrc,
+        account: Account::Unclaimed,
+        units,
     }
-    Ok(claims)
 }
 
-fn credits_of(alloc: Global, rows: &[CreditRow]) -> Result<Vec<Credit>, Fail> {
-    let mut list = Vec::new(alloc);
-    for (isrc, account, units) in rows {
-        let isrc = match isrc {
-            Some(isrc) => Some(Isrc::from_text(isrc.as_bytes())?),
-            None => None,
-        };
-        list.push(Credit {
-            isrc,
-            account: Account::from_bytes(account.as_bytes())?,
-            units: *units,
-        })?;
+/// The credits of a pool over claims that can be paid.
+fn paid(alloc: Global, amount: u64, claims: &[Claim]) -> Result<Vec<Credit>, Fail> {
+    if amount > 1_000_000_000_000 || !are_payable(claims) {
+        return Err(Fail::from("a pool that can be paid"));
     }
-    Ok(list)
+    Ok(credits(alloc, amount, claims)?)
 }
 
-/// The greatest amount of a pool.
-const GREATEST: u64 = 1_000_000_000_000;
+#[test]
+fn recordings_without_owners(rt: HostRuntime) -> Result<(), Fail> {
+    let claims = [
+        unowned(b"ATABC2600001", 100)?,
+        unowned(b"GBXYZ2600002", 300)?,
+    ];
+    let list = paid(rt.alloc(), 10, &claims)?;
+    let wanted = [
+        unclaimed(Some(claims[0].isrc), 3),
+        unclaimed(Some(claims[1].isrc), 7),
+    ];
+    told(&rt, "credits", list.as_slice(), wanted.as_slice());
+    Ok(())
+}
+
+#[test]
+fn no_recording(rt: HostRuntime) -> Result<(), Fail> {
+    for amount in [0, 5] {
+        let list = paid(rt.alloc(), amount, &[])?;
+        let wanted = [unclaimed(None, amount)];
+        told(&rt, "no recording", list.as_slice(), wanted.as_slice());
+    }
+    Ok(())
+}
+
+#[test]
+fn shares_of_one_work(rt: HostRuntime) -> Result<(), Fail> {
+    let alloc = rt.alloc();
+    let own = holders([5000, 5000, 0])?;
+    let isrc = Isrc::from_text(b"ATABC2600001")?;
+    let claims = [Claim {
+        isrc,
+        points: 2000,
+        holders: Some(Holders::from_vec(Vec::from_slice(alloc, own.as_slice())?)),
+    }];
+    let list = paid(alloc, 1001, &claims)?;
+    let credit = |account, units| Credit {
+        isrc: Some(isrc),
+        account,
+        units,
+    };
+    let wanted = [
+        credit(own[0].account, 501),
+        credit(own[1].account, 500),
+        credit(Account::Unclaimed, 0),
+    ];
+    told(&rt, "credits", list.as_slice(), wanted.as_slice());
+    Ok(())
+}
 
 /// The greatest sum of points.
 const MOST: u64 = 1_000_000_000_000_000_000;
+
+/// Two claims of recordings without owners, their points, and whether they can be paid.
+const PAIRS: [(&str, [&str; 2], [u64; 2], bool); 6] = [
+    ("a good list", [FIRST, SECOND], [1, 300], true),
+    ("points at the limit", [FIRST, SECOND], [MOST - 1, 1], true),
+    ("points above the limit", [FIRST, SECOND], [MOST, 1], false),
+    ("a claim with no points", [FIRST, SECOND], [1, 0], false),
+    ("two claims of one ISRC", [FIRST, FIRST], [1, 1], false),
+    ("ISRCs that descend", [SECOND, FIRST], [1, 1], false),
+];
 
 const FIRST: &str = "ATABC2600001";
 
 const SECOND: &str = "GBXYZ2600002";
 
-const NOBODY: &str = "UNCLAIMED";
+#[test]
+fn claims_that_can_be_paid(rt: HostRuntime) -> Result<(), Fail> {
+    told(&rt, "no claim", are_payable(&[]), true);
+    for (row, [first, second], [one, other], wanted) in PAIRS {
+        let claims = [
+            unowned(first.as_bytes(), one)?,
+            unowned(second.as_bytes(), other)?,
+        ];
+        told(&rt, row, are_payable(&claims), wanted);
+    }
+    Ok(())
+}
 
-const POOLS: &[Row] = &[
-    ("no claim", &[], true, None),
-    (
-        "nothing for no recording",
-        &[],
-        true,
-        Some((0, &[(None, NOBODY, 0)])),
-    ),
-    (
-        "five for no recording",
-        &[],
-        true,
-        Some((5, &[(None, NOBODY, 5)])),
-    ),
-    (
-        "recordings without owners",
-        &[(FIRST, 100, None), (SECOND, 300, None)],
-        true,
-        Some((10, &[(Some(FIRST), NOBODY, 3), (Some(SECOND), NOBODY, 7)])),
-    ),
-    (
-        "shares of one work",
-        &[(
-            FIRST,
-            2_000,
-            Some(&[
-                ("I00000000199", 5_000),
-                ("I00000000295", 5_000),
-                (NOBODY, 0),
-            ]),
-        )],
-        true,
-        Some((
-            1_001,
-            &[
-                (Some(FIRST), "I00000000199", 501),
-                (Some(FIRST), "I00000000295", 500),
-                (Some(FIRST), NOBODY, 0),
-            ],
-        )),
-    ),
-    (
-        "a good list",
-        &[(FIRST, 1, None), (SECOND, 300, None)],
-        true,
-        None,
-    ),
-    (
-        "points at the limit",
-        &[(FIRST, MOST - 1, None), (SECOND, 1, None)],
-        true,
-        None,
-    ),
-    (
-        "points above the limit",
-        &[(FIRST, MOST, None), (SECOND, 1, None)],
-        false,
-        None,
-    ),
-    (
-        "a claim with no points",
-        &[(FIRST, 1, None), (SECOND, 0, None)],
-        false,
-        None,
-    ),
-    (
-        "two claims of one ISRC",
-        &[(FIRST, 1, None), (FIRST, 1, None)],
-        false,
-        None,
-    ),
-    (
-        "ISRCs that descend",
-        &[(SECOND, 1, None), (FIRST, 1, None)],
-        false,
-        None,
-    ),
-    (
-        "a good claim",
-        &[(FIRST, 1, Some(&[(NOBODY, 5_000), (NOBODY, 0)]))],
-        true,
-        None,
-    ),
-    (
-        "weights of 0",
-        &[(FIRST, 1, Some(&[(NOBODY, 0), (NOBODY, 0)]))],
-        false,
-        None,
-    ),
-    (
-        "weights above the limit",
-        &[(
-            FIRST,
-            1,
-            Some(&[
-                (NOBODY, 600_000_000_000_000_000),
-                (NOBODY, 600_000_000_000_000_000),
-            ]),
-        )],
-        false,
-        None,
-    ),
-];
+/// Whether a claim for two holders with these weights can be paid.
+fn is_payable_with(alloc: Global, weights: [u64; 2]) -> Result<bool, Fail> {
+    let mut holders = Vec::new(alloc);
+    for weight in weights {
+        holders.push(Holder {
+            account: Account::Unclaimed,
+            weight,
+        })?;
+    }
+    let claims = [Claim {
+        isrc: Isrc::from_text(b"ATABC2600001")?,
+        points: 1,
+        holders: Some(Holders::from_vec(holders)),
+    }];
+    Ok(are_payable(&claims))
+}
 
 #[test]
-fn pools(rt: HostRuntime) -> Result<(), Fail> {
-    let alloc = rt.alloc();
-    for (row, claims, is_payable, paid) in POOLS {
-        let claims = claims_of(alloc, claims)?;
-        told(&rt, row, are_payable(&claims), *is_payable);
-        if let Some((amount, wanted)) = *paid {
-            if amount > GREATEST || !are_payable(&claims) {
-                return Err(Fail::from("a pool that can be paid"));
-            }
-            let list = credits(alloc, amount, &claims)?;
-            let wanted = credits_of(alloc, wanted)?;
-            told(&rt, row, list.as_slice(), wanted.as_slice());
-        }
+fn holders_that_can_be_paid(rt: HostRuntime) -> Result<(), Fail> {
+    for (row, weights, wanted) in [
+        ("a good claim", [5000, 0], true),
+        ("weights of 0", [0, 0], false),
+        (
+            "weights above the limit",
+            [600_000_000_000_000_000, 600_000_000_000_000_000],
+            false,
+        ),
+    ] {
+        told(&rt, row, is_payable_with(rt.alloc(), weights)?, wanted);
     }
     Ok(())
 }
