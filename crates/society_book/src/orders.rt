@@ -120,17 +120,14 @@ fn returns_of<S: Alter>(conn: &mut Idle<S>, pool: u32) -> Result<Vec<(Reporter, 
 // Whether an amount, a kind, a cut and returns are an order's; `Unread` where they are no order's at all.
 fn compared(
     alloc: Global,
-    amount: Option<u64>,
+    amount: u64,
     kind: Kind,
     cut: &[(SenderKey, u64)],
     returns: &[(Reporter, u64)],
     order: &PoolOrder,
 ) -> Result<Known, RowFault>
-    ensures { IfOk result (λ known. known ≡ pool_known_by order.now (option_map (λ units. order_of kind units cut.now returns.now) amount)) }
+    ensures { IfOk result (λ known. known ≡ pool_known_by order.now (Some (order_of kind amount cut.now returns.now))) }
 {
-    let Some(amount) = amount else {
-        return Ok(Known::Absent);
-    };
     match PoolOrder::new(alloc, kind, amount, cut, returns) {
         Ok(kept) => {
             if kept.is_same(order) {
@@ -148,13 +145,13 @@ fn compared(
 fn known_with_cut<S: Alter>(
     conn: &mut Idle<S>,
     pool: u32,
-    amount: Option<u64>,
+    amount: u64,
     kind: Kind,
     cut: &[(SenderKey, u64)],
     order: &PoolOrder,
 ) -> Result<Known, RowFault>
     ensures asked { between S.Store conn.old conn.new Asks result
-        (ByBook (λ _ book known. IsAmount pool book amount → IsKindOf pool book kind → IsCutOf pool book cut.now → known ≡ pool_known_as book pool order.now)) }
+        (ByBook (λ _ book known. IsAmount pool book (Some amount) → IsKindOf pool book kind → IsCutOf pool book cut.now → known ≡ pool_known_as book pool order.now)) }
 {
     let returns = returns_of(conn, pool)?;
     compared(
@@ -171,12 +168,12 @@ fn known_with_cut<S: Alter>(
 fn known_with_kind<S: Alter>(
     conn: &mut Idle<S>,
     pool: u32,
-    amount: Option<u64>,
+    amount: u64,
     kind: Kind,
     order: &PoolOrder,
 ) -> Result<Known, RowFault>
     ensures asked { between S.Store conn.old conn.new Asks result
-        (ByBook (λ _ book known. IsAmount pool book amount → IsKindOf pool book kind → known ≡ pool_known_as book pool order.now)) }
+        (ByBook (λ _ book known. IsAmount pool book (Some amount) → IsKindOf pool book kind → known ≡ pool_known_as book pool order.now)) }
 {
     let cut = cut_of(conn, pool)?;
     known_with_cut(conn, pool, amount, kind, cut.as_slice(), order)
@@ -186,10 +183,10 @@ fn known_with_kind<S: Alter>(
 fn known_with_amount<S: Alter>(
     conn: &mut Idle<S>,
     pool: u32,
-    amount: Option<u64>,
+    amount: u64,
     order: &PoolOrder,
 ) -> Result<Known, RowFault>
-    ensures asked { between S.Store conn.old conn.new Asks result (ByBook (λ _ book known. IsAmount pool book amount → known ≡ pool_known_as book pool order.now)) }
+    ensures asked { between S.Store conn.old conn.new Asks result (ByBook (λ _ book known. IsAmount pool book (Some amount) → known ≡ pool_known_as book pool order.now)) }
 {
     let kind = kind_of(conn, pool)?;
     known_with_kind(conn, pool, amount, kind, order)
@@ -203,6 +200,8 @@ pub fn known_pool_of<S: Alter>(
 ) -> Result<Known, RowFault>
     ensures asked { between S.Store conn.old conn.new Asks result (ByBook (λ _ book known. known ≡ pool_known_as book pool order.now)) }
 {
-    let amount = amount_of(conn, pool)?;
-    known_with_amount(conn, pool, amount, order)
+    match amount_of(conn, pool)? {
+        Some(amount) => known_with_amount(conn, pool, amount, order),
+        None => Ok(Known::Absent),
+    }
 }

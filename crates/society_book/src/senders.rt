@@ -1,11 +1,11 @@
 //! What is asked of a sender.
-ghost use Rattle.std.specs.Prelude.{◌≡◌, List, ℕ, None, Option, Some, map, IfOk, if◌then◌else◌};
+ghost use Rattle.std.specs.Prelude.{◌≡◌, List, ℕ, None, Option, Some, map, IfOk, true};
 ghost use Rattle.society_core.specs.Answers.{free_under, known_as, known_by, place_in, transmission_known};
 ghost use Rattle.society_core.specs.declared.store.KnownTransmission.TheVariants as transmissions;
 ghost use Rattle.society_core.specs.Book.{front, is_in_line, shown_verdicts};
 ghost use Rattle.society_core.specs.Ends.{ended_before};
 ghost use Rattle.society_rows.specs.Questions.{Asks};
-ghost use Rattle.society_book.specs.Shown.{ByBook, ShowBody, ShowFront, ShowVerdicts, verdict_in};
+ghost use Rattle.society_book.specs.Shown.{ByBook, ShowBody, ShowFront, verdict_in};
 ghost use Rattle.society_rows.specs.Between.{between};
 ghost use Rattle.society_book.specs.Items.{items_of};
 
@@ -170,33 +170,18 @@ fn verdicts_in(alloc: Global, rows: &[Row]) -> Result<Vec<Verdict>, RowFault>
     Ok(list)
 }
 
-// The verdicts that rows show, where there are to be some.
-fn shown_where(
-    alloc: Global,
-    rows: &[Row],
-    is_applied: bool,
-) -> Result<Option<Vec<Verdict>>, RowFault>
-    ensures { (verdicts : List Verdict) → ShowVerdicts verdicts rows.now → IfOk result (λ shown. items_of shown ≡ (if is_applied then Some verdicts else None)) }
-{
-    if !is_applied {
-        return Ok(None);
-    }
-    let list = verdicts_in(alloc, rows)?;
-    Ok(Some(list))
-}
-
-// The verdicts of a transmission, where its number is in its sender's line.
-fn judged_where<S: Alter>(
+// The verdicts of a transmission whose number is in its sender's line.
+fn judged_of<S: Alter>(
     alloc: Global,
     conn: &mut Idle<S>,
     sender: &[u8],
     number: TransmissionNumber,
-    is_applied: bool,
 ) -> Result<Option<Vec<Verdict>>, RowFault>
-    ensures asked { between S.Store conn.old conn.new Asks result (ByBook (λ office book shown. is_applied ≡ is_in_line book sender.now number → items_of shown ≡ shown_verdicts office book sender.now number)) }
+    ensures asked { between S.Store conn.old conn.new Asks result (ByBook (λ office book shown. is_in_line book sender.now number ≡ true → items_of shown ≡ shown_verdicts office book sender.now number)) }
 {
     let rows = ask(conn, Question::Verdicts(sender, number.value()))?;
-    shown_where(alloc, rows.as_slice(), is_applied)
+    let list = verdicts_in(alloc, rows.as_slice())?;
+    Ok(Some(list))
 }
 
 /// The verdicts of a transmission, none where its number is not in its sender's line.
@@ -209,5 +194,8 @@ pub fn verdicts_of<S: Alter>(
     ensures asked { between S.Store conn.old conn.new Asks result (ByBook (λ office book shown. items_of shown ≡ shown_verdicts office book sender.now number)) }
 {
     let place = place_of(conn, sender, number)?;
-    judged_where(alloc, conn, sender, number, place.is_applied)
+    if !place.is_applied {
+        return Ok(None);
+    }
+    judged_of(alloc, conn, sender, number)
 }

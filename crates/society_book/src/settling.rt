@@ -1,8 +1,10 @@
 //! What is worked out of a run behind a sender's line, and what is written of it.
-ghost use Rattle.std.specs.Prelude.{◌≡◌, [], ℕ, map, IfOk};
+ghost use Rattle.std.specs.Prelude.{◌≡◌, [], ℕ, flat_map, map, IfOk, IsPermutation};
 ghost use Rattle.society_rows.specs.Between.{within};
 ghost use Rattle.society_rows.specs.Rows.{front_values, recording_values, verdict_values, version_values};
 ghost use Rattle.society_book.specs.Arriving.{EndsAtFront, LearnsWork, LearnsWorks, PutsOutcomes, PutsRun};
+ghost use Rattle.society_book.specs.Outcomes.{settled};
+ghost use Rattle.society_book.specs.Runs.{settled_recordings, settled_version};
 ghost use Rattle.society_book.specs.Shown.{AddsTold, ByBook};
 ghost use Rattle.society_book.specs.Steps.{Does, HasReached, Looks, LooksOpen, Makes, ShowReached};
 
@@ -136,6 +138,33 @@ pub fn add_told<S: Alter>(
     add_works(tx, versions, recordings)
 }
 
+// The rows of the versions that some transactions are, in the order of their keys: so a table that has none of this sender takes
+// each behind the one before.
+fn versions_by_key<'a>(
+    alloc: Global,
+    sender: &'a [u8],
+    outcomes: &'a [Outcome<'_>],
+) -> Result<Vec<VersionRow<'a>>, RowFault>
+    ensures { IfOk result (λ rows. IsPermutation (flat_map (λ x. settled_version sender.now (settled x)) outcomes.now) (map version_values rows.items)) }
+{
+    let mut rows = version_rows(alloc, sender, outcomes)?;
+    rows.sort_by_key(|row| (row.work, row.revision))?;
+    Ok(rows)
+}
+
+// The rows of the recordings of some transactions, in the order of their keys.
+fn recordings_by_key<'a>(
+    alloc: Global,
+    sender: &'a [u8],
+    outcomes: &'a [Outcome<'_>],
+) -> Result<Vec<RecordingRow<'a>>, RowFault>
+    ensures { IfOk result (λ rows. IsPermutation (flat_map (λ x. settled_recordings sender.now (settled x)) outcomes.now) (map recording_values rows.items)) }
+{
+    let mut rows = recording_rows(alloc, sender, outcomes)?;
+    rows.sort_by_key(|row| (row.work, row.revision, row.isrc))?;
+    Ok(rows)
+}
+
 /// Puts a sender's front, and adds what the transactions of its transmissions tell.
 pub fn put_told<S: Alter>(
     alloc: Global,
@@ -147,8 +176,8 @@ pub fn put_told<S: Alter>(
     ensures does { within S.Store tx.old tx.new Does result (Makes (PutsOutcomes (front_values front.now) front.now.sender.now outcomes.now)) }
 {
     let verdicts = verdict_rows(alloc, front.sender, outcomes)?;
-    let versions = version_rows(alloc, front.sender, outcomes)?;
-    let recordings = recording_rows(alloc, front.sender, outcomes)?;
+    let versions = versions_by_key(alloc, front.sender, outcomes)?;
+    let recordings = recordings_by_key(alloc, front.sender, outcomes)?;
     put_front(tx, front)?;
     add_told(
         tx,

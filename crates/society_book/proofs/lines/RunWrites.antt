@@ -1,7 +1,7 @@
 -- The rows of a run that are written in one transaction, table after table.
 use Rattle.std.proofs.Common.{◌≡◌, ◌≢◌, ◌∙◌, ◌++◌, ℕ, ℤ, pos, [], ◌∷◌, List, true, ap, ap₂, flat_map, map, sym, subst, arith, IsPermutation}
 use Rattle.std.specs.List.{AllByRecursion}
-use Rattle.std.proofs.lemmas.List.Sorted.{IsPermutation-trans}
+use Rattle.std.proofs.lemmas.List.Sorted.{IsPermutation-append_left, IsPermutation-trans}
 use Rattle.sqlite.specs.Effect.{Database}
 use Rattle.sqlite_schema.specs.declared.schema.Table.{Table}
 use Rattle.sqlite_trees.specs.Tree.{Trees, rowid}
@@ -83,6 +83,15 @@ tells_all judged told named old mid new first second =
       recordings = permuted_from named _ _ _ (rows_kept layout.recordings old.trees mid.trees (early.recordings (λ e. omega (arith, e)))) second.recordings;
       others = both_of (KeptBut layout.verdicts old.trees mid.trees) (KeptOfTold mid.trees new.trees) (KeptOfTold old.trees new.trees) all_tables (λ t p q x y z. q x y z ∙ p x) first.others second.others;
     }
+
+-- what is told of works, in any order
+pub adds_ordered : (judged told told_too named named_too : List Row) (old new : Trees) → IsPermutation told told_too → IsPermutation named named_too → AddsTold judged told_too named_too old new → AddsTold judged told named old new
+adds_ordered judged told told_too named named_too old new of_told of_named adds = record {
+  verdicts = adds.verdicts;
+  versions = IsPermutation-trans _ (told_too ++ rows_in layout.versions old) _ (IsPermutation-append_left (rows_in layout.versions old) told told_too of_told) adds.versions;
+  recordings = IsPermutation-trans _ (named_too ++ rows_in layout.recordings old) _ (IsPermutation-append_left (rows_in layout.recordings old) named named_too of_named) adds.recordings;
+  others = adds.others;
+}
 
 -- a front that was put, and then those
 pub puts_line_by : (front : Row) (judged told named : List Row) (old mid new : Database) → Puts layout.fronts front old mid → AddsTold judged told named mid.trees new.trees → PutsLine front judged told named old.trees new.trees

@@ -1,5 +1,5 @@
 -- What the rows of a pool's cut and of its returns show of its order.
-use Rattle.std.proofs.Common.{◌≡◌, ◌∙◌, ℕ, pos, true, List, [], ◌∷◌, Option, Some, None, Result, Ok, Err, IfOk, refl, ap, subst, arith, map, filter, option_map, IsPermutation}
+use Rattle.std.proofs.Common.{◌≡◌, ◌∙◌, ℕ, pos, true, List, [], ◌∷◌, Option, Some, None, Result, Ok, Err, IfOk, absurd, refl, ap, subst, arith, map, filter, option_map, IsPermutation}
 use Rattle.std.specs.List.{AllByRecursion}
 use Rattle.std.proofs.lemmas.Bool.Decides.{nat_tests}
 use Rattle.std.proofs.lemmas.List.Sorted.{IsPermutation-map, IsPermutation-trans}
@@ -18,6 +18,7 @@ use Rattle.society_core.specs.Book.{Book, order_at}
 use Rattle.society_core.specs.Keys.{ascending, return_cmp, return_key, transmission_cmp, transmission_key}
 use Rattle.society_core.specs.Orders.{Order, order_of}
 use Rattle.society_core.specs.declared.return_key.ReturnKey.{ReturnKey}
+use Rattle.society_core.specs.declared.store.Known.TheVariants.{Absent}
 use Rattle.society_core.specs.declared.transmission_key.TransmissionKey.{TransmissionKey}
 use Rattle.society_rows.specs.Layout as layout
 use Rattle.society_rows.specs.Reads.{Lists, has_at, has_key}
@@ -114,3 +115,8 @@ known_so (Some order) amount kind cut returns mine e of_kind of_cut of_returns =
     let returns_same = of_returns order refl in
     let one : order_of kind order.amount cut returns ≡ order = λ i. record { kind = kind_same i; amount = order.amount; cut = cut_same i; returns = returns_same i } in
     ap (λ (x : Option ℕ). pool_known_by mine (option_map (λ units. order_of kind units cut returns) x)) e ∙ ap (λ (x : Order). pool_known_by mine (Some x)) one
+
+-- and one that has no amount is not known
+pub unknown_so : (kept : Option Order) (mine : Order) → None ≡ option_map (λ order. order.amount) kept → Absent ≡ pool_known_by mine kept
+unknown_so None mine e = refl
+unknown_so (Some order) mine e = absurd (cc)

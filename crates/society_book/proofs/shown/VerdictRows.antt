@@ -148,12 +148,7 @@ pub verdicts_back : (vs list : List Verdict) (rows : List Row) → ShowVerdicts 
 verdicts_back vs list rows shows e =
     lines_back (verdict_row shows.0 shows.1) verdict_in (λ _. Unit {0}) (λ p x y _ h. verdict_back shows.0 shows.1 p x y h) 0 vs list (all_so vs) (e ∙ ap (map verdict_in) shows.2)
 
-shown_once : (x : Bool) (vs : List Verdict) → cond x (Some (cond x vs [])) None ≡ cond x (Some vs) None
-shown_once true vs = refl
-shown_once false vs = refl
-
--- what is shown where a number is in the line is shown
-pub shown_applied : (o : Office) (b : Book) (s : List ℕ) (n : ℕ) (is_applied : Bool) (r : Result (Option (Vec Verdict Global)) RowFault) → IfOk r (λ shown. option_map (λ list. list.items) shown ≡ cond is_applied (Some (cond (is_in_line b s n) (verdicts_in o b s n) [])) None) → IfOk r (λ shown. is_applied ≡ is_in_line b s n → option_map (λ list. list.items) shown ≡ shown_verdicts o b s n)
-shown_applied o b s n is_applied (Err fault) h = tt
-shown_applied o b s n is_applied (Ok shown) h =
-    λ at. h ∙ ap (λ (x : Bool). cond x (Some (cond (is_in_line b s n) (verdicts_in o b s n) [])) None) at ∙ shown_once (is_in_line b s n) (verdicts_in o b s n)
+-- what is listed of a number in the line is shown
+pub shown_in_line : (o : Office) (b : Book) (s : List ℕ) (n : ℕ) (list : List Verdict) → list ≡ cond (is_in_line b s n) (verdicts_in o b s n) [] → is_in_line b s n ≡ true → Some list ≡ shown_verdicts o b s n
+shown_in_line o b s n list e at =
+    ap Some (e ∙ ap (λ (x : Bool). cond x (verdicts_in o b s n) []) at) ∙ sym (ap (λ (x : Bool). cond x (Some (verdicts_in o b s n)) None) at)
