@@ -142,9 +142,9 @@ KeepsUnreferred old new = AllByRecursion (λ t. t.tree ≢ layout.transmissions.
 abbrev pub works_names : List TableName
 works_names = name.Versions ∷ name.Recordings ∷ []
 
--- every table but those of the office, of transmissions, of ends and of returns
+-- every table but those of the office, of transmissions, of ends, of returns, of versions and of recordings
 abbrev pub money_names : List TableName
-money_names = name.Pools ∷ name.PoolCuts ∷ name.PoolReturns ∷ name.Fronts ∷ name.Verdicts ∷ name.Versions ∷ name.Recordings ∷ name.Credits ∷ name.Balances ∷ name.MechanicalPools ∷ []
+money_names = name.Pools ∷ name.PoolCuts ∷ name.PoolReturns ∷ name.Fronts ∷ name.Verdicts ∷ name.Credits ∷ name.Balances ∷ name.MechanicalPools ∷ []
 
 -- what an order names is open: the book has the return, and no pool pays it
 abbrev pub IsOpenReturn : Book → ReturnKey → Type 0

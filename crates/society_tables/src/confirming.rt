@@ -24,15 +24,13 @@ use work_ids::{SegmentEnd, SenderKey};
 /// The tables whose rows a pool is paid by, but for the bodies.
 const WORKS_TABLES: [TableName; 2] = [TableName::Versions, TableName::Recordings];
 
-/// Every table but those of the office, of transmissions, of ends and of returns.
-const MONEY_TABLES: [TableName; 10] = [
+/// Every table but those of the office, of transmissions, of ends and of returns, and those two, which no pool changes.
+const MONEY_TABLES: [TableName; 8] = [
     TableName::Pools,
     TableName::PoolCuts,
     TableName::PoolReturns,
     TableName::Fronts,
     TableName::Verdicts,
-    TableName::Versions,
-    TableName::Recordings,
     TableName::Credits,
     TableName::Balances,
     TableName::MechanicalPools,

@@ -70,4 +70,4 @@ begins_aside o bodies first then senders sound kept stated these empty laid keep
 pub ends_whole : (o : Office) (bodies : Trees) (then last : Database) → HoldsAside o bodies then → ClosesAside o bodies then last → (HasLayout last → Agree (name.Office ∷ money_names) last.trees bodies) → AreNumbered layout.fronts bodies × AreNumbered layout.balances bodies → HoldsOwnBook o bodies
 ends_whole o bodies then last aside closes agree numbered =
     let now = closes aside in
-    whole_mixed o bodies last.trees now.holds (agree now.layout) numbered
+    whole_mixed o bodies last.trees now.holds now.works (agree now.layout) numbered

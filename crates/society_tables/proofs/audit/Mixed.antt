@@ -55,7 +55,7 @@ use Rattle.society_core.specs.Book.{is_applied, is_pool_entry, return_at, with_p
 use Rattle.society_core.specs.Orders.{IsOrder, same_return_key}
 use Rattle.society_rows.specs.Reads.{ListsKeys}
 use Rattle.society_rows.specs.declared.tables.TableName.TheVariants as name
-use Rattle.society_tables.specs.Auditing.{money_names}
+use Rattle.society_tables.specs.Auditing.{money_names, works_names}
 use Rattle.society_book.specs.BookRows.{book_of}
 use Rattle.society_book.specs.Closings.{PaysBy}
 use Rattle.society_book.specs.Shown.{ShowKey}
@@ -318,11 +318,11 @@ works_still pool order credits old new closes = (
 )
 
 -- where all other tables agree with those of the database of the bodies, that holds the book too
-pub whole_mixed : (o : Office) (bodies others : Trees) → HoldsOwnBook o (mixed bodies others) → Agree (name.Office ∷ money_names) others bodies → AreNumbered layout.fronts bodies × AreNumbered layout.balances bodies → HoldsOwnBook o bodies
+pub whole_mixed : (o : Office) (bodies others : Trees) → HoldsOwnBook o (mixed bodies others) → Agree works_names others bodies → Agree (name.Office ∷ money_names) others bodies → AreNumbered layout.fronts bodies × AreNumbered layout.balances bodies → HoldsOwnBook o bodies
 unfolding written_out
-whole_mixed o bodies others holds agree numbered =
+whole_mixed o bodies others holds works agree numbered =
     holds_likewise o (mixed bodies others) bodies holds
-    (agree.0, (IsPermutation-refl (rows_in layout.transmissions bodies), (IsPermutation-refl (rows_in layout.returns bodies), (agree.1.0, (agree.1.1.0, (agree.1.1.1.0, (agree.1.1.1.1.0, (agree.1.1.1.1.1.0, (agree.1.1.1.1.1.1.0, (agree.1.1.1.1.1.1.1.0, (agree.1.1.1.1.1.1.1.1.0, (agree.1.1.1.1.1.1.1.1.1.0, (IsPermutation-refl (rows_in layout.segment_ends bodies), (agree.1.1.1.1.1.1.1.1.1.1.0, tt))))))))))))))
+    (agree.0, (IsPermutation-refl (rows_in layout.transmissions bodies), (IsPermutation-refl (rows_in layout.returns bodies), (agree.1.0, (agree.1.1.0, (agree.1.1.1.0, (agree.1.1.1.1.0, (agree.1.1.1.1.1.0, (works.0, (works.1.0, (agree.1.1.1.1.1.1.0, (agree.1.1.1.1.1.1.1.0, (IsPermutation-refl (rows_in layout.segment_ends bodies), (agree.1.1.1.1.1.1.1.1.0, tt))))))))))))))
     numbered
 
 -- one more of a list has it too

@@ -6,5 +6,5 @@ use Rattle.society_book.proofs.settling.versions_by_key.Goals as goal
 
 pub returns : goal.returns
 returns c =
-    subst (λ (l : List Row). IsPermutation l (map version_values c.sort_by_key.new.items)) c.in_ok-rows.ensures
-    (IsPermutation-map version_values c.in_ok-rows.rows.items c.sort_by_key.new.items c.sort_by_key.ensures.permutation)
+    subst (λ (l : List Row). IsPermutation l (map version_values c.sort_by_key.new.self.items)) c.in_ok-rows.ensures
+    (IsPermutation-map version_values c.in_ok-rows.rows.items c.sort_by_key.new.self.items c.sort_by_key.ensures.permutation)
