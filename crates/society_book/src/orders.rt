@@ -8,7 +8,7 @@ ghost use Rattle.society_book.specs.BookRows.{cut_key_of, kind_marked, return_ke
 ghost use Rattle.society_book.specs.Shown.{ByBook, ShowPool};
 ghost use Rattle.society_rows.specs.Between.{between};
 ghost use Rattle.society_book.specs.Items.{transmission_keys, return_keys};
-ghost use Rattle.society_book.specs.OrderShown.{IsAmount, IsKindOf, IsCutOf, AreReturnsOf};
+ghost use Rattle.society_book.specs.OrderShown.{AreReturnsOf, IsAmount, IsCutOf, IsKindOf, IsKnownByCut, IsKnownByKind};
 
 use share_rules::Kind;
 use society_core::{Known, OrderError, PoolOrder};
@@ -150,8 +150,7 @@ fn known_with_cut<S: Alter>(
     cut: &[(SenderKey, u64)],
     order: &PoolOrder,
 ) -> Result<Known, RowFault>
-    ensures asked { between S.Store conn.old conn.new Asks result
-        (ByBook (λ _ book known. IsAmount pool book (Some amount) → IsKindOf pool book kind → IsCutOf pool book cut.now → known ≡ pool_known_as book pool order.now)) }
+    ensures asked { between S.Store conn.old conn.new Asks result (ByBook (λ _ book known. IsKnownByCut pool amount kind cut.now order.now book known)) }
 {
     let returns = returns_of(conn, pool)?;
     compared(
@@ -172,8 +171,7 @@ fn known_with_kind<S: Alter>(
     kind: Kind,
     order: &PoolOrder,
 ) -> Result<Known, RowFault>
-    ensures asked { between S.Store conn.old conn.new Asks result
-        (ByBook (λ _ book known. IsAmount pool book (Some amount) → IsKindOf pool book kind → known ≡ pool_known_as book pool order.now)) }
+    ensures asked { between S.Store conn.old conn.new Asks result (ByBook (λ _ book known. IsKnownByKind pool amount kind order.now book known)) }
 {
     let cut = cut_of(conn, pool)?;
     known_with_cut(conn, pool, amount, kind, cut.as_slice(), order)
