@@ -24,28 +24,20 @@ use Rattle.society_tables.specs.Rebuilding.{without_pools}
 abbrev pub OfRows : (Trees → Trees → Type 0) → Database → Database → Type 0
 OfRows Change before after = Change before.trees after.trees
 
--- tables that had the lines of some senders and not of this one have its line too; what no line tells is as it was
-abbrev pub PutsSender : Office → List ℕ → Database → Database → Trees → Type 0
-PutsSender office sender old new db =
-    (book : Book) → KeepsSent book db → AreOrderly book.transmissions book.ends sender → knows_sender book sender ≡ true → HasLayout old → HasLayout new
-    × KeepsUnlined old.trees new.trees
-    × ((of_these : List ℕ → Bool) → of_these sender ≡ false → HasLines office book of_these old.trees
-    → HasLines office book (λ other. of_these other || bytes_eq sender other) new.trees)
+-- of a sender a database has exactly what is derived of its transmissions
+abbrev pub FindsLine : Office → List ℕ → Trees → Type 0
+FindsLine office sender db = (book : Book) → KeepsSent book db → AreOrderly book.transmissions book.ends sender → HasLine office book sender db
 
--- tables that had no lines have those of these senders; what no line tells is as it was
-abbrev pub PutsSenders : Office → List (List ℕ) → Database → Database → Trees → Type 0
-PutsSenders office senders old new db =
-    (book : Book) → KeepsSent book db → ((sender : List ℕ) → AreOrderly book.transmissions book.ends sender) → AllByRecursion (λ sender. knows_sender book sender ≡ true) senders → HasLayout old
-    → length (ascending bytes_cmp senders) ≡ length senders
-    → HasLines office book (λ _. false) old.trees
-    → HasLayout new × KeepsUnlined old.trees new.trees
-    × HasLines office book (is_among senders) new.trees
+-- so of each of these senders
+abbrev pub FindsLines : Office → List (List ℕ) → Trees → Type 0
+FindsLines office senders db =
+    (book : Book) → KeepsSent book db → ((sender : List ℕ) → AreOrderly book.transmissions book.ends sender) → AllByRecursion (λ sender. HasLine office book sender db) senders
 
 -- where the tables in memory hold an empty book, the database holds the book that its transmissions and returns stand for
 abbrev pub Confirms : Office → List (List ℕ) → Database → Trees → Type 0
 Confirms office senders memory db =
-    IsSound (without_pools (book_of db)) → KeepsBodies (book_of db) db → HasEnds (book_of db) db → AreSenders (book_of db) senders → HasLayout memory
-    → HoldsBook office empty_book memory.trees
+    IsSound (without_pools (book_of db)) → KeepsBodies (book_of db) db → HasEnds (book_of db) db → AreSenders (book_of db) senders → AreLinesOf senders db
+    → HasLayout memory → HoldsBook office empty_book memory.trees
     → IsNumbered db → HoldsOwnBook office db
 
 -- where senders are found, each transmission may stand in a book, and they are those of its rows
