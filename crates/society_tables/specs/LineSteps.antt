@@ -1,5 +1,5 @@
--- What the steps of an audit put of senders' lines into tables in memory, and what it confirms by them (representation).
-use Rattle.std.specs.Prelude.{ℕ, ◌≡◌, ◌||◌, Bool, IsPermutation, List, Option, Some, Vec, bytes_eq, false, length, map, true}
+-- What the steps of an audit find of senders' lines, and what it confirms by them (representation).
+use Rattle.std.specs.Prelude.{ℕ, ◌≡◌, IsPermutation, List, Option, Some, Vec, map}
 use Rattle.std.specs.List.{AllByRecursion}
 use Rattle.std.specs.declared.alloc.Global.{Global}
 use Rattle.share_rules.specs.declared.office.Office.{Office}
@@ -11,12 +11,9 @@ use Rattle.society_rows.specs.Layout.{segment_ends, transmissions}
 use Rattle.society_rows.specs.Stored.{HasLayout, rows_in}
 use Rattle.society_book.specs.BookRows.{book_of, is_end_row, is_transmission_row}
 use Rattle.society_book.specs.Columns.{text_at}
-use Rattle.society_book.specs.DerivedRows.{knows_sender}
 use Rattle.society_book.specs.Kept.{HoldsBook, HoldsOwnBook}
-use Rattle.society_book.specs.Runs.{is_among}
-use Rattle.society_book.specs.Shown.{KeepsUnlined}
 use Rattle.society_book.specs.Sources.{HasEnds, KeepsBodies, KeepsSent}
-use Rattle.society_tables.specs.Auditing.{AreEntries, AreSenders, HasLines, is_right_sent, is_right_stated, senders_in}
+use Rattle.society_tables.specs.Auditing.{AreEntries, AreLinesOf, AreSenders, HasLine, is_right_sent, is_right_stated, senders_in}
 use Rattle.society_tables.specs.Opening.{IsNumbered}
 use Rattle.society_tables.specs.Rebuilding.{without_pools}
 
