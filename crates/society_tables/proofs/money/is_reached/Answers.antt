@@ -1,4 +1,4 @@
-use Rattle.std.proofs.Common.{Ok}
+use Rattle.std.proofs.Common.{◌≡◌, Ok}
 use Rattle.society_book.proofs.shown.QuestionLemmas.{asked_then, then_asked}
 use Rattle.society_core.specs.Book.{front}
 use Rattle.society_tables.specs.InMemory.{OfBeside}
