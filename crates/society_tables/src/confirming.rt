@@ -13,7 +13,7 @@ ghost use Rattle.society_tables.specs.LineSteps.{Confirms};
 use crate::Tables;
 use crate::audit_fault::AuditFault;
 use crate::comparing::{named_agree, rows_of_table};
-use crate::entries::entries_in;
+use crate::entries::{entries_in, set_of_senders};
 use crate::line_rows::are_lines_of;
 use crate::lines::lines_agree;
 use crate::money::close_all;
@@ -89,7 +89,9 @@ fn known_senders<S: Alter>(
     let Some(senders) = entries_in(alloc, conn)? else {
         return Ok(None);
     };
-    if are_lines_of(alloc, conn, senders.as_slice())? {
+    let listed = Vec::from_slice(alloc, senders.as_slice())?;
+    let set = set_of_senders(alloc, listed)?;
+    if are_lines_of(conn, set)? {
         Ok(Some(senders))
     } else {
         Ok(None)

@@ -1,19 +1,17 @@
 //! Rows of what is derived of senders' lines: that they are of senders of the database, and how they are compared with what is worked out.
-ghost use Rattle.std.specs.Prelude.{◌≡◌, IsTrue, map};
-ghost use Rattle.std.specs.BTreeSet.{BTreeSet as Set, IsFromIterResult};
+ghost use Rattle.std.specs.Prelude.{◌≡◌, ℕ, IsTrue, List, map};
+ghost use Rattle.std.specs.BTreeSet.{IsFromIterResult};
 ghost use Rattle.society_core.specs.Keys.{bytes_cmp};
 ghost use Rattle.society_rows.specs.Between.{between};
 ghost use Rattle.society_rows.specs.Folds.{ReadsAlone};
 ghost use Rattle.society_rows.specs.Rows.{front_values, recording_values, verdict_values, version_values};
 ghost use Rattle.society_tables.specs.Auditing.{AreLinesOf, is_of_one, take_name};
 
-use crate::entries::set_of_senders;
 use society_rows::{
     FrontRow, Idle, RecordingRow, RowFault, RowFold, TableName, VerdictRow, VersionRow, fold_table,
 };
 use sqlite::{Alter, Row};
 use sqlite_value::value::ValueRef;
-use std::alloc::Global;
 use std::collections::BTreeSet;
 use work_ids::SenderKey;
 
@@ -53,13 +51,12 @@ impl RowFold for SenderRows {
 
 /// Whether each row of what is derived of senders' lines is of one of these senders. The rows are gone over one at a time.
 pub(crate) fn are_lines_of<S: Alter>(
-    alloc: Global,
     conn: &mut Idle<S>,
-    senders: &[SenderKey],
+    senders: BTreeSet<SenderKey>,
 ) -> Result<bool, RowFault>
-    ensures read { between S.Store conn.old conn.new ReadsAlone result (λ db all. IsTrue all → AreLinesOf senders.now db) }
+    ensures read { between S.Store conn.old conn.new ReadsAlone result
+        (λ db all. (list : List (List ℕ)) → IsFromIterResult bytes_cmp list senders → IsTrue all → AreLinesOf list db) }
 {
-    let senders = set_of_senders(alloc, Vec::from_slice(alloc, senders)?)?;
     let mut rows = SenderRows {
         senders,
         are_theirs: true,

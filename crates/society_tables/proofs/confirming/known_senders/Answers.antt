@@ -1,5 +1,7 @@
 use Rattle.std.proofs.Common.{◌≡◌, ◌∙◌, IsTrue, List, None, Ok, Some, Vec, ap, subst, ℕ}
+use Rattle.std.specs.BTreeSet.{IsFromIterResult}
 use Rattle.std.specs.declared.alloc.Global.{Global}
+use Rattle.society_core.specs.Keys.{bytes_cmp}
 use Rattle.sqlite.specs.Held.{state}
 use Rattle.sqlite_trees.specs.Tree.{Trees}
 use Rattle.society_tables.specs.Auditing.{AreLinesOf, HoldsEntries}
@@ -17,11 +19,12 @@ returns-then-branch g c =
           let mid = state g.S.Store c.entries_in.new.conn in
           let new = state g.S.Store c.are_lines_of.new.conn in
           let Found : Trees → Type 0 = λ db. (s : Vec (List ℕ) Global) → c.in_ok-senders.field-0 ≡ Some s → HoldsEntries s.items db in
-          let names = c.as_slice.result.now in
+          let names = c.in-Some.senders.items in
           reads_as old new c.in_ok-are_lines_of.field-0 (Ok (Some c.in-Some.senders)) (λ db all. Found db × (IsTrue all → AreLinesOf names db)) _
-          (reads_then old mid new c.in_ok-senders.field-0 (Ok c.in_ok-are_lines_of.field-0) _ _ (λ db all. Found db × (IsTrue all → AreLinesOf names db)) c.in_ok-senders.ensures.read c.in_ok-are_lines_of.ensures.read (λ y a b. (a, b)))
+          (reads_then old mid new c.in_ok-senders.field-0 (Ok c.in_ok-are_lines_of.field-0) _ _ (λ db all. Found db × (IsTrue all → AreLinesOf names db)) c.in_ok-senders.ensures.read c.in_ok-are_lines_of.ensures.read
+          (λ y a b. (a, b names (subst (λ (l : List (List ℕ)). IsFromIterResult bytes_cmp l c.in_ok-set.set) (c.in_ok-listed.ensures.items ∙ c.as_slice.ensures.value) c.in_ok-set.ensures))))
           (λ both senders is. (
             both.0 senders (c.in-Some.is ∙ is),
-            subst (λ (l : List (List ℕ)). AreLinesOf l old.now.trees) (c.as_slice.ensures.value ∙ ap (λ (v : Vec (List ℕ) Global). v.items) (the_some _ _ is)) (both.1 c.if-branch.true),
+            subst (λ (l : List (List ℕ)). AreLinesOf l old.now.trees) (ap (λ (v : Vec (List ℕ) Global). v.items) (the_some _ _ is)) (both.1 c.if-branch.true),
           ));
     }
