@@ -1,4 +1,4 @@
-use Rattle.std.proofs.Common.{Err, Ok, refl}
+use Rattle.std.proofs.Common.{Err, Ok, refl, true}
 use Rattle.sqlite.specs.Held.{state}
 use Rattle.sqlite_trees.specs.Tree.{Trees}
 use Rattle.society_rows.specs.Folds.{HasTaken}
@@ -17,7 +17,7 @@ Taken table before after db = HasTaken take_name (ListsAll table db) before afte
 pub returns-in_err-fold_table-2 : goal.returns-in_err-fold_table-2
 returns-in_err-fold_table-2 g c =
     let old = state g.S.Store c.args.conn.now in
-    let one = c.rows in
+    let one : SenderRows = record { senders = c.args.senders; are_theirs = true } in
     let two = c.fold_table.new.into in
     record {
       read =
@@ -29,7 +29,7 @@ returns-in_err-fold_table-2 g c =
 pub returns-in_err-fold_table-3 : goal.returns-in_err-fold_table-3
 returns-in_err-fold_table-3 g c =
     let old = state g.S.Store c.args.conn.now in
-    let one = c.rows in
+    let one : SenderRows = record { senders = c.args.senders; are_theirs = true } in
     let two = c.fold_table.new.into in
     let three = c.fold_table-2.new.into in
     record {
@@ -42,7 +42,7 @@ returns-in_err-fold_table-3 g c =
 pub returns-in_err-fold_table-4 : goal.returns-in_err-fold_table-4
 returns-in_err-fold_table-4 g c =
     let old = state g.S.Store c.args.conn.now in
-    let one = c.rows in
+    let one : SenderRows = record { senders = c.args.senders; are_theirs = true } in
     let two = c.fold_table.new.into in
     let three = c.fold_table-2.new.into in
     let four = c.fold_table-3.new.into in
@@ -56,7 +56,7 @@ returns-in_err-fold_table-4 g c =
 pub returns : goal.returns
 returns g c =
     let old = state g.S.Store c.args.conn.now in
-    let one = c.rows in
+    let one : SenderRows = record { senders = c.args.senders; are_theirs = true } in
     let two = c.fold_table.new.into in
     let three = c.fold_table-2.new.into in
     let four = c.fold_table-3.new.into in
