@@ -202,7 +202,10 @@ fn set_of_returns(alloc: Global, keys: Vec<ReturnKey>) -> Result<BTreeSet<Return
 }
 
 /// The set of some senders.
-pub(crate) fn set_of_senders(alloc: Global, senders: Vec<SenderKey>) -> Result<BTreeSet<SenderKey>, AllocError>
+pub(crate) fn set_of_senders(
+    alloc: Global,
+    senders: Vec<SenderKey>,
+) -> Result<BTreeSet<SenderKey>, AllocError>
     ensures { IfOk result (IsFromIterResult bytes_cmp senders.items) }
 {
     senders.into_iter().collect(alloc)

@@ -1,6 +1,8 @@
 //! Databases that are opened as the tables of an office, sound ones and empty ones.
 use crate::checks::{holds, told};
-use crate::left::{CLOSED_AT_A_CUT, ONE_WAITS, Opened, REVISIONS, YEAR_BEGUN, left_by, office, opened};
+use crate::left::{
+    CLOSED_AT_A_CUT, ONE_WAITS, Opened, REVISIONS, YEAR_BEGUN, left_by, office, opened,
+};
 use society_core::Store;
 use society_rows::Idle;
 use society_tables::{AuditFault, OpenFault, Tables, confirm, open_after_crash, reopen};
