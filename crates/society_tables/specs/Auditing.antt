@@ -6,6 +6,7 @@ use Rattle.sqlite_value.specs.declared.value.Value.{Value}
 use Rattle.sqlite_value.specs.Order.{Row, column}
 use Rattle.std.specs.List.{AllByRecursion, list_all}
 use Rattle.share_rules.specs.declared.office.Office.{Office}
+use Rattle.sqlite_schema.specs.declared.schema.Table.{Table}
 use Rattle.sqlite_trees.specs.Tree.{Trees}
 use Rattle.society_core.specs.Answers.{payer}
 use Rattle.society_core.specs.Book.{Book, front, is_applied, is_end_entry, is_entry, is_return_entry, order_at, return_at}
@@ -128,12 +129,16 @@ pub record HasLines (office : Office) (book : Book) (of_these : List ℕ → Boo
 abbrev pub of_sender : List ℕ → Row → Bool
 of_sender sender = has_key (Text sender ∷ [])
 
+-- these are the rows that a table has of a sender, in any order
+abbrev pub HasRowsOf : Table → List ℕ → List Row → Trees → Type 0
+HasRowsOf table sender rows db = IsPermutation (filter (of_sender sender) (rows_in table db)) rows
+
 -- the rows that a database has of a sender are this front, and these of verdicts, of versions and of recordings, in any order
 pub record HasTold (sender : List ℕ) (front_row : Row) (judged told named : List Row) (db : Trees) : Type 0 where
-  pub fronts : IsPermutation (filter (of_sender sender) (rows_in layout.fronts db)) (front_row ∷ [])
-  pub verdicts : IsPermutation (filter (of_sender sender) (rows_in layout.verdicts db)) judged
-  pub versions : IsPermutation (filter (of_sender sender) (rows_in layout.versions db)) told
-  pub recordings : IsPermutation (filter (of_sender sender) (rows_in layout.recordings db)) named
+  pub fronts : HasRowsOf layout.fronts sender (front_row ∷ []) db
+  pub verdicts : HasRowsOf layout.verdicts sender judged db
+  pub versions : HasRowsOf layout.versions sender told db
+  pub recordings : HasRowsOf layout.recordings sender named db
 
 -- they are this front and what outcomes tell
 abbrev pub HasOutcomes : List ℕ → Row → List Outcome → Trees → Type 0

@@ -1,6 +1,6 @@
 //! What is derived of the transmissions of a database, worked out sender by sender and compared with its rows; of the bodies one at a
 //! time is kept, and of what is worked out a sender's.
-ghost use Rattle.std.specs.Prelude.{◌≡◌, ◌∷◌, [], filter, flat_map, map, IfOk, IsPermutation};
+ghost use Rattle.std.specs.Prelude.{◌≡◌, ◌∷◌, [], flat_map, map, IfOk};
 ghost use Rattle.society_book.specs.Going.{IsWholeIn};
 ghost use Rattle.society_book.specs.Outcomes.{settled};
 ghost use Rattle.society_book.specs.Runs.{is_among, settled_recordings, settled_verdict, settled_version};
@@ -8,8 +8,7 @@ ghost use Rattle.society_rows.specs.Between.{between};
 ghost use Rattle.society_rows.specs.Layout as layout;
 ghost use Rattle.society_rows.specs.Questions.{Asks};
 ghost use Rattle.society_rows.specs.Rows.{front_values};
-ghost use Rattle.society_rows.specs.Stored.{rows_in};
-ghost use Rattle.society_tables.specs.Auditing.{HasOutcomes, HasRun, of_sender};
+ghost use Rattle.society_tables.specs.Auditing.{HasOutcomes, HasRowsOf, HasRun};
 ghost use Rattle.society_tables.specs.LineSteps.{FindsLine, FindsLines};
 ghost use Rattle.society_tables.specs.Opening.{Inspects};
 ghost use Rattle.works_core.specs.Ends.{EndsAt};
@@ -57,7 +56,7 @@ fn end_of_none(alloc: Global, works: &[WorkNumber]) -> Result<LineEnd, AllocErro
 // That a database has of a sender this front; else `Damaged`.
 fn front_agrees<S: Alter>(conn: &mut Idle<S>, front: &FrontRow<'_>) -> Result<(), AuditFault>
     ensures agrees { between S.Store conn.old conn.new Inspects result
-        (λ db _. IsPermutation (filter (of_sender front.now.sender.now) (rows_in layout.fronts db)) (front_values front.now ∷ [])) }
+        (λ db _. HasRowsOf layout.fronts front.now.sender.now (front_values front.now ∷ []) db)) }
 {
     let rows = ask(conn, Question::Front(front.sender))?;
     let [row] = rows.as_slice() else {
@@ -78,7 +77,7 @@ fn verdicts_agree<S: Alter>(
     outcomes: &[Outcome<'_>],
 ) -> Result<(), AuditFault>
     ensures agrees { between S.Store conn.old conn.new Inspects result
-        (λ db _. IsPermutation (filter (of_sender sender.now) (rows_in layout.verdicts db)) (map (λ x. settled_verdict sender.now (settled x)) outcomes.now)) }
+        (λ db _. HasRowsOf layout.verdicts sender.now (map (λ x. settled_verdict sender.now (settled x)) outcomes.now) db) }
 {
     let rows = ask(conn, Question::SenderVerdicts(sender))?;
     let wanted = verdict_rows(alloc, sender, outcomes)?;
@@ -97,7 +96,7 @@ fn versions_agree<S: Alter>(
     outcomes: &[Outcome<'_>],
 ) -> Result<(), AuditFault>
     ensures agrees { between S.Store conn.old conn.new Inspects result
-        (λ db _. IsPermutation (filter (of_sender sender.now) (rows_in layout.versions db)) (flat_map (λ x. settled_version sender.now (settled x)) outcomes.now)) }
+        (λ db _. HasRowsOf layout.versions sender.now (flat_map (λ x. settled_version sender.now (settled x)) outcomes.now) db) }
 {
     let rows = ask(conn, Question::SenderVersions(sender))?;
     let wanted = versions_by_key(alloc, sender, outcomes)?;
@@ -116,7 +115,7 @@ fn recordings_agree<S: Alter>(
     outcomes: &[Outcome<'_>],
 ) -> Result<(), AuditFault>
     ensures agrees { between S.Store conn.old conn.new Inspects result
-        (λ db _. IsPermutation (filter (of_sender sender.now) (rows_in layout.recordings db)) (flat_map (λ x. settled_recordings sender.now (settled x)) outcomes.now)) }
+        (λ db _. HasRowsOf layout.recordings sender.now (flat_map (λ x. settled_recordings sender.now (settled x)) outcomes.now) db) }
 {
     let rows = ask(conn, Question::SenderRecordings(sender))?;
     let wanted = recordings_by_key(alloc, sender, outcomes)?;
