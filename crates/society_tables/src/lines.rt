@@ -56,7 +56,7 @@ fn end_of_none(alloc: Global, works: &[WorkNumber]) -> Result<LineEnd, AllocErro
 // That a database has of a sender this front; else `Damaged`.
 fn front_agrees<S: Alter>(conn: &mut Idle<S>, front: &FrontRow<'_>) -> Result<(), AuditFault>
     ensures agrees { between S.Store conn.old conn.new Inspects result
-        (λ db _. HasRowsOf layout.fronts front.now.sender.now (front_values front.now ∷ []) db)) }
+        (λ db _. HasRowsOf layout.fronts front.now.sender.now (front_values front.now ∷ []) db) }
 {
     let rows = ask(conn, Question::Front(front.sender))?;
     let [row] = rows.as_slice() else {
