@@ -44,7 +44,7 @@ pub use returns::{known_return_of, payment_of, write_return};
 pub use run::{Noted, Run, ascending_works};
 pub use sender_ends::SenderEnds;
 pub use senders::{front_of, known_of, place_of, shown_front, verdicts_of};
-pub use settling::{add_told, put_told};
+pub use settling::{add_told, put_told, recordings_by_key, versions_by_key};
 pub use standing::status_of;
 pub use statements::state_end;
 pub use works::work_of;

@@ -138,9 +138,9 @@ pub fn add_told<S: Alter>(
     add_works(tx, versions, recordings)
 }
 
-// The rows of the versions that some transactions are, in the order of their keys: so a table that has none of this sender takes
-// each behind the one before.
-fn versions_by_key<'a>(
+/// The rows of the versions that some transactions are, in the order of their keys: so a table that has none of this sender takes
+/// each behind the one before.
+pub fn versions_by_key<'a>(
     alloc: Global,
     sender: &'a [u8],
     outcomes: &'a [Outcome<'_>],
@@ -152,8 +152,8 @@ fn versions_by_key<'a>(
     Ok(rows)
 }
 
-// The rows of the recordings of some transactions, in the order of their keys.
-fn recordings_by_key<'a>(
+/// The rows of the recordings of some transactions, in the order of their keys.
+pub fn recordings_by_key<'a>(
     alloc: Global,
     sender: &'a [u8],
     outcomes: &'a [Outcome<'_>],

@@ -8,7 +8,7 @@ use Rattle.sqlite.specs.State.{State, HasCleanDisk, Survives}
 use Rattle.society_rows.specs.declared.fault.RowFault.{RowFault}
 use Rattle.society_rows.specs.declared.questions.Question.{Question}
 use Rattle.society_rows.specs.declared.questions.Question.TheVariants as question
-use Rattle.society_rows.specs.Layout.{office, transmissions, returns, pools, pool_cuts, pool_returns, fronts, verdicts, versions, credits_table, balances, segment_ends, mechanical_pools}
+use Rattle.society_rows.specs.Layout.{office, transmissions, returns, pools, pool_cuts, pool_returns, fronts, verdicts, versions, recordings, credits_table, balances, segment_ends, mechanical_pools}
 use Rattle.society_rows.specs.Reads.{Lists, ListsKeys, IsFirstOf, has_key, has_at, is_above, is_above_and_below}
 use Rattle.society_rows.specs.Stored.{HasLayout}
 
@@ -30,6 +30,9 @@ RowsAnswer (question.PaidBy pool) = Lists pool_returns (has_at 2 (Int (pos pool)
 RowsAnswer (question.Verdicts sender number) = Lists verdicts (has_key (Text sender.now ∷ Int (pos number) ∷ [])) 3
 RowsAnswer (question.Versions sender work) = Lists versions (has_key (Text sender.now ∷ Text work.now ∷ [])) 3
 RowsAnswer (question.LastVersion sender work) = IsFirstOf versions (has_key (Text sender.now ∷ Text work.now ∷ [])) 3
+RowsAnswer (question.SenderVerdicts sender) = Lists verdicts (has_key (Text sender.now ∷ [])) 3
+RowsAnswer (question.SenderVersions sender) = Lists versions (has_key (Text sender.now ∷ [])) 3
+RowsAnswer (question.SenderRecordings sender) = Lists recordings (has_key (Text sender.now ∷ [])) 4
 RowsAnswer (question.Credits pool) = Lists credits_table (has_key (Int (pos pool) ∷ [])) 2
 RowsAnswer (question.Balance account) = Lists balances (has_key (Text account.now ∷ [])) 1
 

@@ -58,7 +58,7 @@ pub use pool_returns::{
 pub use pools::{PoolRow, add_pool, pool_at};
 pub use questions::{Question, answer, ask};
 pub use raising::raise_inside;
-pub use recordings::{RecordingRow, add_recording, add_recordings};
+pub use recordings::{RecordingRow, add_recording, add_recordings, sender_recordings};
 pub use returns::{ReturnRow, add_return, add_returns, return_at, return_known};
 pub use segment_ends::{SegmentEndRow, add_segment_end, ends_of};
 pub use tables::{TableName, all_rows};
@@ -66,5 +66,7 @@ pub use transmissions::{
     TransmissionKeyRow, TransmissionRow, add_transmission, add_transmissions, numbers_above,
     numbers_between, transmission_at,
 };
-pub use verdicts::{VerdictRow, add_verdict, add_verdicts, verdicts_of};
-pub use versions::{VersionRow, add_version, add_versions, last_version_of, versions_of};
+pub use verdicts::{VerdictRow, add_verdict, add_verdicts, sender_verdicts, verdicts_of};
+pub use versions::{
+    VersionRow, add_version, add_versions, last_version_of, sender_versions, versions_of,
+};

@@ -8,7 +8,8 @@ ghost use Rattle.society_rows.specs.Between.{between, within};
 use crate::{
     Idle, RowFault, all_offices, balance_at, credits_of, cuts_of, ends_of, front_at,
     last_version_of, mechanical_at, numbers_above, numbers_between, pool_at, pool_return_at,
-    return_at, return_known, returns_of_pool, transmission_at, verdicts_of, versions_of,
+    return_at, return_known, returns_of_pool, sender_recordings, sender_verdicts, sender_versions,
+    transmission_at, verdicts_of, versions_of,
 };
 use sqlite::{Alter, Row, Transaction};
 
@@ -47,6 +48,12 @@ pub enum Question<'a> {
     Versions(&'a [u8], &'a [u8]),
     /// The last version of a work of a sender.
     LastVersion(&'a [u8], &'a [u8]),
+    /// All verdicts of a sender.
+    SenderVerdicts(&'a [u8]),
+    /// All versions of the works of a sender.
+    SenderVersions(&'a [u8]),
+    /// All recordings of the works of a sender.
+    SenderRecordings(&'a [u8]),
     /// The credits of a pool.
     Credits(u32),
     /// The balance of an account.
@@ -80,6 +87,9 @@ pub fn answer<S: Alter>(
         Question::Verdicts(sender, number) => verdicts_of(tx, sender, number),
         Question::Versions(sender, work) => versions_of(tx, sender, work),
         Question::LastVersion(sender, work) => last_version_of(tx, sender, work),
+        Question::SenderVerdicts(sender) => sender_verdicts(tx, sender),
+        Question::SenderVersions(sender) => sender_versions(tx, sender),
+        Question::SenderRecordings(sender) => sender_recordings(tx, sender),
         Question::Credits(pool) => credits_of(tx, pool),
         Question::Balance(account) => balance_at(tx, account),
     }

@@ -5,6 +5,7 @@ ghost use Rattle.society_rows.specs.declared.fault.RowFault.TheVariants.{Unread}
 ghost use Rattle.society_rows.specs.Effects.{Writes, IsAllOrNothing, LeavesFirst, OnlyFails, OnlyFailsInside};
 ghost use Rattle.society_rows.specs.Forms.{IsRead, recording_forms};
 ghost use Rattle.society_rows.specs.Layout.{recordings};
+ghost use Rattle.society_rows.specs.Reads.{Lists, Reads, has_key};
 ghost use Rattle.society_rows.specs.Rows.{recording_values};
 ghost use Rattle.society_rows.specs.Stored.{HasLayout, Adds};
 ghost use Rattle.society_rows.specs.Between.{within};
@@ -12,7 +13,7 @@ ghost use Rattle.society_rows.specs.Between.{within};
 use crate::RowFault;
 use crate::pairing::{PairedRow, add_all};
 use crate::reading::{integer, text};
-use crate::statement::run;
+use crate::statement::{run, select};
 use sqlite::types::ToSql;
 use sqlite::{Alter, Row, Transaction};
 use sqlite_value::value::ValueRef;
@@ -127,4 +128,21 @@ pub fn add_recordings<S: Alter>(
     ensures told { within S.Store tx.old tx.new (OnlyFailsInside HasLayout) result }
 {
     add_all(tx, rows)
+}
+
+/// The recordings of a sender's works, by work, revision and ISRC.
+pub fn sender_recordings<S: Alter>(
+    tx: &mut Transaction<'_, S>,
+    sender: &[u8],
+) -> Result<Vec<Row>, RowFault>
+    ensures same_reference { tx.new.conn.ghost_name ≡ tx.old.conn.ghost_name }
+    ensures read { within S.Store tx.old tx.new Reads result
+        (λ db rows. Lists recordings (has_key (Text sender.now ∷ [])) 4 db rows.items) }
+    ensures told { within S.Store tx.old tx.new OnlyFails result }
+{
+    select(
+        tx,
+        "SELECT sender, work, revision, isrc FROM recordings WHERE sender = ?1 ORDER BY sender, work, revision, isrc",
+        &[ValueRef::Text(sender)],
+    )
 }

@@ -157,3 +157,20 @@ pub fn verdicts_of<S: Alter>(
         &[ValueRef::Text(sender), number.to_sql()],
     )
 }
+
+/// The verdicts of a sender, by number and place.
+pub fn sender_verdicts<S: Alter>(
+    tx: &mut Transaction<'_, S>,
+    sender: &[u8],
+) -> Result<Vec<Row>, RowFault>
+    ensures same_reference { tx.new.conn.ghost_name ≡ tx.old.conn.ghost_name }
+    ensures read { within S.Store tx.old tx.new Reads result
+        (λ db rows. Lists verdicts (has_key (Text sender.now ∷ [])) 3 db rows.items) }
+    ensures told { within S.Store tx.old tx.new OnlyFails result }
+{
+    select(
+        tx,
+        "SELECT sender, number, place, fault, ordinal, revision FROM verdicts WHERE sender = ?1 ORDER BY sender, number, place",
+        &[ValueRef::Text(sender)],
+    )
+}

@@ -175,3 +175,20 @@ pub fn last_version_of<S: Alter>(
         &[ValueRef::Text(sender), ValueRef::Text(work)],
     )
 }
+
+/// The versions of the works of a sender, by work and revision.
+pub fn sender_versions<S: Alter>(
+    tx: &mut Transaction<'_, S>,
+    sender: &[u8],
+) -> Result<Vec<Row>, RowFault>
+    ensures same_reference { tx.new.conn.ghost_name ≡ tx.old.conn.ghost_name }
+    ensures read { within S.Store tx.old tx.new Reads result
+        (λ db rows. Lists versions (has_key (Text sender.now ∷ [])) 3 db rows.items) }
+    ensures told { within S.Store tx.old tx.new OnlyFails result }
+{
+    select(
+        tx,
+        "SELECT sender, work, revision, number, place, ordinal FROM versions WHERE sender = ?1 ORDER BY sender, work, revision",
+        &[ValueRef::Text(sender)],
+    )
+}

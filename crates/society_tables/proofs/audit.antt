@@ -5,6 +5,5 @@ pub mod EntryRows
 pub mod EntrySenders
 pub mod AloneReads
 pub mod LineAudits
-pub mod SenderLists
 pub mod Mixed
 pub mod NobodyLines

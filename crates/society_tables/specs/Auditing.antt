@@ -1,34 +1,41 @@
 -- What an audit notes of rows whose bodies it does not keep.
-use Rattle.std.specs.Prelude.{if◌then◌else◌, None, is_some, ℕ, ◌≡◌, ◌≢◌, ◌≤◌, ◌||◌, map, filter, Bool, true, false, ◌&&◌, ◌==◌, List, [], ◌∷◌, ◌++◌, OnOk, Result, bytes_eq, length, pos, negsuc, zero}
+use Rattle.std.specs.Prelude.{if◌then◌else◌, None, is_ok, is_some, ℕ, ◌≡◌, ◌≢◌, ◌≤◌, ◌||◌, flat_map, map, filter, Bool, true, false, ◌&&◌, ◌==◌, List, [], ◌∷◌, ◌++◌, IsPermutation, OnOk, Result, length, pos, negsuc, zero, bytes_eq}
+use Rattle.std.specs.BTreeSet.{BTreeSet, contains}
 use Rattle.sqlite_value.specs.declared.value.Value.TheVariants.{Blob, Int, Text}
 use Rattle.sqlite_value.specs.declared.value.Value.{Value}
 use Rattle.sqlite_value.specs.Order.{Row, column}
 use Rattle.std.specs.List.{AllByRecursion, list_all}
 use Rattle.share_rules.specs.declared.office.Office.{Office}
+use Rattle.sqlite_schema.specs.declared.schema.Table.{Table}
 use Rattle.sqlite_trees.specs.Tree.{Trees}
 use Rattle.society_core.specs.Answers.{payer}
-use Rattle.society_core.specs.Book.{Book, is_applied, is_end_entry, is_entry, is_return_entry, order_at, return_at}
+use Rattle.society_core.specs.Book.{Book, front, is_applied, is_end_entry, is_entry, is_return_entry, order_at, return_at}
 use Rattle.society_core.specs.Ends.{number_past}
 use Rattle.society_core.specs.Orders.{Order}
 use Rattle.society_book.specs.Kept.{HoldsOwnBook}
-use Rattle.society_tables.specs.Opening.{Agree}
+use Rattle.society_tables.specs.declared.line_rows.SenderRows.{SenderRows}
 use Rattle.society_core.specs.Keys.{ascending, bytes_cmp}
 use Rattle.society_core.specs.declared.return_key.ReturnKey.{ReturnKey}
 use Rattle.society_rows.specs.Layout as layout
 use Rattle.society_rows.specs.Layout.{all_tables}
+use Rattle.society_rows.specs.Reads.{has_key}
 use Rattle.society_rows.specs.Stored.{AreNumbered, HasLayout, rows_in}
 use Rattle.society_rows.specs.declared.fault.RowFault.{RowFault}
 use Rattle.society_rows.specs.declared.tables.TableName.{TableName}
 use Rattle.society_rows.specs.declared.tables.TableName.TheVariants as name
 use Rattle.sqlite.specs.Effect.{Database}
 use Rattle.sqlite.specs.State.{HasCleanDisk, State}
-use Rattle.society_book.specs.Arriving.{SettlesRun}
 use Rattle.society_book.specs.BookRows.{end_of, is_end_row, is_return_row, is_transmission_row, return_key_of}
 use Rattle.society_book.specs.Columns.{HasRows, blob_at, segment_at, text_at, whole_number_at}
-use Rattle.society_book.specs.DerivedRows.{front_rows, is_named, knows_sender, tells_recordings, tells_verdict, tells_version, told_to_front}
-use Rattle.society_book.specs.Runs.{RunValue, is_among}
+use Rattle.society_book.specs.DerivedRows.{front_rows, is_named, knows_sender, tells_recordings, tells_verdict, tells_version, told_to_front, works_to}
+use Rattle.society_book.specs.Outcomes.{settled}
+use Rattle.society_book.specs.Runs.{RunValue, behind_run, is_among, settled_recordings, settled_run, settled_verdict, settled_version}
+use Rattle.society_book.specs.declared.outcomes.Outcome.{Outcome}
 use Rattle.society_book.specs.Sources.{HasTransmissions}
 use Rattle.work_ids.specs.Blanks.{fill, without_trailing_blanks}
+use Rattle.work_ids.specs.SenderKey.{sender_key_of}
+use Rattle.works_core.specs.Verdicts.{works_in}
+use Rattle.works_core.specs.Versions.{judged_of}
 
 -- whether a value is a text
 abbrev pub is_text : Value → Bool
@@ -118,17 +125,71 @@ pub record HasLines (office : Office) (book : Book) (of_these : List ℕ → Boo
   pub recordings : HasRows is_named (where_of of_these (told_to_front tells_recordings office book)) (rows_in layout.recordings db)
   pub numbered : AreNumbered layout.fronts db
 
--- the tables have what the transmissions of a sender's whole line tell, as it is noted
-abbrev pub SettlesLine : List ℕ → RunValue → Trees → Trees → Type 0
-SettlesLine sender run = SettlesRun sender [] run
+-- the rows of a sender
+abbrev pub of_sender : List ℕ → Row → Bool
+of_sender sender = has_key (Text sender ∷ [])
 
--- whether a tree is that of what was sent, stated or reported
-abbrev pub is_of_entries : ℕ → Bool
-is_of_entries tree = tree == layout.transmissions.tree || (tree == layout.segment_ends.tree || tree == layout.returns.tree)
+-- these are the rows that a table has of a sender, in any order
+abbrev pub HasRowsOf : Table → List ℕ → List Row → Trees → Type 0
+HasRowsOf table sender rows db = IsPermutation (filter (of_sender sender) (rows_in table db)) rows
 
--- the transmissions, the ends and the returns of one database, and every other table of another
+-- the rows that a database has of a sender are this front, and these of verdicts, of versions and of recordings, in any order
+pub record HasTold (sender : List ℕ) (front_row : Row) (judged told named : List Row) (db : Trees) : Type 0 where
+  pub fronts : HasRowsOf layout.fronts sender (front_row ∷ []) db
+  pub verdicts : HasRowsOf layout.verdicts sender judged db
+  pub versions : HasRowsOf layout.versions sender told db
+  pub recordings : HasRowsOf layout.recordings sender named db
+
+-- they are this front and what outcomes tell
+abbrev pub HasOutcomes : List ℕ → Row → List Outcome → Trees → Type 0
+HasOutcomes sender front_row outcomes =
+    HasTold sender front_row (map (λ x. settled_verdict sender (settled x)) outcomes) (flat_map (λ x. settled_version sender (settled x)) outcomes)
+    (flat_map (λ x. settled_recordings sender (settled x)) outcomes)
+
+-- they are what the transmissions of a sender's whole line tell, as it is noted
+abbrev pub HasRun : List ℕ → RunValue → Trees → Type 0
+HasRun sender run =
+    HasTold sender (Text sender ∷ Int (pos run.reached) ∷ Int (pos (works_in (judged_of (behind_run [] run.notes)))) ∷ []) (map (settled_verdict sender) (settled_run [] run.notes))
+    (flat_map (settled_version sender) (settled_run [] run.notes)) (flat_map (settled_recordings sender) (settled_run [] run.notes))
+
+-- they are what is derived of the sender's line
+abbrev pub HasLine : Office → Book → List ℕ → Trees → Type 0
+HasLine office book sender =
+    HasTold sender (Text sender ∷ Int (pos (front book sender)) ∷ Int (pos (works_to office book sender)) ∷ []) (told_to_front tells_verdict office book sender)
+    (told_to_front tells_version office book sender) (told_to_front tells_recordings office book sender)
+
+-- whether a row begins with a sender's key
+abbrev pub is_of_sender : Row → Bool
+is_of_sender row = is_text (column row 0) && is_ok (sender_key_of (text_at 0 row))
+
+-- whether it is that of one of these
+abbrev pub is_of_one : BTreeSet (List ℕ) → Row → Bool
+is_of_one senders row = is_of_sender row && contains bytes_cmp senders (text_at 0 row)
+
+-- one row more is gone over
+abbrev pub take_name : SenderRows → Row → SenderRows
+take_name gone row = record { senders = gone.senders; are_theirs = gone.are_theirs && is_of_one gone.senders row }
+
+-- each row begins with the text of one of these senders
+abbrev pub AreNamed : List (List ℕ) → List Row → Type 0
+AreNamed senders rows = AllByRecursion (λ row. (is_text (column row 0) ≡ true) × (is_among senders (text_at 0 row) ≡ true)) rows
+
+-- so do all rows of what is derived of senders' lines
+pub record AreLinesOf (senders : List (List ℕ)) (db : Trees) : Type 0 where
+  pub fronts : AreNamed senders (rows_in layout.fronts db)
+  pub verdicts : AreNamed senders (rows_in layout.verdicts db)
+  pub versions : AreNamed senders (rows_in layout.versions db)
+  pub recordings : AreNamed senders (rows_in layout.recordings db)
+
+-- whether a tree is that of what was sent, stated or reported, or of what is derived of senders' lines
+abbrev pub is_beside : ℕ → Bool
+is_beside tree =
+    tree == layout.transmissions.tree || (tree == layout.segment_ends.tree || (tree == layout.returns.tree || (tree == layout.fronts.tree
+    || (tree == layout.verdicts.tree || (tree == layout.versions.tree || tree == layout.recordings.tree)))))
+
+-- those tables of one database, and every other table of another
 abbrev pub mixed : Trees → Trees → Trees
-mixed entries others tree = if is_of_entries tree then entries tree else others tree
+mixed lines others tree = if is_beside tree then lines tree else others tree
 
 -- What a writing in a transaction of its own does to a connection that is in none: this change, where it is answered.
 pub record WritesAlone {X : Type 0} (Change : Database → Database → Type 0) (old new : State) (result : Result X RowFault) : Type 0 where
@@ -138,13 +199,9 @@ pub record WritesAlone {X : Type 0} (Change : Database → Database → Type 0) 
 abbrev pub KeepsUnreferred : Trees → Trees → Type 0
 KeepsUnreferred old new = AllByRecursion (λ t. t.tree ≢ layout.transmissions.tree → t.tree ≢ layout.returns.tree → new t.tree ≡ old t.tree) all_tables
 
--- the tables whose rows a pool is paid by, but for the bodies
-abbrev pub works_names : List TableName
-works_names = name.Versions ∷ name.Recordings ∷ []
-
--- every table but those of the office, of transmissions, of ends, of returns, of versions and of recordings
+-- every table but that of the office, and those that are read beside it
 abbrev pub money_names : List TableName
-money_names = name.Pools ∷ name.PoolCuts ∷ name.PoolReturns ∷ name.Fronts ∷ name.Verdicts ∷ name.Credits ∷ name.Balances ∷ name.MechanicalPools ∷ []
+money_names = name.Pools ∷ name.PoolCuts ∷ name.PoolReturns ∷ name.Credits ∷ name.Balances ∷ name.MechanicalPools ∷ []
 
 -- what an order names is open: the book has the return, and no pool pays it
 abbrev pub IsOpenReturn : Book → ReturnKey → Type 0
@@ -156,11 +213,10 @@ pub record IsClosable (book : Book) (pool : ℕ) (order : Order) : Type 0 where
   pub reached : list_all (is_applied book) order.cut ≡ true
   pub returns : AllByRecursion (IsOpenReturn book) order.returns
 
--- tables in memory that hold, beside the bodies of a database, a book of the office, and have its versions and recordings
+-- tables in memory that hold, beside the bodies and the lines of a database, a book of the office
 pub record HoldsAside (office : Office) (bodies : Trees) (memory : Database) : Type 0 where
   pub layout : HasLayout memory
   pub holds : HoldsOwnBook office (mixed bodies memory.trees)
-  pub works : Agree works_names memory.trees bodies
 
 -- tables in memory that did so do so still
 abbrev pub ClosesAside : Office → Trees → Database → Database → Type 0

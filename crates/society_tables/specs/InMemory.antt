@@ -36,6 +36,14 @@ OfMixed memory Says = (office : Office) (book : Book) (db : Trees) → HoldsBook
 abbrev pub TellsMixed : Database → Result Bool RowFault → (Book → Type 0) → Type 0
 TellsMixed memory result Says = HasLayout memory → IfOk result (λ told. IsTrue told → OfMixed memory Says)
 
+-- said of every book that any tables hold with the bodies and the lines of this database
+abbrev pub OfBeside : Trees → (Book → Type 0) → Type 0
+OfBeside db Says = (others : Trees) (office : Office) (book : Book) → HoldsBook office book (mixed db others) → Says book
+
+-- an answer of yes says this of each of them
+abbrev pub SaysBeside : (Book → Type 0) → Trees → Bool → Type 0
+SaysBeside Says db told = IsTrue told → OfBeside db Says
+
 -- an answer of yes says this of every book that the tables in memory hold with the bodies of this database
 abbrev pub SaysMixed : Database → (Book → Type 0) → Trees → Bool → Type 0
 SaysMixed memory Says db told = HasLayout memory → IsTrue told → (office : Office) (book : Book) → HoldsBook office book (mixed db memory.trees) → Says book

@@ -1,8 +1,10 @@
 //! An audit of a database with one body in memory at a time, which confirms what it can.
-ghost use Rattle.std.specs.Prelude.{IsTrue};
+ghost use Rattle.std.specs.Prelude.{◌≡◌, ℕ, IsTrue, List, Some, Vec};
+ghost use Rattle.std.specs.declared.alloc.Global.{Global};
 ghost use Rattle.society_book.specs.Sources.{HasTransmissions};
 ghost use Rattle.society_core.specs.Book.{Book};
-ghost use Rattle.society_tables.specs.Auditing.{AreEndsAbove, HoldsEntries, IsAbove};
+ghost use Rattle.society_rows.specs.Folds.{ReadsAlone};
+ghost use Rattle.society_tables.specs.Auditing.{AreEndsAbove, AreLinesOf, HoldsEntries, IsAbove};
 ghost use Rattle.society_tables.specs.Opening.{Inspects, HoldsNumbered};
 ghost use Rattle.society_rows.specs.Between.{between};
 ghost use Rattle.society_tables.specs.InMemory.{in_memory};
@@ -11,32 +13,29 @@ ghost use Rattle.society_tables.specs.LineSteps.{Confirms};
 use crate::Tables;
 use crate::audit_fault::AuditFault;
 use crate::comparing::{named_agree, rows_of_table};
-use crate::entries::entries_in;
-use crate::lines::put_lines;
+use crate::entries::{entries_in, set_of_senders};
+use crate::line_rows::are_lines_of;
+use crate::lines::lines_agree;
 use crate::money::close_all;
 use share_rules::Office;
 use society_book::number_past_of;
-use society_rows::{Found, Idle, SegmentEndRow, TableName, layout_found};
+use society_rows::{Found, Idle, RowFault, SegmentEndRow, TableName, layout_found};
 use sqlite::{Alter, MemStore, Row};
 use std::alloc::Global;
 use work_ids::{SegmentEnd, SenderKey};
 
-/// The tables whose rows a pool is paid by, but for the bodies.
-const WORKS_TABLES: [TableName; 2] = [TableName::Versions, TableName::Recordings];
-
-/// Every table but those of the office, of transmissions, of ends and of returns, and those two, which no pool changes.
-const MONEY_TABLES: [TableName; 8] = [
+/// Every table but that of the office, those of transmissions, of ends and of returns, and those of what is derived of lines.
+const MONEY_TABLES: [TableName; 6] = [
     TableName::Pools,
     TableName::PoolCuts,
     TableName::PoolReturns,
-    TableName::Fronts,
-    TableName::Verdicts,
     TableName::Credits,
     TableName::Balances,
     TableName::MechanicalPools,
 ];
 
-// That a database whose transmissions and returns may stand in a book has what its book gives, worked out in the tables of a new book in memory.
+// That a database whose transmissions and returns may stand in a book has what its book gives: of the lines by its own rows, of the pools
+// worked out in the tables of a new book in memory.
 fn lines_and_pools_agree<S: Alter>(
     alloc: Global,
     conn: &mut Idle<S>,
@@ -46,8 +45,7 @@ fn lines_and_pools_agree<S: Alter>(
 ) -> Result<(), AuditFault>
     ensures confirmed { between S.Store conn.old conn.new Inspects result (λ db _. Confirms office.now senders.now (in_memory memory.old) db) }
 {
-    put_lines(alloc, conn, memory, office, senders)?;
-    named_agree(conn, memory, &WORKS_TABLES)?;
+    lines_agree(alloc, conn, office, senders)?;
     close_all(alloc, conn, memory, office)?;
     named_agree(conn, memory, &MONEY_TABLES)
 }
@@ -79,6 +77,27 @@ fn ends_are_above<S: Alter>(conn: &mut Idle<S>) -> Result<(), AuditFault>
     Ok(())
 }
 
+// The senders of the transmissions and of the ends of a database; none where one of these or a return may not stand in a book, or a row of
+// what is derived of lines is of no such sender.
+fn known_senders<S: Alter>(
+    alloc: Global,
+    conn: &mut Idle<S>,
+) -> Result<Option<Vec<SenderKey>>, RowFault>
+    ensures read { between S.Store conn.old conn.new ReadsAlone result
+        (λ db found. (senders : Vec (List ℕ) Global) → found ≡ Some senders → HoldsEntries senders.items db × AreLinesOf senders.items db) }
+{
+    let Some(senders) = entries_in(alloc, conn)? else {
+        return Ok(None);
+    };
+    let listed = Vec::from_slice(alloc, senders.as_slice())?;
+    let set = set_of_senders(alloc, listed)?;
+    if are_lines_of(conn, set)? {
+        Ok(Some(senders))
+    } else {
+        Ok(None)
+    }
+}
+
 // That a database whose transmissions are of these senders has what its book gives.
 fn agrees_aside<S: Alter>(
     alloc: Global,
@@ -86,7 +105,7 @@ fn agrees_aside<S: Alter>(
     office: &Office,
     senders: &[SenderKey],
 ) -> Result<(), AuditFault>
-    ensures confirmed { between S.Store conn.old conn.new Inspects result (λ db _. HoldsEntries senders.now db → AreEndsAbove db → HoldsNumbered office.now db) }
+    ensures confirmed { between S.Store conn.old conn.new Inspects result (λ db _. HoldsEntries senders.now db → AreLinesOf senders.now db → AreEndsAbove db → HoldsNumbered office.now db) }
 {
     conn.see_last_commit();
     let tables = Tables::in_memory(alloc, office)?;
@@ -108,7 +127,7 @@ pub fn confirm<S: Alter>(
     let Found::Layout = layout_found(conn) else {
         return Err(AuditFault::Damaged);
     };
-    let Some(senders) = entries_in(alloc, conn)? else {
+    let Some(senders) = known_senders(alloc, conn)? else {
         return Err(AuditFault::Damaged);
     };
     ends_are_above(conn)?;

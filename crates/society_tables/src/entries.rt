@@ -201,8 +201,11 @@ fn set_of_returns(alloc: Global, keys: Vec<ReturnKey>) -> Result<BTreeSet<Return
     keys.into_iter().collect(alloc)
 }
 
-// The set of some senders.
-fn set_of_senders(alloc: Global, senders: Vec<SenderKey>) -> Result<BTreeSet<SenderKey>, AllocError>
+/// The set of some senders.
+pub(crate) fn set_of_senders(
+    alloc: Global,
+    senders: Vec<SenderKey>,
+) -> Result<BTreeSet<SenderKey>, AllocError>
     ensures { IfOk result (IsFromIterResult bytes_cmp senders.items) }
 {
     senders.into_iter().collect(alloc)

@@ -8,6 +8,7 @@ mod confirming;
 mod entries;
 mod fault;
 mod laws;
+mod line_rows;
 mod lines;
 mod money;
 mod open_fault;

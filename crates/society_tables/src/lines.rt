@@ -1,24 +1,27 @@
-//! What is derived of the transmissions of a database, worked out sender by sender and put into tables in memory; of the bodies one
-//! at a time is kept.
-ghost use Rattle.std.specs.Prelude.{◌≡◌, [], IfOk};
+//! What is derived of the transmissions of a database, worked out sender by sender and compared with its rows; of the bodies one at a
+//! time is kept, and of what is worked out a sender's.
+ghost use Rattle.std.specs.Prelude.{◌≡◌, ◌∷◌, [], flat_map, map, IfOk};
+ghost use Rattle.society_book.specs.Going.{IsWholeIn};
+ghost use Rattle.society_book.specs.Outcomes.{settled};
+ghost use Rattle.society_book.specs.Runs.{is_among, settled_recordings, settled_verdict, settled_version};
+ghost use Rattle.society_rows.specs.Between.{between};
+ghost use Rattle.society_rows.specs.Layout as layout;
 ghost use Rattle.society_rows.specs.Questions.{Asks};
 ghost use Rattle.society_rows.specs.Rows.{front_values};
-ghost use Rattle.society_tables.specs.Auditing.{SettlesLine, WritesAlone};
+ghost use Rattle.society_tables.specs.Auditing.{HasOutcomes, HasRowsOf, HasRun};
+ghost use Rattle.society_tables.specs.LineSteps.{FindsLine, FindsLines};
 ghost use Rattle.society_tables.specs.Opening.{Inspects};
-ghost use Rattle.society_book.specs.Arriving.{PutsOutcomes};
-ghost use Rattle.society_book.specs.Going.{IsWholeIn};
-ghost use Rattle.society_book.specs.Runs.{is_among};
 ghost use Rattle.works_core.specs.Ends.{EndsAt};
-ghost use Rattle.society_rows.specs.Between.{between};
-ghost use Rattle.society_tables.specs.InMemory.{in_memory};
-ghost use Rattle.society_tables.specs.LineSteps.{OfRows, PutsSender, PutsSenders};
 
 use crate::audit_fault::AuditFault;
-use crate::comparing::table_agrees;
+use crate::line_rows::{ToldRow, are_rows};
 use share_rules::Office;
-use society_book::{Outcome, Run, ascending_works, column_of, put_told, settle_run, whole_run};
-use society_rows::{FrontRow, Idle, RowFault, TableName};
-use sqlite::{Alter, MemStore};
+use society_book::{
+    Outcome, Run, ascending_works, column_of, recordings_by_key, settle_run, verdict_rows,
+    versions_by_key, whole_run,
+};
+use society_rows::{FrontRow, Idle, Question, RowFault, ask};
+use sqlite::Alter;
 use std::alloc::{AllocError, Global};
 use work_ids::{SenderKey, WorkNumber};
 use works_core::LineEnd;
@@ -50,30 +53,104 @@ fn end_of_none(alloc: Global, works: &[WorkNumber]) -> Result<LineEnd, AllocErro
     Ok(end)
 }
 
-// Puts a sender's front, and adds what its transactions tell, in a transaction of its own.
-fn write_line<S: Alter>(
+// That a database has of a sender this front; else `Damaged`.
+fn front_agrees<S: Alter>(conn: &mut Idle<S>, front: &FrontRow<'_>) -> Result<(), AuditFault>
+    ensures agrees { between S.Store conn.old conn.new Inspects result
+        (λ db _. HasRowsOf layout.fronts front.now.sender.now (front_values front.now ∷ []) db) }
+{
+    let rows = ask(conn, Question::Front(front.sender))?;
+    let [row] = rows.as_slice() else {
+        return Err(AuditFault::Damaged);
+    };
+    if front.is_row(row) {
+        Ok(())
+    } else {
+        Err(AuditFault::Damaged)
+    }
+}
+
+// That a database has of a sender the verdicts of these outcomes; else `Damaged`.
+fn verdicts_agree<S: Alter>(
+    alloc: Global,
+    conn: &mut Idle<S>,
+    sender: &[u8],
+    outcomes: &[Outcome<'_>],
+) -> Result<(), AuditFault>
+    ensures agrees { between S.Store conn.old conn.new Inspects result
+        (λ db _. HasRowsOf layout.verdicts sender.now (map (λ x. settled_verdict sender.now (settled x)) outcomes.now) db) }
+{
+    let rows = ask(conn, Question::SenderVerdicts(sender))?;
+    let wanted = verdict_rows(alloc, sender, outcomes)?;
+    if are_rows(rows.as_slice(), wanted.as_slice()) {
+        Ok(())
+    } else {
+        Err(AuditFault::Damaged)
+    }
+}
+
+// That a database has of a sender the versions that these outcomes are; else `Damaged`.
+fn versions_agree<S: Alter>(
+    alloc: Global,
+    conn: &mut Idle<S>,
+    sender: &[u8],
+    outcomes: &[Outcome<'_>],
+) -> Result<(), AuditFault>
+    ensures agrees { between S.Store conn.old conn.new Inspects result
+        (λ db _. HasRowsOf layout.versions sender.now (flat_map (λ x. settled_version sender.now (settled x)) outcomes.now) db) }
+{
+    let rows = ask(conn, Question::SenderVersions(sender))?;
+    let wanted = versions_by_key(alloc, sender, outcomes)?;
+    if are_rows(rows.as_slice(), wanted.as_slice()) {
+        Ok(())
+    } else {
+        Err(AuditFault::Damaged)
+    }
+}
+
+// That a database has of a sender the recordings of these outcomes; else `Damaged`.
+fn recordings_agree<S: Alter>(
+    alloc: Global,
+    conn: &mut Idle<S>,
+    sender: &[u8],
+    outcomes: &[Outcome<'_>],
+) -> Result<(), AuditFault>
+    ensures agrees { between S.Store conn.old conn.new Inspects result
+        (λ db _. HasRowsOf layout.recordings sender.now (flat_map (λ x. settled_recordings sender.now (settled x)) outcomes.now) db) }
+{
+    let rows = ask(conn, Question::SenderRecordings(sender))?;
+    let wanted = recordings_by_key(alloc, sender, outcomes)?;
+    if are_rows(rows.as_slice(), wanted.as_slice()) {
+        Ok(())
+    } else {
+        Err(AuditFault::Damaged)
+    }
+}
+
+// That a database has of a sender this front and what these outcomes tell; else `Damaged`.
+fn outcomes_agree<S: Alter>(
     alloc: Global,
     conn: &mut Idle<S>,
     front: &FrontRow<'_>,
     outcomes: &[Outcome<'_>],
-) -> Result<(), RowFault>
-    ensures written { between S.Store conn.old conn.new (WritesAlone (OfRows (PutsOutcomes (front_values front.now) front.now.sender.now outcomes.now))) result }
+) -> Result<(), AuditFault>
+    ensures agree { between S.Store conn.old conn.new Inspects result (λ db _. HasOutcomes front.now.sender.now (front_values front.now) outcomes.now db) }
 {
-    let mut tx = conn.connection.transaction();
-    put_told(alloc, &mut tx, front, outcomes)?;
-    tx.commit()?;
-    Ok(())
+    front_agrees(conn, front)?;
+    verdicts_agree(alloc, conn, front.sender, outcomes)?;
+    versions_agree(alloc, conn, front.sender, outcomes)?;
+    recordings_agree(alloc, conn, front.sender, outcomes)
 }
 
-// Puts what is derived of a sender's transmissions, as they are noted.
-fn settle_line<S: Alter>(
+// That a database has of a sender what its transmissions tell, as they are noted; else `Damaged`.
+fn run_agrees<S: Alter>(
     alloc: Global,
     conn: &mut Idle<S>,
     sender: &SenderKey,
     run: &Run,
-) -> Result<(), RowFault>
-    ensures settled { between S.Store conn.old conn.new (WritesAlone (OfRows (SettlesLine sender.now run.now))) result }
+) -> Result<(), AuditFault>
+    ensures agrees { between S.Store conn.old conn.new Inspects result (λ db _. HasRun sender.now run.now db) }
 {
+    conn.see_last_commit();
     let works = ascending_works(alloc, run.noted())?;
     let mut end = end_of_none(alloc, works.as_slice())?;
     let outcomes = settle_run(alloc, &mut end, run.noted())?;
@@ -82,37 +159,35 @@ fn settle_line<S: Alter>(
         front: run.reached(),
         works: column_of(end.works())?,
     };
-    write_line(alloc, conn, &row, outcomes.as_slice())
+    outcomes_agree(alloc, conn, &row, outcomes.as_slice())
 }
 
-// Puts what is derived of a sender's transmissions in a database into tables in memory.
-fn line_of<S: Alter>(
+// That a database has of a sender what is derived of its transmissions; else `Damaged`.
+fn line_agrees<S: Alter>(
     alloc: Global,
     conn: &mut Idle<S>,
-    memory: &mut Idle<MemStore>,
     office: &Office,
     sender: &SenderKey,
 ) -> Result<(), AuditFault>
-    ensures lined { between S.Store conn.old conn.new Inspects result (λ db _. PutsSender office.now sender.now (in_memory memory.old) (in_memory memory.new) db) }
+    ensures agrees { between S.Store conn.old conn.new Inspects result (λ db _. FindsLine office.now sender.now db) }
 {
     let run = run_of(alloc, conn, office, sender)?;
-    settle_line(alloc, memory, sender, &run)?;
-    Ok(())
+    run_agrees(alloc, conn, sender, &run)
 }
 
-/// Puts what is derived of the transmissions of these senders in a database into tables in memory.
-pub(crate) fn put_lines<S: Alter>(
+/// That a database has of each of these senders what is derived of its transmissions; else `Damaged`.
+pub(crate) fn lines_agree<S: Alter>(
     alloc: Global,
     conn: &mut Idle<S>,
-    memory: &mut Idle<MemStore>,
     office: &Office,
     senders: &[SenderKey],
 ) -> Result<(), AuditFault>
-    ensures lined { between S.Store conn.old conn.new Inspects result (λ db _. PutsSenders office.now senders.now (in_memory memory.old) (in_memory memory.new) db) }
+    ensures agree { between S.Store conn.old conn.new Inspects result (λ db _. FindsLines office.now senders.now db) }
 {
-    table_agrees(conn, memory, TableName::Office)?;
+    // An answer comes from an open connection alone.
+    ask(conn, Question::Office)?;
     for sender in senders {
-        line_of(alloc, conn, memory, office, sender)?;
+        line_agrees(alloc, conn, office, sender)?;
     }
     Ok(())
 }

@@ -11,7 +11,7 @@ ghost use Rattle.society_book.specs.Closings.{ClosesWith, PaysBy};
 ghost use Rattle.society_tables.specs.Opening.{Inspects};
 ghost use Rattle.society_book.specs.Steps.{LooksOpen};
 ghost use Rattle.society_rows.specs.Between.{between, within};
-ghost use Rattle.society_tables.specs.InMemory.{OfMixed, SaysMixed, TellsMixed, in_memory};
+ghost use Rattle.society_tables.specs.InMemory.{OfBeside, SaysBeside, SaysMixed, TellsMixed, in_memory};
 
 use crate::audit_fault::AuditFault;
 use crate::comparing::rows_of_table;
@@ -51,42 +51,31 @@ fn is_open_pool(memory: &mut Idle<MemStore>, pool: PoolNumber) -> Result<bool, R
     Ok(rows.as_slice().is_empty())
 }
 
-// A sender's front in tables in memory.
-fn front_beside(memory: &mut Idle<MemStore>, sender: &SenderKey) -> Result<u32, RowFault>
-    ensures front { HasLayout (in_memory memory.old) → IfOk result (λ n. OfMixed (in_memory memory.old) (λ book. n ≡ front book sender.now)) }
-    ensures same { in_memory memory.new ≡ in_memory memory.old }
+// A sender's front by the rows of a database.
+fn front_in<S: Alter>(conn: &mut Idle<S>, sender: &SenderKey) -> Result<u32, RowFault>
+    ensures asked { between S.Store conn.old conn.new Asks result (λ db n. OfBeside db (λ book. n ≡ front book sender.now)) }
 {
-    let rows = answered(memory, Question::Front(sender.as_bytes()))?;
+    let rows = ask(conn, Question::Front(sender.as_bytes()))?;
     shown_front(rows.as_slice())
 }
 
-// Whether a number of a cut is in its sender's line: its front is that of tables in memory, its ends are those of the database.
-fn is_reached<S: Alter>(
-    conn: &mut Idle<S>,
-    memory: &mut Idle<MemStore>,
-    key: &TransmissionKey,
-) -> Result<bool, AuditFault>
-    ensures reached { between S.Store conn.old conn.new Inspects result (SaysMixed (in_memory memory.old) (λ book. is_applied book key.now ≡ true)) }
-    ensures same { in_memory memory.new ≡ in_memory memory.old }
+// Whether a number of a cut is in its sender's line.
+fn is_reached<S: Alter>(conn: &mut Idle<S>, key: &TransmissionKey) -> Result<bool, RowFault>
+    ensures reached { between S.Store conn.old conn.new Asks result (SaysBeside (λ book. is_applied book key.now ≡ true)) }
 {
     let ends = ends_of(conn, key.sender.as_bytes())?;
-    let front = front_beside(memory, &key.sender)?;
+    let front = front_in(conn, &key.sender)?;
     Ok(ends.is_in_line(front, key.number))
 }
 
 // Whether each number of a cut is in its sender's line; asked of tables that are this office's.
-fn are_reached<S: Alter>(
-    conn: &mut Idle<S>,
-    memory: &mut Idle<MemStore>,
-    cut: &[TransmissionKey],
-) -> Result<bool, AuditFault>
-    ensures reached { between S.Store conn.old conn.new Inspects result (SaysMixed (in_memory memory.old) (λ book. list_all (is_applied book) cut.now ≡ true)) }
-    ensures same { in_memory memory.new ≡ in_memory memory.old }
+fn are_reached<S: Alter>(conn: &mut Idle<S>, cut: &[TransmissionKey]) -> Result<bool, AuditFault>
+    ensures reached { between S.Store conn.old conn.new Inspects result (SaysBeside (λ book. list_all (is_applied book) cut.now ≡ true)) }
 {
     // An answer comes from an open connection alone.
     ask(conn, Question::Office)?;
     for key in cut {
-        if !is_reached(conn, memory, key)? {
+        if !is_reached(conn, key)? {
             return Ok(false);
         }
     }
@@ -190,7 +179,8 @@ fn write_closed<S: Alter>(
     Ok(())
 }
 
-// Whether a pool can be closed by an order: it is not closed, its cut is reached and no pool pays its returns by tables in memory, and the tables have those.
+// Whether a pool can be closed by an order: by tables in memory it is not closed and no pool pays its returns; by those of the database its
+// cut is reached and the returns are there.
 fn is_closable<S: Alter>(
     conn: &mut Idle<S>,
     memory: &mut Idle<MemStore>,
@@ -207,7 +197,7 @@ fn is_closable<S: Alter>(
     if !is_open_pool(memory, pool)? {
         return Ok(false);
     }
-    are_reached(conn, memory, order.cut())
+    are_reached(conn, order.cut())
 }
 
 // Closes a pool by an order in tables in memory, with what it pays by the tables; `Damaged` where it cannot be closed.

@@ -149,6 +149,21 @@ pub const YEAR_BEGUN: &[Step] = &[
     Step::Ends(Segment::Plain, 1, 26),
 ];
 
+/// A registration and ten revisions, so that one revision has two digits.
+pub const REVISIONS: &[Step] = &[
+    Step::Put(1, File::Registered),
+    Step::Put(2, File::Revised),
+    Step::Put(3, File::Revised),
+    Step::Put(4, File::Revised),
+    Step::Put(5, File::Revised),
+    Step::Put(6, File::Revised),
+    Step::Put(7, File::Revised),
+    Step::Put(8, File::Revised),
+    Step::Put(9, File::Revised),
+    Step::Put(10, File::Revised),
+    Step::Put(11, File::Revised),
+];
+
 /// A registration that waits, one that does not, a return and a pool that pays it.
 pub const ONE_WAITS: &[Step] = &[
     Step::Put(3, File::Registered),

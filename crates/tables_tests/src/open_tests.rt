@@ -1,6 +1,8 @@
 //! Databases that are opened as the tables of an office, sound ones and empty ones.
 use crate::checks::{holds, told};
-use crate::left::{ONE_WAITS, Opened, left_by, office, opened};
+use crate::left::{
+    CLOSED_AT_A_CUT, ONE_WAITS, Opened, REVISIONS, YEAR_BEGUN, left_by, office, opened,
+};
 use society_core::Store;
 use society_rows::Idle;
 use society_tables::{AuditFault, OpenFault, Tables, confirm, open_after_crash, reopen};
@@ -98,6 +100,23 @@ fn a_sound_database_is_confirmed_with_a_body_in_memory_at_a_time(
     for (society, wanted) in [(900, true), (901, false), (900, true)] {
         let seen = is_confirmed(alloc, &mut conn, society)?;
         told(&rt, "whether it is confirmed", &seen, &wanted);
+    }
+    Ok(())
+}
+
+#[test]
+fn lines_of_each_kind_are_confirmed(rt: HostRuntime) -> Result<(), Fail> {
+    let alloc = rt.alloc();
+    for (row, steps) in [
+        ("files without works, a pool", CLOSED_AT_A_CUT),
+        ("a number of a year", YEAR_BEGUN),
+        ("revisions of one and of two digits", REVISIONS),
+    ] {
+        let Ok(mut conn) = Idle::new(left_by(alloc, steps)?) else {
+            return Err(Fail::new("no transaction"));
+        };
+        let seen = is_confirmed(alloc, &mut conn, 900)?;
+        told(&rt, row, &seen, &true);
     }
     Ok(())
 }

@@ -5,7 +5,9 @@ use Rattle.sqlite_value.specs.declared.keys.Collation.TheVariants.{Binary}
 use Rattle.sqlite_value.specs.declared.keys.Key.{Key}
 use Rattle.sqlite_value.specs.Keys.{ascending}
 use Rattle.sqlite_value.specs.Order.{Row}
-use Rattle.sqlite_sql.specs.Term.{Term, lit, col}
+use Rattle.sqlite_sql.specs.declared.ops.BinaryOp.TheVariants.{Compare}
+use Rattle.sqlite_sql.specs.declared.ops.CompareOp.TheVariants.{Eq}
+use Rattle.sqlite_sql.specs.Term.{Term, lit, col, op2}
 use Rattle.sqlite_schema.specs.declared.command.Command.TheVariants.{Insert}
 use Rattle.sqlite_schema.specs.declared.command.Source.TheVariants.{Values}
 use Rattle.sqlite_tied.specs.Compute.{everything}
@@ -13,7 +15,7 @@ use Rattle.sqlite.specs.Listing.{understood}
 use Rattle.sqlite.specs.State.{State, ExecutesInside, Shown}
 use Rattle.society_rows.specs.Layout.{written_out, recordings}
 use Rattle.society_rows.specs.Layouts.{HasTables}
-use Rattle.society_rows.specs.Reads.{Lists}
+use Rattle.society_rows.specs.Reads.{Lists, has_key}
 use Rattle.society_rows.specs.Rows.{recording_values}
 use Rattle.society_rows.specs.declared.recordings.RecordingRow.{RecordingRow}
 use Rattle.society_rows.specs.Stored.{HasLayout, Adds}
@@ -86,3 +88,18 @@ all_recordings_listing = record { shows = λ r. refl; tests = λ r. refl; orders
 pub all_recordings_lists : (old new : State) (rows : List Row) → HasTables 12 old.now → Shown all_recordings_text ([]) old new rows → Lists recordings (λ _. true) 4 old.now.trees rows
 unfolding written_out
 all_recordings_lists = lists_by recordings all_recordings_text ([]) project order shown_names all_recordings_is ([]) (λ _. true) 4 all_recordings_listing
+
+abbrev pub sender_recordings_text : List ℕ
+sender_recordings_text = codes "SELECT sender, work, revision, isrc FROM recordings WHERE sender = ?1 ORDER BY sender, work, revision, isrc"
+
+pub sender_recordings_is : IsQuery 12 sender_recordings_text 1 (picked 16 (op2 (Compare Eq Binary) (col 1 1) (col 0 0) ∷ []) project order) shown_names
+unfolding understood everything written_out
+sender_recordings_is = record { few = lit≤ tt; under = λ cuts payments more indexes. record { command = refl; plain = (refl, refl); unlisted = refl; single = (refl, refl) } }
+
+sender_recordings_listing : (sender : List ℕ) → IsListing recordings (op2 (Compare Eq Binary) (col 1 1) (col 0 0) ∷ []) project order (Text sender ∷ []) (has_key (Text sender ∷ [])) 4
+unfolding written_out
+sender_recordings_listing sender = record { shows = λ r. refl; tests = λ r. refl; orders = λ a b. refl }
+
+pub sender_recordings_lists : (sender : List ℕ) (old new : State) (rows : List Row) → HasTables 12 old.now → Shown sender_recordings_text (Text sender ∷ []) old new rows → Lists recordings (has_key (Text sender ∷ [])) 4 old.now.trees rows
+unfolding written_out
+sender_recordings_lists sender = lists_by recordings sender_recordings_text (op2 (Compare Eq Binary) (col 1 1) (col 0 0) ∷ []) project order shown_names sender_recordings_is (Text sender ∷ []) (has_key (Text sender ∷ [])) 4 (sender_recordings_listing sender)

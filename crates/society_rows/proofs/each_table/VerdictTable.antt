@@ -106,3 +106,18 @@ verdicts_of_listing sender number = record { shows = λ r. refl; tests = λ r. r
 pub verdicts_of_lists : (sender : List ℕ) (number : ℤ) (old new : State) (rows : List Row) → HasTables 12 old.now → Shown verdicts_of_text (Text sender ∷ Int number ∷ []) old new rows → Lists verdicts (has_key (Text sender ∷ Int number ∷ [])) 3 old.now.trees rows
 unfolding written_out
 verdicts_of_lists sender number = lists_by verdicts verdicts_of_text (op2 (Compare Eq Binary) (col 1 1) (col 0 0) ∷ op2 (Compare Eq Binary) (col 1 2) (col 0 1) ∷ []) project order shown_names verdicts_of_is (Text sender ∷ Int number ∷ []) (has_key (Text sender ∷ Int number ∷ [])) 3 (verdicts_of_listing sender number)
+
+abbrev pub sender_verdicts_text : List ℕ
+sender_verdicts_text = codes "SELECT sender, number, place, fault, ordinal, revision FROM verdicts WHERE sender = ?1 ORDER BY sender, number, place"
+
+pub sender_verdicts_is : IsQuery 12 sender_verdicts_text 1 (picked 12 (op2 (Compare Eq Binary) (col 1 1) (col 0 0) ∷ []) project order) shown_names
+unfolding understood everything written_out
+sender_verdicts_is = record { few = lit≤ tt; under = λ cuts payments more indexes. record { command = refl; plain = (refl, refl); unlisted = refl; single = (refl, refl) } }
+
+sender_verdicts_listing : (sender : List ℕ) → IsListing verdicts (op2 (Compare Eq Binary) (col 1 1) (col 0 0) ∷ []) project order (Text sender ∷ []) (has_key (Text sender ∷ [])) 3
+unfolding written_out
+sender_verdicts_listing sender = record { shows = λ r. refl; tests = λ r. refl; orders = λ a b. refl }
+
+pub sender_verdicts_lists : (sender : List ℕ) (old new : State) (rows : List Row) → HasTables 12 old.now → Shown sender_verdicts_text (Text sender ∷ []) old new rows → Lists verdicts (has_key (Text sender ∷ [])) 3 old.now.trees rows
+unfolding written_out
+sender_verdicts_lists sender = lists_by verdicts sender_verdicts_text (op2 (Compare Eq Binary) (col 1 1) (col 0 0) ∷ []) project order shown_names sender_verdicts_is (Text sender ∷ []) (has_key (Text sender ∷ [])) 3 (sender_verdicts_listing sender)

@@ -127,3 +127,18 @@ last_version_of_listing sender work = record { shows = λ r. refl; tests = λ r.
 pub last_version_of_shows : (sender : List ℕ) (work : List ℕ) (old new : State) (rows : List Row) → HasTables 12 old.now → Shown last_version_of_text (Text sender ∷ Text work ∷ []) old new rows → IsFirstOf versions (has_key (Text sender ∷ Text work ∷ [])) 3 old.now.trees rows
 unfolding written_out
 last_version_of_shows sender work = first_by versions last_version_of_text (op2 (Compare Eq Binary) (col 1 1) (col 0 0) ∷ op2 (Compare Eq Binary) (col 1 2) (col 0 1) ∷ []) project falling_order shown_names last_version_of_is (Text sender ∷ Text work ∷ []) (has_key (Text sender ∷ Text work ∷ [])) 3 (last_version_of_listing sender work)
+
+abbrev pub sender_versions_text : List ℕ
+sender_versions_text = codes "SELECT sender, work, revision, number, place, ordinal FROM versions WHERE sender = ?1 ORDER BY sender, work, revision"
+
+pub sender_versions_is : IsQuery 12 sender_versions_text 1 (picked 14 (op2 (Compare Eq Binary) (col 1 1) (col 0 0) ∷ []) project order) shown_names
+unfolding understood everything written_out
+sender_versions_is = record { few = lit≤ tt; under = λ cuts payments more indexes. record { command = refl; plain = (refl, refl); unlisted = refl; single = (refl, refl) } }
+
+sender_versions_listing : (sender : List ℕ) → IsListing versions (op2 (Compare Eq Binary) (col 1 1) (col 0 0) ∷ []) project order (Text sender ∷ []) (has_key (Text sender ∷ [])) 3
+unfolding written_out
+sender_versions_listing sender = record { shows = λ r. refl; tests = λ r. refl; orders = λ a b. refl }
+
+pub sender_versions_lists : (sender : List ℕ) (old new : State) (rows : List Row) → HasTables 12 old.now → Shown sender_versions_text (Text sender ∷ []) old new rows → Lists versions (has_key (Text sender ∷ [])) 3 old.now.trees rows
+unfolding written_out
+sender_versions_lists sender = lists_by versions sender_versions_text (op2 (Compare Eq Binary) (col 1 1) (col 0 0) ∷ []) project order shown_names sender_versions_is (Text sender ∷ []) (has_key (Text sender ∷ [])) 3 (sender_versions_listing sender)

@@ -1,46 +1,70 @@
--- What is derived of a sender's whole line, as it is put into tables that had nothing of it.
-use Rattle.std.proofs.Common.{◌≡◌, ◌≢◌, ◌∙◌, ◌++◌, ◌||◌, ℕ, pos, Bool, true, false, cond, List, [], ◌∷◌, refl, ap, ap₂, sym, subst, flat_map, filter, bytes_eq, IsPermutation}
-use Rattle.std.specs.List.{AllByRecursion}
-use Rattle.std.proofs.lemmas.List.{append-nil}
+-- What is derived of a sender's whole line, as the rows of a database have it.
+use Rattle.std.proofs.Common.{◌≡◌, ◌∙◌, ◌||◌, ◌&&◌, ℕ, ℤ, pos, Bool, true, false, cond, List, [], ◌∷◌, refl, ap, ap₂, sym, subst, flat_map, map, filter, fold, bytes_eq, IsPermutation}
+use Rattle.std.specs.BTreeSet.{BTreeSet, IsFromIterResult, contains}
+use Rattle.std.specs.List.{AllByRecursion, list_any}
+use Rattle.std.proofs.lemmas.Bool.{false≢true}
 use Rattle.std.proofs.lemmas.List.Concat.{flat_map_single}
-use Rattle.std.proofs.lemmas.List.Sorted.{IsPermutation-trans}
+use Rattle.std.proofs.lemmas.List.Sorted.{IsPermutation-refl, IsPermutation-sym}
 use Rattle.std.proofs.lemmas.Slice.Eq.{bytes_eq-Decides}
 use Rattle.share_rules.specs.declared.office.Office.{Office}
-use Rattle.sqlite_keyed.proofs.ListLemmas.{IsPermutation-filter}
-use Rattle.sqlite_trees.specs.Tree.{Trees}
-use Rattle.sqlite_value.specs.declared.value.Value.TheVariants.{Int, Text}
-use Rattle.sqlite_value.specs.Order.{Row}
-use Rattle.sender_segments.specs.Ways.{AreRight}
-use Rattle.society_core.specs.Book.{Book, ends_of, front, line}
-use Rattle.society_rows.specs.Layout as layout
-use Rattle.society_rows.specs.Stored.{put_over, rows_in}
-use Rattle.sqlite.specs.Effect.{Database}
+use Rattle.sqlite_keyed.proofs.ListLemmas.{all_weaker, flat_map-map, map-map}
+use Rattle.sqlite_schema.specs.Rules.{equal}
 use Rattle.sqlite_schema.specs.declared.schema.Table.{Table}
-use Rattle.society_rows.specs.Layout.{all_tables}
-use Rattle.society_book.proofs.lines.RunWrites.{both_of}
-use Rattle.society_tables.specs.Auditing.{HasLines, SettlesLine, where_of}
-use Rattle.society_book.specs.Columns.{HasRows, text_at}
-use Rattle.society_book.specs.Shown.{KeepsUnlined}
-use Rattle.society_book.specs.DerivedRows.{Telling, front_rows, knows_sender, is_named, tells_recordings, tells_verdict, tells_version, told_by, told_to_front, works_to}
-use Rattle.society_book.specs.Runs.{IsWhole, RunValue, Settled, behind_run, settled_recordings, settled_run, settled_verdict, settled_version}
-use Rattle.society_book.proofs.shown.FrontRows.{fronts_named}
+use Rattle.sqlite_trees.proofs.ListLemmas.{all-permutation, filter_same}
+use Rattle.sqlite_trees.specs.Tree.{Trees}
+use Rattle.sqlite_value.specs.declared.keys.Collation.TheVariants.{Binary}
+use Rattle.sqlite_value.specs.declared.value.Value.{Value}
+use Rattle.sqlite_value.specs.declared.value.Value.TheVariants.{Blob, Int, Null, Real, Text}
+use Rattle.sqlite_value.specs.Order.{Row, column}
+use Rattle.sender_segments.specs.Ways.{AreRight}
+use Rattle.society_core.specs.Book.{Book, ends_of, front}
+use Rattle.society_core.specs.Keys.{bytes_cmp}
+use Rattle.society_rows.specs.Folds.{HasTaken}
+use Rattle.society_rows.specs.Layout as layout
+use Rattle.society_rows.specs.Listings.{ListsAll}
+use Rattle.society_rows.specs.Reads.{Lists}
+use Rattle.society_rows.specs.Stored.{AreNumbered, rows_in}
+use Rattle.society_rows.specs.TableNames.{listing_width, table_called}
+use Rattle.society_rows.specs.declared.tables.TableName.{TableName}
+use Rattle.society_rows.specs.declared.tables.TableName.TheVariants as name
+use Rattle.society_book.specs.Columns.{HasRows, text_at, text_of}
+use Rattle.society_book.specs.DerivedRows.{Telling, front_rows, is_named, knows_sender, tells_recordings, tells_verdict, tells_version, told_by, told_to_front, works_to}
+use Rattle.society_book.specs.Outcomes.{settled}
+use Rattle.society_book.specs.Runs.{IsWhole, RunValue, Settled, behind_run, is_among, settled_recordings, settled_run, settled_verdict, settled_version}
+use Rattle.society_book.specs.declared.outcomes.Outcome.{Outcome}
+use Rattle.society_book.proofs.cuts.CutNotes.{any_bytes}
 use Rattle.society_book.proofs.lines.LineRows.{at_front, placed_over}
-use Rattle.society_tables.proofs.audit.NobodyLines.{line_of_nobody}
-use Rattle.society_book.proofs.rows_alike.NamedRows.{HasName}
-use Rattle.society_book.proofs.rows_alike.PutRows.{others_left}
-use Rattle.society_book.proofs.rows_alike.RowLemmas.{all_rows, more_rows}
 use Rattle.society_book.proofs.lines.RunLines.{IsSeen, run_behind, run_settled, sees_recordings, sees_verdict, sees_version}
-use Rattle.society_book.proofs.lines.RunTables.{Names, names_recordings, names_verdict, names_version, of_one, same_permutation, told_named}
+use Rattle.society_book.proofs.rows_alike.Equals.{texts_equal}
+use Rattle.society_book.proofs.rows_alike.KeyRows.{either_way, last_truth}
+use Rattle.society_book.proofs.shown.AskLemmas.{first_true, second_true}
+use Rattle.society_tables.proofs.alike.SameTables.{all_pass}
+use Rattle.society_tables.proofs.audit.NobodyLines.{line_of_nobody}
+use Rattle.society_tables.specs.Auditing.{AreLinesOf, AreNamed, HasLine, HasLines, HasOutcomes, HasRun, HasTold, is_of_one, is_of_sender, is_text, of_sender, take_name, where_of}
+use Rattle.society_tables.specs.declared.line_rows.SenderRows.{SenderRows}
 use Rattle.works_core.specs.Verdicts.{works_in}
 use Rattle.works_core.specs.Versions.{Placed, judged_of}
 
-last_or : (x : Bool) → (x || false) ≡ x
-last_or true = refl
-last_or false = refl
+-- ---- what is worked out of a run
 
-or_last : (x : Bool) → (x || true) ≡ true
-or_last true = refl
-or_last false = refl
+-- the same rows
+has_as : (s : List ℕ) (one other : Row) (a d b e c f : List Row) (db : Trees) → one ≡ other → a ≡ d → b ≡ e → c ≡ f → HasTold s one a b c db → HasTold s other d e f db
+has_as s one other a d b e c f db x y z w has =
+    subst (λ (l : List Row). HasTold s other d e l db) w
+    (subst (λ (l : List Row). HasTold s other d l c db) z
+    (subst (λ (l : List Row). HasTold s other l b c db) y
+    (subst (λ (r : Row). HasTold s r a b c db) x has)))
+
+-- where outcomes settle a run, their rows are what it tells
+pub has_run : (s q : List ℕ) (run : RunValue) (outcomes : List Outcome) (then works : ℕ) (z : ℤ) → q ≡ s → then ≡ run.reached → z ≡ pos works → works ≡ works_in (judged_of (behind_run [] run.notes)) → map settled outcomes ≡ settled_run [] run.notes
+    → (db : Trees) → HasOutcomes q (Text q ∷ Int (pos then) ∷ Int z ∷ []) outcomes db → HasRun s run db
+has_run s q run outcomes then works z name reached column_is are their db has =
+    has_as s _ _ _ _ _ _ _ _ db
+    (ap (λ (k : ℕ). Text s ∷ Int (pos k) ∷ Int z ∷ []) reached ∙ ap (λ (y : ℤ). Text s ∷ Int (pos run.reached) ∷ Int y ∷ []) (column_is ∙ ap pos are))
+    (sym (map-map (settled_verdict s) settled outcomes) ∙ ap (map (settled_verdict s)) their)
+    (sym (flat_map-map (settled_version s) settled outcomes) ∙ ap (flat_map (settled_version s)) their)
+    (sym (flat_map-map (settled_recordings s) settled outcomes) ∙ ap (flat_map (settled_recordings s)) their)
+    (subst (λ (x : List ℕ). HasOutcomes x (Text x ∷ Int (pos then) ∷ Int z ∷ []) outcomes db) name has)
 
 module _ (o : Office) (b : Book) (s : List ℕ) (run : RunValue) (whole : IsWhole o b s run) (right : AreRight (ends_of b s)) where
   told_is : (tells : Telling) (tell : List ℕ → Settled → List Row) → IsSeen o tells tell → flat_map (tell s) (settled_run [] run.notes) ≡ told_to_front tells o b s
@@ -51,127 +75,145 @@ module _ (o : Office) (b : Book) (s : List ℕ) (run : RunValue) (whole : IsWhol
   works_are =
       ap (λ (p : List Placed). works_in (judged_of p)) (run_behind o b s [] run.notes whole.each ∙ ap (placed_over o b s) whole.numbers ∙ sym (at_front o b s right))
 
-  module _ (of_these : List ℕ → Bool) (apart : of_these s ≡ false) where
-    abbrev then : List ℕ → Bool
-    then t = of_these t || bytes_eq s t
-
-    -- what another sender is to have is as it was
-    others : (expected : List ℕ → List Row) (t : List ℕ) → bytes_eq s t ≡ false → where_of then expected t ≡ where_of of_these expected t
-    others expected t is = ap (λ x. cond x (expected t) []) (ap (λ x. of_these t || x) is ∙ last_or (of_these t))
-
-    its_own : (expected : List ℕ → List Row) (t : List ℕ) → bytes_eq s t ≡ true → where_of then expected t ≡ expected t
-    its_own expected t is = ap (λ x. cond x (expected t) []) (ap (λ x. of_these t || x) is ∙ or_last (of_these t))
-
-    told_line : (tells : Telling) → Names tells → (old new : List Row) → HasRows is_named (where_of of_these (told_to_front tells o b)) old → IsPermutation (told_to_front tells o b s ++ old) new → HasRows is_named (where_of then (told_to_front tells o b)) new
-    told_line tells names old new has came =
-        more_rows is_named (where_of of_these (told_to_front tells o b)) (where_of then (told_to_front tells o b)) (told_to_front tells o b s) old new has grows came
-      where
-        grows : (t : List ℕ) → IsPermutation (where_of then (told_to_front tells o b) t) (filter (is_named t) (told_to_front tells o b s) ++ where_of of_these (told_to_front tells o b) t)
-        grows t = by_case (bytes_eq s t) refl (of_one s (told_to_front tells o b s) (told_named tells names o b s (line b s)) t)
-          where
-            by_case : (x : Bool) → bytes_eq s t ≡ x → filter (is_named t) (told_to_front tells o b s) ≡ cond (bytes_eq s t) (told_to_front tells o b s) [] → IsPermutation (where_of then (told_to_front tells o b) t) (filter (is_named t) (told_to_front tells o b s) ++ where_of of_these (told_to_front tells o b) t)
-            by_case true is left =
-                let same : s ≡ t = (bytes_eq-Decides s t).0 is in
-                same_permutation
-                (its_own (told_to_front tells o b) t is ∙ ap (told_to_front tells o b) (sym same)
-                ∙ sym (append-nil (told_to_front tells o b s))
-                ∙ sym (ap₂ ◌++◌ (left ∙ ap (λ x. cond x (told_to_front tells o b s) []) is) (ap (λ x. cond x (told_to_front tells o b t) []) (ap of_these (sym same) ∙ apart))))
-            by_case false is left =
-                same_permutation (others (told_to_front tells o b) t is ∙ sym (ap (λ l. l ++ where_of of_these (told_to_front tells o b) t) (left ∙ ap (λ x. cond x (told_to_front tells o b s) []) is)))
-
-    front_line : knows_sender b s ≡ true → (old new : List Row) → HasRows is_named (where_of of_these (front_rows o b)) old
-        → IsPermutation (put_over (Text s ∷ Int (pos run.reached) ∷ Int (pos (works_in (judged_of (behind_run [] run.notes)))) ∷ []) old) new → HasRows is_named (where_of then (front_rows o b)) new
-    front_line sent old new has put t =
-        let named = all_rows is_named (text_at 0) (λ r. (bytes_eq-Decides (text_at 0 r) (text_at 0 r)).1 refl) HasName (where_of of_these (front_rows o b)) old has named_where in
-        IsPermutation-trans (where_of then (front_rows o b) t) (filter (is_named t) (put_over row old)) (filter (is_named t) new)
-        (by_case (bytes_eq s t) refl (others_left s (Int (pos run.reached) ∷ Int (pos (works_in (judged_of (behind_run [] run.notes)))) ∷ []) old named t))
-        (IsPermutation-filter (is_named t) (put_over row old) new put)
-      where
-        row : Row
-        row = Text s ∷ Int (pos run.reached) ∷ Int (pos (works_in (judged_of (behind_run [] run.notes)))) ∷ []
-
-        named_where : (q : List ℕ) → AllByRecursion HasName (where_of of_these (front_rows o b) q)
-        named_where q = elim (of_these q) as (λ x. AllByRecursion HasName (cond x (front_rows o b q) [])) [ true ↦ fronts_named o b q | false ↦ tt ]
-
-        its_row : front_rows o b s ≡ row ∷ []
-        its_row =
-            ap (λ x. cond x ((Text s ∷ Int (pos (front b s)) ∷ Int (pos (works_to o b s)) ∷ []) ∷ []) []) sent
-            ∙ ap₂ (λ (f w : ℕ). (Text s ∷ Int (pos f) ∷ Int (pos w) ∷ []) ∷ []) (sym whole.reached) (sym works_are)
-
-        by_case : (x : Bool) → bytes_eq s t ≡ x → filter (is_named t) (put_over row old) ≡ cond (bytes_eq s t) (row ∷ []) (filter (is_named t) old) → IsPermutation (where_of then (front_rows o b) t) (filter (is_named t) (put_over row old))
-        by_case true is left =
-            same_permutation (its_own (front_rows o b) t is ∙ ap (front_rows o b) (sym ((bytes_eq-Decides s t).0 is)) ∙ its_row ∙ sym (left ∙ ap (λ x. cond x (row ∷ []) (filter (is_named t) old)) is))
-        by_case false is left =
-            IsPermutation-trans (where_of then (front_rows o b) t) (where_of of_these (front_rows o b) t) (filter (is_named t) (put_over row old))
-            (same_permutation (others (front_rows o b) t is))
-            (IsPermutation-trans (where_of of_these (front_rows o b) t) (filter (is_named t) old) (filter (is_named t) (put_over row old)) (has t)
-            (same_permutation (sym (left ∙ ap (λ x. cond x (row ∷ []) (filter (is_named t) old)) is))))
-
-    -- with what a sender's whole line tells, tables have what is derived of it too
-    pub line_more : knows_sender b s ≡ true → (old new : Trees) → SettlesLine s run old new → HasLines o b of_these old → HasLines o b then new
-    line_more sent old new settles lines = record {
-      fronts = front_line sent (rows_in layout.fronts old) (rows_in layout.fronts new) lines.fronts (settles.put lines.numbered);
-      verdicts =
-          told_line tells_verdict names_verdict (rows_in layout.verdicts old) (rows_in layout.verdicts new) lines.verdicts
-          (subst (λ (l : List Row). IsPermutation (l ++ rows_in layout.verdicts old) (rows_in layout.verdicts new)) (sym (flat_map_single (settled_verdict s) (settled_run [] run.notes)) ∙ told_is tells_verdict (λ q x. settled_verdict q x ∷ []) (sees_verdict o)) settles.verdicts);
-      versions =
-          told_line tells_version names_version (rows_in layout.versions old) (rows_in layout.versions new) lines.versions
-          (subst (λ (l : List Row). IsPermutation (l ++ rows_in layout.versions old) (rows_in layout.versions new)) (told_is tells_version settled_version (sees_version o)) settles.versions);
-      recordings =
-          told_line tells_recordings names_recordings (rows_in layout.recordings old) (rows_in layout.recordings new) lines.recordings
-          (subst (λ (l : List Row). IsPermutation (l ++ rows_in layout.recordings old) (rows_in layout.recordings new)) (told_is tells_recordings settled_recordings (sees_recordings o)) settles.recordings);
-      numbered = settles.numbered lines.numbered;
-    }
+  -- what the transmissions of a whole line tell is what is derived of it
+  pub has_line : (db : Trees) → HasRun s run db → HasLine o b s db
+  has_line db has =
+      has_as s _ _ _ _ _ _ _ _ db
+      (ap₂ (λ (f w : ℕ). Text s ∷ Int (pos f) ∷ Int (pos w) ∷ []) whole.reached works_are)
+      (sym (flat_map_single (settled_verdict s) (settled_run [] run.notes)) ∙ told_is tells_verdict (λ q x. settled_verdict q x ∷ []) (sees_verdict o))
+      (told_is tells_version settled_version (sees_version o))
+      (told_is tells_recordings settled_recordings (sees_recordings o)) has
 
 -- a sender of whom a book has nothing tells nothing
 pub nothing_told : (tells : Telling) (o : Office) (b : Book) (s : List ℕ) → knows_sender b s ≡ false → told_to_front tells o b s ≡ []
 nothing_told tells o b s none = ap (flat_map (told_by tells o b s)) (line_of_nobody b s none)
 
--- of all of whom the book has something, they have what is derived of all
-module _ (o : Office) (b : Book) (of_these : List ℕ → Bool) (are : (s : List ℕ) → of_these s ≡ knows_sender b s) (db : Trees) (lines : HasLines o b of_these db) where
-  told_all : (tells : Telling) (s : List ℕ) → where_of of_these (told_to_front tells o b) s ≡ told_to_front tells o b s
-  told_all tells s = by_case (knows_sender b s) refl (are s)
-    where
-      by_case : (x : Bool) → knows_sender b s ≡ x → of_these s ≡ knows_sender b s → where_of of_these (told_to_front tells o b) s ≡ told_to_front tells o b s
-      by_case true is same = ap (λ x. cond x (told_to_front tells o b s) []) (same ∙ is)
-      by_case false is same = ap (λ x. cond x (told_to_front tells o b s) []) (same ∙ is) ∙ sym (nothing_told tells o b s is)
+-- ---- the rows of all senders
 
-  fronts_all : (s : List ℕ) → where_of of_these (front_rows o b) s ≡ front_rows o b s
-  fronts_all s = by_case (knows_sender b s) refl (are s)
-    where
-      row : Row
-      row = Text s ∷ Int (pos (front b s)) ∷ Int (pos (works_to o b s)) ∷ []
+-- a value that is a text is its bytes
+text_form : (v : Value) → is_text v ≡ true → v ≡ Text (text_of v)
+text_form (Text bytes) is = refl
+text_form (Int n) is = absurd (false≢true is)
+text_form (Real x) is = absurd (false≢true is)
+text_form (Blob bytes) is = absurd (false≢true is)
+text_form Null is = absurd (false≢true is)
 
-      by_case : (x : Bool) → knows_sender b s ≡ x → of_these s ≡ knows_sender b s → cond (of_these s) (cond (knows_sender b s) (row ∷ []) []) [] ≡ cond (knows_sender b s) (row ∷ []) []
-      by_case true is same = ap (λ x. cond x (cond (knows_sender b s) (row ∷ []) []) []) (same ∙ is)
-      by_case false is same = ap (λ x. cond x (cond (knows_sender b s) (row ∷ []) []) []) (same ∙ is) ∙ sym (ap (λ x. cond x (row ∷ []) []) is)
+-- the rows of a sender, as SQL finds them, are those that begin with its text
+same_sender : (senders : List (List ℕ)) (s : List ℕ) (rows : List Row) → AreNamed senders rows → AllByRecursion (λ row. of_sender s row ≡ is_named s row) rows
+same_sender senders s [] named = tt
+same_sender senders s (row ∷ rows) named = (
+  last_truth (equal Binary (column row 0) (Text s)) ∙ ap (λ v. equal Binary v (Text s)) (text_form (column row 0) named.0.0) ∙ texts_equal (text_at 0 row) s,
+  same_sender senders s rows named.1,
+)
 
-  as_all : (wanted expected : List ℕ → List Row) (rows : List Row) → ((s : List ℕ) → wanted s ≡ expected s) → HasRows is_named wanted rows → HasRows is_named expected rows
-  as_all wanted expected rows same has s = subst (λ (l : List Row). IsPermutation l (filter (is_named s) rows)) (same s) (has s)
-
-  pub all_fronts : HasRows is_named (front_rows o b) (rows_in layout.fronts db)
-  all_fronts = as_all _ (front_rows o b) _ fronts_all lines.fronts
-
-  pub all_verdicts : HasRows is_named (told_to_front tells_verdict o b) (rows_in layout.verdicts db)
-  all_verdicts = as_all _ (told_to_front tells_verdict o b) _ (told_all tells_verdict) lines.verdicts
-
-  pub all_versions : HasRows is_named (told_to_front tells_version o b) (rows_in layout.versions db)
-  all_versions = as_all _ (told_to_front tells_version o b) _ (told_all tells_version) lines.versions
-
-  pub all_recordings : HasRows is_named (told_to_front tells_recordings o b) (rows_in layout.recordings db)
-  all_recordings = as_all _ (told_to_front tells_recordings o b) _ (told_all tells_recordings) lines.recordings
-
--- tables of which nothing changed but their lines
-pub unlined_same : (old new : Database) → new ≡ old → KeepsUnlined old.trees new.trees
-unlined_same old new same = each_same all_tables
+-- no row begins with the text of another
+unnamed : (senders : List (List ℕ)) (t : List ℕ) → is_among senders t ≡ false → (rows : List Row) → AreNamed senders rows → filter (is_named t) rows ≡ []
+unnamed senders t out [] named = refl
+unnamed senders t out (row ∷ rows) named = by_case (bytes_eq (text_at 0 row) t) refl (unnamed senders t out rows named.1)
   where
-    each_same : (ts : List Table) → AllByRecursion (λ t. t.tree ≢ layout.fronts.tree → t.tree ≢ layout.verdicts.tree → t.tree ≢ layout.versions.tree → t.tree ≢ layout.recordings.tree → new.trees t.tree ≡ old.trees t.tree) ts
-    each_same [] = tt
-    each_same (t ∷ ts) = (λ a b c d. ap (λ (db : Database). db.trees t.tree) same, each_same ts)
+    by_case : (x : Bool) → bytes_eq (text_at 0 row) t ≡ x → filter (is_named t) rows ≡ [] → cond x (row ∷ filter (is_named t) rows) (filter (is_named t) rows) ≡ []
+    by_case true is later = absurd (false≢true (sym out ∙ subst (λ (s : List ℕ). is_among senders s ≡ true) ((bytes_eq-Decides (text_at 0 row) t).0 is) named.0.1))
+    by_case false is later = later
 
-pub unlined_then : (old mid new : Trees) → KeepsUnlined old mid → KeepsUnlined mid new → KeepsUnlined old new
-unlined_then old mid new first second =
-    both_of (λ t. t.tree ≢ layout.fronts.tree → t.tree ≢ layout.verdicts.tree → t.tree ≢ layout.versions.tree → t.tree ≢ layout.recordings.tree → mid t.tree ≡ old t.tree)
-    (λ t. t.tree ≢ layout.fronts.tree → t.tree ≢ layout.verdicts.tree → t.tree ≢ layout.versions.tree → t.tree ≢ layout.recordings.tree → new t.tree ≡ mid t.tree)
-    (λ t. t.tree ≢ layout.fronts.tree → t.tree ≢ layout.verdicts.tree → t.tree ≢ layout.versions.tree → t.tree ≢ layout.recordings.tree → new t.tree ≡ old t.tree)
-    all_tables (λ t p q a b c d. q a b c d ∙ p a b c d) first second
+-- what holds of each of some senders holds of one that is among them
+of_each : (P : List ℕ → Type 0) (senders : List (List ℕ)) → AllByRecursion P senders → (s : List ℕ) → is_among senders s ≡ true → P s
+of_each P [] all s is = absurd (false≢true is)
+of_each P (x ∷ xs) all s is = by_case (bytes_eq x s) refl is (of_each P xs all.1 s)
+  where
+    by_case : (t : Bool) → bytes_eq x s ≡ t → (t || is_among xs s) ≡ true → (is_among xs s ≡ true → P s) → P s
+    by_case true same h later = subst P ((bytes_eq-Decides x s).0 same) all.0
+    by_case false other h later = later h
+
+-- where each row is of one of some senders, and those of each are what is expected of it, they have what is expected of all
+had : (senders : List (List ℕ)) (expected : List ℕ → List Row) (rows : List Row) → AreNamed senders rows → ((s : List ℕ) → is_among senders s ≡ true → IsPermutation (filter (of_sender s) rows) (expected s))
+    → HasRows is_named (where_of (is_among senders) expected) rows
+had senders expected rows named each t = by_case (is_among senders t) refl
+  where
+    same : filter (of_sender t) rows ≡ filter (is_named t) rows
+    same = filter_same (of_sender t) (is_named t) rows (same_sender senders t rows named)
+
+    by_case : (x : Bool) → is_among senders t ≡ x → IsPermutation (where_of (is_among senders) expected t) (filter (is_named t) rows)
+    by_case true is =
+        subst (λ (b : Bool). IsPermutation (cond b (expected t) []) (filter (is_named t) rows)) (sym is)
+        (IsPermutation-sym (filter (is_named t) rows) (expected t) (subst (λ (l : List Row). IsPermutation l (expected t)) same (each t is)))
+    by_case false is =
+        subst (λ (b : Bool). IsPermutation (cond b (expected t) []) (filter (is_named t) rows)) (sym is)
+        (subst (IsPermutation []) (sym (unnamed senders t is rows named)) (IsPermutation-refl []))
+
+-- with the lines of all these senders, and rows of no others, a database has what is derived of them
+pub has_lines : (o : Office) (b : Book) (senders : List (List ℕ)) (db : Trees) → AllByRecursion (λ s. knows_sender b s ≡ true) senders → AllByRecursion (λ s. HasLine o b s db) senders → AreLinesOf senders db → AreNumbered layout.fronts db → HasLines o b (is_among senders) db
+has_lines o b senders db known lines named numbered =
+    let its : (s : List ℕ) → is_among senders s ≡ true → HasLine o b s db = of_each (λ s. HasLine o b s db) senders lines in
+    record {
+      fronts = had senders (front_rows o b) (rows_in layout.fronts db) named.fronts
+          (λ s is. subst (λ (x : Bool). IsPermutation (filter (of_sender s) (rows_in layout.fronts db)) (cond x ((Text s ∷ Int (pos (front b s)) ∷ Int (pos (works_to o b s)) ∷ []) ∷ []) []))
+          (sym (of_each (λ q. knows_sender b q ≡ true) senders known s is)) (its s is).fronts);
+      verdicts = had senders (told_to_front tells_verdict o b) (rows_in layout.verdicts db) named.verdicts (λ s is. (its s is).verdicts);
+      versions = had senders (told_to_front tells_version o b) (rows_in layout.versions db) named.versions (λ s is. (its s is).versions);
+      recordings = had senders (told_to_front tells_recordings o b) (rows_in layout.recordings db) named.recordings (λ s is. (its s is).recordings);
+      numbered = numbered;
+    }
+
+-- ---- rows that were gone over
+
+-- where all are of the senders, they were so before, and each is
+pub all_theirs : (rows : List Row) (gone : SenderRows) → (fold take_name gone rows).are_theirs ≡ true → (gone.are_theirs ≡ true) × AllByRecursion (λ r. is_of_one gone.senders r ≡ true) rows
+all_theirs [] gone all = (all, tt)
+all_theirs (row ∷ rows) gone all =
+    let rest = all_theirs rows (take_name gone row) all in
+    (first_true gone.are_theirs (is_of_one gone.senders row) rest.0, (second_true gone.are_theirs (is_of_one gone.senders row) rest.0, rest.1))
+
+-- and the senders are the same
+pub same_senders : (rows : List Row) (gone : SenderRows) → (fold take_name gone rows).senders ≡ gone.senders
+same_senders [] gone = refl
+same_senders (row ∷ rows) gone = same_senders rows (take_name gone row)
+
+flipped : (name : List ℕ) (xs : List (List ℕ)) → list_any (bytes_eq name) xs ≡ is_among xs name
+flipped name [] = refl
+flipped name (x ∷ xs) = ap₂ (λ (a b : Bool). a || b) (either_way name x) (flipped name xs)
+
+named_row : (senders : List (List ℕ)) (set : BTreeSet (List ℕ)) → IsFromIterResult bytes_cmp senders set → (r : Row) → is_of_one set r ≡ true → (is_text (column r 0) ≡ true) × (is_among senders (text_at 0 r) ≡ true)
+named_row senders set made r is = (
+  first_true (is_text (column r 0)) _ (first_true (is_of_sender r) (contains bytes_cmp set (text_at 0 r)) is),
+  sym (flipped (text_at 0 r) senders) ∙ any_bytes (text_at 0 r) senders ∙ sym (made.0 (text_at 0 r)) ∙ second_true (is_of_sender r) (contains bytes_cmp set (text_at 0 r)) is,
+)
+
+-- all rows of a table, each of one of some senders
+pub named_rows : (senders : List (List ℕ)) (set : BTreeSet (List ℕ)) → IsFromIterResult bytes_cmp senders set → (table : Table) (width : ℕ) (db : Trees) (rows : List Row) → Lists table (λ _. true) width db rows
+    → AllByRecursion (λ r. is_of_one set r ≡ true) rows → AreNamed senders (rows_in table db)
+named_rows senders set made table width db rows lists all =
+    let Named : Row → Type 0 = λ r. (is_text (column r 0) ≡ true) × (is_among senders (text_at 0 r) ≡ true) in
+    let these : IsPermutation (rows_in table db) rows = subst (λ (l : List Row). IsPermutation l rows) (all_pass (rows_in table db)) lists.rows in
+    all-permutation Named rows (rows_in table db) (IsPermutation-sym (rows_in table db) rows these) (all_weaker (λ r. is_of_one set r ≡ true) Named (named_row senders set made) rows all)
+
+-- one table after another
+module _ (senders : List (List ℕ)) (set : BTreeSet (List ℕ)) (made : IsFromIterResult bytes_cmp senders set) (db : Trees) where
+  abbrev Taken : TableName → SenderRows → SenderRows → Type 0
+  Taken table before after = HasTaken take_name (ListsAll table db) before after
+
+  kept : (table : TableName) (before after : SenderRows) → Taken table before after → before.senders ≡ set → after.senders ≡ set
+  kept table before after taken is = ap (λ (x : SenderRows). x.senders) taken.folded ∙ same_senders taken.rows before ∙ is
+
+  theirs : (table : TableName) (before after : SenderRows) (taken : Taken table before after) → after.are_theirs ≡ true → (before.are_theirs ≡ true) × AllByRecursion (λ r. is_of_one before.senders r ≡ true) taken.rows
+  theirs table before after taken all = all_theirs taken.rows before (subst (λ (x : SenderRows). x.are_theirs ≡ true) taken.folded all)
+
+  named_in : (table : TableName) (before after : SenderRows) (taken : Taken table before after) → before.senders ≡ set → AllByRecursion (λ r. is_of_one before.senders r ≡ true) taken.rows → AreNamed senders (rows_in (table_called table) db)
+  named_in table before after taken is all =
+      named_rows senders set made (table_called table) (listing_width table) db taken.rows taken.these (subst (λ (x : BTreeSet (List ℕ)). AllByRecursion (λ r. is_of_one x r ≡ true) taken.rows) is all)
+
+  -- where all rows of the four tables are of these senders, all lines are
+  pub four_named : (one two three four last : SenderRows) → one.senders ≡ set → Taken name.Fronts one two → Taken name.Verdicts two three → Taken name.Versions three four → Taken name.Recordings four last → last.are_theirs ≡ true → AreLinesOf senders db
+  four_named one two three four last is a b c d all =
+      let its_two = kept name.Fronts one two a is in
+      let its_three = kept name.Verdicts two three b its_two in
+      let its_four = kept name.Versions three four c its_three in
+      let all_d = theirs name.Recordings four last d all in
+      let all_c = theirs name.Versions three four c all_d.0 in
+      let all_b = theirs name.Verdicts two three b all_c.0 in
+      let all_a = theirs name.Fronts one two a all_b.0 in
+      record {
+        fronts = named_in name.Fronts one two a is all_a.1;
+        verdicts = named_in name.Verdicts two three b its_two all_b.1;
+        versions = named_in name.Versions three four c its_three all_c.1;
+        recordings = named_in name.Recordings four last d its_four all_d.1;
+      }

@@ -19,7 +19,7 @@ use Rattle.society_rows.specs.Balances.{AddsUnits}
 use Rattle.society_rows.specs.Layout as layout
 use Rattle.society_rows.specs.Layout.{all_tables, written_out}
 use Rattle.society_rows.specs.Stored.{AreNumbered, HasLayout, rows_in}
-use Rattle.society_tables.specs.Auditing.{ClosesAside, IsClosable, IsOpenReturn, KeepsUnreferred, is_of_entries, mixed}
+use Rattle.society_tables.specs.Auditing.{ClosesAside, IsClosable, IsOpenReturn, KeepsUnreferred, is_beside, mixed}
 use Rattle.society_book.specs.Sources.{HasEnds, HoldsWorks, KeepsBodies}
 use Rattle.society_book.specs.Closings.{ClosesWith}
 use Rattle.society_book.specs.Columns.{HasRows, whole_number_at}
@@ -27,7 +27,7 @@ use Rattle.society_book.specs.DerivedRows.{balance_rows, balance_rows_by, credit
 use Rattle.society_book.specs.Kept.{HoldsOwnBook, HoldsBook}
 use Rattle.society_tables.specs.Opening.{Agree, every_name}
 use Rattle.society_tables.specs.Rebuilding.{without_pools}
-use Rattle.society_book.specs.Shown.{AddsEach, KeepsUnlined, ShowFront, ShowPayer, ShowPool}
+use Rattle.society_book.specs.Shown.{AddsEach, ShowFront, ShowPayer, ShowPool}
 use Rattle.sqlite_value.specs.declared.value.Value.TheVariants.{Int, Text}
 use Rattle.sender_segments.specs.Ways.{IsWithinEnd, StatedEnds, leads_to, numbers_up_to}
 use Rattle.society_core.proofs.Books.{front_fits, order_fits, sound_order}
@@ -55,7 +55,7 @@ use Rattle.society_core.specs.Book.{is_applied, is_pool_entry, return_at, with_p
 use Rattle.society_core.specs.Orders.{IsOrder, same_return_key}
 use Rattle.society_rows.specs.Reads.{ListsKeys}
 use Rattle.society_rows.specs.declared.tables.TableName.TheVariants as name
-use Rattle.society_tables.specs.Auditing.{money_names, works_names}
+use Rattle.society_tables.specs.Auditing.{money_names}
 use Rattle.society_book.specs.BookRows.{book_of}
 use Rattle.society_book.specs.Closings.{PaysBy}
 use Rattle.society_book.specs.Shown.{ShowKey}
@@ -66,7 +66,7 @@ use Rattle.society_book.proofs.money.Payments.{cut_reached}
 use Rattle.society_book.proofs.money.PoolHolds.{pool_holds}
 use Rattle.work_ids.specs.Numbers.{is_pool_number}
 use Rattle.society_book.proofs.lines.RunTables.{rows_kept}
-use Rattle.society_tables.proofs.alike.SameTables.{has_rows, holds_likewise}
+use Rattle.society_tables.proofs.alike.SameTables.{holds_likewise}
 use Rattle.work_ids.specs.Account.{account_text}
 
 -- such a database
@@ -75,7 +75,7 @@ mix bodies db = record { schema = db.schema; trees = mixed bodies db.trees }
 
 -- a tree that is the same is the same in it
 still : (bodies old new : Trees) (tree : ℕ) → new tree ≡ old tree → mixed bodies new tree ≡ mixed bodies old tree
-still bodies old new tree same = ap (λ (rows : List Row). cond (is_of_entries tree) (bodies tree) rows) same
+still bodies old new tree same = ap (λ (rows : List Row). cond (is_beside tree) (bodies tree) rows) same
 
 units_mixed : (bodies : Trees) (account : List ℕ) (units : ℤ) (old new : Database) → AddsUnits account units old new → AddsUnits account units (mix bodies old) (mix bodies new)
 unfolding written_out
@@ -118,28 +118,6 @@ closes_mixed bodies pool order credits old new closes = (
   each_mixed bodies closes.3 closes.1 new closes.5,
 )
 
--- the tables of an office that are not of senders' lines are as they were
-record KeepUnlined (old new : Trees) : Type 0 where
-  office : new layout.office.tree ≡ old layout.office.tree
-  pools : new layout.pools.tree ≡ old layout.pools.tree
-  pool_cuts : new layout.pool_cuts.tree ≡ old layout.pool_cuts.tree
-  pool_returns : new layout.pool_returns.tree ≡ old layout.pool_returns.tree
-  credits : new layout.credits_table.tree ≡ old layout.credits_table.tree
-  balances : new layout.balances.tree ≡ old layout.balances.tree
-  mechanical : new layout.mechanical_pools.tree ≡ old layout.mechanical_pools.tree
-
-kept_unlined : (old new : Trees) → KeepsUnlined old new → KeepUnlined old new
-unfolding all_tables written_out
-kept_unlined old new keeps = record {
-  office = keeps.0 (λ e. omega (arith, e)) (λ e. omega (arith, e)) (λ e. omega (arith, e)) (λ e. omega (arith, e));
-  pools = keeps.1.1.1.0 (λ e. omega (arith, e)) (λ e. omega (arith, e)) (λ e. omega (arith, e)) (λ e. omega (arith, e));
-  pool_cuts = keeps.1.1.1.1.0 (λ e. omega (arith, e)) (λ e. omega (arith, e)) (λ e. omega (arith, e)) (λ e. omega (arith, e));
-  pool_returns = keeps.1.1.1.1.1.0 (λ e. omega (arith, e)) (λ e. omega (arith, e)) (λ e. omega (arith, e)) (λ e. omega (arith, e));
-  credits = keeps.1.1.1.1.1.1.1.1.1.1.0 (λ e. omega (arith, e)) (λ e. omega (arith, e)) (λ e. omega (arith, e)) (λ e. omega (arith, e));
-  balances = keeps.1.1.1.1.1.1.1.1.1.1.1.0 (λ e. omega (arith, e)) (λ e. omega (arith, e)) (λ e. omega (arith, e)) (λ e. omega (arith, e));
-  mechanical = keeps.1.1.1.1.1.1.1.1.1.1.1.1.1.0 (λ e. omega (arith, e)) (λ e. omega (arith, e)) (λ e. omega (arith, e)) (λ e. omega (arith, e));
-}
-
 -- a book without pools pays nobody
 no_pool_pays : (o : Office) (b : Book) (account : List ℕ) → balance_rows o (without_pools b) account ≡ []
 no_pool_pays o b account =
@@ -158,46 +136,42 @@ credits_none o b rows had q =
 balances_none : (o : Office) (b : Book) (rows : List Row) → HasRows is_named (balance_rows o empty_book) rows → HasRows is_named (balance_rows o (without_pools b)) rows
 balances_none o b rows had q = subst (λ (l : List Row). IsPermutation l (filter (is_named q) rows)) (no_pool_pays o empty_book q ∙ sym (no_pool_pays o b q)) (had q)
 
--- tables of a new book that then have the lines of a book, beside its bodies, hold that book without its pools
-pub begun_mixed : (o : Office) (b : Book) (bodies first then : Trees) → IsSound (without_pools b) → KeepsBodies b bodies → HasEnds b bodies → HoldsBook o empty_book first → KeepsUnlined first then
-    → HasRows is_named (front_rows o b) (rows_in layout.fronts then) → HasRows is_named (told_to_front tells_verdict o b) (rows_in layout.verdicts then) → HasRows is_named (told_to_front tells_version o b) (rows_in layout.versions then)
-    → HasRows is_named (told_to_front tells_recordings o b) (rows_in layout.recordings then) → AreNumbered layout.fronts then → HoldsBook o (without_pools b) (mixed bodies then)
+-- tables of a new book, beside the bodies of a database and the lines of its book, hold that book without its pools
+pub begun_mixed : (o : Office) (b : Book) (bodies first : Trees) → IsSound (without_pools b) → KeepsBodies b bodies → HasEnds b bodies → HoldsBook o empty_book first
+    → HasRows is_named (front_rows o b) (rows_in layout.fronts bodies) → HasRows is_named (told_to_front tells_verdict o b) (rows_in layout.verdicts bodies) → HasRows is_named (told_to_front tells_version o b) (rows_in layout.versions bodies)
+    → HasRows is_named (told_to_front tells_recordings o b) (rows_in layout.recordings bodies) → AreNumbered layout.fronts bodies → HoldsBook o (without_pools b) (mixed bodies first)
 unfolding line written_out
-begun_mixed o b bodies first then sound kept stated empty keeps fronts verdicts versions recordings numbered =
-    let same = kept_unlined first then keeps in
+begun_mixed o b bodies first sound kept stated empty fronts verdicts versions recordings numbered =
     record {
-      registered = rows_kept layout.office first then same.office ∙ empty.registered;
+      registered = empty.registered;
       sound = sound;
       kept = record {
         transmissions = kept.transmissions;
         returns = kept.returns;
-        pools = subst (HasRows _ _) (sym (rows_kept layout.pools first then same.pools)) empty.kept.pools;
-        cuts = subst (HasRows _ _) (sym (rows_kept layout.pool_cuts first then same.pool_cuts)) empty.kept.cuts;
-        paid = subst (HasRows _ _) (sym (rows_kept layout.pool_returns first then same.pool_returns)) empty.kept.paid;
+        pools = empty.kept.pools;
+        cuts = empty.kept.cuts;
+        paid = empty.kept.paid;
         ends = stated;
-        mechanical = subst (HasRows _ _) (sym (rows_kept layout.mechanical_pools first then same.mechanical)) empty.kept.mechanical;
+        mechanical = empty.kept.mechanical;
       };
       derived = record {
         fronts = fronts;
         verdicts = verdicts;
         versions = versions;
         recordings = recordings;
-        credits = credits_none o b (rows_in layout.credits_table then) (subst (HasRows _ _) (sym (rows_kept layout.credits_table first then same.credits)) empty.derived.credits);
-        balances = balances_none o b (rows_in layout.balances then) (subst (HasRows _ _) (sym (rows_kept layout.balances first then same.balances)) empty.derived.balances);
+        credits = credits_none o b (rows_in layout.credits_table first) empty.derived.credits;
+        balances = balances_none o b (rows_in layout.balances first) empty.derived.balances;
       };
-      numbered = (numbered, subst (AllByRecursion _) (sym same.balances) empty.numbered.1);
+      numbered = (numbered, empty.numbered.1);
     }
 
--- where they hold a book, the database of the bodies has what a pool is paid by, if its versions and recordings are theirs
-pub works_mixed : (o : Office) (b : Book) (bodies others : Trees) → HoldsBook o b (mixed bodies others) → IsPermutation (rows_in layout.versions others) (rows_in layout.versions bodies) → IsPermutation (rows_in layout.recordings others) (rows_in layout.recordings bodies) → HoldsWorks o b bodies
+-- where they hold a book, the database of the bodies has what a pool is paid by
+pub works_mixed : (o : Office) (b : Book) (bodies others : Trees) → HoldsBook o b (mixed bodies others) → HoldsWorks o b bodies
 unfolding written_out
-works_mixed o b bodies others holds versions recordings = record {
+works_mixed o b bodies others holds = record {
   sound = holds.sound;
   kept = record { transmissions = holds.kept.transmissions; returns = holds.kept.returns };
-  derived = record {
-    versions = has_rows _ _ _ _ holds.derived.versions versions;
-    recordings = has_rows _ _ _ _ holds.derived.recordings recordings;
-  };
+  derived = record { versions = holds.derived.versions; recordings = holds.derived.recordings };
 }
 
 -- ---- what is found in either
@@ -223,7 +197,7 @@ pub pool_open : (o : Office) (b : Book) (bodies others : Trees) → HoldsBook o 
 pool_open o b bodies others holds pool found lists none = pool_free o b bodies others holds pool (subst (Lists layout.pools (has_key (Int (pos pool) ∷ [])) 1 others) none lists)
 
 -- what is found of a sender's front shows it
-pub front_shown : (o : Office) (b : Book) (bodies others : Trees) → HoldsBook o b (mixed bodies others) → (s : List ℕ) (found : List Row) → Lists layout.fronts (has_key (Text s ∷ [])) 1 others found → ShowFront (front b s) found
+pub front_shown : (o : Office) (b : Book) (bodies others : Trees) → HoldsBook o b (mixed bodies others) → (s : List ℕ) (found : List Row) → Lists layout.fronts (has_key (Text s ∷ [])) 1 bodies found → ShowFront (front b s) found
 unfolding written_out
 front_shown o b bodies others holds s found lists = front_found o b (mixed bodies others) holds s found (record { rows = lists.rows; sorted = lists.sorted })
 
@@ -296,33 +270,24 @@ some_pays pool e = cc
 -- with an order whose cut is reached, and whose returns are open, they hold the book with its pool
 pub closed_mixed : (o : Office) (bodies : Trees) (pool : ℕ) (order : Order) (credits : List Credit) (old new : Database) → HoldsOwnBook o (mixed bodies old.trees) → is_pool_number pool ≡ true → IsOrder order
     → order_at (book_of (mixed bodies old.trees)) pool ≡ None → list_all (is_applied (book_of (mixed bodies old.trees))) order.cut ≡ true
-    → AllByRecursion (IsOpenReturn (book_of (mixed bodies old.trees))) order.returns → IsPermutation (rows_in layout.versions old.trees) (rows_in layout.versions bodies) → IsPermutation (rows_in layout.recordings old.trees) (rows_in layout.recordings bodies)
-    → PaysBy o order bodies credits → ClosesWith pool order credits old new → HoldsOwnBook o (mixed bodies new.trees)
-closed_mixed o bodies pool order credits old new holds number is free reached are versions recordings pays closes =
+    → AllByRecursion (IsOpenReturn (book_of (mixed bodies old.trees))) order.returns → PaysBy o order bodies credits → ClosesWith pool order credits old new → HoldsOwnBook o (mixed bodies new.trees)
+closed_mixed o bodies pool order credits old new holds number is free reached are pays closes =
     let b = book_of (mixed bodies old.trees) in
     let entry : is_pool_entry b pool order ≡ true =
     both_hold (is_pool_number pool && list_all (is_applied b) order.cut) (list_all (λ key. is_some (return_at b key)) order.returns)
     (both_hold (is_pool_number pool) (list_all (is_applied b) order.cut) number reached) (all_returned b order.returns are) in
-    let same : credits ≡ credits_of o b order = pays b (works_mixed o b bodies old.trees holds versions recordings) (cut_reached b pool order entry) in
+    let same : credits ≡ credits_of o b order = pays b (works_mixed o b bodies old.trees holds) (cut_reached b pool order entry) in
     holds_own o (with_pool b pool order) (mixed bodies new.trees)
     (pool_holds o b pool order free entry (mix bodies old) (mix bodies new) holds is
     (λ other another key there names also. some_pays other (sym (none_named b order.returns are key names) ∙ pays_of b key holds.sound other another there also))
     (subst (λ (cs : List Credit). ClosesWith pool order cs (mix bodies old) (mix bodies new)) same (closes_mixed bodies pool order credits old new closes)))
 
--- the rows of versions and of recordings are as they were
-pub works_still : (pool : ℕ) (order : Order) (credits : List Credit) (old new : Database) → ClosesWith pool order credits old new → (rows_in layout.versions new.trees ≡ rows_in layout.versions old.trees) × (rows_in layout.recordings new.trees ≡ rows_in layout.recordings old.trees)
-unfolding all_tables written_out
-works_still pool order credits old new closes = (
-  rows_kept layout.versions old.trees new.trees (closes.0.others.1.1.1.1.1.1.1.1.0 (λ e. omega (arith, e)) (λ e. omega (arith, e)) (λ e. omega (arith, e)) (λ e. omega (arith, e)) (λ e. omega (arith, e)) (λ e. omega (arith, e))),
-  rows_kept layout.recordings old.trees new.trees (closes.0.others.1.1.1.1.1.1.1.1.1.0 (λ e. omega (arith, e)) (λ e. omega (arith, e)) (λ e. omega (arith, e)) (λ e. omega (arith, e)) (λ e. omega (arith, e)) (λ e. omega (arith, e))),
-)
-
 -- where all other tables agree with those of the database of the bodies, that holds the book too
-pub whole_mixed : (o : Office) (bodies others : Trees) → HoldsOwnBook o (mixed bodies others) → Agree works_names others bodies → Agree (name.Office ∷ money_names) others bodies → AreNumbered layout.fronts bodies × AreNumbered layout.balances bodies → HoldsOwnBook o bodies
+pub whole_mixed : (o : Office) (bodies others : Trees) → HoldsOwnBook o (mixed bodies others) → Agree (name.Office ∷ money_names) others bodies → AreNumbered layout.fronts bodies × AreNumbered layout.balances bodies → HoldsOwnBook o bodies
 unfolding written_out
-whole_mixed o bodies others holds works agree numbered =
+whole_mixed o bodies others holds agree numbered =
     holds_likewise o (mixed bodies others) bodies holds
-    (agree.0, (IsPermutation-refl (rows_in layout.transmissions bodies), (IsPermutation-refl (rows_in layout.returns bodies), (agree.1.0, (agree.1.1.0, (agree.1.1.1.0, (agree.1.1.1.1.0, (agree.1.1.1.1.1.0, (works.0, (works.1.0, (agree.1.1.1.1.1.1.0, (agree.1.1.1.1.1.1.1.0, (IsPermutation-refl (rows_in layout.segment_ends bodies), (agree.1.1.1.1.1.1.1.1.0, tt))))))))))))))
+    (agree.0, (IsPermutation-refl (rows_in layout.transmissions bodies), (IsPermutation-refl (rows_in layout.returns bodies), (agree.1.0, (agree.1.1.0, (agree.1.1.1.0, (IsPermutation-refl (rows_in layout.fronts bodies), (IsPermutation-refl (rows_in layout.verdicts bodies), (IsPermutation-refl (rows_in layout.versions bodies), (IsPermutation-refl (rows_in layout.recordings bodies), (agree.1.1.1.1.0, (agree.1.1.1.1.1.0, (IsPermutation-refl (rows_in layout.segment_ends bodies), (agree.1.1.1.1.1.1.0, tt))))))))))))))
     numbered
 
 -- one more of a list has it too
@@ -334,14 +299,9 @@ one_more {X} P xs i d x within is before here =
 pub closed_aside : (o : Office) (bodies : Trees) (pool : ℕ) (order : Order) (credits : List Credit) (old new : Database) → is_pool_number pool ≡ true → IsOrder order → HasLayout new → IsClosable (book_of (mixed bodies old.trees)) pool order
     → PaysBy o order bodies credits → ClosesWith pool order credits old new → ClosesAside o bodies old new
 closed_aside o bodies pool order credits old new number is laid can pays closes aside =
-    let still = works_still pool order credits old new closes in
     record {
       layout = laid;
-      holds = closed_mixed o bodies pool order credits old new aside.holds number is can.is_free can.reached can.returns aside.works.0 aside.works.1.0 pays closes;
-      works = (
-        subst (λ (rows : List Row). IsPermutation rows (rows_in layout.versions bodies)) (sym still.0) aside.works.0,
-        (subst (λ (rows : List Row). IsPermutation rows (rows_in layout.recordings bodies)) (sym still.1) aside.works.1.0, tt),
-      );
+      holds = closed_mixed o bodies pool order credits old new aside.holds number is can.is_free can.reached can.returns pays closes;
     }
 
 -- ---- transmissions and returns that are added aside
@@ -352,10 +312,6 @@ record KeepUnreferred (old new : Trees) : Type 0 where
   pools : new layout.pools.tree ≡ old layout.pools.tree
   pool_cuts : new layout.pool_cuts.tree ≡ old layout.pool_cuts.tree
   pool_returns : new layout.pool_returns.tree ≡ old layout.pool_returns.tree
-  fronts : new layout.fronts.tree ≡ old layout.fronts.tree
-  verdicts : new layout.verdicts.tree ≡ old layout.verdicts.tree
-  versions : new layout.versions.tree ≡ old layout.versions.tree
-  recordings : new layout.recordings.tree ≡ old layout.recordings.tree
   credits : new layout.credits_table.tree ≡ old layout.credits_table.tree
   balances : new layout.balances.tree ≡ old layout.balances.tree
   mechanical : new layout.mechanical_pools.tree ≡ old layout.mechanical_pools.tree
@@ -367,10 +323,6 @@ kept_unreferred old new keeps = record {
   pools = keeps.1.1.1.0 (λ e. omega (arith, e)) (λ e. omega (arith, e));
   pool_cuts = keeps.1.1.1.1.0 (λ e. omega (arith, e)) (λ e. omega (arith, e));
   pool_returns = keeps.1.1.1.1.1.0 (λ e. omega (arith, e)) (λ e. omega (arith, e));
-  fronts = keeps.1.1.1.1.1.1.0 (λ e. omega (arith, e)) (λ e. omega (arith, e));
-  verdicts = keeps.1.1.1.1.1.1.1.0 (λ e. omega (arith, e)) (λ e. omega (arith, e));
-  versions = keeps.1.1.1.1.1.1.1.1.0 (λ e. omega (arith, e)) (λ e. omega (arith, e));
-  recordings = keeps.1.1.1.1.1.1.1.1.1.0 (λ e. omega (arith, e)) (λ e. omega (arith, e));
   credits = keeps.1.1.1.1.1.1.1.1.1.1.0 (λ e. omega (arith, e)) (λ e. omega (arith, e));
   balances = keeps.1.1.1.1.1.1.1.1.1.1.1.0 (λ e. omega (arith, e)) (λ e. omega (arith, e));
   mechanical = keeps.1.1.1.1.1.1.1.1.1.1.1.1.1.0 (λ e. omega (arith, e)) (λ e. omega (arith, e));
@@ -395,13 +347,13 @@ same_mixed bodies old new same = (
           (
             alike layout.pool_returns old new same.pool_returns,
             (
-              alike layout.fronts old new same.fronts,
+              IsPermutation-refl (rows_in layout.fronts bodies),
               (
-                alike layout.verdicts old new same.verdicts,
+                IsPermutation-refl (rows_in layout.verdicts bodies),
                 (
-                  alike layout.versions old new same.versions,
+                  IsPermutation-refl (rows_in layout.versions bodies),
                   (
-                    alike layout.recordings old new same.recordings,
+                    IsPermutation-refl (rows_in layout.recordings bodies),
                     (
                       alike layout.credits_table old new same.credits,
                       (alike layout.balances old new same.balances, (IsPermutation-refl (rows_in layout.segment_ends bodies), (alike layout.mechanical_pools old new same.mechanical, tt))),
@@ -419,7 +371,7 @@ same_mixed bodies old new same = (
 
 numbered_mixed : (bodies old new : Trees) → KeepUnreferred old new → AreNumbered layout.fronts (mixed bodies old) × AreNumbered layout.balances (mixed bodies old) → AreNumbered layout.fronts (mixed bodies new) × AreNumbered layout.balances (mixed bodies new)
 unfolding written_out
-numbered_mixed bodies old new same numbered = (subst (AllByRecursion _) (sym same.fronts) numbered.0, subst (AllByRecursion _) (sym same.balances) numbered.1)
+numbered_mixed bodies old new same numbered = (numbered.0, subst (AllByRecursion _) (sym same.balances) numbered.1)
 
 -- so they leave tables that hold a book aside
 pub referred_aside : (o : Office) (bodies : Trees) (old new : Database) → HasLayout new → KeepsUnreferred old.trees new.trees → ClosesAside o bodies old new
@@ -428,8 +380,4 @@ referred_aside o bodies old new laid keeps aside =
     record {
       layout = laid;
       holds = holds_likewise o (mixed bodies old.trees) (mixed bodies new.trees) aside.holds (same_mixed bodies old.trees new.trees same) (numbered_mixed bodies old.trees new.trees same aside.holds.numbered);
-      works = (
-        subst (λ (rows : List Row). IsPermutation rows (rows_in layout.versions bodies)) (sym (rows_kept layout.versions old.trees new.trees same.versions)) aside.works.0,
-        (subst (λ (rows : List Row). IsPermutation rows (rows_in layout.recordings bodies)) (sym (rows_kept layout.recordings old.trees new.trees same.recordings)) aside.works.1.0, tt),
-      );
     }

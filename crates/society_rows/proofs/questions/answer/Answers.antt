@@ -40,6 +40,15 @@ returns-in-Versions-clause-read g c = answers_as _ _ c.versions_of.result c.args
 pub returns-in-LastVersion-clause-read : goal.returns-in-LastVersion-clause-read
 returns-in-LastVersion-clause-read g c = answers_as _ _ c.last_version_of.result c.args.question _ c.in-LastVersion.is c.last_version_of.ensures.read
 
+pub returns-in-SenderVerdicts-clause-read : goal.returns-in-SenderVerdicts-clause-read
+returns-in-SenderVerdicts-clause-read g c = answers_as _ _ c.sender_verdicts.result c.args.question _ c.in-SenderVerdicts.is c.sender_verdicts.ensures.read
+
+pub returns-in-SenderVersions-clause-read : goal.returns-in-SenderVersions-clause-read
+returns-in-SenderVersions-clause-read g c = answers_as _ _ c.sender_versions.result c.args.question _ c.in-SenderVersions.is c.sender_versions.ensures.read
+
+pub returns-in-SenderRecordings-clause-read : goal.returns-in-SenderRecordings-clause-read
+returns-in-SenderRecordings-clause-read g c = answers_as _ _ c.sender_recordings.result c.args.question _ c.in-SenderRecordings.is c.sender_recordings.ensures.read
+
 pub returns-in-Credits-clause-read : goal.returns-in-Credits-clause-read
 returns-in-Credits-clause-read g c = answers_as _ _ c.credits_of.result c.args.question _ c.in-Credits.is c.credits_of.ensures.read
 

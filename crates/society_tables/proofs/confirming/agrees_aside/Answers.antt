@@ -19,9 +19,9 @@ returns g c =
           let senders = c.args.senders.now in
           let memory = (state over_memory t.conn).now.trees in
           as_inspected _ _ c.lines_and_pools_agree.result _ _ (rw c.into_connection.ensures.same at c.lines_and_pools_agree.ensures.confirmed)
-          (λ x agree holds above numbered. ∥∥₁_map t.rests (λ r.
+          (λ x agree holds named above numbered. ∥∥₁_map t.rests (λ r.
           let kept = (r refl).kept in
           let begun : HoldsBook c.args.office.now empty_book memory =
           subst (λ (o : Office). HoldsBook o empty_book memory) c.in_ok-tables.ensures.office (subst (λ (b : Book). HoldsBook t.office b memory) c.in_ok-tables.ensures.empty kept.holds) in
-          agree (sound_entries senders db holds above) (keeps_entries senders db holds) (keeps_ends senders db holds) (senders_of_entries senders db holds) kept.layout begun numbered));
+          agree (sound_entries senders db holds above) (keeps_entries senders db holds) (keeps_ends senders db holds) (senders_of_entries senders db holds) named kept.layout begun numbered));
     }

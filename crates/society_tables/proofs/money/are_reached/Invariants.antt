@@ -1,12 +1,8 @@
 use Rattle.std.proofs.Common.{◌≡◌, Ok, take, true}
 use Rattle.std.specs.List.{list_all}
-use Rattle.share_rules.specs.declared.office.Office.{Office}
 use Rattle.sqlite.specs.Held.{state}
-use Rattle.sqlite.specs.Steps.{over_memory}
-use Rattle.society_core.specs.Book.{Book, is_applied}
-use Rattle.society_rows.specs.Stored.{HasLayout}
-use Rattle.society_tables.specs.Auditing.{mixed}
-use Rattle.society_book.specs.Kept.{HoldsBook}
+use Rattle.society_core.specs.Book.{is_applied}
+use Rattle.society_tables.specs.InMemory.{OfBeside}
 use Rattle.society_tables.specs.Opening.{Inspects}
 use Rattle.society_tables.specs.declared.audit_fault.AuditFault.{AuditFault}
 use Rattle.society_tables.proofs.money.are_reached.Given as goal
@@ -14,8 +10,6 @@ use Rattle.society_tables.proofs.money.are_reached.Given as goal
 -- the numbers so far are in their senders' lines
 abbrev pub invariant-loop-key : goal.invariant-loop-key
 invariant-loop-key g l = record {
-  same : (state over_memory l.memory).now ≡ (state over_memory l.fn.memory).now;
   reached : Inspects {X = Unit {0}} {E = AuditFault} (state g.S.Store l.fn.conn) (state g.S.Store l.conn) (Ok tt)
-      (λ db _. HasLayout (state over_memory l.fn.memory).now → (office : Office) (book : Book) → HoldsBook office book (mixed db (state over_memory l.fn.memory).now.trees)
-      → list_all (is_applied book) (take l.key-index l.cut) ≡ true);
+      (λ db _. OfBeside db (λ book. list_all (is_applied book) (take l.key-index l.cut) ≡ true));
 }

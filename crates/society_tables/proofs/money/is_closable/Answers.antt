@@ -18,10 +18,9 @@ returns-clause-closable g c =
     inspected_then {E = AuditFault} _ _ _ _ c.are_reached.result _ _ _ c.in_ok-are_open_returns.ensures.free c.are_reached.ensures.reached
     (λ yes returns reached laid told o b holds.
     let db = (state g.S.Store c.args.conn.now).now.trees in
-    let one = c.are_open_returns.ensures.same in
-    let two = c.is_open_pool.ensures.same ∙ one in record {
+    let one = c.are_open_returns.ensures.same in record {
       is_free = c.in_ok-is_open_pool.ensures.free (subst HasLayout (sym one) laid) c.if-not-branch-2.false o b db (subst (λ (m : Database). HoldsBook o b (mixed db m.trees)) (sym one) holds);
-      reached = subst (λ (cut : List TransmissionKey). list_all (is_applied b) cut ≡ true) c.cut.ensures.value (reached (subst HasLayout (sym two) laid) told o b (subst (λ (m : Database). HoldsBook o b (mixed db m.trees)) (sym two) holds));
+      reached = subst (λ (cut : List TransmissionKey). list_all (is_applied b) cut ≡ true) c.cut.ensures.value (reached told _ o b holds);
       returns = subst (λ (keys : List ReturnKey). AllByRecursion (IsOpenReturn b) keys) c.returns.ensures.value (returns laid c.if-not-branch.false o b holds);
     })
 
@@ -32,4 +31,4 @@ pub returns-then-not-branch-2-clause-same : goal.returns-then-not-branch-2-claus
 returns-then-not-branch-2-clause-same g c = c.is_open_pool.ensures.same ∙ c.are_open_returns.ensures.same
 
 pub returns-clause-same : goal.returns-clause-same
-returns-clause-same g c = c.are_reached.ensures.same ∙ (c.is_open_pool.ensures.same ∙ c.are_open_returns.ensures.same)
+returns-clause-same g c = c.is_open_pool.ensures.same ∙ c.are_open_returns.ensures.same

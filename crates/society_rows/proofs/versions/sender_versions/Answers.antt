@@ -1,0 +1,22 @@
+use Rattle.std.proofs.Common.{[], ◌∷◌, refl}
+use Rattle.sqlite_value.specs.declared.value.Value.TheVariants.{Text}
+use Rattle.sqlite.specs.Held.{state}
+use Rattle.society_rows.specs.Layout.{versions}
+use Rattle.society_rows.specs.Reads.{Lists, has_key}
+use Rattle.society_rows.proofs.readings.Queries.{reads_laid}
+use Rattle.society_rows.proofs.each_table.VersionTable.{sender_versions_is, sender_versions_lists}
+use Rattle.society_rows.proofs.errors.Told.{query_tells}
+use Rattle.society_rows.proofs.versions.sender_versions.Goals as goal
+
+pub returns-clause-read : goal.returns-clause-read
+returns-clause-read g c =
+    let old = state g.S.Store c.args.tx.now.conn.now in
+    let new = state g.S.Store c.select.new.tx.conn.now in
+    reads_laid sender_versions_is (Text c.args.sender.now ∷ []) old new c.select.result (λ db rows. Lists versions (has_key (Text c.args.sender.now ∷ [])) 3 db rows.items) (λ clean. c.select.ensures.selected clean) c.select.ensures.survives
+    (λ rows. sender_versions_lists c.args.sender.now old new rows.items)
+
+pub returns-clause-told : goal.returns-clause-told
+returns-clause-told g c =
+    let old = state g.S.Store c.args.tx.now.conn.now in
+    let new = state g.S.Store c.select.new.tx.conn.now in
+    query_tells sender_versions_is (Text c.args.sender.now ∷ []) refl old new c.select.result c.select.ensures.selected
