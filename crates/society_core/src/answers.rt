@@ -54,7 +54,7 @@ pub struct Work {
 }
 
 /// What the office answers.
-#[derive(Debug, Drop)]
+#[derive(Drop)]
 pub enum Answer {
     /// A put was taken: how the transmission stands.
     Arrived(Arrival),

@@ -5,7 +5,7 @@ use work_ids::{Account, PoolNumber, SenderKey, TransmissionNumber, WorkNumber};
 use works_core::Verdict;
 
 /// A question: what of the book is asked to be shown. It changes nothing.
-#[derive(Clone, Copy, Debug)]
+#[derive(Clone, Copy)]
 pub enum Inquiry {
     /// The acknowledgement of a sender's transmission.
     Acknowledgement {
@@ -37,7 +37,7 @@ pub enum Inquiry {
 }
 
 /// What is shown to a question.
-#[derive(Debug, Drop)]
+#[derive(Drop)]
 pub enum Showing {
     /// The bytes of an acknowledgement.
     Acknowledgement(Vec<u8>),

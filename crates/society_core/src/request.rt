@@ -7,7 +7,7 @@ use crate::return_key::ReturnKey;
 use work_ids::{PoolNumber, SegmentEnd, SenderKey, TransmissionNumber};
 
 /// What is asked of the office.
-#[derive(Debug, Drop)]
+#[derive(Drop)]
 pub enum Request<'a> {
     /// Put a sender's transmission under a number.
     PutTransmission {

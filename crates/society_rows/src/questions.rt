@@ -14,7 +14,7 @@ use crate::{
 use sqlite::{Alter, Row, Transaction};
 
 /// What is asked of the tables, by a key.
-#[derive(Clone, Copy, Debug)]
+#[derive(Clone, Copy)]
 pub enum Question<'a> {
     /// The office.
     Office,
