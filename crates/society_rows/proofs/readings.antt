@@ -9,4 +9,5 @@ pub mod Listings
 pub mod Queries
 pub mod RowFolds
 pub mod RunFolds
+pub mod SenderQueries
 pub mod RowidQueries

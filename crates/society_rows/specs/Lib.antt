@@ -8,6 +8,7 @@ pub mod Forms
 pub mod KeyLaws
 pub mod Layout
 pub mod Layouts
+pub mod LineSenders
 pub mod Listings
 pub mod NewBook
 pub mod Questions

@@ -29,8 +29,8 @@ pub trait RowFold {
         ensures told { IfErr result (refusal self.old row.now) };
 }
 
-// Goes over the rows that a query shows; what is said holds where the text is one query of the database.
-fn fold_shown<S: Alter, F: RowFold>(
+/// Goes over the rows that a query shows; what is said holds where the text is one query of the database.
+pub(crate) fn fold_shown<S: Alter, F: RowFold>(
     conn: &mut Connection<S>,
     sql: &str,
     params: &[ValueRef<'_>],
