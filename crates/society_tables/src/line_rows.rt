@@ -8,7 +8,8 @@ ghost use Rattle.society_rows.specs.Rows.{front_values, recording_values, verdic
 ghost use Rattle.society_tables.specs.Auditing.{AreLinesOf, is_of_one, take_name};
 
 use society_rows::{
-    FrontRow, Idle, RecordingRow, RowFault, RowFold, TableName, VerdictRow, VersionRow, fold_table,
+    FrontRow, Idle, LineTable, RecordingRow, RowFault, RowFold, VerdictRow, VersionRow,
+    fold_senders,
 };
 use sqlite::{Alter, Row};
 use sqlite_value::value::ValueRef;
@@ -49,7 +50,8 @@ impl RowFold for SenderRows {
     }
 }
 
-/// Whether each row of what is derived of senders' lines is of one of these senders. The rows are gone over one at a time.
+/// Whether each row of what is derived of senders' lines is of one of these senders. The rows are gone over one at a time, by their
+/// first column alone.
 pub(crate) fn are_lines_of<S: Alter>(
     conn: &mut Idle<S>,
     senders: BTreeSet<SenderKey>,
@@ -61,10 +63,10 @@ pub(crate) fn are_lines_of<S: Alter>(
         senders,
         are_theirs: true,
     };
-    fold_table(conn, TableName::Fronts, &mut rows)?;
-    fold_table(conn, TableName::Verdicts, &mut rows)?;
-    fold_table(conn, TableName::Versions, &mut rows)?;
-    fold_table(conn, TableName::Recordings, &mut rows)?;
+    fold_senders(conn, LineTable::Fronts, &mut rows)?;
+    fold_senders(conn, LineTable::Verdicts, &mut rows)?;
+    fold_senders(conn, LineTable::Versions, &mut rows)?;
+    fold_senders(conn, LineTable::Recordings, &mut rows)?;
     Ok(rows.are_theirs)
 }
 

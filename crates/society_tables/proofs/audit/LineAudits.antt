@@ -21,12 +21,10 @@ use Rattle.society_core.specs.Book.{Book, ends_of, front}
 use Rattle.society_core.specs.Keys.{bytes_cmp}
 use Rattle.society_rows.specs.Folds.{HasTaken}
 use Rattle.society_rows.specs.Layout as layout
-use Rattle.society_rows.specs.Listings.{ListsAll}
-use Rattle.society_rows.specs.Reads.{Lists}
+use Rattle.society_rows.specs.LineSenders.{ListsSenders, first_of, line_table}
 use Rattle.society_rows.specs.Stored.{AreNumbered, rows_in}
-use Rattle.society_rows.specs.TableNames.{listing_width, table_called}
-use Rattle.society_rows.specs.declared.tables.TableName.{TableName}
-use Rattle.society_rows.specs.declared.tables.TableName.TheVariants as name
+use Rattle.society_rows.specs.declared.line_senders.LineTable.{LineTable}
+use Rattle.society_rows.specs.declared.line_senders.LineTable.TheVariants as name
 use Rattle.society_book.specs.Columns.{HasRows, text_at, text_of}
 use Rattle.society_book.specs.DerivedRows.{Telling, front_rows, is_named, knows_sender, tells_recordings, tells_verdict, tells_version, told_by, told_to_front, works_to}
 use Rattle.society_book.specs.Outcomes.{settled}
@@ -178,28 +176,34 @@ named_row senders set made r is = (
   sym (flipped (text_at 0 r) senders) ∙ any_bytes (text_at 0 r) senders ∙ sym (made.0 (text_at 0 r)) ∙ second_true (is_of_sender r) (contains bytes_cmp set (text_at 0 r)) is,
 )
 
--- all rows of a table, each of one of some senders
-pub named_rows : (senders : List (List ℕ)) (set : BTreeSet (List ℕ)) → IsFromIterResult bytes_cmp senders set → (table : Table) (width : ℕ) (db : Trees) (rows : List Row) → Lists table (λ _. true) width db rows
-    → AllByRecursion (λ r. is_of_one set r ≡ true) rows → AreNamed senders (rows_in table db)
-named_rows senders set made table width db rows lists all =
+-- so are rows whose first columns are
+unfirst : (P : Row → Type 0) → ((r : Row) → P (first_of r) → P r) → (rows : List Row) → AllByRecursion P (map first_of rows) → AllByRecursion P rows
+unfirst P turns [] all = tt
+unfirst P turns (row ∷ rows) all = (turns row all.0, unfirst P turns rows all.1)
+
+-- the first columns of all rows of a table, each of one of some senders
+pub named_rows : (senders : List (List ℕ)) (set : BTreeSet (List ℕ)) → IsFromIterResult bytes_cmp senders set → (table : LineTable) (db : Trees) (rows : List Row) → ListsSenders table db rows
+    → AllByRecursion (λ r. is_of_one set r ≡ true) rows → AreNamed senders (rows_in (line_table table) db)
+named_rows senders set made table db rows lists all =
     let Named : Row → Type 0 = λ r. (is_text (column r 0) ≡ true) × (is_among senders (text_at 0 r) ≡ true) in
-    let these : IsPermutation (rows_in table db) rows = subst (λ (l : List Row). IsPermutation l rows) (all_pass (rows_in table db)) lists.rows in
-    all-permutation Named rows (rows_in table db) (IsPermutation-sym (rows_in table db) rows these) (all_weaker (λ r. is_of_one set r ≡ true) Named (named_row senders set made) rows all)
+    let firsts : List Row = map first_of (rows_in (line_table table) db) in
+    unfirst Named (λ r its. its) (rows_in (line_table table) db)
+    (all-permutation Named rows firsts (IsPermutation-sym firsts rows lists) (all_weaker (λ r. is_of_one set r ≡ true) Named (named_row senders set made) rows all))
 
 -- one table after another
 module _ (senders : List (List ℕ)) (set : BTreeSet (List ℕ)) (made : IsFromIterResult bytes_cmp senders set) (db : Trees) where
-  abbrev Taken : TableName → SenderRows → SenderRows → Type 0
-  Taken table before after = HasTaken take_name (ListsAll table db) before after
+  abbrev Taken : LineTable → SenderRows → SenderRows → Type 0
+  Taken table before after = HasTaken take_name (ListsSenders table db) before after
 
-  kept : (table : TableName) (before after : SenderRows) → Taken table before after → before.senders ≡ set → after.senders ≡ set
+  kept : (table : LineTable) (before after : SenderRows) → Taken table before after → before.senders ≡ set → after.senders ≡ set
   kept table before after taken is = ap (λ (x : SenderRows). x.senders) taken.folded ∙ same_senders taken.rows before ∙ is
 
-  theirs : (table : TableName) (before after : SenderRows) (taken : Taken table before after) → after.are_theirs ≡ true → (before.are_theirs ≡ true) × AllByRecursion (λ r. is_of_one before.senders r ≡ true) taken.rows
+  theirs : (table : LineTable) (before after : SenderRows) (taken : Taken table before after) → after.are_theirs ≡ true → (before.are_theirs ≡ true) × AllByRecursion (λ r. is_of_one before.senders r ≡ true) taken.rows
   theirs table before after taken all = all_theirs taken.rows before (subst (λ (x : SenderRows). x.are_theirs ≡ true) taken.folded all)
 
-  named_in : (table : TableName) (before after : SenderRows) (taken : Taken table before after) → before.senders ≡ set → AllByRecursion (λ r. is_of_one before.senders r ≡ true) taken.rows → AreNamed senders (rows_in (table_called table) db)
+  named_in : (table : LineTable) (before after : SenderRows) (taken : Taken table before after) → before.senders ≡ set → AllByRecursion (λ r. is_of_one before.senders r ≡ true) taken.rows → AreNamed senders (rows_in (line_table table) db)
   named_in table before after taken is all =
-      named_rows senders set made (table_called table) (listing_width table) db taken.rows taken.these (subst (λ (x : BTreeSet (List ℕ)). AllByRecursion (λ r. is_of_one x r ≡ true) taken.rows) is all)
+      named_rows senders set made table db taken.rows taken.these (subst (λ (x : BTreeSet (List ℕ)). AllByRecursion (λ r. is_of_one x r ≡ true) taken.rows) is all)
 
   -- where all rows of the four tables are of these senders, all lines are
   pub four_named : (one two three four last : SenderRows) → one.senders ≡ set → Taken name.Fronts one two → Taken name.Verdicts two three → Taken name.Versions three four → Taken name.Recordings four last → last.are_theirs ≡ true → AreLinesOf senders db
