@@ -119,7 +119,7 @@ pub fn settle_run<'a>(
     ensures settled { FromEndOf end.old run.now (λ known past. IfOk result (λ list. map settled list.items ≡ settled_run past run.now)) }
     ensures ends { FromEndOf end.old run.now (λ known past. OnOk result (EndsAt known (behind_run past run.now) end.new)) }
 {
-    let mut list = Vec::new(alloc);
+    let mut list = Vec::with_capacity(alloc, run.len())?;
     for noted in run {
         settle_next(alloc, end, noted, &mut list)?;
     }
@@ -203,7 +203,7 @@ pub fn version_rows<'a>(
 ) -> Result<Vec<VersionRow<'a>>, RowFault>
     ensures { IfOk result (λ rows. map version_values rows.items ≡ flat_map (λ x. settled_version sender.now (settled x)) outcomes.now) }
 {
-    let mut rows = Vec::new(alloc);
+    let mut rows = Vec::with_capacity(alloc, outcomes.len())?;
     for outcome in outcomes {
         append_version(sender, outcome, &mut rows)?;
     }
@@ -256,7 +256,7 @@ pub fn recording_rows<'a>(
 ) -> Result<Vec<RecordingRow<'a>>, RowFault>
     ensures { IfOk result (λ rows. map recording_values rows.items ≡ flat_map (λ x. settled_recordings sender.now (settled x)) outcomes.now) }
 {
-    let mut rows = Vec::new(alloc);
+    let mut rows = Vec::with_capacity(alloc, outcomes.len())?;
     for outcome in outcomes {
         append_recordings(sender, outcome, &mut rows)?;
     }

@@ -61,7 +61,8 @@ fn append_isrcs(
     ensures { OnOk result (map (λ l. l.items) list.new.items ≡ map (λ l. l.items) list.old.items ++ map (λ x. ascending bytes_cmp (isrcs_of x)) transactions.now) }
 {
     for transaction in transactions {
-        let found = ascending_isrcs(alloc, transaction)?;
+        let mut found = ascending_isrcs(alloc, transaction)?;
+        found.shrink_to_fit();
         list.push(found)?;
     }
     Ok(())
@@ -127,8 +128,11 @@ impl Noted {
     ) -> Result<Noted, AllocError>
         ensures { IfOk result (λ notes. notes ≡ notes_of office.now number transmission.now) }
     {
-        let judged = judge_all(alloc, transmission, office)?;
-        let isrcs = isrcs_of_groups(alloc, transmission.groups.as_slice())?;
+        let mut judged = judge_all(alloc, transmission, office)?;
+        let mut isrcs = isrcs_of_groups(alloc, transmission.groups.as_slice())?;
+        // An audit notes a sender's whole line.
+        judged.shrink_to_fit();
+        isrcs.shrink_to_fit();
         Ok(Noted {
             number,
             judged,

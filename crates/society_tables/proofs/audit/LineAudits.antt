@@ -9,7 +9,6 @@ use Rattle.std.proofs.lemmas.Slice.Eq.{bytes_eq-Decides}
 use Rattle.share_rules.specs.declared.office.Office.{Office}
 use Rattle.sqlite_keyed.proofs.ListLemmas.{all_weaker, flat_map-map, map-map}
 use Rattle.sqlite_schema.specs.Rules.{equal}
-use Rattle.sqlite_schema.specs.declared.schema.Table.{Table}
 use Rattle.sqlite_trees.proofs.ListLemmas.{all-permutation, filter_same}
 use Rattle.sqlite_trees.specs.Tree.{Trees}
 use Rattle.sqlite_value.specs.declared.keys.Collation.TheVariants.{Binary}
@@ -36,7 +35,6 @@ use Rattle.society_book.proofs.lines.RunLines.{IsSeen, run_behind, run_settled, 
 use Rattle.society_book.proofs.rows_alike.Equals.{texts_equal}
 use Rattle.society_book.proofs.rows_alike.KeyRows.{either_way, last_truth}
 use Rattle.society_book.proofs.shown.AskLemmas.{first_true, second_true}
-use Rattle.society_tables.proofs.alike.SameTables.{all_pass}
 use Rattle.society_tables.proofs.audit.NobodyLines.{line_of_nobody}
 use Rattle.society_tables.specs.Auditing.{AreLinesOf, AreNamed, HasLine, HasLines, HasOutcomes, HasRun, HasTold, is_of_one, is_of_sender, is_text, of_sender, take_name, where_of}
 use Rattle.society_tables.specs.declared.line_rows.SenderRows.{SenderRows}
