@@ -62,7 +62,7 @@ pub(crate) fn listing(table: TableName) -> &'static str
             "SELECT sender, work, revision, isrc FROM recordings ORDER BY sender, work, revision, isrc"
         }
         TableName::Credits => {
-            "SELECT pool, line, isrc, account, units FROM credits ORDER BY pool, line, isrc, account, units"
+            "SELECT pool, line, isrc, account, units FROM credits ORDER BY pool, line"
         }
         TableName::Balances => { "SELECT account, units FROM balances ORDER BY account" }
         TableName::SegmentEnds => {

@@ -71,26 +71,23 @@ project = col 1 1 ∷ col 1 2 ∷ col 1 3 ∷ col 1 4 ∷ col 1 5 ∷ []
 abbrev order : List (Term × Key)
 order = (col 1 1, ascending Binary) ∷ (col 1 2, ascending Binary) ∷ []
 
-abbrev whole_order : List (Term × Key)
-whole_order = (col 1 1, ascending Binary) ∷ (col 1 2, ascending Binary) ∷ (col 1 3, ascending Binary) ∷ (col 1 4, ascending Binary) ∷ (col 1 5, ascending Binary) ∷ []
-
 abbrev shown_names : List (List ℕ)
 shown_names = codes "pool" ∷ codes "line" ∷ codes "isrc" ∷ codes "account" ∷ codes "units" ∷ []
 
 abbrev pub all_credits_text : List ℕ
-all_credits_text = codes "SELECT pool, line, isrc, account, units FROM credits ORDER BY pool, line, isrc, account, units"
+all_credits_text = codes "SELECT pool, line, isrc, account, units FROM credits ORDER BY pool, line"
 
-pub all_credits_is : IsQuery 12 all_credits_text 0 (picked 18 ([]) project whole_order) shown_names
+pub all_credits_is : IsQuery 12 all_credits_text 0 (picked 18 ([]) project order) shown_names
 unfolding understood everything written_out
 all_credits_is = record { few = lit≤ tt; under = λ cuts payments more indexes. record { command = refl; plain = (refl, refl); unlisted = refl; single = (refl, refl) } }
 
-all_credits_listing : IsListing credits_table ([]) project whole_order ([]) (λ _. true) 5
+all_credits_listing : IsListing credits_table ([]) project order ([]) (λ _. true) 2
 unfolding written_out
 all_credits_listing = record { shows = λ r. refl; tests = λ r. refl; orders = λ a b. refl }
 
-pub all_credits_lists : (old new : State) (rows : List Row) → HasTables 12 old.now → Shown all_credits_text ([]) old new rows → Lists credits_table (λ _. true) 5 old.now.trees rows
+pub all_credits_lists : (old new : State) (rows : List Row) → HasTables 12 old.now → Shown all_credits_text ([]) old new rows → Lists credits_table (λ _. true) 2 old.now.trees rows
 unfolding written_out
-all_credits_lists = lists_by credits_table all_credits_text ([]) project whole_order shown_names all_credits_is ([]) (λ _. true) 5 all_credits_listing
+all_credits_lists = lists_by credits_table all_credits_text ([]) project order shown_names all_credits_is ([]) (λ _. true) 2 all_credits_listing
 
 abbrev pub credits_of_text : List ℕ
 credits_of_text = codes "SELECT pool, line, isrc, account, units FROM credits WHERE pool = ?1 ORDER BY pool, line"

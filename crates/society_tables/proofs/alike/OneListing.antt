@@ -1,5 +1,5 @@
 -- Tables that hold one book are listed alike.
-use Rattle.std.proofs.Common.{◌≡◌, ◌∙◌, ◌==◌, ◌+◌, ℕ, zero, suc, pos, Bool, true, false, cond, List, [], ◌∷◌, Option, Some, None, is_some, filter, length, refl, sym, ap, subst, arith, bytes_eq, IsPermutation}
+use Rattle.std.proofs.Common.{◌≡◌, ◌∙◌, ◌==◌, ◌+◌, ℕ, zero, suc, pos, Bool, true, false, cond, List, [], ◌∷◌, Option, Some, None, is_some, filter, length, map, slice_get, refl, sym, ap, subst, arith, bytes_eq, IsPermutation}
 use Rattle.std.specs.List.{AllByRecursion, enumerate_from}
 use Rattle.std.proofs.lemmas.Bool.Decides.{nat_tests}
 use Rattle.std.proofs.lemmas.List.Sorted.{IsPermutation-trans}
@@ -169,12 +169,36 @@ recording_told sender number place transaction (Accepted ordinal revision) =
     all-map (IsTold recording_kinds alone) (λ isrc. Text sender ∷ Text (work_text transaction) ∷ Int (pos revision) ∷ Text isrc ∷ []) (λ isrc. ((refl, (refl, (refl, (refl, tt)))), refl)) (ascending bytes_cmp (isrcs_of transaction))
 
 abbrev credit_kinds : List Kind
-credit_kinds = Number ∷ Number ∷ Words ∷ Words ∷ Number ∷ []
+credit_kinds = Number ∷ Number ∷ []
+
+-- what is so of each credit at its line is so of all lines
+each_line : (P : Row → Type 0) (pool n : ℕ) (credits : List Credit) → ((i : ℕ) (credit : Credit) → slice_get credits i ≡ Some credit → P (credit_row pool (n + i) credit))
+    → AllByRecursion P (map (λ (line : ℕ × Credit). credit_row pool line.0 line.1) (enumerate_from n credits))
+each_line P pool n [] its = tt
+each_line P pool n (credit ∷ credits) its = (
+  subst (λ at. P (credit_row pool at credit)) (omega (arith)) (its 0 credit refl),
+  each_line P pool (n + 1) credits (λ i c is. subst (λ at. P (credit_row pool at c)) (omega (arith)) (its (i + 1) c is)),
+)
+
+-- the row of a line, where it is there
+abbrev line_row : ℕ → ℕ → Option Credit → List Row
+line_row pool line (Some credit) = credit_row pool line credit ∷ []
+line_row pool line None = []
 
 module _ (o : Office) (b : Book) where
-  credits_told : (q : ℕ) (x : Option Order) → AllByRecursion (IsTold credit_kinds alone) (credit_rows_by o b q x)
-  credits_told q None = tt
-  credits_told q (Some order) = all-map (IsTold credit_kinds alone) (λ (line : ℕ × Credit). credit_row q line.0 line.1) (λ line. ((refl, (refl, (refl, (refl, (refl, tt))))), refl)) (enumerate_from 0 (credits_of o b order))
+  -- the credits by an order, where it is there
+  abbrev paid_by : Option Order → List Credit
+  paid_by (Some order) = credits_of o b order
+  paid_by None = []
+
+  abbrev credited : Row → List Row
+  credited row = line_row (whole_number_at 0 row) (whole_number_at 1 row) (slice_get (paid_by (order_at b (whole_number_at 0 row))) (whole_number_at 1 row))
+
+  credits_told : (q : ℕ) (x : Option Order) → order_at b q ≡ x → AllByRecursion (IsTold credit_kinds credited) (credit_rows_by o b q x)
+  credits_told q None is = tt
+  credits_told q (Some order) is =
+      each_line (IsTold credit_kinds credited) q 0 (credits_of o b order)
+      (λ i credit there. ((refl, (refl, tt)), ap (λ y. line_row q i (slice_get (paid_by y) i)) is ∙ ap (line_row q i) there))
 
   abbrev reached : Row → List Row
   reached row = front_rows o b (text_at 0 row)
@@ -228,7 +252,7 @@ listed_alike o b one two holds also name.Recordings xs ys lists others =
     listed_once is_named (text_at 0) (λ r. same_name (text_at 0 r)) (told_to_front tells_recordings o b) recording_kinds alone (line_told recording_kinds tells_recordings recording_told o b)
     layout.recordings one two xs ys holds.derived.recordings also.derived.recordings lists others
 listed_alike o b one two holds also name.Credits xs ys lists others =
-    listed_once (λ pool row. pool == whole_number_at 0 row) (whole_number_at 0) (λ r. same_number (whole_number_at 0 r)) (credit_rows o b) credit_kinds alone (λ q. credits_told o b q (order_at b q))
+    listed_once (λ pool row. pool == whole_number_at 0 row) (whole_number_at 0) (λ r. same_number (whole_number_at 0 r)) (credit_rows o b) credit_kinds (credited o b) (λ q. credits_told o b q (order_at b q) refl)
     layout.credits_table one two xs ys holds.derived.credits also.derived.credits lists others
 listed_alike o b one two holds also name.Balances xs ys lists others =
     listed_once is_named (text_at 0) (λ r. same_name (text_at 0 r)) (balance_rows o b) (Words ∷ []) (owed o b) (λ q. owed_told o b q (credits_to o b q) refl)
