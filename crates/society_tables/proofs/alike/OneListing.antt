@@ -177,7 +177,7 @@ each_line : (P : Row → Type 0) (pool n : ℕ) (credits : List Credit) → ((i 
 each_line P pool n [] its = tt
 each_line P pool n (credit ∷ credits) its = (
   subst (λ at. P (credit_row pool at credit)) (omega (arith)) (its 0 credit refl),
-  each_line P pool (n + 1) credits (λ i c is. subst (λ at. P (credit_row pool at c)) (omega (arith)) (its (i + 1) c is)),
+  each_line P pool (n + 1) credits (λ i c is. subst (λ at. P (credit_row pool at c)) (omega (arith)) (its (suc i) c is)),
 )
 
 -- the row of a line, where it is there
