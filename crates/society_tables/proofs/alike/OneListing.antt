@@ -198,7 +198,10 @@ module _ (o : Office) (b : Book) where
   credits_told q None is = tt
   credits_told q (Some order) is =
       each_line (IsTold credit_kinds credited) q 0 (credits_of o b order)
-      (λ i credit there. ((refl, (refl, tt)), ap (λ y. line_row q i (slice_get (paid_by y) i)) is ∙ ap (line_row q i) there))
+      (λ i credit there.
+      let told : IsTold credit_kinds credited (credit_row q i credit) = ((refl, (refl, tt)), ap (λ y. line_row q i (slice_get (paid_by y) i)) is ∙ ap (line_row q i) there) in
+      let same : i ≡ 0 + i = omega (arith) in
+      subst (λ at. IsTold credit_kinds credited (credit_row q at credit)) same told)
 
   abbrev reached : Row → List Row
   reached row = front_rows o b (text_at 0 row)
