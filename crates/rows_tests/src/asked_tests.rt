@@ -5,7 +5,10 @@ ghost use Rattle.society_rows.specs.declared.fault.RowFault.TheVariants.{Memory}
 use crate::book::{SENDER, book, shown};
 use crate::checks::told;
 use crate::writes::{BOOK, ENDS, FRONTS, WORKS, write_all};
-use society_rows::{Idle, Question, RowFault, RowFold, TableName, ask, fold_run, fold_table};
+use society_rows::{
+    Idle, LineTable, Question, RowFault, RowFold, TableName, ask, fold_run, fold_senders,
+    fold_table,
+};
 use sqlite::{Alter, Connection, MemStore, Row};
 use std::alloc::Global;
 use std::process::Abort;
@@ -91,6 +94,21 @@ fn check_counts<S: Alter>(rt: &impl Abort, conn: &mut Idle<S>) -> Result<(), Fai
     Ok(())
 }
 
+/// Counts the senders of rows of what is derived of lines.
+fn check_senders<S: Alter>(rt: &impl Abort, conn: &mut Idle<S>) -> Result<(), Fail> {
+    for (row, table, wanted) in [
+        ("senders of fronts", LineTable::Fronts, 2),
+        ("senders of verdicts", LineTable::Verdicts, 0),
+        ("senders of versions", LineTable::Versions, 2),
+        ("senders of recordings", LineTable::Recordings, 1),
+    ] {
+        let mut count = Count { rows: 0 };
+        fold_senders(conn, table, &mut count)?;
+        told(rt, row, count.rows, wanted);
+    }
+    Ok(())
+}
+
 /// Questions, each with the rows that answer it.
 const QUESTIONS: [(&str, Question<'static>, &str); 10] = [
     ("front", Question::Front(SENDER), "PB000000012|2|1|;"),
@@ -137,5 +155,6 @@ fn check_questions<S: Alter>(
 fn a_question_leaves_the_book(rt: HostRuntime) -> Result<(), Fail> {
     let mut conn = committed(rt.alloc())?;
     check_counts(&rt, &mut conn)?;
+    check_senders(&rt, &mut conn)?;
     check_questions(&rt, rt.alloc(), &mut conn)
 }
