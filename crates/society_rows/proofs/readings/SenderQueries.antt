@@ -16,7 +16,7 @@ use Rattle.society_rows.specs.Folds.{IsAskedOf}
 use Rattle.society_rows.specs.Layout.{written_out}
 use Rattle.society_rows.specs.Layouts.{HasTables}
 use Rattle.society_rows.specs.LineSenders.{ListsSenders, first_of, line_table, senders_text}
-use Rattle.society_rows.specs.Stored.{HasLayout, rows_in, values_of}
+use Rattle.society_rows.specs.Stored.{HasLayout, values_of}
 use Rattle.society_rows.proofs.readings.Answers.{picked, passes_in, answers_are}
 use Rattle.society_rows.proofs.readings.Queries.{IsQuery, answer_of, laid}
 use Rattle.society_rows.proofs.readings.RowFolds.{query_asked, whole_listed}

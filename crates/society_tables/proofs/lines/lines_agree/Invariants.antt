@@ -1,4 +1,4 @@
-use Rattle.std.proofs.Common.{List, Ok, take, ℕ}
+use Rattle.std.proofs.Common.{Ok, take}
 use Rattle.sqlite.specs.Held.{state}
 use Rattle.society_tables.specs.LineSteps.{FindsLines}
 use Rattle.society_tables.specs.Opening.{Inspects}
