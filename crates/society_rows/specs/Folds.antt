@@ -12,11 +12,8 @@ use Rattle.society_rows.specs.declared.fault.RowFault.{RowFault}
 use Rattle.society_rows.specs.declared.fault.RowFault.TheVariants.{Unread}
 use Rattle.society_rows.specs.Effects.{IsFailureOf, IsFailureOver}
 use Rattle.society_rows.specs.Layout.{transmissions}
-use Rattle.society_rows.specs.Layouts.{HasTable}
 use Rattle.society_rows.specs.Reads.{Lists, has_key}
 use Rattle.society_rows.specs.Stored.{HasLayout}
-use Rattle.society_rows.specs.Listings.{ListsAll}
-use Rattle.society_rows.specs.declared.tables.TableName.{TableName}
 
 -- the database was of another kind, so nothing is said of what a crash leaves
 abbrev pub WasOther : (Database → Type 0) → State → Trees → Type 0
@@ -103,10 +100,6 @@ pub record StopsOver {F : Type 0} (Was : Database → Type 0) (step : F → Row 
 -- why the rows that a query shows were not gone over to their end
 abbrev pub StopsShowing : {F : Type 0} → (F → Row → F) → (F → Row → RowFault → Type 0) → List ℕ → Row → F → State → State → RowFault → Type 0
 StopsShowing step refusal text params begun old new = StopsOver (IsAskedOf text (length params)) step refusal old new (AreShownFirst text params old new) begun
-
--- why the rows of a table were not gone over to their end
-abbrev pub StopsListing : {F : Type 0} → (F → Row → F) → (F → Row → RowFault → Type 0) → TableName → F → State → State → RowFault → Type 0
-StopsListing step refusal table begun old new = StopsOver (HasTable table) step refusal old new (AreFirst (HasTable table) old new (ListsAll table)) begun
 
 -- the first of a run of the sender's transmissions
 abbrev pub AreFirstOfRun : State → State → List ℕ → ℕ → List Row → Type 0

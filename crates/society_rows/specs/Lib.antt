@@ -1,6 +1,7 @@
 pub mod Balances
 pub mod Between
 pub mod Effects
+pub mod Entries
 pub mod Faults
 pub mod Finding
 pub mod Folds

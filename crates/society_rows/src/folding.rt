@@ -3,13 +3,10 @@ ghost use Rattle.std.specs.Prelude.{◌≡◌, [], false, true, length, IfErr, O
 ghost use Rattle.sqlite_value.specs.Order.{Row as SqlRow};
 ghost use Rattle.sqlite.specs.State.{Shown};
 ghost use Rattle.sqlite.specs.Values.{bound};
-ghost use Rattle.society_rows.specs.Folds.{HasTaken, IsRun, ReadsAlone, ReadsAloneOver, ReadsInside, ReadsShown, StopsListing, StopsRun, StopsShowing};
-ghost use Rattle.society_rows.specs.Layouts.{HasTable};
-ghost use Rattle.society_rows.specs.Listings.{ListsAll};
+ghost use Rattle.society_rows.specs.Folds.{HasTaken, IsRun, ReadsInside, ReadsShown, StopsRun, StopsShowing};
 ghost use Rattle.society_rows.specs.Between.{between, within};
 
-use crate::tables::listing;
-use crate::{Idle, RowFault, TableName, transmission_at};
+use crate::{RowFault, transmission_at};
 use sqlite::{Alter, Connection, Row, Transaction};
 use sqlite_value::value::ValueRef;
 
@@ -50,32 +47,6 @@ pub(crate) fn fold_shown<S: Alter, F: RowFold>(
     }
     // No answer has so many rows.
     Err(RowFault::Unread)
-}
-
-/// Goes over all rows of a table, by its key. After an error some have been taken.
-pub fn fold_table<S: Alter, F: RowFold>(
-    conn: &mut Idle<S>,
-    table: TableName,
-    into: &mut F,
-) -> Result<(), RowFault>
-    ensures taken { between S.Store conn.old conn.new ReadsAlone result
-        (λ db _. HasTaken F.step (ListsAll table db) into.old into.new) }
-    ensures told { IfErr result (between S.Store conn.old conn.new (StopsListing F.step F.refusal table into.old)) }
-{
-    fold_table_there(conn, table, into)
-}
-
-// The same where the database has the table, also one of an older layout.
-fn fold_table_there<S: Alter, F: RowFold>(
-    conn: &mut Idle<S>,
-    table: TableName,
-    into: &mut F,
-) -> Result<(), RowFault>
-    ensures taken { between S.Store conn.old conn.new (ReadsAloneOver (HasTable table)) result
-        (λ db _. HasTaken F.step (ListsAll table db) into.old into.new) }
-    ensures told { IfErr result (between S.Store conn.old conn.new (StopsListing F.step F.refusal table into.old)) }
-{
-    fold_shown(&mut conn.connection, listing(table), &[], into)
 }
 
 /// Goes over the transmissions of a sender from a number upwards, up to the first number that is not there, each by its

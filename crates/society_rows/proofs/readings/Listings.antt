@@ -1,21 +1,18 @@
 -- The query that shows all rows of a table, for each table.
-use Rattle.std.proofs.Common.{List, [], ◌++◌, Vec, Result, true, refl}
+use Rattle.std.proofs.Common.{List, [], Vec, Result, true, refl}
 use Rattle.std.specs.declared.alloc.Global.{Global}
 use Rattle.sqlite_value.specs.Order.{Row}
 use Rattle.sqlite_tied.specs.Compute.{everything}
-use Rattle.sqlite.specs.Effect.{Database}
 use Rattle.sqlite.specs.Listing.{understood}
-use Rattle.sqlite.specs.State.{State, HasCleanDisk, IsUnchanged, Shown, Begins}
+use Rattle.sqlite.specs.State.{State, HasCleanDisk, Shown}
 use Rattle.society_rows.specs.declared.fault.RowFault.{RowFault}
 use Rattle.society_rows.specs.declared.tables.TableName.{TableName}
 use Rattle.society_rows.specs.declared.tables.TableName.TheVariants as name
 use Rattle.society_rows.specs.Effects.{ErrsByMediumOver, OnlyFailsOver}
-use Rattle.society_rows.specs.Folds.{IsAskedOf}
 use Rattle.society_rows.specs.Layout.{written_out}
 use Rattle.society_rows.specs.Layouts.{HasTable}
 use Rattle.society_rows.specs.Reads.{Lists, Selected}
 use Rattle.society_rows.specs.TableNames.{table_called, listing_width, listing_text}
-use Rattle.society_rows.proofs.readings.RowFolds.{query_asked, whole_listed}
 use Rattle.society_rows.proofs.errors.Told.{query_reads, query_tells_over}
 use Rattle.society_rows.proofs.each_table.OfficeTable.{all_offices_is, all_offices_lists}
 use Rattle.society_rows.proofs.each_table.TransmissionTable.{all_transmissions_is, all_transmissions_lists}
@@ -47,22 +44,6 @@ lists_called name.Credits = all_credits_lists
 lists_called name.Balances = all_balances_lists
 lists_called name.SegmentEnds = all_segment_ends_lists
 lists_called name.MechanicalPools = all_mechanical_pools_lists
-
-pub is_asked : (table : TableName) (db : Database) → HasTable table db → IsAskedOf (listing_text table) 0 db
-is_asked name.Office = query_asked all_offices_is
-is_asked name.Transmissions = query_asked all_transmissions_is
-is_asked name.Returns = query_asked all_returns_is
-is_asked name.Pools = query_asked all_pools_is
-is_asked name.PoolCuts = query_asked all_pool_cuts_is
-is_asked name.PoolReturns = query_asked all_pool_returns_is
-is_asked name.Fronts = query_asked all_fronts_is
-is_asked name.Verdicts = query_asked all_verdicts_is
-is_asked name.Versions = query_asked all_versions_is
-is_asked name.Recordings = query_asked all_recordings_is
-is_asked name.Credits = query_asked all_credits_is
-is_asked name.Balances = query_asked all_balances_is
-is_asked name.SegmentEnds = query_asked all_segment_ends_is
-is_asked name.MechanicalPools = query_asked all_mechanical_pools_is
 
 -- what it tells of an error
 pub listing_tells : (table : TableName) (old new : State) (result : Result (Vec Row Global) RowFault) → (HasCleanDisk new → Selected (listing_text table) [] old new result) → OnlyFailsOver (HasTable table) old new result
@@ -98,21 +79,3 @@ listing_reads name.Credits = query_reads all_credits_is (λ cuts payments more i
 listing_reads name.Balances = query_reads all_balances_is (λ cuts payments more indexes. refl)
 listing_reads name.SegmentEnds = query_reads all_segment_ends_is (λ cuts payments more indexes. refl)
 listing_reads name.MechanicalPools = query_reads all_mechanical_pools_is (λ cuts payments more indexes. refl)
-
--- what such a query shows first is the first of the table's rows
-pub first_called : (table : TableName) (old new : State) (rows : List Row) → HasTable table old.now → Begins (listing_text table) [] old rows × IsUnchanged old new
-    → (after : List Row) × Lists (table_called table) (λ _. true) (listing_width table) old.now.trees (rows ++ after)
-first_called name.Office old new = whole_listed all_offices_is [] old new (Lists (table_called name.Office) (λ _. true) (listing_width name.Office)) (all_offices_lists old new)
-first_called name.Transmissions old new = whole_listed all_transmissions_is [] old new (Lists (table_called name.Transmissions) (λ _. true) (listing_width name.Transmissions)) (all_transmissions_lists old new)
-first_called name.Returns old new = whole_listed all_returns_is [] old new (Lists (table_called name.Returns) (λ _. true) (listing_width name.Returns)) (all_returns_lists old new)
-first_called name.Pools old new = whole_listed all_pools_is [] old new (Lists (table_called name.Pools) (λ _. true) (listing_width name.Pools)) (all_pools_lists old new)
-first_called name.PoolCuts old new = whole_listed all_pool_cuts_is [] old new (Lists (table_called name.PoolCuts) (λ _. true) (listing_width name.PoolCuts)) (all_pool_cuts_lists old new)
-first_called name.PoolReturns old new = whole_listed all_pool_returns_is [] old new (Lists (table_called name.PoolReturns) (λ _. true) (listing_width name.PoolReturns)) (all_pool_returns_lists old new)
-first_called name.Fronts old new = whole_listed all_fronts_is [] old new (Lists (table_called name.Fronts) (λ _. true) (listing_width name.Fronts)) (all_fronts_lists old new)
-first_called name.Verdicts old new = whole_listed all_verdicts_is [] old new (Lists (table_called name.Verdicts) (λ _. true) (listing_width name.Verdicts)) (all_verdicts_lists old new)
-first_called name.Versions old new = whole_listed all_versions_is [] old new (Lists (table_called name.Versions) (λ _. true) (listing_width name.Versions)) (all_versions_lists old new)
-first_called name.Recordings old new = whole_listed all_recordings_is [] old new (Lists (table_called name.Recordings) (λ _. true) (listing_width name.Recordings)) (all_recordings_lists old new)
-first_called name.Credits old new = whole_listed all_credits_is [] old new (Lists (table_called name.Credits) (λ _. true) (listing_width name.Credits)) (all_credits_lists old new)
-first_called name.Balances old new = whole_listed all_balances_is [] old new (Lists (table_called name.Balances) (λ _. true) (listing_width name.Balances)) (all_balances_lists old new)
-first_called name.SegmentEnds old new = whole_listed all_segment_ends_is [] old new (Lists (table_called name.SegmentEnds) (λ _. true) (listing_width name.SegmentEnds)) (all_segment_ends_lists old new)
-first_called name.MechanicalPools old new = whole_listed all_mechanical_pools_is [] old new (Lists (table_called name.MechanicalPools) (λ _. true) (listing_width name.MechanicalPools)) (all_mechanical_pools_lists old new)
