@@ -6,8 +6,8 @@ use crate::book::{SENDER, book, shown};
 use crate::checks::told;
 use crate::writes::{BOOK, ENDS, FRONTS, WORKS, write_all};
 use society_rows::{
-    Idle, LineTable, Question, RowFault, RowFold, TableName, ask, fold_run, fold_senders,
-    fold_table,
+    EntryTable, Idle, LineTable, Question, RowFault, RowFold, ask, fold_entries, fold_run,
+    fold_senders,
 };
 use sqlite::{Alter, Connection, MemStore, Row};
 use std::alloc::Global;
@@ -56,9 +56,9 @@ fn commit_book<S: Alter>(conn: &mut Connection<S>) -> Result<(), RowFault> {
 }
 
 /// How many rows a table has, taken one at a time.
-fn count_of<S: Alter>(conn: &mut Idle<S>, table: TableName) -> Result<u64, RowFault> {
+fn count_of<S: Alter>(conn: &mut Idle<S>, table: EntryTable) -> Result<u64, RowFault> {
     let mut count = Count { rows: 0 };
-    fold_table(conn, table, &mut count)?;
+    fold_entries(conn, table, &mut count)?;
     Ok(count.rows)
 }
 
@@ -73,11 +73,9 @@ fn run_from<S: Alter>(conn: &mut Idle<S>, first: u32) -> Result<u64, RowFault> {
 /// Counts the rows of tables, and of runs.
 fn check_counts<S: Alter>(rt: &impl Abort, conn: &mut Idle<S>) -> Result<(), Fail> {
     for (row, table, wanted) in [
-        ("transmissions", TableName::Transmissions, 2),
-        ("fronts", TableName::Fronts, 2),
-        ("credits", TableName::Credits, 0),
-        ("ends", TableName::SegmentEnds, 3),
-        ("mechanical pools", TableName::MechanicalPools, 0),
+        ("transmissions", EntryTable::Transmissions, 2),
+        ("returns", EntryTable::Returns, 1),
+        ("ends", EntryTable::SegmentEnds, 3),
     ] {
         let name = "rows_are_taken_one_at_a_time";
         told(rt, name, (row, count_of(conn, table)?), (row, wanted));

@@ -15,7 +15,7 @@ use cwr_files::{ReadFault, read_transmission};
 use perf_returns::{ReturnError, read_return};
 use society_core::{ReturnKey, SegmentKey, TransmissionKey};
 use society_rows::{
-    Idle, ReturnRow, RowFault, RowFold, SegmentEndRow, TableName, TransmissionRow, fold_table,
+    EntryTable, Idle, ReturnRow, RowFault, RowFold, SegmentEndRow, TransmissionRow, fold_entries,
 };
 use sqlite::{Alter, Row};
 use std::alloc::{AllocError, Global};
@@ -279,7 +279,7 @@ fn sent_in<S: Alter>(alloc: Global, conn: &mut Idle<S>) -> Result<Option<Vec<Sen
         keys: Vec::new(alloc),
         are_right: true,
     };
-    fold_table(conn, TableName::Transmissions, &mut rows)?;
+    fold_entries(conn, EntryTable::Transmissions, &mut rows)?;
     let SentRows {
         keys,
         are_right,
@@ -304,7 +304,7 @@ fn stated_in<S: Alter>(
         keys: Vec::new(alloc),
         are_right: true,
     };
-    fold_table(conn, TableName::SegmentEnds, &mut rows)?;
+    fold_entries(conn, EntryTable::SegmentEnds, &mut rows)?;
     let StatedRows { keys, are_right } = rows;
     let senders = senders_stated(alloc, keys.as_slice())?;
     if are_right && are_distinct_ends(alloc, keys)? {
@@ -343,7 +343,7 @@ fn are_returns_right<S: Alter>(alloc: Global, conn: &mut Idle<S>) -> Result<bool
         keys: Vec::new(alloc),
         are_right: true,
     };
-    fold_table(conn, TableName::Returns, &mut rows)?;
+    fold_entries(conn, EntryTable::Returns, &mut rows)?;
     let ReturnRows {
         keys,
         are_right,

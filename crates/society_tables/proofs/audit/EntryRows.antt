@@ -18,9 +18,7 @@ use Rattle.sqlite_keyed.proofs.ListLemmas.{IsPermutation-filter, all-filter}
 use Rattle.sqlite_schema.specs.declared.schema.Table.{Table}
 use Rattle.sqlite_trees.proofs.ListLemmas.{all-permutation}
 use Rattle.sqlite_trees.specs.Tree.{Trees}
-use Rattle.society_rows.specs.Reads.{Lists}
 use Rattle.society_rows.specs.Stored.{rows_in}
-use Rattle.society_tables.proofs.alike.SameTables.{all_pass}
 use Rattle.sqlite_value.specs.declared.value.Value.{Value}
 use Rattle.sqlite_value.specs.declared.value.Value.TheVariants.{Blob, Int, Null, Real, Text}
 use Rattle.society_core.proofs.Ascending.{ascending_has, ascending_length}
@@ -122,13 +120,12 @@ module _ {K : Type 0} {R : K → K → Ordering} (total : IsTotalOrder R) (exact
   key_is q r of = exact q (key_of r) (tied (R q (key_of r)) (agrees q r ∙ of))
 
   -- rows that were gone over, each right and alone under its key
-  pub entries_taken : (is_right : Row → Bool) (table : Table) (width : ℕ) (db : Trees) (rows : List Row) (gone : GoneOver K) → Lists table (λ _. true) width db rows
+  pub entries_taken : (is_right : Row → Bool) (table : Table) (db : Trees) (rows : List Row) (gone : GoneOver K) → IsPermutation (rows_in table db) rows
       → gone ≡ fold (take_over is_right key_of) (record { keys = []; are_right = true }) rows → gone.are_right ≡ true → length (ascending R gone.keys) ≡ length gone.keys
       → AreEntries is_right is_of (rows_in table db) × (gone.keys ≡ map key_of rows)
-  entries_taken is_right table width db rows gone lists is right distinct =
+  entries_taken is_right table db rows gone these is right distinct =
       let all = all_gone is_right key_of rows (record { keys = []; are_right = true }) (sym (ap (λ (g : GoneOver K). g.are_right) is) ∙ right) in
       let keys : gone.keys ≡ map key_of rows = ap (λ (g : GoneOver K). g.keys) is ∙ all.2 in
-      let these : IsPermutation (rows_in table db) rows = subst (λ l. IsPermutation l rows) (all_pass (rows_in table db)) lists.rows in
       let once = once_each rows (ap (λ (ks : List K). length (ascending R ks)) (sym keys) ∙ distinct ∙ ap length keys) in (
         record {
           right = all-permutation (λ r. is_right r ≡ true) rows (rows_in table db) (IsPermutation-sym (rows_in table db) rows these) all.1;
@@ -165,10 +162,9 @@ module _ {K : Type 0} {R : K → K → Ordering} (total : IsTotalOrder R) (exact
         first (r ∷ l) are right of e = (r, right.0, key_is q r of.0, (let same = e in cc), some_kept (is_of q) rows r l are)
 
 -- the senders of the keys of all rows of a table, in any order
-pub senders_taken : {K : Type 0} (sender_of : K → List ℕ) (key_of : Row → K) (table : Table) (width : ℕ) (db : Trees) (rows : List Row) (keys : List K) → ((r : Row) → sender_of (key_of r) ≡ text_at 0 r)
-    → Lists table (λ _. true) width db rows → keys ≡ map key_of rows → IsPermutation (map sender_of keys) (map (text_at 0) (rows_in table db))
-senders_taken sender_of key_of table width db rows keys its lists are =
-    let these : IsPermutation (rows_in table db) rows = subst (λ l. IsPermutation l rows) (all_pass (rows_in table db)) lists.rows in
+pub senders_taken : {K : Type 0} (sender_of : K → List ℕ) (key_of : Row → K) (table : Table) (db : Trees) (rows : List Row) (keys : List K) → ((r : Row) → sender_of (key_of r) ≡ text_at 0 r)
+    → IsPermutation (rows_in table db) rows → keys ≡ map key_of rows → IsPermutation (map sender_of keys) (map (text_at 0) (rows_in table db))
+senders_taken sender_of key_of table db rows keys its these are =
     subst (λ (l : List (List ℕ)). IsPermutation l (map (text_at 0) (rows_in table db))) (sym (ap (map sender_of) are ∙ map-map sender_of key_of rows ∙ named rows))
     (IsPermutation-sym (map (text_at 0) (rows_in table db)) (map (text_at 0) rows) (IsPermutation-map (text_at 0) (rows_in table db) rows these))
   where

@@ -16,7 +16,7 @@ returns-in_ok-are_distinct_returns g c =
       read =
           let old = state g.S.Store c.args.conn.now in
           let gone : GoneOver ReturnKey = record { keys = c.rows.inside.keys.items; are_right = c.rows.inside.are_right } in
-          reads_as old (state g.S.Store c.fold_table.new.conn) tt (Ok c.in_ok-are_distinct_returns.field-0) _ _ c.in_ok-fold_table.ensures.taken
+          reads_as old (state g.S.Store c.fold_entries.new.conn) tt (Ok c.in_ok-are_distinct_returns.field-0) _ _ c.in_ok-fold_entries.ensures.taken
           (λ taken is.
-          (entries_taken returns_total exact_returns is_return_row return_key_of (λ q r. returns_tie q (return_key_of r)) is_right_return layout.returns 2 old.now.trees taken.rows gone taken.these (c.rows.view_is ∙ taken.folded ∙ ap (λ (ks : List ReturnKey). fold (take_over is_right_return return_key_of) (record { keys = ks; are_right = true }) taken.rows) c.new.ensures.items) c.if-are_right.true (c.in_ok-are_distinct_returns.ensures is)).0);
+          (entries_taken returns_total exact_returns is_return_row return_key_of (λ q r. returns_tie q (return_key_of r)) is_right_return layout.returns old.now.trees taken.rows gone taken.these (c.rows.view_is ∙ taken.folded ∙ ap (λ (ks : List ReturnKey). fold (take_over is_right_return return_key_of) (record { keys = ks; are_right = true }) taken.rows) c.new.ensures.items) c.if-are_right.true (c.in_ok-are_distinct_returns.ensures is)).0);
     }
