@@ -5,11 +5,12 @@ ghost use Rattle.society_rows.specs.declared.fault.RowFault.TheVariants.{Memory}
 use crate::book::{SENDER, book, shown};
 use crate::checks::told;
 use crate::writes::{BOOK, ENDS, FRONTS, WORKS, write_all};
+use memory_store::MemoryStore;
 use society_rows::{
     EntryTable, Idle, LineTable, Question, RowFault, RowFold, ask, fold_entries, fold_run,
     fold_senders,
 };
-use sqlite::{Alter, Connection, MemStore, Row};
+use sqlite::{Alter, Connection, Row};
 use std::alloc::Global;
 use std::process::Abort;
 use std::test::Fail;
@@ -34,7 +35,7 @@ impl RowFold for Count {
     }
 }
 
-fn committed(alloc: Global) -> Result<Idle<MemStore>, RowFault> {
+fn committed(alloc: Global) -> Result<Idle<MemoryStore>, RowFault> {
     let mut conn = book(alloc)?.into_connection();
     commit_book(&mut conn)?;
     match Idle::new(conn) {

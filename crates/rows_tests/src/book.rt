@@ -1,16 +1,24 @@
 //! A new book of the example society, and its rows as text.
 
+use memory_store::MemoryStore;
 use society_rows::{Found, Idle, OfficeRow, RowFault, create, layout_found};
-use sqlite::{Alter, Connection, MemStore, Row};
+use sqlite::{Alter, Connection, Row};
 use sqlite_value::value::ValueRef;
 use std::alloc::{AllocError, Global};
 
 pub const SENDER: &[u8] = b"PB000000012";
 
+/// A database in memory that has no table.
+pub fn empty(alloc: Global) -> Result<Idle<MemoryStore>, RowFault> {
+    match Connection::over(alloc, MemoryStore::new(alloc)?) {
+        Ok(connection) => Ok(Idle { connection }),
+        Err((error, _)) => Err(RowFault::from(error)),
+    }
+}
+
 /// A new book of the example society, in memory.
-pub fn book(alloc: Global) -> Result<Idle<MemStore>, RowFault> {
-    let connection = Connection::open_in_memory(alloc)?;
-    let mut conn = Idle { connection };
+pub fn book(alloc: Global) -> Result<Idle<MemoryStore>, RowFault> {
+    let mut conn = empty(alloc)?;
     begin(&mut conn)?;
     Ok(conn)
 }

@@ -1,9 +1,9 @@
 //! What a database holds.
 
-use crate::book::book;
+use crate::book::{book, empty};
 use crate::checks::told;
 use society_rows::{Found, Idle, OlderLayout, RowFault, layout_found};
-use sqlite::{Alter, Connection};
+use sqlite::Alter;
 use std::process::Abort;
 use std::test::Fail;
 
@@ -56,8 +56,7 @@ fn check_layouts<S: Alter>(rt: &impl Abort, conn: &mut Idle<S>) -> Result<(), Fa
 
 #[test]
 fn only_the_layout_is_found(rt: HostRuntime) -> Result<(), Fail> {
-    let connection = Connection::open_in_memory(rt.alloc())?;
-    let empty = Idle { connection };
-    told(&rt, "empty", layout_found(&empty), Found::Nothing);
+    let nothing = empty(rt.alloc())?;
+    told(&rt, "empty", layout_found(&nothing), Found::Nothing);
     check_layouts(&rt, &mut book(rt.alloc())?)
 }

@@ -20,6 +20,8 @@ mod reads;
 #[cfg(test)]
 mod rows_tests;
 #[cfg(test)]
+mod store_tests;
+#[cfg(test)]
 mod typed;
 #[cfg(test)]
 mod writes;

@@ -1,6 +1,6 @@
 //! Databases of older layouts, made by texts, are found and get layout 3.
 
-use crate::book::{book, shown};
+use crate::book::{book, empty, shown};
 use crate::checks::told;
 use society_rows::{
     CreditRow, Found, Idle, OlderLayout, PoolReturnRow, RowFault, TableName, add_credits,
@@ -167,7 +167,7 @@ fn check_raised<S: Alter + Drop>(
 #[test]
 fn older_layouts_are_raised(rt: HostRuntime) -> Result<(), Fail> {
     for (row, layout, texts) in OLDER {
-        let mut conn = Connection::open_in_memory(rt.alloc())?;
+        let mut conn = empty(rt.alloc())?.into_connection();
         make(&mut conn, texts)?;
         check_raised(&rt, rt.alloc(), row, conn, layout)?;
     }

@@ -2,7 +2,7 @@
 use Rattle.std.specs.Prelude.{ℕ, ◌≡◌, List, Some, Result}
 use Rattle.std.specs.List.{AllByRecursion}
 use Rattle.sqlite.specs.Held.{Held}
-use Rattle.sqlite_trees.specs.declared.memory.MemStore.{MemStore}
+use Rattle.memory_store.specs.declared.memory.MemoryStore.{MemoryStore}
 use Rattle.sqlite_value.specs.Order.{Row}
 use Rattle.society_core.specs.Book.{Book, IsSound, empty_book, order_at}
 use Rattle.society_core.specs.Orders.{Order}
@@ -82,16 +82,16 @@ PassesPools rows cuts paid marks old new result =
     → Passes result (λ _. new ≡ b)
 
 -- the rows of a book's lines pass: tables in memory to which nothing had come have its transmissions and its ends then
-abbrev pub PassesLines : LineRows → Held MemStore → Held MemStore → Result (Unit {0}) AuditFault → Type 0
+abbrev pub PassesLines : LineRows → Held MemoryStore → Held MemoryStore → Result (Unit {0}) AuditFault → Type 0
 PassesLines rows first last result =
     (b : Book) → IsSound b → AreLines b rows → memory_book first ≡ empty_book → Passes result (λ _. memory_book last ≡ lines_alone b)
 
 -- the rows of its pools pass: tables that had all but its pools have the whole book then
-abbrev pub PassesOwnPools : PoolRows → Held MemStore → Held MemStore → Result (Unit {0}) AuditFault → Type 0
+abbrev pub PassesOwnPools : PoolRows → Held MemoryStore → Held MemoryStore → Result (Unit {0}) AuditFault → Type 0
 PassesOwnPools rows first last result =
     (b : Book) → IsSound b → ArePools b rows → memory_book first ≡ without_pools b → Passes result (λ _. memory_book last ≡ b)
 
 -- the rows of a book pass: tables to which nothing had come have the whole book then
-abbrev pub PassesOwn : OwnRows → Held MemStore → Held MemStore → Result (Unit {0}) AuditFault → Type 0
+abbrev pub PassesOwn : OwnRows → Held MemoryStore → Held MemoryStore → Result (Unit {0}) AuditFault → Type 0
 PassesOwn rows first last result =
     (b : Book) → IsSound b → AreOwn b rows → memory_book first ≡ empty_book → Passes result (λ _. memory_book last ≡ b)

@@ -4,9 +4,9 @@ use Rattle.share_rules.specs.declared.office.Office.{Office}
 use Rattle.sqlite.specs.Effect.{Database}
 use Rattle.sqlite.specs.Held.{Held, state}
 use Rattle.sqlite.specs.State.{HasCleanDisk, State}
-use Rattle.sqlite.specs.Steps.{over_memory}
+use Rattle.memory_store.specs.Memory.{over_memory}
 use Rattle.sqlite_trees.specs.Tree.{Trees}
-use Rattle.sqlite_trees.specs.declared.memory.MemStore.{MemStore}
+use Rattle.memory_store.specs.declared.memory.MemoryStore.{MemoryStore}
 use Rattle.society_core.specs.Book.{Book}
 use Rattle.society_rows.specs.Stored.{HasLayout}
 use Rattle.society_rows.specs.declared.fault.RowFault.{RowFault}
@@ -17,11 +17,11 @@ use Rattle.society_tables.specs.Rebuilding.{Passes, ShowsBook}
 use Rattle.society_tables.specs.declared.audit_fault.AuditFault.{AuditFault}
 
 -- the database that a connection over memory shows
-abbrev pub in_memory : Held MemStore → Database
+abbrev pub in_memory : Held MemoryStore → Database
 in_memory held = (state over_memory held).now
 
 -- the book of the tables in memory
-abbrev pub memory_book : Held MemStore → Book
+abbrev pub memory_book : Held MemoryStore → Book
 memory_book held = book_of (in_memory held).trees
 
 -- said of tables in memory of layout 3 and of those of the database that an answer was read from

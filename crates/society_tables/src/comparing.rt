@@ -12,8 +12,9 @@ ghost use Rattle.society_tables.specs.InMemory.{FromMemory, in_memory, PassesBes
 ghost use Rattle.society_rows.specs.Listings.{ListsAll};
 
 use crate::audit_fault::AuditFault;
+use memory_store::MemoryStore;
 use society_rows::{Idle, RowFault, TableName, all_rows};
-use sqlite::{Alter, MemStore, Row};
+use sqlite::{Alter, Row};
 use sqlite_value::order::is_same;
 
 /// The tables after the first.
@@ -59,7 +60,7 @@ pub(crate) fn rows_of_table<S: Alter>(
 
 /// All rows of a table in memory, whose database stays as it is.
 pub(crate) fn rows_in_memory(
-    memory: &mut Idle<MemStore>,
+    memory: &mut Idle<MemoryStore>,
     table: TableName,
 ) -> Result<Vec<Row>, AuditFault>
     ensures rows { HasLayout (in_memory memory.old) → IfOk result (λ rows. ListsAll table (in_memory memory.old).trees rows.items) }
@@ -111,7 +112,7 @@ pub(crate) fn are_same_rows(rows: &[Row], others: &[Row]) -> bool
 /// That a table has the rows that it has in memory; else `Damaged`.
 pub(crate) fn table_agrees<S: Alter>(
     conn: &mut Idle<S>,
-    memory: &mut Idle<MemStore>,
+    memory: &mut Idle<MemoryStore>,
     table: TableName,
 ) -> Result<(), AuditFault>
     ensures agree { between S.Store conn.old conn.new Inspects result (FromMemory (AgreesAt table) (in_memory memory.old)) }
@@ -131,7 +132,7 @@ pub(crate) fn table_agrees<S: Alter>(
 /// That the table of the office and these have the rows that they have in memory; else `Damaged`.
 pub(crate) fn named_agree<S: Alter>(
     conn: &mut Idle<S>,
-    memory: &mut Idle<MemStore>,
+    memory: &mut Idle<MemoryStore>,
     tables: &[TableName],
 ) -> Result<(), AuditFault>
     ensures agree { between S.Store conn.old conn.new Inspects result (FromMemory (Agree (name.Office ∷ tables.now)) (in_memory memory.old)) }
@@ -149,7 +150,7 @@ pub(crate) fn named_agree<S: Alter>(
 /// That each table has the rows that it has in memory; else `Damaged`.
 pub(crate) fn tables_agree<S: Alter>(
     conn: &mut Idle<S>,
-    memory: &mut Idle<MemStore>,
+    memory: &mut Idle<MemoryStore>,
 ) -> Result<(), AuditFault>
     ensures agree { between S.Store conn.old conn.new Inspects result (FromMemory (Agree every_name) (in_memory memory.old)) }
     ensures passes { between S.Store conn.old conn.new (PassesBeside (in_memory memory.old)) result }

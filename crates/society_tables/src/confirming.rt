@@ -17,10 +17,11 @@ use crate::entries::{entries_in, set_of_senders};
 use crate::line_rows::are_lines_of;
 use crate::lines::lines_agree;
 use crate::money::close_all;
+use memory_store::MemoryStore;
 use share_rules::Office;
 use society_book::number_past_of;
 use society_rows::{Found, Idle, RowFault, SegmentEndRow, TableName, layout_found};
-use sqlite::{Alter, MemStore, Row};
+use sqlite::{Alter, Row};
 use std::alloc::Global;
 use work_ids::{SegmentEnd, SenderKey};
 
@@ -39,7 +40,7 @@ const MONEY_TABLES: [TableName; 6] = [
 fn lines_and_pools_agree<S: Alter>(
     alloc: Global,
     conn: &mut Idle<S>,
-    memory: &mut Idle<MemStore>,
+    memory: &mut Idle<MemoryStore>,
     office: &Office,
     senders: &[SenderKey],
 ) -> Result<(), AuditFault>

@@ -17,12 +17,13 @@ use crate::audit_fault::AuditFault;
 use crate::comparing::rows_of_table;
 use crate::rebuilding::pool_of_row;
 use crate::references::put_references;
+use memory_store::MemoryStore;
 use pool_split::Credit;
 use share_rules::Office;
 use society_book::{credits_in, ends_of, shown_front, write_pool};
 use society_core::{PoolOrder, ReturnKey, TransmissionKey};
 use society_rows::{Idle, Question, RowFault, TableName, answer, ask};
-use sqlite::{Alter, MemStore, Row, Transaction};
+use sqlite::{Alter, Row, Transaction};
 use std::alloc::Global;
 use work_ids::{PoolNumber, SenderKey};
 
@@ -35,7 +36,7 @@ struct PaidRows<'a> {
 }
 
 // The rows that answer a question over tables in memory, which stay as they are.
-fn answered(memory: &mut Idle<MemStore>, question: Question<'_>) -> Result<Vec<Row>, RowFault>
+fn answered(memory: &mut Idle<MemoryStore>, question: Question<'_>) -> Result<Vec<Row>, RowFault>
     ensures rows { HasLayout (in_memory memory.old) → IfOk result (λ rows. RowsAnswer question.entry (in_memory memory.old).trees rows.items) }
     ensures same { in_memory memory.new ≡ in_memory memory.old }
 {
@@ -43,7 +44,7 @@ fn answered(memory: &mut Idle<MemStore>, question: Question<'_>) -> Result<Vec<R
 }
 
 // Whether a pool is not closed in tables in memory.
-fn is_open_pool(memory: &mut Idle<MemStore>, pool: PoolNumber) -> Result<bool, RowFault>
+fn is_open_pool(memory: &mut Idle<MemoryStore>, pool: PoolNumber) -> Result<bool, RowFault>
     ensures free { TellsMixed (in_memory memory.old) result (λ book. order_at book pool ≡ None) }
     ensures same { in_memory memory.new ≡ in_memory memory.old }
 {
@@ -83,7 +84,7 @@ fn are_reached<S: Alter>(conn: &mut Idle<S>, cut: &[TransmissionKey]) -> Result<
 }
 
 // Whether no pool pays a return in tables in memory.
-fn is_unpaid(memory: &mut Idle<MemStore>, key: &ReturnKey) -> Result<bool, RowFault>
+fn is_unpaid(memory: &mut Idle<MemoryStore>, key: &ReturnKey) -> Result<bool, RowFault>
     ensures unpaid { TellsMixed (in_memory memory.old) result (λ book. payer book key.now ≡ None) }
     ensures same { in_memory memory.new ≡ in_memory memory.old }
 {
@@ -97,7 +98,7 @@ fn is_unpaid(memory: &mut Idle<MemStore>, key: &ReturnKey) -> Result<bool, RowFa
 // Whether the tables have a return that no pool pays by those in memory.
 fn is_open_return<S: Alter>(
     conn: &mut Idle<S>,
-    memory: &mut Idle<MemStore>,
+    memory: &mut Idle<MemoryStore>,
     key: &ReturnKey,
 ) -> Result<bool, AuditFault>
     ensures free { between S.Store conn.old conn.new Inspects result (SaysMixed (in_memory memory.old) (λ book. IsOpenReturn book key.now)) }
@@ -116,7 +117,7 @@ fn is_open_return<S: Alter>(
 // Whether the tables have each of these returns, and no pool pays it by those in memory; asked of tables that are this office's.
 fn are_open_returns<S: Alter>(
     conn: &mut Idle<S>,
-    memory: &mut Idle<MemStore>,
+    memory: &mut Idle<MemoryStore>,
     keys: &[ReturnKey],
 ) -> Result<bool, AuditFault>
     ensures free { between S.Store conn.old conn.new Inspects result (SaysMixed (in_memory memory.old) (λ book. AllByRecursion (IsOpenReturn book) keys.now)) }
@@ -183,7 +184,7 @@ fn write_closed<S: Alter>(
 // cut is reached and the returns are there.
 fn is_closable<S: Alter>(
     conn: &mut Idle<S>,
-    memory: &mut Idle<MemStore>,
+    memory: &mut Idle<MemoryStore>,
     pool: PoolNumber,
     order: &PoolOrder,
 ) -> Result<bool, AuditFault>
@@ -204,7 +205,7 @@ fn is_closable<S: Alter>(
 fn close_aside<S: Alter>(
     alloc: Global,
     conn: &mut Idle<S>,
-    memory: &mut Idle<MemStore>,
+    memory: &mut Idle<MemoryStore>,
     office: &Office,
     pool: PoolNumber,
     order: &PoolOrder,
@@ -223,7 +224,7 @@ fn close_aside<S: Alter>(
 fn close_row<S: Alter>(
     alloc: Global,
     conn: &mut Idle<S>,
-    memory: &mut Idle<MemStore>,
+    memory: &mut Idle<MemoryStore>,
     office: &Office,
     row: &Row,
     orders: &PaidRows<'_>,
@@ -239,7 +240,7 @@ fn close_row<S: Alter>(
 fn close_rows<S: Alter>(
     alloc: Global,
     conn: &mut Idle<S>,
-    memory: &mut Idle<MemStore>,
+    memory: &mut Idle<MemoryStore>,
     office: &Office,
     rows: &[Row],
     orders: &PaidRows<'_>,
@@ -258,7 +259,7 @@ fn close_rows<S: Alter>(
 pub(crate) fn close_all<S: Alter>(
     alloc: Global,
     conn: &mut Idle<S>,
-    memory: &mut Idle<MemStore>,
+    memory: &mut Idle<MemoryStore>,
     office: &Office,
 ) -> Result<(), AuditFault>
     ensures closed { between S.Store conn.old conn.new Inspects result (StaysAside office.now (in_memory memory.old) (in_memory memory.new)) }

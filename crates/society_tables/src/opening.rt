@@ -29,12 +29,13 @@ use crate::own_rows::listed_own;
 use crate::rebuilding::rebuild;
 use crate::taking_over::take_over;
 use crate::{OpenFault, Tables};
+use memory_store::MemoryStore;
 use share_rules::Office;
 use society_core::Store;
 use society_rows::{
     Found, Idle, LAYOUT, OfficeRow, RowFault, TableName, are_numbered, create, layout_found,
 };
-use sqlite::{Alter, Connection, MemStore, Row};
+use sqlite::{Alter, Connection, Row};
 use std::alloc::Global;
 
 /// That the rows of offices are the one row of this office under a layout; `Schema` where it cannot be read.
@@ -109,7 +110,7 @@ fn fronts_and_balances_numbered<S: Alter>(conn: &mut Idle<S>) -> Result<(), Audi
 }
 
 // That the tables hold what these tables in memory hold.
-fn agrees_with<S: Alter>(conn: &mut Idle<S>, tables: Tables<MemStore>) -> Result<(), AuditFault>
+fn agrees_with<S: Alter>(conn: &mut Idle<S>, tables: Tables<MemoryStore>) -> Result<(), AuditFault>
     ensures agree { between S.Store conn.old conn.new Inspects result (λ db _. HoldsNumbered tables.office db) }
     ensures passes { between S.Store conn.old conn.new (PassesBook tables.office (memory_book tables.conn) result) }
     ensures failed { between S.Store conn.old conn.new (TellsFailure audit.Store) result }

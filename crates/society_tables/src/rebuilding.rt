@@ -15,18 +15,19 @@ ghost use Rattle.society_tables.specs.Again.{PassesSent, PassesStated, PassesRep
 use crate::Tables;
 use crate::audit_fault::AuditFault;
 use crate::own_rows::{LineRows, OwnRows, PoolRows};
+use memory_store::MemoryStore;
 use share_rules::{Kind, Office};
 use society_core::{Desk, OrderError, PoolOrder, Refusal, ReturnKey, Store};
 use society_rows::{
     MechanicalPoolRow, PoolCutRow, PoolReturnRow, PoolRow, ReturnRow, SegmentEndRow,
     TransmissionRow,
 };
-use sqlite::{MemStore, Row};
+use sqlite::Row;
 use std::alloc::Global;
 use work_ids::{PoolNumber, Reporter, ReturnNumber, SegmentEnd, SenderKey, TransmissionNumber};
 
 /// A desk over tables in memory, to which the requests of a book come again.
-pub(crate) type Anew = Desk<Tables<MemStore>>;
+pub(crate) type Anew = Desk<Tables<MemoryStore>>;
 
 // Want of memory, or damage where the desk refuses.
 fn fault_of_refusal(refusal: Refusal) -> AuditFault
@@ -347,7 +348,7 @@ pub(crate) fn rebuild(
     alloc: Global,
     office: &Office,
     rows: &OwnRows,
-) -> Result<Tables<MemStore>, AuditFault>
+) -> Result<Tables<MemoryStore>, AuditFault>
     ensures office { IfOk result (λ t. t.office ≡ office.now) }
     ensures passes { (b : Book) → IsSound b → AreOwn b rows.now → Passes result (λ t. memory_book t.conn ≡ b) }
     ensures judged { IfErr result (λ e. e ≢ Store) }

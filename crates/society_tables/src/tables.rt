@@ -8,6 +8,7 @@ ghost use Rattle.society_book.specs.Kept.{IsAtRest, Rests};
 
 use crate::fault::told;
 use cwr_files::FileReader;
+use memory_store::MemoryStore;
 use pool_split::Credit;
 use share_rules::Office;
 use society_book::{
@@ -18,8 +19,8 @@ use society_core::{
     Known, KnownEnd, KnownTransmission, Payment, Place, PoolOrder, ReturnKey, SenderStatus, Store,
     StoreFault, Work,
 };
-use society_rows::{Idle, OfficeRow, ReturnRow, RowFault, create};
-use sqlite::{Alter, Connection, MemStore};
+use society_rows::{Found, Idle, OfficeRow, ReturnRow, RowFault, create, layout_found};
+use sqlite::{Alter, Connection};
 use sqlite_schema::schema::Schema;
 use std::alloc::Global;
 use work_ids::{Account, PoolNumber, SegmentEnd, SenderKey, TransmissionNumber, WorkNumber};
@@ -280,17 +281,23 @@ impl<S: Alter> Tables<S> {
     }
 }
 
-impl Tables<MemStore> {
+impl Tables<MemoryStore> {
     /// The tables of an office to which nothing has come, in memory.
-    pub fn in_memory(alloc: Global, office: &Office) -> Result<Tables<MemStore>, RowFault>
-        ensures office { IfOk result (λ t. (⟦<Tables<MemStore> as Store>⟧.state t).office ≡ office.now) }
-        ensures empty { IfOk result (λ t. (⟦<Tables<MemStore> as Store>⟧.state t).book ≡ empty_book) }
-        ensures clean { IfOk result (λ t. (⟦<Tables<MemStore> as Store>⟧.state t).is_clean ≡ true) }
+    pub fn in_memory(alloc: Global, office: &Office) -> Result<Tables<MemoryStore>, RowFault>
+        ensures office { IfOk result (λ t. (⟦<Tables<MemoryStore> as Store>⟧.state t).office ≡ office.now) }
+        ensures empty { IfOk result (λ t. (⟦<Tables<MemoryStore> as Store>⟧.state t).book ≡ empty_book) }
+        ensures clean { IfOk result (λ t. (⟦<Tables<MemoryStore> as Store>⟧.state t).is_clean ≡ true) }
         // A store that has counted all failures refuses every call.
-        ensures uncounted { IfOk result (λ t. (⟦<Tables<MemStore> as Store>⟧.state t).failures ≡ 0) }
+        ensures uncounted { IfOk result (λ t. (⟦<Tables<MemoryStore> as Store>⟧.state t).failures ≡ 0) }
     {
-        let connection = Connection::open_in_memory(alloc)?;
+        let connection = match Connection::over(alloc, MemoryStore::new(alloc)?) {
+            Ok(connection) => connection,
+            Err((error, _)) => return Err(error.into()),
+        };
         let mut conn = Idle { connection };
+        let Found::Nothing = layout_found(&conn) else {
+            return Err(RowFault::Schema);
+        };
         let row = OfficeRow {
             society: u32::from(office.society),
             territory: u32::from(office.territory),

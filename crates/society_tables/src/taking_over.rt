@@ -18,11 +18,12 @@ use crate::opening::check_office;
 use crate::own_rows::own_rows;
 use crate::rebuilding::rebuild;
 use crate::{OpenFault, Tables};
+use memory_store::MemoryStore;
 use share_rules::Office;
 use society_rows::{
     Idle, OlderLayout, TableName, add_derived_rows, all_rows, are_numbered, raise_inside,
 };
-use sqlite::{Alter, MemStore, Transaction};
+use sqlite::{Alter, Transaction};
 use std::alloc::Global;
 
 /// The tables of what is derived of a book.
@@ -38,7 +39,7 @@ const DERIVED_TABLES: [TableName; 6] = [
 // Adds to a table the rows that it has in memory.
 fn fill_table<S: Alter>(
     tx: &mut Transaction<'_, S>,
-    memory: &mut Idle<MemStore>,
+    memory: &mut Idle<MemoryStore>,
     table: TableName,
 ) -> Result<(), AuditFault>
     ensures same_reference { tx.new.conn.ghost_name ≡ tx.old.conn.ghost_name }
@@ -54,7 +55,7 @@ fn fill_table<S: Alter>(
 // Adds to the tables of what is derived the rows that they have in memory.
 fn fill<S: Alter>(
     tx: &mut Transaction<'_, S>,
-    memory: &mut Idle<MemStore>,
+    memory: &mut Idle<MemoryStore>,
 ) -> Result<(), AuditFault>
     ensures same_reference { tx.new.conn.ghost_name ≡ tx.old.conn.ghost_name }
     ensures filled { within S.Store tx.old tx.new (DoesOver HasLayout) result (Fills (AreFilledFrom derived_names) (in_memory memory.old)) }
@@ -70,7 +71,7 @@ fn fill<S: Alter>(
 // Adds what is derived to tables that were raised out of layout 1; those of layout 2 have it.
 fn complete<S: Alter>(
     tx: &mut Transaction<'_, S>,
-    memory: &mut Idle<MemStore>,
+    memory: &mut Idle<MemoryStore>,
     layout: OlderLayout,
 ) -> Result<(), AuditFault>
     ensures same_reference { tx.new.conn.ghost_name ≡ tx.old.conn.ghost_name }
@@ -87,7 +88,7 @@ fn complete<S: Alter>(
 // That a table has the rows that it has in memory; else `Damaged`.
 fn table_agrees_inside<S: Alter>(
     tx: &mut Transaction<'_, S>,
-    memory: &mut Idle<MemStore>,
+    memory: &mut Idle<MemoryStore>,
     table: TableName,
 ) -> Result<(), AuditFault>
     ensures same_reference { tx.new.conn.ghost_name ≡ tx.old.conn.ghost_name }
@@ -107,7 +108,7 @@ fn table_agrees_inside<S: Alter>(
 // That each table has the rows that it has in memory; else `Damaged`.
 fn tables_agree_inside<S: Alter>(
     tx: &mut Transaction<'_, S>,
-    memory: &mut Idle<MemStore>,
+    memory: &mut Idle<MemoryStore>,
 ) -> Result<(), AuditFault>
     ensures same_reference { tx.new.conn.ghost_name ≡ tx.old.conn.ghost_name }
     ensures agree { within S.Store tx.old tx.new Sees result (FromMemory (Agree every_name) (in_memory memory.old)) }
@@ -149,7 +150,7 @@ fn are_numbered_inside<S: Alter>(tx: &mut Transaction<'_, S>) -> Result<(), Audi
 // That the tables hold what those in memory hold, and can be written.
 fn agree_inside<S: Alter>(
     tx: &mut Transaction<'_, S>,
-    memory: &mut Idle<MemStore>,
+    memory: &mut Idle<MemoryStore>,
 ) -> Result<(), AuditFault>
     ensures same_reference { tx.new.conn.ghost_name ≡ tx.old.conn.ghost_name }
     ensures agree { within S.Store tx.old tx.new Sees result (AreSame (in_memory memory.old)) }
@@ -164,7 +165,7 @@ fn rebuilt_inside<S: Alter>(
     alloc: Global,
     tx: &mut Transaction<'_, S>,
     office: &Office,
-) -> Result<Tables<MemStore>, AuditFault>
+) -> Result<Tables<MemoryStore>, AuditFault>
     ensures same_reference { tx.new.conn.ghost_name ≡ tx.old.conn.ghost_name }
     ensures sees { within S.Store tx.old tx.new Sees result (λ _ _. ⊤) }
     ensures office { IfOk result (λ t. t.office ≡ office.now) }
@@ -177,7 +178,7 @@ fn rebuilt_inside<S: Alter>(
 // Makes tables that were raised hold what these in memory hold, where they can; else `Damaged`.
 fn complete_as<S: Alter>(
     tx: &mut Transaction<'_, S>,
-    tables: Tables<MemStore>,
+    tables: Tables<MemoryStore>,
     layout: OlderLayout,
 ) -> Result<(), AuditFault>
     ensures same_reference { tx.new.conn.ghost_name ≡ tx.old.conn.ghost_name }

@@ -1,14 +1,14 @@
 //! The candidates of a pool, out of tables to which works of two senders have come.
 
 use crate::checks::told;
-use crate::left::office;
+use crate::left::{office, without_tables};
 use cwr_files::FileReader;
 use perf_returns::read_return;
 use share_rules::{Kind, Office};
 use society_book::{arrive, candidates_in};
 use society_core::{Candidate, PoolOrder, Tally};
 use society_rows::{Found, Idle, OfficeRow, create, layout_found};
-use sqlite::{Alter, Connection};
+use sqlite::Alter;
 use std::alloc::{AllocError, Global};
 use std::str;
 use std::test::Fail;
@@ -119,7 +119,7 @@ const CUTS: [(&str, u64, &str); 3] = [
 fn candidates_at_cuts(rt: HostRuntime) -> Result<(), Fail> {
     let alloc = rt.alloc();
     let office = office(900)?;
-    let connection = Connection::open_in_memory(alloc)?;
+    let connection = without_tables(alloc)?;
     let mut conn = Idle { connection };
     fill(alloc, &mut conn, &office)?;
     for (row, cut, wanted) in CUTS {

@@ -1,6 +1,8 @@
 //! Databases in which something was changed, opened as the tables of an office: the fault that is told, and that nothing is written.
 use crate::checks::{holds, told};
-use crate::left::{CLOSED_AT_A_CUT, ONE_WAITS, Step, YEAR_BEGUN, change, left_by, opened};
+use crate::left::{
+    CLOSED_AT_A_CUT, ONE_WAITS, Step, YEAR_BEGUN, change, left_by, opened, without_tables,
+};
 use crate::listing::{TABLES, rows_by};
 use society_tables::OpenFault;
 use sqlite::{Alter, Connection, params};
@@ -247,7 +249,7 @@ fn a_changed_byte_of_a_body_is_damage(rt: HostRuntime) -> Result<(), Fail> {
 #[test]
 fn pools_alone_are_no_office(rt: HostRuntime) -> Result<(), Fail> {
     let alloc = rt.alloc();
-    let mut conn = Connection::open_in_memory(alloc)?;
+    let mut conn = without_tables(alloc)?;
     change(
         &mut conn,
         "CREATE TABLE pools (pool INTEGER NOT NULL PRIMARY KEY, amount INTEGER NOT NULL) STRICT; INSERT INTO pools (pool, amount) VALUES (7, 1001)",

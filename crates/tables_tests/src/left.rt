@@ -1,8 +1,11 @@
 //! Databases in memory that requests leave.
+ghost use Rattle.std.specs.Prelude.{◌≡◌, false, IfOk};
+
+use memory_store::MemoryStore;
 use share_rules::{Kind, Office};
 use society_core::{Desk, PoolOrder, Refusal, ReturnKey, Store};
 use society_tables::{OpenFault, Tables};
-use sqlite::{Alter, Connection, MemStore};
+use sqlite::{Alter, Connection};
 use std::alloc::Global;
 use std::test::Fail;
 use test_bodies::{EMPTY, REGISTERED, REVISED, number, sender};
@@ -99,8 +102,18 @@ pub fn send_all<S: Store>(alloc: Global, desk: &mut Desk<S>, steps: &[Step]) -> 
     Ok(())
 }
 
+/// A database in memory that has no table.
+pub fn without_tables(alloc: Global) -> Result<Connection<MemoryStore>, Fail>
+    ensures { IfOk result (λ conn. conn.in_transaction ≡ false) }
+{
+    match Connection::over(alloc, MemoryStore::new(alloc)?) {
+        Ok(connection) => Ok(connection),
+        Err(_) => Err(Fail::new("a database")),
+    }
+}
+
 /// The database that requests leave at a new office.
-pub fn left_by(alloc: Global, steps: &[Step]) -> Result<Connection<MemStore>, Fail> {
+pub fn left_by(alloc: Global, steps: &[Step]) -> Result<Connection<MemoryStore>, Fail> {
     let tables = Tables::in_memory(alloc, &office(900)?)
         .ok()
         .ok_or("memory")?;

@@ -2,6 +2,7 @@
 use crate::checks::{holds, told};
 use crate::left::{
     CLOSED_AT_A_CUT, ONE_WAITS, Opened, REVISIONS, YEAR_BEGUN, left_by, office, opened,
+    without_tables,
 };
 use society_core::Store;
 use society_rows::Idle;
@@ -47,7 +48,7 @@ fn existing<S: Alter + Drop>(
 fn tables_that_are_there_are_opened(rt: HostRuntime) -> Result<(), Fail> {
     let alloc = rt.alloc();
     let row = "an_empty_database_becomes_a_new_book";
-    let empty = Connection::open_in_memory(alloc)?;
+    let empty = without_tables(alloc)?;
     check_front(&rt, row, opened(alloc, empty, 900)?, 0)?;
     let row = "tables_that_are_there_are_opened";
     let there = left_by(alloc, ONE_WAITS)?;
@@ -141,7 +142,7 @@ fn check_not_there<S: Alter + Drop>(
 fn tables_that_are_not_there(rt: HostRuntime) -> Result<(), Fail> {
     let alloc = rt.alloc();
     let row = "nothing_is_begun_where_tables_are_to_be_there";
-    let empty = Connection::open_in_memory(alloc)?;
+    let empty = without_tables(alloc)?;
     let opened = existing(alloc, empty, 900)?;
     check_not_there(&rt, row, opened, OpenFault::Empty, 0)?;
     let row = "tables_of_another_office_are_told_as_such";

@@ -1,6 +1,8 @@
 //! What the calls of a store answer that bytes do not show as they are: over tables in memory, over tables in a file, and over the plain store.
 use crate::checks::told;
-use crate::left::{File, Opened, Step, first_return, office, opened, order, send_all};
+use crate::left::{
+    File, Opened, Step, first_return, office, opened, order, send_all, without_tables,
+};
 use pool_split::Credit;
 use share_rules::Kind;
 use society_core::{Desk, Known, KnownTransmission, Payment, Place, PlainStore, Refusal, Store};
@@ -300,7 +302,7 @@ fn check_tables<S: Alter + Drop>(
 fn typed_answers(rt: HostRuntime) -> Result<(), Fail> {
     let alloc = rt.alloc();
     check_store(&rt, alloc, PlainStore::new(alloc, &office(900)?))?;
-    let in_memory = Connection::open_in_memory(alloc)?;
+    let in_memory = without_tables(alloc)?;
     check_tables(&rt, alloc, opened(alloc, in_memory, 900)?)?;
     let files = Files {
         log: Memory::new(alloc),

@@ -1,7 +1,7 @@
 use Rattle.std.proofs.Common.{Ok}
 use Rattle.sqlite.specs.Effect.{Database}
 use Rattle.sqlite.specs.Held.{state}
-use Rattle.sqlite.specs.Steps.{over_memory}
+use Rattle.memory_store.specs.Memory.{over_memory}
 use Rattle.society_core.proofs.Books.{sound_order}
 use Rattle.society_book.specs.BookRows.{book_of}
 use Rattle.society_tables.specs.Auditing.{ClosesAside}

@@ -1,7 +1,7 @@
 use Rattle.std.proofs.Common.{◌≡◌, ◌∙◌, Bool, IsTrue, Ok, List, arith, true, refl, subst, sym}
 use Rattle.share_rules.specs.declared.office.Office.{Office}
 use Rattle.sqlite.specs.State.{State}
-use Rattle.sqlite.specs.Steps.{over_memory}
+use Rattle.memory_store.specs.Memory.{over_memory}
 use Rattle.society_core.specs.Book.{Book}
 use Rattle.society_tables.specs.Opening.{Inspects}
 use Rattle.society_tables.specs.declared.audit_fault.AuditFault.{AuditFault}

@@ -1,6 +1,6 @@
 use Rattle.std.proofs.Common.{Ok, refl}
 use Rattle.sqlite.specs.Held.{state}
-use Rattle.sqlite.specs.Steps.{over_memory}
+use Rattle.memory_store.specs.Memory.{over_memory}
 use Rattle.society_book.proofs.shown.AskLemmas.{clean_is}
 use Rattle.society_tables.proofs.audit.Mixed.{referred_aside}
 use Rattle.society_tables.proofs.opened.OpenLemmas.{as_inspected, inspected_after}

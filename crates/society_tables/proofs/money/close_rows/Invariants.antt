@@ -1,6 +1,6 @@
 use Rattle.std.proofs.Common.{Ok}
 use Rattle.sqlite.specs.Held.{state}
-use Rattle.sqlite.specs.Steps.{over_memory}
+use Rattle.memory_store.specs.Memory.{over_memory}
 use Rattle.society_tables.specs.Auditing.{ClosesAside}
 use Rattle.society_tables.specs.Opening.{Inspects}
 use Rattle.society_tables.specs.declared.audit_fault.AuditFault.{AuditFault}

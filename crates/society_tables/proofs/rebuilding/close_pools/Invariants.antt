@@ -1,7 +1,7 @@
 -- The pools of the rows so far are closed, and the office stays.
 use Rattle.std.proofs.Common.{◌≡◌, take}
 use Rattle.sqlite.specs.Held.{state}
-use Rattle.sqlite.specs.Steps.{over_memory}
+use Rattle.memory_store.specs.Memory.{over_memory}
 use Rattle.society_core.specs.Book.{Book, IsSound}
 use Rattle.society_book.specs.BookRows.{book_of, cut_rows, is_of_pool, mechanical_rows, paid_rows, pool_rows}
 use Rattle.society_book.specs.Columns.{HasRows}

@@ -1,7 +1,7 @@
 use Rattle.std.proofs.Common.{refl, subst}
 use Rattle.std.proofs.lemmas.Bool.{false≢true}
 use Rattle.sqlite.specs.Held.{state}
-use Rattle.sqlite.specs.Steps.{over_memory}
+use Rattle.memory_store.specs.Memory.{over_memory}
 use Rattle.society_book.specs.BookRows.{book_of}
 use Rattle.society_tables.specs.Rebuilding.{StatedOn}
 use Rattle.society_tables.proofs.anew.EndsAgain.{end_is, end_reads, stated_forms, stated_row, stated_sender_is, stated_sender_reads}

@@ -1,7 +1,7 @@
 use Rattle.std.proofs.Common.{ap, refl, subst}
 use Rattle.std.proofs.lemmas.Bool.{false≢true}
 use Rattle.sqlite.specs.Held.{state}
-use Rattle.sqlite.specs.Steps.{over_memory}
+use Rattle.memory_store.specs.Memory.{over_memory}
 use Rattle.society_book.specs.BookRows.{book_of}
 use Rattle.society_book.specs.Columns.{blob_at, whole_number_at, text_at}
 use Rattle.society_tables.specs.Rebuilding.{ReportedOn}

@@ -1,6 +1,6 @@
 use Rattle.std.proofs.Common.{◌≡◌, take}
 use Rattle.std.specs.List.{AllByRecursion}
-use Rattle.sqlite.specs.Steps.{over_memory}
+use Rattle.memory_store.specs.Memory.{over_memory}
 use Rattle.sqlite.specs.Held.{state}
 use Rattle.society_core.specs.Book.{Book, IsSound}
 use Rattle.society_book.specs.BookRows.{book_of}

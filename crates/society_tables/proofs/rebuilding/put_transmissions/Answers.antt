@@ -1,7 +1,7 @@
 use Rattle.std.proofs.Common.{◌∙◌, subst, sym}
 use Rattle.std.proofs.lemmas.List.{take_all}
 use Rattle.sqlite.specs.Held.{state}
-use Rattle.sqlite.specs.Steps.{over_memory}
+use Rattle.memory_store.specs.Memory.{over_memory}
 use Rattle.sqlite_value.specs.Order.{Row}
 use Rattle.society_book.specs.BookRows.{book_of}
 use Rattle.society_tables.specs.Rebuilding.{AllSent, IsSent, SentOn}

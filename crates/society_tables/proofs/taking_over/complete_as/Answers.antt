@@ -2,8 +2,8 @@ use Rattle.std.proofs.Common.{◌∙◌, Ok, ap, refl, subst, sym}
 use Rattle.std.proofs.Math.Logic.{∥∥₁_elim, ∥∥₁_map}
 use Rattle.sqlite.specs.Effect.{Database}
 use Rattle.sqlite.specs.Held.{Held, state}
-use Rattle.sqlite.specs.Steps.{over_memory}
-use Rattle.sqlite_trees.specs.declared.memory.MemStore.{MemStore}
+use Rattle.memory_store.specs.Memory.{over_memory}
+use Rattle.memory_store.specs.declared.memory.MemoryStore.{MemoryStore}
 use Rattle.society_rows.specs.Stored.{HasLayout}
 use Rattle.society_book.specs.Kept.{HoldsOwnBook}
 use Rattle.society_tables.specs.TakingOver.{AreFilledFrom, AreSame, DoesOver, Fills, KeepsOlder, PassesLike, Sees, filled_names}
@@ -15,7 +15,7 @@ use Rattle.society_tables.proofs.taking.Completed.{completed, keeps_older}
 use Rattle.society_tables.proofs.taking.OverLemmas.{over_not, over_then}
 use Rattle.society_tables.proofs.taking_over.complete_as.Goals as goal
 
-abbrev shown : Held MemStore → Database
+abbrev shown : Held MemoryStore → Database
 shown held = (state over_memory held).now
 
 pub returns-clause-does : goal.returns-clause-does

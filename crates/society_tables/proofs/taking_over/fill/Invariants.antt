@@ -1,7 +1,7 @@
 -- The tables so far are filled, and the memory is as it was.
 use Rattle.std.proofs.Common.{◌≡◌, Ok, take}
 use Rattle.sqlite.specs.Held.{state}
-use Rattle.sqlite.specs.Steps.{over_memory}
+use Rattle.memory_store.specs.Memory.{over_memory}
 use Rattle.society_rows.specs.Stored.{HasLayout}
 use Rattle.society_tables.specs.TakingOver.{AreFilledFrom, DoesOver, Fills, derived_names}
 use Rattle.society_tables.specs.declared.audit_fault.AuditFault.{AuditFault}

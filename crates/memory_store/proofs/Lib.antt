@@ -1,0 +1,9 @@
+pub mod Calls
+pub mod Kept
+pub mod Logs
+pub mod Marks
+pub mod Over
+pub mod Places
+pub mod RowsAt
+pub mod Shaped
+pub mod ShownCalls

@@ -1,0 +1,4 @@
+pub mod Laws
+pub mod Log
+pub mod Memory
+pub mod Shown

@@ -1,0 +1,11 @@
+//! Cursors over the trees.
+use sorted_rows::Place;
+use sqlite_trees::store::Direction;
+
+/// Where a cursor over a tree is; nowhere over a tree without rows.
+#[derive(Clone, Copy)]
+pub(crate) struct Cursor {
+    pub tree: usize,
+    pub place: Option<Place>,
+    pub direction: Direction,
+}

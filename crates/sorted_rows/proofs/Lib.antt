@@ -1,0 +1,3 @@
+pub mod PlaceLemmas
+pub mod SearchLemmas
+pub mod WriteLemmas
