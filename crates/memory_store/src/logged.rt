@@ -5,15 +5,16 @@ ghost use Rattle.sqlite_trees.specs.Tree.{with_tree};
 ghost use Rattle.sorted_rows.specs.Pieces.{changed};
 ghost use Rattle.memory_store.specs.Log.{rows_at, replayed, changed_or};
 
-use sorted_rows::{Change, SortedRows};
+use sorted_rows::{Change, Place, SortedRows};
 use std::alloc::{AllocError, Global};
 use std::mem;
 
-/// A write to the tree with this number.
+/// A write to the tree with this number, with its place.
 #[derive(Drop)]
 pub(crate) struct Logged {
     pub tree: usize,
     pub change: Change,
+    pub place: Place,
 }
 
 /// The trees once more.
@@ -53,18 +54,19 @@ fn make_room(alloc: Global, trees: &mut Vec<SortedRows>, tree: usize) -> Result<
     Ok(())
 }
 
-/// Makes a write.
+/// Makes a write. `near` is a guess at its place, and becomes it.
 pub(crate) fn write(
     alloc: Global,
     trees: &mut Vec<SortedRows>,
     tree: usize,
     change: Change,
+    near: &mut Place,
 ) -> Result<(), AllocError>
     ensures ok { OnOk result (rows_at trees.new.items ≡ with_tree (rows_at trees.old.items) tree (changed change (rows_at trees.old.items tree))) }
     ensures err { OnErr result (rows_at trees.new.items ≡ rows_at trees.old.items) }
 {
     make_room(alloc, trees, tree)?;
-    trees[tree].apply(alloc, change)
+    trees[tree].apply(alloc, change, near)
 }
 
 /// Takes all rows of a tree away.
@@ -85,7 +87,8 @@ pub(crate) fn replay(
     ensures led { IfSome result (λ led. rows_at led.items ≡ replayed log.items (rows_at trees.items)) }
 {
     for logged in log {
-        write(alloc, &mut trees, logged.tree, logged.change).ok()?;
+        let mut place = logged.place;
+        write(alloc, &mut trees, logged.tree, logged.change, &mut place).ok()?;
     }
     Some(trees)
 }
@@ -100,7 +103,9 @@ pub(crate) fn led_by(
 {
     let mut led = copy_trees(alloc, trees)?;
     for logged in log {
-        write(alloc, &mut led, logged.tree, logged.change.copy(alloc)?)?;
+        let mut place = logged.place;
+        let change = logged.change.copy(alloc)?;
+        write(alloc, &mut led, logged.tree, change, &mut place)?;
     }
     Ok(led)
 }

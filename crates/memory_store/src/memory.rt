@@ -9,7 +9,7 @@ ghost use Rattle.memory_store.specs.Shown.{AreAllShaped};
 
 use crate::cursor::Cursor;
 use crate::logged::{self, Logged};
-use sorted_rows::{Change, SortedRows};
+use sorted_rows::{Change, Place, SortedRows};
 use sqlite_trees::error::StoreError;
 use sqlite_trees::memory::MemStore;
 use sqlite_trees::schema::Object;
@@ -18,6 +18,9 @@ use sqlite_trees::typed::is_typed;
 use sqlite_value::row::Row;
 use std::alloc::{AllocError, Global};
 use std::mem;
+
+/// Of so many trees the last place is remembered; an office has fewer.
+const REMEMBERED: usize = 64;
 
 /// Numbered trees of rows in memory, with one transaction that is always open.
 #[derive(Drop)]
@@ -35,6 +38,8 @@ pub struct MemoryStore {
     /// The length of the log at each savepoint.
     marks: Vec<usize>,
     cursors: Vec<Option<Cursor>>,
+    /// Where a row of each tree was sought or put last: the next one is often there or right behind it.
+    near: [Place; REMEMBERED],
     ghost within: { All (λ n. n ≤ length log.items) marks.items },
     ghost rising: { (i j : ℕ) → i ≤ j → j < length marks.items → slice_index marks.items i ≤ slice_index marks.items j },
     ghost leads: { ∥ rows_at (changed_or changed kept.items) ≡ replayed log.items (rows_at kept.items) ∥₁ },
@@ -66,6 +71,7 @@ impl MemoryStore {
             log: Vec::new(alloc),
             marks: Vec::new(alloc),
             cursors: Vec::new(alloc),
+            near: [Place::start(); REMEMBERED],
         })
     }
 
@@ -98,7 +104,8 @@ impl MemoryStore {
                 direction,
             });
         };
-        let Some(place) = rows.seek(order, key, direction) else {
+        let guess = self.near[tree as usize % REMEMBERED];
+        let Some(place) = rows.seek(order, key, direction, guess) else {
             return Err(AllocError);
         };
         Ok(Cursor {
@@ -169,11 +176,14 @@ impl MemoryStore {
         let Some(trees) = &mut self.changed else {
             return Err(StoreError::OutOfMemory);
         };
-        logged::write(self.alloc, trees, tree as usize, copy)?;
+        let mut place = self.near[tree as usize % REMEMBERED];
+        logged::write(self.alloc, trees, tree as usize, copy, &mut place)?;
+        self.near[tree as usize % REMEMBERED] = place;
         self.log
             .push(Logged {
                 tree: tree as usize,
                 change,
+                place,
             })
             .unwrap();
         self.cursors.clear();
@@ -238,6 +248,9 @@ impl Store for MemoryStore {
             return Err(StoreError::Broken);
         }
         let placed = self.placed(tree, key, direction)?;
+        if let Some(place) = placed.place {
+            self.near[tree as usize % REMEMBERED] = place;
+        }
         Ok(Self::set_cursor(&mut self.cursors, usize::from(cursor), placed)?)
     }
 
@@ -373,6 +386,7 @@ impl Alter for MemoryStore {
             .push(Logged {
                 tree: tree as usize,
                 change: Change::Clear,
+                place: Place::start(),
             })
             .unwrap();
         self.cursors.clear();

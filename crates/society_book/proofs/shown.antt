@@ -11,6 +11,7 @@ pub mod AckRows
 pub mod WorkRows
 pub mod NumberRows
 pub mod Skips
+pub mod PlainFronts
 pub mod HeldNumbers
 pub mod CreditParts
 pub mod CreditRows

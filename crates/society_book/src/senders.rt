@@ -1,8 +1,9 @@
 //! What is asked of a sender.
-ghost use Rattle.std.specs.Prelude.{◌≡◌, List, ℕ, None, Option, Some, map, IfOk, true};
+ghost use Rattle.std.specs.Prelude.{◌≡◌, ◌≤◌, List, ℕ, None, Option, Some, map, IfOk, true};
+ghost use Rattle.sender_segments.specs.Ways.{StatedEnds, numbers_up_to};
 ghost use Rattle.society_core.specs.Answers.{free_under, known_as, known_by, place_in, transmission_known};
 ghost use Rattle.society_core.specs.declared.store.KnownTransmission.TheVariants as transmissions;
-ghost use Rattle.society_core.specs.Book.{front, is_in_line, shown_verdicts};
+ghost use Rattle.society_core.specs.Book.{front, is_in_line, is_one_of, shown_verdicts};
 ghost use Rattle.society_core.specs.Ends.{ended_before};
 ghost use Rattle.society_rows.specs.Questions.{Asks};
 ghost use Rattle.society_book.specs.Shown.{ByBook, ShowBody, ShowFront, verdict_in};
@@ -14,7 +15,7 @@ use society_core::{Known, KnownTransmission, Place};
 use society_rows::{FrontRow, Idle, Question, RowFault, TransmissionRow, VerdictRow, ask};
 use sqlite::{Alter, Row};
 use std::alloc::Global;
-use work_ids::TransmissionNumber;
+use work_ids::{Segment, TransmissionNumber};
 use works_core::Verdict;
 
 /// The front that the rows of a sender's front show; `Unread` where they are more than one.
@@ -66,6 +67,18 @@ fn compared_with_kept<S: Alter>(
     compared(rows.as_slice(), body)
 }
 
+// Where a number stands at a front among the plain numbers: no end was passed, so all numbers up to the front are in the line.
+fn plain_place(reached: u32, number: TransmissionNumber) -> Place
+    requires { reached ≤ 999999 }
+    ensures front { result.front ≡ reached }
+    ensures applied { (ends : StatedEnds) → result.is_applied ≡ is_one_of (numbers_up_to ends reached) number }
+{
+    Place {
+        front: reached,
+        is_applied: number.value() <= reached,
+    }
+}
+
 // Where a number of a sender stands that has come to a front.
 fn place_at<S: Alter>(
     conn: &mut Idle<S>,
@@ -82,7 +95,7 @@ fn place_at<S: Alter>(
     })
 }
 
-/// Where a number of a sender stands.
+/// Where a number of a sender stands. The ends are not asked for while the front is a plain number.
 pub fn place_of<S: Alter>(
     conn: &mut Idle<S>,
     sender: &[u8],
@@ -91,6 +104,9 @@ pub fn place_of<S: Alter>(
     ensures asked { between S.Store conn.old conn.new Asks result (ByBook (λ _ book place. place ≡ place_in book sender.now number)) }
 {
     let reached = front_of(conn, sender)?;
+    if reached <= Segment::Plain.greatest() {
+        return Ok(plain_place(reached, number));
+    }
     place_at(conn, sender, number, reached)
 }
 

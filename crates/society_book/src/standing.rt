@@ -1,5 +1,5 @@
 //! How a sender stands: its front, and its numbers that are held.
-ghost use Rattle.std.specs.Prelude.{◌≡◌};
+ghost use Rattle.std.specs.Prelude.{◌≡◌, ◌≤◌};
 ghost use Rattle.society_core.specs.Book.{front, held};
 ghost use Rattle.society_rows.specs.Between.{between};
 ghost use Rattle.society_rows.specs.Questions.{Asks};
@@ -15,7 +15,7 @@ use society_core::SenderStatus;
 use society_rows::{Idle, RowFault};
 use sqlite::Alter;
 use std::alloc::Global;
-use work_ids::TransmissionNumber;
+use work_ids::{Segment, TransmissionNumber};
 
 // The numbers of a sender's transmissions in the segments that its line skips up to its front, ascending.
 fn skipped_to<S: Alter>(
@@ -35,6 +35,21 @@ fn skipped_to<S: Alter>(
     Ok(list)
 }
 
+// The numbers of the held transmissions of a sender that has come to a plain front, ascending: it skips no segment.
+fn held_above<S: Alter>(
+    alloc: Global,
+    conn: &mut Idle<S>,
+    sender: &[u8],
+    reached: u32,
+) -> Result<Vec<TransmissionNumber>, RowFault>
+    requires { reached ≤ 999999 }
+    ensures asked { between S.Store conn.old conn.new Asks result (ByBook (λ _ book list. reached ≡ front book sender.now → list.items ≡ held book sender.now)) }
+{
+    let mut list = Vec::new(alloc);
+    append_above(conn, sender, reached, &mut list)?;
+    Ok(list)
+}
+
 // The numbers of the held transmissions of a sender that has come to a front, ascending.
 fn held_at<S: Alter>(
     alloc: Global,
@@ -44,6 +59,9 @@ fn held_at<S: Alter>(
 ) -> Result<Vec<TransmissionNumber>, RowFault>
     ensures asked { between S.Store conn.old conn.new Asks result (ByBook (λ _ book list. reached ≡ front book sender.now → list.items ≡ held book sender.now)) }
 {
+    if reached <= Segment::Plain.greatest() {
+        return held_above(alloc, conn, sender, reached);
+    }
     let mut list = skipped_to(alloc, conn, sender, reached)?;
     append_above(conn, sender, reached, &mut list)?;
     Ok(list)

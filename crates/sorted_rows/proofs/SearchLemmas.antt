@@ -1,5 +1,5 @@
 -- What a search finds: all rows before the place pass, and all behind it fail.
-use Rattle.std.proofs.Common.{◌≡◌, ℕ, zero, suc, ◌-◌, ◌<◌, Bool, false, List, [], ◌∷◌, ◌++◌, length, take, drop, get_or, refl, sym, ap, ◌∙◌, arith, Vec, All, IsTrue, true≢false, inl, inr, eq-or-lt_of_le}
+use Rattle.std.proofs.Common.{◌≡◌, ℕ, zero, suc, ◌-◌, ◌<◌, Bool, false, List, [], ◌∷◌, ◌++◌, length, take, drop, get_or, refl, sym, ap, subst, ◌∙◌, arith, Vec, All, IsTrue, true≢false, inl, inr, eq-or-lt_of_le}
 use Rattle.std.specs.List.{AllByRecursion}
 use Rattle.std.specs.declared.alloc.Global.{Global}
 use Rattle.std.proofs.lemmas.List.Elements.{recursion_from_All, All-from_get_or}
@@ -12,7 +12,7 @@ use Rattle.sqlite_trees.proofs.MemoryLemmas.{passes_before}
 use Rattle.sorted_rows.specs.Joined.{joined}
 use Rattle.sorted_rows.specs.Pieces.{rows_before, from_place}
 use Rattle.sorted_rows.specs.Search.{IsCutOnce, AllPass, AllFail, lasts}
-use Rattle.sorted_rows.proofs.PlaceLemmas.{Pieces, IsAt}
+use Rattle.sorted_rows.proofs.PlaceLemmas.{Pieces, IsAt, split_rows}
 
 abbrev pub Filled : Pieces → Type 0
 Filled = AllByRecursion (λ piece. 0 < length piece.items)
@@ -91,6 +91,22 @@ module _ (test : Row → Bool) where
 
   pub cut-piece : (pieces : Pieces) (p : ℕ) (v : Vec Row Global) → IsAt pieces p v → IsCutOnce test (joined pieces) → IsCutBy test v.items
   cut-piece pieces p v here up = cut_by _ (ascending-piece Follows pieces p v here up)
+
+  -- where the last of some rows passes, those before it do
+  pub pass_up_to : (xs : List Row) (x : Row) → IsCutOnce test (xs ++ x ∷ []) → IsTrue (test x) → AllPass test (xs ++ x ∷ [])
+  pass_up_to [] x up is = (is, tt)
+  pass_up_to (e ∷ xs) x up is = ((all-right (Follows e) xs (x ∷ []) up.0).0 is, pass_up_to xs x up.1 is)
+
+  -- where the first of some rows fails, those behind it do
+  pub fail_from : (x : Row) (xs : List Row) → IsCutOnce test (x ∷ xs) → test x ≡ false → AllFail test (x ∷ xs)
+  fail_from x xs up fails = (fails, all_weaker _ (λ y. test y ≡ false) (λ y follows. not_true _ (λ t. true≢false (sym (follows t) ∙ fails))) xs up.0)
+
+  -- the rows before a place, and those behind it, are cut as all are
+  pub cut_before : (pieces : Pieces) (p a : ℕ) → IsCutOnce test (joined pieces) → IsCutOnce test (rows_before pieces p a)
+  cut_before pieces p a up = ascending-left Follows _ (from_place pieces p a) (subst (IsCutOnce test) (split_rows pieces p a) up)
+
+  pub cut_behind : (pieces : Pieces) (p a : ℕ) → IsCutOnce test (joined pieces) → IsCutOnce test (from_place pieces p a)
+  cut_behind pieces p a up = ascending-right Follows (rows_before pieces p a) _ (subst (IsCutOnce test) (split_rows pieces p a) up)
 
   tail_place : (x : Row) (rows : List Row) (at : ℕ) → IsPlaceOf test (x ∷ rows) (suc at) → IsPlaceOf test rows at
   tail_place x rows at place = record {

@@ -1,5 +1,5 @@
 -- From the two sides of a place in ordered rows to the words of the contracts.
-use Rattle.std.proofs.Common.{◌≡◌, Bool, true, false, not, List, [], ◌∷◌, ◌++◌, filter, take, drop, refl, sym, ap, ap₂, ◌∙◌, subst, Ordering, Less, Equal, Greater, is_lt, is_gt, is_eq, true≢false, eqb, Result, Ok, Err}
+use Rattle.std.proofs.Common.{◌≡◌, ◌≢◌, Bool, true, false, not, List, [], ◌∷◌, ◌++◌, filter, take, drop, refl, sym, ap, ap₂, ◌∙◌, subst, Ordering, Less, Equal, Greater, is_lt, is_gt, is_eq, true≢false, eqb, eq-eqb, Result, Ok, Err}
 use Rattle.std.specs.List.{AllByRecursion}
 use Rattle.std.specs.Cmp.{IsTotalOrder}
 use Rattle.std.specs.Result.{OnOk, OnErr}
@@ -36,7 +36,7 @@ not_false : (b : Bool) → not b ≡ false → b ≡ true
 not_false true h = refl
 not_false false h = absurd (true≢false h)
 
-not_is : (b : Bool) → not b ≡ true → b ≡ false
+pub not_is : (b : Bool) → not b ≡ true → b ≡ false
 not_is true h = absurd (true≢false (sym h))
 not_is false h = refl
 
@@ -181,6 +181,9 @@ module _ (o : Order) (new : Row) where
 
 pub same_order : (a b : Order) → false ≡ not (eqb a.digits b.digits) → a ≡ b
 same_order a b h = ap (λ d. record { digits = d }) (eqb-true a.digits b.digits (not_false _ (sym h)))
+
+pub other_order : (a b : Order) → true ≡ not (eqb a.digits b.digits) → a ≢ b
+other_order a b h same = true≢false (h ∙ ap not (eq-eqb a.digits b.digits (ap (λ (o : Order). o.digits) same)))
 
 pub ordered_as : (shape is : Shape) (new made : List Row) → shape ≡ is → new ≡ made → IsShaped is made → ∥ IsShaped shape new ∥₁
 ordered_as shape is new made same rows h = rw (same, rows) (∣ h ∣₁)

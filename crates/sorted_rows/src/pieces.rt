@@ -72,6 +72,57 @@ pub(crate) fn before(pieces: &[Vec<Row>], place: Place) -> Option<(Place, &Row)>
     ))
 }
 
+/// Whether there is a row behind a place in its piece, or the place is behind all pieces.
+pub(crate) fn is_row_or_end(pieces: &[Vec<Row>], place: Place) -> bool
+    ensures within { IsTrue result → place.piece ≤ length pieces.now }
+    ensures inside { IsTrue result → place.piece < length pieces.now → IsRowPlace pieces.now place.piece place.at }
+{
+    if place.piece < pieces.len() {
+        place.at < pieces[place.piece].len()
+    } else {
+        place.piece == pieces.len()
+    }
+}
+
+/// The place one row on.
+pub(crate) fn one_on(pieces: &[Vec<Row>], place: Place) -> Place {
+    if place.piece >= pieces.len() {
+        return place;
+    }
+    let next = place.at.saturating_add(1);
+    if next < pieces[place.piece].len() {
+        return Place {
+            piece: place.piece,
+            at: next,
+        };
+    }
+    Place {
+        piece: place.piece + 1,
+        at: 0,
+    }
+}
+
+/// Where a row will be that is put in at a place that was found.
+pub(crate) fn landing(pieces: &[Vec<Row>], place: Place) -> Place {
+    let count = pieces.len();
+    if place.piece == count && count > 0 && pieces[count - 1].len() < PIECE_ROWS {
+        return Place {
+            piece: count - 1,
+            at: pieces[count - 1].len(),
+        };
+    }
+    place
+}
+
+/// Where the row of a rowid would be if rowids counted from 1 and all pieces were full.
+pub(crate) fn place_of_rowid(id: i64) -> Place {
+    let before = usize::try_from(id).unwrap_or(0).saturating_sub(1);
+    Place {
+        piece: before / PIECE_ROWS,
+        at: before % PIECE_ROWS,
+    }
+}
+
 /// Whether the row behind a place that was found has this rowid.
 pub(crate) fn has_rowid(pieces: &[Vec<Row>], place: Place, id: ValueRef<'_>) -> bool
     requires { place.piece < length pieces.now → IsRowPlace pieces.now place.piece place.at }

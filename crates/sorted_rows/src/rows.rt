@@ -1,6 +1,6 @@
 //! The rows of a tree in order, in pieces.
-ghost use Rattle.std.specs.Prelude.{◌≡◌, ◌<◌, length, All, [], IfOk, IfSome, OnOk, OnErr};
-ghost use Rattle.sqlite_trees.specs.Tree.{sought};
+ghost use Rattle.std.specs.Prelude.{◌≡◌, ◌≢◌, ◌<◌, length, All, [], None, IfOk, IfSome, OnOk, OnErr};
+ghost use Rattle.sqlite_trees.specs.Tree.{order_of, sought};
 ghost use Rattle.sqlite_trees.specs.View.{IsShaped, Finds};
 ghost use Rattle.sorted_rows.specs.Joined.{joined};
 
@@ -18,6 +18,15 @@ use std::alloc::{AllocError, Global};
 pub struct Place {
     pub(crate) piece: usize,
     pub(crate) at: usize,
+}
+
+impl Place {
+    /// Before all rows.
+    pub fn start() -> Place
+        ensures { result ≡ record { piece = 0; at = 0 } }
+    {
+        Place { piece: 0, at: 0 }
+    }
 }
 
 /// The rows of one tree, in the order of a table or of an index, which the first write to no rows settles.
@@ -68,7 +77,10 @@ impl SortedRows {
         let Shape::Table = self.shape else {
             return Err(AllocError);
         };
-        let place = Probe::BelowRowid(ValueRef::Int(id)).find(pieces);
+        let place = Probe::BelowRowid(ValueRef::Int(id)).find_near(
+            pieces,
+            pieces::place_of_rowid(id),
+        );
         if pieces::has_rowid(pieces, place, ValueRef::Int(id)) {
             row.copy_from(&pieces[place.piece][place.at])?;
             Ok(true)
@@ -78,9 +90,10 @@ impl SortedRows {
     }
 
     /// Where a cursor begins: forward at the first entry that is not below the key, backward at the last that is not above it. None where
-    /// the rows are in another order.
-    pub fn seek(&self, order: Order, key: &Row, direction: Direction) -> Option<Place>
+    /// the rows are in another order. A guess at that place saves the search where it is right.
+    pub fn seek(&self, order: Order, key: &Row, direction: Direction, guess: Place) -> Option<Place>
         ensures place { IfSome result (λ place. left_from direction place self.now ≡ sought order direction key.now (tree_rows self.now)) }
+        ensures other { result ≡ None → order_of self.now.shape ≢ order }
     {
         let pieces = self.pieces.as_slice();
         if pieces.is_empty() {
@@ -90,8 +103,8 @@ impl SortedRows {
             return None;
         }
         match direction {
-            Direction::Forward => Some(Probe::BelowKey(order, key).find(pieces)),
-            Direction::Backward => Some(Probe::UpToKey(order, key).find(pieces)),
+            Direction::Forward => Some(Probe::BelowKey(order, key).find_near(pieces, guess)),
+            Direction::Backward => Some(Probe::UpToKey(order, key).find_near(pieces, guess)),
         }
     }
 
@@ -116,16 +129,22 @@ impl SortedRows {
         Ok(Some(moved))
     }
 
-    /// Makes the write. A write in another order than that of the rows counts as out of memory.
-    pub fn apply(&mut self, alloc: Global, change: Change) -> Result<(), AllocError>
+    /// Makes the write. A write in another order than that of the rows counts as out of memory. `near` becomes the place of the row that is
+    /// written; before, it is a guess at that of an entry of an index, which saves the search where it is right.
+    pub fn apply(
+        &mut self,
+        alloc: Global,
+        change: Change,
+        near: &mut Place,
+    ) -> Result<(), AllocError>
         ensures ok { OnOk result (tree_rows self.new ≡ changed change (tree_rows self.old)) }
         ensures err { OnErr result (tree_rows self.new ≡ tree_rows self.old) }
     {
         match change {
-            Change::Put(row) => self.put(alloc, row),
-            Change::Delete(id) => self.delete(id),
-            Change::Insert(order, entry) => self.insert(alloc, order, entry),
-            Change::Remove(order, entry) => self.remove(order, &entry),
+            Change::Put(row) => self.put(alloc, row, near),
+            Change::Delete(id) => self.delete(id, near),
+            Change::Insert(order, entry) => self.insert(alloc, order, entry, near),
+            Change::Remove(order, entry) => self.remove(order, &entry, near),
             Change::Clear => {
                 self.clear();
                 Ok(())
@@ -149,15 +168,17 @@ impl SortedRows {
         }
     }
 
-    fn put(&mut self, alloc: Global, row: Row) -> Result<(), AllocError>
+    fn put(&mut self, alloc: Global, row: Row, found: &mut Place) -> Result<(), AllocError>
         ensures ok { OnOk result (tree_rows self.new ≡ put_row row (tree_rows self.old)) }
         ensures err { OnErr result (tree_rows self.new ≡ tree_rows self.old) }
     {
-        let ValueRef::Int(_) = row.get(0) else {
+        let ValueRef::Int(id) = row.get(0) else {
             return Err(AllocError);
         };
         self.settle(Shape::Table)?;
-        let place = Probe::BelowRowid(row.get(0)).find(self.pieces.as_slice());
+        let guess = pieces::place_of_rowid(id);
+        let place = Probe::BelowRowid(row.get(0)).find_near(self.pieces.as_slice(), guess);
+        *found = pieces::landing(self.pieces.as_slice(), place);
         if pieces::has_rowid(self.pieces.as_slice(), place, row.get(0)) {
             pieces::replace(&mut self.pieces, place, row);
             Ok(())
@@ -166,36 +187,46 @@ impl SortedRows {
         }
     }
 
-    fn delete(&mut self, id: i64) -> Result<(), AllocError>
+    fn delete(&mut self, id: i64, found: &mut Place) -> Result<(), AllocError>
         ensures ok { OnOk result (tree_rows self.new ≡ without_rowid id (tree_rows self.old)) }
         ensures err { OnErr result (tree_rows self.new ≡ tree_rows self.old) }
     {
         self.settle(Shape::Table)?;
-        let place = Probe::BelowRowid(ValueRef::Int(id)).find(self.pieces.as_slice());
+        let guess = pieces::place_of_rowid(id);
+        let place = Probe::BelowRowid(ValueRef::Int(id)).find_near(self.pieces.as_slice(), guess);
+        *found = place;
         if pieces::has_rowid(self.pieces.as_slice(), place, ValueRef::Int(id)) {
             pieces::remove(&mut self.pieces, place);
         }
         Ok(())
     }
 
-    fn insert(&mut self, alloc: Global, order: Order, entry: Row) -> Result<(), AllocError>
+    fn insert(
+        &mut self,
+        alloc: Global,
+        order: Order,
+        entry: Row,
+        near: &mut Place,
+    ) -> Result<(), AllocError>
         ensures ok { OnOk result (tree_rows self.new ≡ insert_entry order entry (tree_rows self.old)) }
         ensures err { OnErr result (tree_rows self.new ≡ tree_rows self.old) }
     {
         self.settle(Shape::Index(order))?;
-        let place = Probe::BelowEntry(order, &entry).find(self.pieces.as_slice());
+        let place = Probe::BelowEntry(order, &entry).find_near(self.pieces.as_slice(), *near);
+        *near = pieces::landing(self.pieces.as_slice(), place);
         if pieces::has_entry(self.pieces.as_slice(), place, order, &entry) {
             return Ok(());
         }
         pieces::insert(alloc, &mut self.pieces, place, entry)
     }
 
-    fn remove(&mut self, order: Order, entry: &Row) -> Result<(), AllocError>
+    fn remove(&mut self, order: Order, entry: &Row, near: &mut Place) -> Result<(), AllocError>
         ensures ok { OnOk result (tree_rows self.new ≡ remove_entry order entry.now (tree_rows self.old)) }
         ensures err { OnErr result (tree_rows self.new ≡ tree_rows self.old) }
     {
         self.settle(Shape::Index(order))?;
-        let place = Probe::BelowEntry(order, entry).find(self.pieces.as_slice());
+        let place = Probe::BelowEntry(order, entry).find_near(self.pieces.as_slice(), *near);
+        *near = place;
         if pieces::has_entry(self.pieces.as_slice(), place, order, entry) {
             pieces::remove(&mut self.pieces, place);
         }

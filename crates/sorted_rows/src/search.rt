@@ -1,10 +1,11 @@
 //! A search for a place between the rows of pieces.
-ghost use Rattle.std.specs.Prelude.{◌≡◌, ◌<◌, ◌≤◌, [], All, length, slice_index_or};
+ghost use Rattle.std.specs.Prelude.{◌≡◌, ◌<◌, ◌≤◌, [], All, IsTrue, length, slice_index_or};
 ghost use Rattle.sqlite_trees.specs.Probe.{IsCutBy, IsPlaceOf};
 ghost use Rattle.sorted_rows.specs.Joined.{joined};
 ghost use Rattle.sorted_rows.specs.Search as spec;
 ghost use Rattle.sorted_rows.specs.Pieces.{rows_before, from_place};
 
+use crate::pieces;
 use crate::rows::Place;
 use sqlite_value::keys::Order;
 use sqlite_value::order::compare;
@@ -86,6 +87,86 @@ impl Probe<'_> {
         }
         let at = self.count(pieces[piece].as_slice());
         Place { piece, at }
+    }
+
+    /// Whether the row before a place passes, if there is one: then all rows before it do.
+    fn passes_before(self, pieces: &[Vec<Row>], place: Place) -> bool
+        requires cut { IsCutOnce (passes self) (joined pieces.now) }
+        requires filled { All (λ piece. 0 < length piece.items) pieces.now }
+        ensures { IsTrue result → AllPass (passes self.entry) (rows_before pieces.now place.piece place.at) }
+    {
+        match pieces::before(pieces, place) {
+            Some((_, row)) => self.passes(row),
+            None => true,
+        }
+    }
+
+    /// Whether the row behind a place fails, if there is one: then all rows behind it do.
+    fn fails_behind(self, pieces: &[Vec<Row>], place: Place) -> bool
+        requires cut { IsCutOnce (passes self) (joined pieces.now) }
+        requires filled { All (λ piece. 0 < length piece.items) pieces.now }
+        ensures { IsTrue result → AllFail (passes self.entry) (from_place pieces.now place.piece place.at) }
+    {
+        match pieces::after(pieces, place) {
+            Some((_, row)) => !self.passes(row),
+            None => true,
+        }
+    }
+
+    /// Whether a place is the one that a search would find.
+    fn is_at(self, pieces: &[Vec<Row>], place: Place) -> bool
+        requires cut { IsCutOnce (passes self) (joined pieces.now) }
+        requires filled { All (λ piece. 0 < length piece.items) pieces.now }
+        ensures before { IsTrue result → AllPass (passes self.entry) (rows_before pieces.now place.piece place.at) }
+        ensures after { IsTrue result → AllFail (passes self.entry) (from_place pieces.now place.piece place.at) }
+        ensures within { IsTrue result → place.piece ≤ length pieces.now }
+        ensures inside { IsTrue result → place.piece < length pieces.now → IsRowPlace pieces.now place.piece place.at }
+    {
+        pieces::is_row_or_end(pieces, place)
+            && self.passes_before(pieces, place)
+            && self.fails_behind(pieces, place)
+    }
+
+    /// The place before the first row that fails: this one, the end, or where it is searched for.
+    fn find_else(self, pieces: &[Vec<Row>], place: Place) -> Place
+        requires cut { IsCutOnce (passes self) (joined pieces.now) }
+        requires filled { All (λ piece. 0 < length piece.items) pieces.now }
+        ensures before { AllPass (passes self.entry) (rows_before pieces.now result.piece result.at) }
+        ensures after { AllFail (passes self.entry) (from_place pieces.now result.piece result.at) }
+        ensures within { result.piece ≤ length pieces.now }
+        ensures inside { result.piece < length pieces.now → IsRowPlace pieces.now result.piece result.at }
+    {
+        if self.is_at(pieces, place) {
+            return place;
+        }
+        let end = Place {
+            piece: pieces.len(),
+            at: 0,
+        };
+        if self.is_at(pieces, end) {
+            return end;
+        }
+        self.find(pieces)
+    }
+
+    /// The place before the first row that fails. A guess there or one row before it saves the search, and so does the end.
+    pub(crate) fn find_near(self, pieces: &[Vec<Row>], guess: Place) -> Place
+        requires cut { IsCutOnce (passes self) (joined pieces.now) }
+        requires filled { All (λ piece. 0 < length piece.items) pieces.now }
+        ensures before { AllPass (passes self.entry) (rows_before pieces.now result.piece result.at) }
+        ensures after { AllFail (passes self.entry) (from_place pieces.now result.piece result.at) }
+        ensures within { result.piece ≤ length pieces.now }
+        ensures inside { result.piece < length pieces.now → IsRowPlace pieces.now result.piece result.at }
+    {
+        if pieces::is_row_or_end(pieces, guess) {
+            if !self.passes_before(pieces, guess) {
+                return self.find(pieces);
+            }
+            if self.fails_behind(pieces, guess) {
+                return guess;
+            }
+        }
+        self.find_else(pieces, pieces::one_on(pieces, guess))
     }
 }
 

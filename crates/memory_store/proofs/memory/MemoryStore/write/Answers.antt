@@ -18,7 +18,7 @@ pub invariant_of-self-2 : goal.invariant_of-self-2
 invariant_of-self-2 c =
     let mid = c.begin.new.self in
     let same = c.in_ok-begin.ensures.same in
-    let it : Logged = record { tree = c.args.tree; change = c.args.change } in
+    let it : Logged = record { tree = c.args.tree; change = c.args.change; place = c.write.new.near } in
     let log : c.push.new.self.items ≡ mid.log.items ++ it ∷ [] = rw (c.push.ensures.items, c.unwrap.ensures, c.reserve.ensures.items) in
     let rows : rows_at c.write.new.trees.items ≡ with_tree (rows_at (current mid)) c.args.tree (changed c.args.change (rows_at (current mid) c.args.tree)) =
     rw (c.in-Some.is, ← c.in_ok-copy.ensures.copied) c.in_ok-write.ensures.ok in
@@ -43,7 +43,7 @@ returns-clause-ok c =
     let s = c.args.self.now in
     let mid = c.begin.new.self in
     let same = c.in_ok-begin.ensures.same in
-    let it : Logged = record { tree = c.args.tree; change = c.args.change } in
+    let it : Logged = record { tree = c.args.tree; change = c.args.change; place = c.write.new.near } in
     let log : c.push.new.self.items ≡ mid.log.items ++ it ∷ [] = rw (c.push.ensures.items, c.unwrap.ensures, c.reserve.ensures.items) in
     let rows : rows_at c.write.new.trees.items ≡ with_tree (rows_at (current mid)) c.args.tree (changed c.args.change (rows_at (current mid) c.args.tree)) =
     rw (c.in-Some.is, ← c.in_ok-copy.ensures.copied) c.in_ok-write.ensures.ok in

@@ -55,7 +55,7 @@ invariant_of-self-2 c =
     let mid = c.begin.new.self in
     let v = memory_view mid.catalog in
     let w = memory_view c.destroy.new.self in
-    let it : Logged = record { tree = c.args.tree; change = Clear } in
+    let it : Logged = record { tree = c.args.tree; change = Clear; place = c.start.result } in
     let log : c.push.new.self.items ≡ mid.log.items ++ it ∷ [] = rw (c.push.ensures.items, c.unwrap.ensures, c.reserve.ensures.items) in
     let rows : rows_at c.clear.new.trees.items ≡ with_tree (rows_at (current mid)) c.args.tree [] = rw c.in-Some.is c.clear.ensures.none in
     let places : map (rows_after mid.kept.items c.push.new.self.items) mid.marks.items ≡ map (rows_after mid.kept.items mid.log.items) mid.marks.items =
@@ -75,7 +75,7 @@ returns-clause-ok c _ =
     let mid = c.begin.new.self in
     let same = c.in_ok-begin.ensures.same in
     let w = memory_view c.destroy.new.self in
-    let it : Logged = record { tree = c.args.tree; change = Clear } in
+    let it : Logged = record { tree = c.args.tree; change = Clear; place = c.start.result } in
     let log : c.push.new.self.items ≡ mid.log.items ++ it ∷ [] = rw (c.push.ensures.items, c.unwrap.ensures, c.reserve.ensures.items) in
     let rows : rows_at c.clear.new.trees.items ≡ with_tree (rows_at (current mid)) c.args.tree [] = rw c.in-Some.is c.clear.ensures.none in
     let all = rows ∙ ap (λ (db : Trees). with_tree db c.args.tree []) same.rows in

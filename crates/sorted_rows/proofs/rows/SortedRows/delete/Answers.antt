@@ -10,8 +10,8 @@ use Rattle.sorted_rows.proofs.PlaceLemmas as places
 use Rattle.sorted_rows.proofs.WriteLemmas as lemma
 use Rattle.sorted_rows.proofs.rows.SortedRows.delete.Goals as goal
 
-pub find-place-requires-clause-cut : goal.find-place-requires-clause-cut
-find-place-requires-clause-cut c =
+pub find_near-place-requires-clause-cut : goal.find_near-place-requires-clause-cut
+find_near-place-requires-clause-cut c =
     let was = rw c.in_ok-settle.ensures.ok at (shaped _ _ c.settle.new.self.ordered) in
     rw c.as_slice.ensures.value (lemma.cut_rising value_cmp_total rowid _ _ was.0)
 
@@ -19,10 +19,10 @@ pub invariant_of-self : goal.invariant_of-self
 invariant_of-self c =
     let was = rw c.in_ok-settle.ensures.ok at (shaped _ _ c.settle.new.self.ordered) in
     let pieces = c.settle.new.self.pieces.items in
-    let place = c.find-place.result in
+    let place = c.find_near-place.result in
     let fits = c.ranges.id in
-    let before = simp (to_z-of_z, c.as_slice.ensures.value) at c.find-place.ensures.before in
-    let after = simp (to_z-of_z, c.as_slice.ensures.value) at c.find-place.ensures.after in
+    let before = simp (to_z-of_z, c.as_slice.ensures.value) at c.find_near-place.ensures.before in
+    let after = simp (to_z-of_z, c.as_slice.ensures.value) at c.find_near-place.ensures.after in
     let head = simp (to_z-of_z, c.as_slice-2.ensures.value) at c.if-has_rowid.ensures.is in
     let rows = c.remove.ensures.rows ∙ (lemma.without-found value_cmp_total rowid (Int c.args.id) (joined pieces) _ _ (places.split_rows pieces place.piece place.at) was.0 before after (sym head)) in
     record { ordered = lemma.ordered_as _ Table _ _ c.in_ok-settle.ensures.ok rows (IsShaped-filter Table _ _ was); filled = c.remove.ensures.filled }
@@ -31,10 +31,10 @@ pub returns-then-has_rowid-clause-ok : goal.returns-then-has_rowid-clause-ok
 returns-then-has_rowid-clause-ok c =
     let was = rw c.in_ok-settle.ensures.ok at (shaped _ _ c.settle.new.self.ordered) in
     let pieces = c.settle.new.self.pieces.items in
-    let place = c.find-place.result in
+    let place = c.find_near-place.result in
     let fits = c.ranges.id in
-    let before = simp (to_z-of_z, c.as_slice.ensures.value) at c.find-place.ensures.before in
-    let after = simp (to_z-of_z, c.as_slice.ensures.value) at c.find-place.ensures.after in
+    let before = simp (to_z-of_z, c.as_slice.ensures.value) at c.find_near-place.ensures.before in
+    let after = simp (to_z-of_z, c.as_slice.ensures.value) at c.find_near-place.ensures.after in
     let head = simp (to_z-of_z, c.as_slice-2.ensures.value) at c.if-has_rowid.ensures.is in
     c.remove.ensures.rows ∙ ((lemma.without-found value_cmp_total rowid (Int c.args.id) (joined pieces) _ _ (places.split_rows pieces place.piece place.at) was.0 before after (sym head)) ∙ ap (λ l. without_rowid c.args.id (joined l)) c.in_ok-settle.ensures.rows)
 
@@ -42,9 +42,9 @@ pub returns-else-has_rowid-clause-ok : goal.returns-else-has_rowid-clause-ok
 returns-else-has_rowid-clause-ok c =
     let was = rw c.in_ok-settle.ensures.ok at (shaped _ _ c.settle.new.self.ordered) in
     let pieces = c.settle.new.self.pieces.items in
-    let place = c.find-place.result in
+    let place = c.find_near-place.result in
     let fits = c.ranges.id in
-    let before = simp (to_z-of_z, c.as_slice.ensures.value) at c.find-place.ensures.before in
-    let after = simp (to_z-of_z, c.as_slice.ensures.value) at c.find-place.ensures.after in
+    let before = simp (to_z-of_z, c.as_slice.ensures.value) at c.find_near-place.ensures.before in
+    let after = simp (to_z-of_z, c.as_slice.ensures.value) at c.find_near-place.ensures.after in
     let head = simp (to_z-of_z, c.as_slice-2.ensures.value) at c.if-has_rowid.ensures.is in
     (lemma.without-missing value_cmp_total rowid (Int c.args.id) (joined pieces) _ _ (places.split_rows pieces place.piece place.at) was.0 before after (sym head)) ∙ ap (λ l. without_rowid c.args.id (joined l)) c.in_ok-settle.ensures.rows

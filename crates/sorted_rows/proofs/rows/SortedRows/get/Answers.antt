@@ -8,8 +8,8 @@ use Rattle.sorted_rows.proofs.PlaceLemmas as places
 use Rattle.sorted_rows.proofs.WriteLemmas as lemma
 use Rattle.sorted_rows.proofs.rows.SortedRows.get.Goals as goal
 
-pub find-place-requires-clause-cut : goal.find-place-requires-clause-cut
-find-place-requires-clause-cut c =
+pub find_near-place-requires-clause-cut : goal.find_near-place-requires-clause-cut
+find_near-place-requires-clause-cut c =
     let was = rw c.in-Table.is at (shaped _ _ c.args.self.now.ordered) in
     rw c.as_slice-pieces.ensures.value (lemma.cut_rising value_cmp_total rowid _ _ was.0)
 
@@ -18,7 +18,7 @@ bounds-pieces-place c = places.in_length _ _ _ (c.if-has_rowid.ensures.inside re
 
 pub index-requires : goal.index-requires
 index-requires c =
-    let within = places.in_row c.as_slice-pieces.result.now c.find-place.result.piece c.find-place.result.at c.index-pieces-place.result (c.if-has_rowid.ensures.inside refl) c.index-pieces-place.is in
+    let within = places.in_row c.as_slice-pieces.result.now c.find_near-place.result.piece c.find_near-place.result.at c.index-pieces-place.result (c.if-has_rowid.ensures.inside refl) c.index-pieces-place.is in
     omega arith
 
 pub returns-in_ok-copy_from : goal.returns-in_ok-copy_from
@@ -26,11 +26,11 @@ returns-in_ok-copy_from c =
     let was = rw c.in-Table.is at (shaped _ _ c.args.self.now.ordered) in
     let fits = c.ranges.id in
     let pieces = c.args.self.now.pieces.items in
-    let place = c.find-place.result in
+    let place = c.find_near-place.result in
     let inside = rw c.as_slice-pieces.ensures.value at (c.if-has_rowid.ensures.inside refl) in
     let is = rw c.as_slice-pieces.ensures.value at c.index-pieces-place.is in
-    let before = simp (to_z-of_z, c.as_slice-pieces.ensures.value) at c.find-place.ensures.before in
-    let after = simp (to_z-of_z, c.as_slice-pieces.ensures.value) at c.find-place.ensures.after in
+    let before = simp (to_z-of_z, c.as_slice-pieces.ensures.value) at c.find_near-place.ensures.before in
+    let after = simp (to_z-of_z, c.as_slice-pieces.ensures.value) at c.find_near-place.ensures.after in
     let head = simp (to_z-of_z, c.as_slice-pieces.ensures.value) at c.if-has_rowid.ensures.is in
     let row = places.after_row pieces place.piece place.at c.index-pieces-place.result c.index.result.now (places.at_in pieces place.piece place.at _ inside is)
     (places.in_row pieces place.piece place.at _ inside is) c.index.ensures in
@@ -42,8 +42,8 @@ returns-else-has_rowid c =
     let was = rw c.in-Table.is at (shaped _ _ c.args.self.now.ordered) in
     let fits = c.ranges.id in
     let pieces = c.args.self.now.pieces.items in
-    let place = c.find-place.result in
-    let before = simp (to_z-of_z, c.as_slice-pieces.ensures.value) at c.find-place.ensures.before in
-    let after = simp (to_z-of_z, c.as_slice-pieces.ensures.value) at c.find-place.ensures.after in
+    let place = c.find_near-place.result in
+    let before = simp (to_z-of_z, c.as_slice-pieces.ensures.value) at c.find_near-place.ensures.before in
+    let after = simp (to_z-of_z, c.as_slice-pieces.ensures.value) at c.find_near-place.ensures.after in
     let head = simp (to_z-of_z, c.as_slice-pieces.ensures.value) at c.if-has_rowid.ensures.is in
     record { found = lemma.filter-missing value_cmp_total rowid (Int c.args.id) (joined pieces) _ _ (places.split_rows pieces place.piece place.at) was.0 before after (sym head) }

@@ -10,8 +10,8 @@ use Rattle.sorted_rows.proofs.PlaceLemmas as places
 use Rattle.sorted_rows.proofs.WriteLemmas as lemma
 use Rattle.sorted_rows.proofs.rows.SortedRows.put.Goals as goal
 
-pub find-place-requires-clause-cut : goal.find-place-requires-clause-cut
-find-place-requires-clause-cut c =
+pub find_near-place-requires-clause-cut : goal.find_near-place-requires-clause-cut
+find_near-place-requires-clause-cut c =
     let was = rw c.in_ok-settle.ensures.ok at (shaped _ _ c.settle.new.self.ordered) in
     rw c.as_slice.ensures.value (lemma.cut_rising value_cmp_total rowid _ _ was.0)
 
@@ -19,10 +19,10 @@ pub invariant_of-self : goal.invariant_of-self
 invariant_of-self c =
     let was = rw c.in_ok-settle.ensures.ok at (shaped _ _ c.settle.new.self.ordered) in
     let pieces = c.settle.new.self.pieces.items in
-    let place = c.find-place.result in
-    let before = rw (c.as_slice.ensures.value, c.get-2.ensures) at c.find-place.ensures.before in
-    let after = rw (c.as_slice.ensures.value, c.get-2.ensures) at c.find-place.ensures.after in
-    let head = rw (c.as_slice-2.ensures.value, c.get-3.ensures) at c.if-has_rowid.ensures.is in
+    let place = c.find_near-place.result in
+    let before = rw (c.as_slice.ensures.value, c.get-2.ensures) at c.find_near-place.ensures.before in
+    let after = rw (c.as_slice.ensures.value, c.get-2.ensures) at c.find_near-place.ensures.after in
+    let head = rw (c.as_slice-3.ensures.value, c.get-3.ensures) at c.if-has_rowid.ensures.is in
     let keyed : IsTrue (is_int (rowid c.args.row)) = rw (← c.in-Int.ensures) refl in
     let rows = c.replace.ensures.rows ∙ lemma.put_row-found c.args.row (joined pieces) _ _ (places.split_rows pieces place.piece place.at) before (sym head) in
     record { ordered = lemma.ordered_as _ Table _ _ c.in_ok-settle.ensures.ok rows (IsShaped-put_row c.args.row _ keyed was); filled = c.replace.ensures.filled }
@@ -31,10 +31,10 @@ pub invariant_of-self-else-has_rowid : goal.invariant_of-self-else-has_rowid
 invariant_of-self-else-has_rowid c =
     let was = rw c.in_ok-settle.ensures.ok at (shaped _ _ c.settle.new.self.ordered) in
     let pieces = c.settle.new.self.pieces.items in
-    let place = c.find-place.result in
-    let before = rw (c.as_slice.ensures.value, c.get-2.ensures) at c.find-place.ensures.before in
-    let after = rw (c.as_slice.ensures.value, c.get-2.ensures) at c.find-place.ensures.after in
-    let head = rw (c.as_slice-2.ensures.value, c.get-3.ensures) at c.if-has_rowid.ensures.is in
+    let place = c.find_near-place.result in
+    let before = rw (c.as_slice.ensures.value, c.get-2.ensures) at c.find_near-place.ensures.before in
+    let after = rw (c.as_slice.ensures.value, c.get-2.ensures) at c.find_near-place.ensures.after in
+    let head = rw (c.as_slice-3.ensures.value, c.get-3.ensures) at c.if-has_rowid.ensures.is in
     let keyed : IsTrue (is_int (rowid c.args.row)) = rw (← c.in-Int.ensures) refl in
     let made = lemma.put_row-missing c.args.row (joined pieces) _ _ (places.split_rows pieces place.piece place.at) before after (sym head) in
     record {
@@ -46,18 +46,18 @@ pub returns-then-has_rowid-clause-ok : goal.returns-then-has_rowid-clause-ok
 returns-then-has_rowid-clause-ok c =
     let was = rw c.in_ok-settle.ensures.ok at (shaped _ _ c.settle.new.self.ordered) in
     let pieces = c.settle.new.self.pieces.items in
-    let place = c.find-place.result in
-    let before = rw (c.as_slice.ensures.value, c.get-2.ensures) at c.find-place.ensures.before in
-    let after = rw (c.as_slice.ensures.value, c.get-2.ensures) at c.find-place.ensures.after in
-    let head = rw (c.as_slice-2.ensures.value, c.get-3.ensures) at c.if-has_rowid.ensures.is in
+    let place = c.find_near-place.result in
+    let before = rw (c.as_slice.ensures.value, c.get-2.ensures) at c.find_near-place.ensures.before in
+    let after = rw (c.as_slice.ensures.value, c.get-2.ensures) at c.find_near-place.ensures.after in
+    let head = rw (c.as_slice-3.ensures.value, c.get-3.ensures) at c.if-has_rowid.ensures.is in
     c.replace.ensures.rows ∙ (lemma.put_row-found c.args.row (joined pieces) _ _ (places.split_rows pieces place.piece place.at) before (sym head) ∙ ap (λ l. put_row c.args.row (joined l)) c.in_ok-settle.ensures.rows)
 
 pub returns-else-has_rowid-clause-ok : goal.returns-else-has_rowid-clause-ok
 returns-else-has_rowid-clause-ok c =
     let was = rw c.in_ok-settle.ensures.ok at (shaped _ _ c.settle.new.self.ordered) in
     let pieces = c.settle.new.self.pieces.items in
-    let place = c.find-place.result in
-    let before = rw (c.as_slice.ensures.value, c.get-2.ensures) at c.find-place.ensures.before in
-    let after = rw (c.as_slice.ensures.value, c.get-2.ensures) at c.find-place.ensures.after in
-    let head = rw (c.as_slice-2.ensures.value, c.get-3.ensures) at c.if-has_rowid.ensures.is in
+    let place = c.find_near-place.result in
+    let before = rw (c.as_slice.ensures.value, c.get-2.ensures) at c.find_near-place.ensures.before in
+    let after = rw (c.as_slice.ensures.value, c.get-2.ensures) at c.find_near-place.ensures.after in
+    let head = rw (c.as_slice-3.ensures.value, c.get-3.ensures) at c.if-has_rowid.ensures.is in
     lemma.on_ok _ _ _ _ c.insert.ensures.ok (lemma.put_row-missing c.args.row (joined pieces) _ _ (places.split_rows pieces place.piece place.at) before after (sym head) ∙ ap (λ l. put_row c.args.row (joined l)) c.in_ok-settle.ensures.rows)

@@ -6,32 +6,35 @@ use Rattle.sorted_rows.proofs.PlaceLemmas as places
 use Rattle.sorted_rows.proofs.WriteLemmas as lemma
 use Rattle.sorted_rows.proofs.rows.SortedRows.seek.Goals as goal
 
-pub find-requires-clause-cut : goal.find-requires-clause-cut
-find-requires-clause-cut c =
+pub find_near-requires-clause-cut : goal.find_near-requires-clause-cut
+find_near-requires-clause-cut c =
     let same : c.order.result ≡ c.args.order = lemma.same_order _ _ c.if-ne.ensures in
     let up = rw (sym c.order.ensures ∙ same) at (sorted_shape _ _ (shaped _ _ c.args.self.now.ordered)) in
     rw c.as_slice-pieces.ensures.value (lemma.cut_below c.args.order c.args.key.now _ up)
 
-pub find-requires-in-Backward-clause-cut : goal.find-requires-in-Backward-clause-cut
-find-requires-in-Backward-clause-cut c =
+pub find_near-requires-in-Backward-clause-cut : goal.find_near-requires-in-Backward-clause-cut
+find_near-requires-in-Backward-clause-cut c =
     let same : c.order.result ≡ c.args.order = lemma.same_order _ _ c.if-ne.ensures in
     let up = rw (sym c.order.ensures ∙ same) at (sorted_shape _ _ (shaped _ _ c.args.self.now.ordered)) in
     rw c.as_slice-pieces.ensures.value (lemma.cut_up_to c.args.order c.args.key.now _ up)
 
-pub returns-in-Forward : goal.returns-in-Forward
-returns-in-Forward c =
+pub returns-in-Forward-clause-place : goal.returns-in-Forward-clause-place
+returns-in-Forward-clause-place c =
     let pieces = c.args.self.now.pieces.items in
-    let place = c.find.result in
-    let before = rw c.as_slice-pieces.ensures.value at c.find.ensures.before in
-    let after = rw c.as_slice-pieces.ensures.value at c.find.ensures.after in
+    let place = c.find_near.result in
+    let before = rw c.as_slice-pieces.ensures.value at c.find_near.ensures.before in
+    let after = rw c.as_slice-pieces.ensures.value at c.find_near.ensures.after in
     let found = lemma.from_key-split c.args.order c.args.key.now (joined pieces) _ _ (places.split_rows pieces place.piece place.at) before after in
-    record { place = rw c.in-Forward.is found }
+    rw c.in-Forward.is found
 
-pub returns-in-Backward : goal.returns-in-Backward
-returns-in-Backward c =
+pub returns-in-Backward-clause-place : goal.returns-in-Backward-clause-place
+returns-in-Backward-clause-place c =
     let pieces = c.args.self.now.pieces.items in
-    let place = c.find-in-Backward.result in
-    let before = rw c.as_slice-pieces.ensures.value at c.find-in-Backward.ensures.before in
-    let after = rw c.as_slice-pieces.ensures.value at c.find-in-Backward.ensures.after in
+    let place = c.find_near-in-Backward.result in
+    let before = rw c.as_slice-pieces.ensures.value at c.find_near-in-Backward.ensures.before in
+    let after = rw c.as_slice-pieces.ensures.value at c.find_near-in-Backward.ensures.after in
     let found = lemma.up_to_key-split c.args.order c.args.key.now (joined pieces) _ _ (places.split_rows pieces place.piece place.at) before after in
-    record { place = rw c.in-Backward.is (ap reverse found) }
+    rw c.in-Backward.is (ap reverse found)
+
+pub returns-then-ne-clause-other : goal.returns-then-ne-clause-other
+returns-then-ne-clause-other c = λ _ same. lemma.other_order _ _ c.if-ne.ensures (c.order.ensures ∙ same)
