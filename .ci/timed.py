@@ -1,5 +1,6 @@
 #!/usr/bin/env python3
-"""Runs `rt ci`, passes on what it prints, and tells before its last line the processor minutes of each crate and part.
+"""Runs `rt ci` and then the trials of the built program, passes on what they print, and tells before its last line, which counts both, the
+processor minutes of each crate and part.
 
 A part is what a process of the prover works on: a proof, a crate's tests, its first edit (the seed, a whole proof from nothing), or one of
 the further edits, which go over what the seed kept. Processes are looked at twice a second, so what a process did in its last half second
@@ -14,8 +15,11 @@ import sys
 import threading
 import time
 
+sys.path.append(os.path.join(os.path.dirname(os.path.abspath(__file__)), "..", "trials"))
+import run as trials
+
 PARTS = ("proofs", "tests", "seeds", "edits")
-LAST_LINE = re.compile(r"\d+ passed, \d+ failed\s*")
+LAST_LINE = re.compile(r"(\d+) passed, (\d+) failed\s*")
 TICKS = os.sysconf("SC_CLK_TCK")
 
 
@@ -102,20 +106,33 @@ class Meter:
         yield f"in all {total:.1f} processor minutes, {other:.1f} of them other; {minutes:.1f} minutes on {os.cpu_count()} processors"
 
 
-def main():
-    meter, begun, last = Meter(), time.monotonic(), []
-    threading.Thread(target=meter.run, daemon=True).start()
-    with subprocess.Popen(sys.argv[1:], stdin=subprocess.DEVNULL, stdout=subprocess.PIPE, text=True, errors="replace") as ran:
+def passed_on(words):
+    """Runs a command and passes on what it prints but its last line; gives its status, and how many passed and failed by that line, none
+    where there was none."""
+    counts = []
+    with subprocess.Popen(words, stdin=subprocess.DEVNULL, stdout=subprocess.PIPE, text=True, errors="replace") as ran:
         for line in ran.stdout:
-            if LAST_LINE.fullmatch(line):
-                last.append(line)
+            last = LAST_LINE.fullmatch(line)
+            if last:
+                counts = [int(it) for it in last.groups()]
             else:
                 print(line, end="", flush=True)
+    return ran.returncode, counts
+
+
+def main():
+    meter, begun = Meter(), time.monotonic()
+    threading.Thread(target=meter.run, daemon=True).start()
+    status, counts = passed_on(sys.argv[1:])
+    # A program that was not proved, or is not built, is not tried.
+    if status == 0:
+        counts = [one + other for one, other in zip(counts, trials.check())]
     meter.ended.set()
     for line in meter.table((time.monotonic() - begun) / 60):
         print(line)
-    print("".join(last), end="", flush=True)
-    return ran.returncode
+    if counts:
+        print("{} passed, {} failed".format(*counts), flush=True)
+    return status or int(counts[1:] != [0])
 
 
 if __name__ == "__main__":

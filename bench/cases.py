@@ -6,8 +6,8 @@
                                         tests of AFTER fewer times than in those of BEFORE, with both counts
 
 Run it anywhere in the repository. A value is a number or a text in a file of tests: a module that the root of its crate names
-under cfg(test), and the library of sample bodies. "a" and b"a" are one value, and a text of five bytes or more is not listed
-where it stands within another of AFTER. The data of the program of rows counts too: each row and each folder of rows is a test by its
+under cfg(test), and the library of sample bodies; a script of trials/ is one too, and each trial a test. "a" and b"a" are one value, and a
+text of five bytes or more is not listed where it stands within another of AFTER. The data of the program of rows counts too: each row and each folder of rows is a test by its
 name, each file is a text, and so is each number in one. A test is not listed as lacking where AFTER has a row of its name, in a file or
 in a table of a test. A value that stands fewer times need not be a case that was dropped, since several tests may share one table or one
 sample: read the list.
@@ -20,6 +20,7 @@ import sys
 
 LIBRARY_OF_BODIES = "test_bodies"
 PROGRAM_OF_ROWS = "office_rows"
+TRIALS = "trials"
 TOKEN = re.compile(
     r"""(?P<comment>//[^\n]*)
       |(?P<text>b?"(?:[^"\\]|\\.)*")
@@ -80,6 +81,13 @@ def value(token):
     return read if isinstance(read, bytes) else read.encode()
 
 
+def trial_values(text):
+    """The numbers and texts of a script."""
+    for node in ast.walk(ast.parse(text)):
+        if isinstance(node, ast.Constant) and isinstance(node.value, (int, str, bytes)):
+            yield node.value.encode() if isinstance(node.value, str) else node.value
+
+
 class Cases:
     def __init__(self, revision):
         names = files(revision)
@@ -93,6 +101,14 @@ class Cases:
             found = [value(token) for token in TOKEN.finditer(text) if not token["comment"]]
             self.values.update(found)
             self.counts[crate].update(tests=len(tests), values=len(found), asserts=len(re.findall(r"\bassert\w*!\(", text)))
+        for name in names:
+            script = re.fullmatch(TRIALS + r"/(\w+)\.py", name)
+            if script:
+                text = git("show", f"{revision}:{name}")
+                trials, found = re.findall(r"^@trial\ndef (\w+)", text, re.M), list(trial_values(text))
+                self.tests += [(TRIALS, script[1], it) for it in trials]
+                self.values.update(found)
+                self.counts[TRIALS].update(tests=len(trials), values=len(found))
         self.row_names = {item.decode(errors="replace") for item in self.values if isinstance(item, bytes)}
         for path, ending, data in rows(revision, names):
             numbers = [int(number) for number in re.findall(rb"(?<!\w)\d+(?!\w)", data)]

@@ -3,6 +3,8 @@
 #![tactic(auto)]
 
 #[cfg(test)]
+mod ample_tests;
+#[cfg(test)]
 mod checks;
 #[cfg(test)]
 mod desk_rows;

@@ -3,7 +3,7 @@ use http_desk::{Counted, DeskFault, Served, serve};
 use society_core::{Desk, Store};
 use std::alloc::{AllocError, Global};
 use std::io::{ErrorKind, Read, Write};
-use test_bodies::{REGISTERED, REGISTERED_ACK, message};
+use test_bodies::{REGISTERED, REGISTERED_ACK};
 
 /// A reader that gives at most so many bytes a read; behind its last byte it ends, or fails.
 #[derive(Drop)]
@@ -91,8 +91,10 @@ pub fn ask(
     request: &str,
     body: &[u8],
 ) -> Result<(), AllocError> {
-    let head = format!(in alloc; "{request} HTTP/1.1")?;
-    message(alloc, input, &head, body)
+    let length = body.len();
+    let head = format!(in alloc; "{request} HTTP/1.1\r\nContent-Length: {length}\r\n\r\n")?;
+    input.extend_from_slice(head.as_bytes())?;
+    input.extend_from_slice(body)
 }
 
 /// Appends the put of the first transmission, which announces a body of this length.

@@ -8,7 +8,10 @@ use test_bodies::{REGISTERED, REVISED, number, office, sender, work};
 use works_core::{Judged, LineEnd, SenderLine, Verdict, WorkVersion, isrcs, judge_all};
 
 fn read(alloc: Global, body: &'static [u8]) -> Result<Transmission<'static>, Fail> {
-    Ok(read_transmission(alloc, body, &sender()?)?)
+    match read_transmission(alloc, body, &sender()?) {
+        Ok(transmission) => Ok(transmission),
+        Err(_) => Err(Fail::new("a transmission")),
+    }
 }
 
 /// Applies a file to a line under a number that is above those that the line has.

@@ -1,7 +1,6 @@
 //! A stream of requests, served to an office to which nothing has come.
 use http_desk::{Counted, serve};
 use share_rules::Office;
-use society_commands::replay;
 use society_core::{Desk, PlainStore};
 use std::alloc::Global;
 use std::io::Read;
@@ -24,17 +23,6 @@ impl Read for ByteByByte<'_> {
 pub struct Seen {
     pub written: Vec<u8>,
     pub requests: u128,
-}
-
-/// What `replay` writes for a stream, and behind it the line of a fault where it broke off.
-pub fn over_tables(alloc: Global, office: &Office, input: &[u8]) -> Vec<u8> {
-    let mut reader = Counted::new(input);
-    let mut out = Counted::new(Vec::new(alloc));
-    let mut err = Vec::<u8>::new(alloc);
-    replay(alloc, office, &mut reader, &mut out, &mut err);
-    let mut written = out.into_inner();
-    let _ = written.extend_from_slice(&err);
-    written
 }
 
 /// What the desk over the plain store writes for a stream.

@@ -7,14 +7,9 @@ pub fn is_text(rt: &impl Abort, row: &str, seen: &[u8], wanted: &[u8]) {
     assert_eq!(rt; str::from_utf8(seen), str::from_utf8(wanted), "{row}");
 }
 
-/// This number is what a row wants.
-pub fn is_number(rt: &impl Abort, row: &str, seen: usize, wanted: usize) {
-    assert_eq!(rt; seen, wanted, "{row}");
-}
-
 /// This status is what a row wants.
 pub fn is_status(rt: &impl Abort, row: &str, seen: u8, wanted: u8) {
-    is_number(rt, row, usize::from(seen), usize::from(wanted));
+    assert_eq!(rt; seen, wanted, "{row}");
 }
 
 /// What a row says holds.

@@ -139,12 +139,6 @@ pub fn opened<S: Alter + Drop>(
     Ok(Tables::open(alloc, conn, &office(society)?))
 }
 
-/// Runs statements.
-pub fn change<S: Alter>(conn: &mut Connection<S>, statements: &str) -> Result<(), Fail> {
-    conn.execute_batch(statements)?;
-    Ok(())
-}
-
 /// A registration, two files with no group, a return and a pool of 1,001 units, whose order comes first when it still has to wait.
 pub const CLOSED_AT_A_CUT: &[Step] = &[
     Step::Put(1, File::Registered),

@@ -1,5 +1,5 @@
-//! Tests of the office's tables: candidates of a pool, what each call of a store answers, the rows that requests leave, and databases that
-//! are opened, damaged ones among them. Requests and their answers as bytes are in the crate office_rows.
+//! Tests of the office's tables: candidates of a pool, what each call of a store answers, and databases in memory that are opened. The built
+//! program is tried over databases that SQLite reads and changes by trials/leaving.py and trials/openings.py.
 #![tactic(auto)]
 
 #[cfg(test)]
@@ -7,16 +7,8 @@ mod checks;
 #[cfg(test)]
 mod cut_tests;
 #[cfg(test)]
-mod damage_tests;
-#[cfg(test)]
 mod left;
 #[cfg(test)]
-mod listing;
-#[cfg(test)]
-mod older_tests;
-#[cfg(test)]
 mod open_tests;
-#[cfg(test)]
-mod row_tests;
 #[cfg(test)]
 mod typed_tests;

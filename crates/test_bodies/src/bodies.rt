@@ -19,7 +19,3 @@ pub const EXCLUDED: &[u8] =
 /// The acknowledgement of the registration as its sender's first transmission, 346 bytes.
 pub const REGISTERED_ACK: &[u8] =
     b"HDRSO000000900EXAMPLE SOCIETY                              01.102026010600000020260106               \r\nGRHACK0000102.200000000000  \r\nACK0000000000000000202601051015000000100000000NWRFIRST SONG                                                  W1                  0000000120000000000120260106AS\r\nGRT000010000000100000003\r\nTRL000010000000100000005\r\n";
-
-/// The acknowledgement of the transmission with no group, 129 bytes.
-pub const EMPTY_ACK: &[u8] =
-    b"HDRSO000000900EXAMPLE SOCIETY                              01.102026010600000020260106               \r\nTRL000000000000000000002\r\n";

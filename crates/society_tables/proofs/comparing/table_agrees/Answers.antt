@@ -1,4 +1,4 @@
-use Rattle.std.proofs.Common.{◌∙◌, Ok, subst, sym}
+use Rattle.std.proofs.Common.{rules, ◌∙◌, Ok, subst, sym}
 use Rattle.society_tables.specs.Rebuilding.{IsAside}
 use Rattle.std.proofs.lemmas.Bool.{false≢true}
 use Rattle.society_rows.specs.TableNames.{listing_width, table_called}
@@ -28,6 +28,9 @@ returns-in_err-rows-clause-passes g c o b clean shows has holds = aside_told _ _
 
 pub returns-in_err-others-clause-passes : goal.returns-in_err-others-clause-passes
 returns-in_err-others-clause-passes g c o b clean shows has holds = aside_told _ _ c.from_residual-in_err-others.result c.from_residual-in_err-others.ensures.1 (subst IsAside (sym c.in_err-others.ensures.memory) tt)
+
+pub returns-clause-failed : goal.returns-clause-failed
+returns-clause-failed g c = search rules
 
 pub returns-in_err-rows-clause-failed : goal.returns-in_err-rows-clause-failed
 returns-in_err-rows-clause-failed g c = failed_passed Store _ _ c.in_err-rows.field-0.0 c.from_residual.result _ c.in_err-rows.ensures.asked c.in_err-rows.ensures.failed c.from_residual.ensures.1

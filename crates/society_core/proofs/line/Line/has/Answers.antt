@@ -1,4 +1,4 @@
-use Rattle.std.proofs.Common.{◌≡◌, true, subst, sym}
+use Rattle.std.proofs.Common.{rules, ◌≡◌, true, subst, sym}
 use Rattle.sender_segments.specs.Ways.{IsWithinEnd, leads_to}
 use Rattle.society_core.specs.Book.{ends_among}
 use Rattle.society_core.specs.PlainMaps.{ends_kept, transmissions_of}
@@ -17,3 +17,6 @@ is_up_to-requires-clause-within c =
     let line = c.args.self.now in
     subst (λ f. IsWithinEnd (ends_among (ends_kept line.ends.now) line.sender) f) (sym line.reached)
     (kept_front_fits (transmissions_of line.transmissions.now) (ends_kept line.ends.now) line.sender line.orderly)
+
+pub returns : goal.returns
+returns c = search rules

@@ -1,0 +1,81 @@
+"""An office in a file: where there is none, where it is opened again, and where it is audited."""
+import socket
+
+from common import OFFICE
+from program import ANOTHER_OFFICE, DAY, DAY_ANSWERS, EMPTY_DATABASE, SERVED_ONE, Ended, answered, held_by, office_of, run, run_row, served_one, told, trial
+
+WANTS_A_FILE = [
+    "serve|--existing|--db|office.db|--port|1|--connections|1|--society|900|--territory|40|--name|X",
+    "audit|--db|office.db|--society|900|--territory|40|--name|X",
+]
+
+
+@trial
+def a_file_that_is_not_there(program, folder):
+    for row in WANTS_A_FILE:
+        told(row, run_row(program, folder, row), EMPTY_DATABASE)
+        told(row, held_by(folder), {})
+
+
+@trial
+def a_file_that_is_empty(program, folder):
+    (folder / "office.db").write_bytes(b"")
+    for row in WANTS_A_FILE:
+        told(row, run_row(program, folder, row), EMPTY_DATABASE)
+        told(row, held_by(folder), {"office.db": b""})
+
+
+@trial
+def a_port_that_is_taken(program, folder):
+    with socket.create_server(("127.0.0.1", 0)) as taken:
+        port = str(taken.getsockname()[1])
+        words = ["serve", "--db", "F", "--port", port, "--connections", "1", *OFFICE]
+        told("a port that is taken", run(program, folder, words), Ended(b"", b"society: cannot listen\n", 1))
+
+
+# The day's requests up to its returns, and those after.
+DAY_CUT = DAY.index(b"PUT /v1/returns/RADIO1/1 ")
+
+
+@trial
+def a_day_over_a_file(program, folder):
+    """All answers are those of one run in memory, though the program is killed between."""
+    out = answered(program, folder, "day.db", DAY[:DAY_CUT]) + answered(program, folder, "day.db", DAY[DAY_CUT:])
+    told("the day's answers", out, DAY_ANSWERS)
+
+
+# A path, whether an office has to be there, a society, and what is written where one peer comes without a request.
+SERVED = [
+    ("served.db", True, 900, EMPTY_DATABASE),
+    ("served.db", False, 900, SERVED_ONE),
+    ("served.db", False, 901, ANOTHER_OFFICE),
+    ("served.db", False, 900, SERVED_ONE),
+    ("served.db", True, 900, SERVED_ONE),
+    (":memory:", False, 900, Ended(b"", b"society: database store\n", 1)),
+]
+
+
+@trial
+def connections_over_a_file(program, folder):
+    for path, existing, society, wanted in SERVED:
+        told((path, existing, society), served_one(program, folder, path, existing, society), wanted)
+
+
+@trial
+def a_file_that_is_audited(program, folder):
+    """A file that is audited keeps its bytes, and its log too."""
+    told("the day's answers", answered(program, folder, "audited.db", DAY), DAY_ANSWERS)
+    held = held_by(folder)
+    told("its files", sorted(held), ["audited.db", "audited.db-wal"])
+    for society, wanted in ((900, Ended(b"sound\n", b"", 0)), (901, ANOTHER_OFFICE)):
+        told(society, run(program, folder, ["audit", "--db", "audited.db", *office_of(society)]), wanted)
+        told("what its files hold", held_by(folder) == held, True)
+
+
+@trial
+def the_file_alone_is_the_book(program, folder):
+    """After a normal end the database file alone is the book: it opens without its log, with what had come before."""
+    out = answered(program, folder, "alone.db", DAY[:DAY_CUT])
+    told("a normal end", served_one(program, folder, "alone.db", True, 900), SERVED_ONE)
+    (folder / "alone.db-wal").unlink(missing_ok=True)
+    told("the day's answers", out + answered(program, folder, "alone.db", DAY[DAY_CUT:]), DAY_ANSWERS)

@@ -1,0 +1,137 @@
+"""What the trials share: runs of the built program, what they write, and a server over a file."""
+import dataclasses
+import pathlib
+import socket
+import subprocess
+import sys
+
+ROOT = pathlib.Path(__file__).resolve().parent.parent
+sys.path.append(str(ROOT / "bench"))
+
+import common
+from common import OFFICE, get
+
+# The most seconds that one run may take.
+LIMIT = 60
+TRIALS = []
+
+
+class Other(Exception):
+    """What is seen is not what is wanted."""
+
+
+def trial(function):
+    """Adds a trial: it is given a program, and an empty folder to run it in."""
+    TRIALS.append(function)
+    return function
+
+
+def told(row, seen, wanted):
+    """What a row sees has to be what it wants."""
+    if seen != wanted:
+        raise Other(f"{row}: there is {seen!r:.2000}, and wanted is {wanted!r:.2000}")
+
+
+@dataclasses.dataclass
+class Ended:
+    """What a run wrote on standard output and on standard error, and its status."""
+
+    out: bytes
+    err: bytes
+    status: int
+
+
+def run(program, folder, words, given=get(f"/v1/senders/{common.SENDER}/acks/1"), **streams):
+    """A run with these arguments, which reads what is given; `streams` are other streams in place of those."""
+    streams = {"input": given, **streams} if "stdin" not in streams else streams
+    how = {"stdout": subprocess.PIPE, "stderr": subprocess.PIPE, **streams}
+    ran = subprocess.run([str(program), *words], cwd=folder, timeout=LIMIT, check=False, **how)
+    return Ended(ran.stdout, ran.stderr, ran.returncode)
+
+
+def replayed(program, folder, stream):
+    """What is written for a stream of requests; nothing of it may go wrong."""
+    ended = run(program, folder, ["replay", *OFFICE], stream)
+    told("the end of a stream", (ended.err, ended.status), (b"", 0))
+    return ended.out
+
+
+def run_row(program, folder, row):
+    """A run with the arguments of a row, where they stand parted by `|`."""
+    return run(program, folder, [it.encode() for it in row.split("|")] if row else [])
+
+
+def office_of(society):
+    return ["--society", str(society), *OFFICE[2:]]
+
+
+class Server:
+    """`society serve` over a database of the folder, on a free port."""
+
+    def __init__(self, program, folder, path, connections=1, existing=False, society=900):
+        self.port = common.free_port()
+        words = ["serve", *["--existing"] * existing, "--db", path, "--port", str(self.port)]
+        words += ["--connections", str(connections), *office_of(society)]
+        pipes = {"stdin": subprocess.DEVNULL, "stdout": subprocess.PIPE, "stderr": subprocess.PIPE}
+        self.process = subprocess.Popen([str(program), *words], cwd=folder, **pipes)
+        # (empty where it does not start)
+        self.first = self.process.stdout.readline()
+
+    def sent(self, stream):
+        """What is answered to the bytes of a connection that sends no more."""
+        with socket.create_connection(("127.0.0.1", self.port), LIMIT) as peer:
+            peer.sendall(stream)
+            peer.shutdown(socket.SHUT_WR)
+            return b"".join(iter(lambda: peer.recv(1 << 16), b""))
+
+    def ended(self):
+        """What is written until the program ends by itself."""
+        out, err = self.process.communicate(timeout=LIMIT)
+        return Ended(self.first + out, err, self.process.returncode)
+
+    def __enter__(self):
+        return self
+
+    def __exit__(self, *_):
+        """Kills the program where it has not ended."""
+        self.process.kill()
+        self.process.communicate()
+
+
+def answered(program, folder, path, stream):
+    """What is answered to requests over a database, by a program that is killed then: the file's log stays beside it."""
+    with Server(program, folder, path, connections=2) as server:
+        return server.sent(stream)
+
+
+# Requests and answers.
+def acknowledgement(number):
+    return get(f"/v1/senders/PB000000012/acks/{number}")
+
+
+def answer(status, body, kind="json"):
+    return b"HTTP/1.1 %s\r\nContent-Type: application/%s\r\nContent-Length: %d\r\n\r\n%s" % (status, kind.encode(), len(body), body)
+
+
+def applied(front):
+    return answer(b"201 Created", b'{"front":%d,"state":"applied"}' % front)
+
+
+# Offices in files.
+DAY, DAY_ANSWERS = (ROOT / "examples/day.http").read_bytes(), (ROOT / "examples/day.answers").read_bytes()
+EMPTY_DATABASE = Ended(b"", b"society: database empty\n", 1)
+SERVED_ONE = Ended(b"listening\nconnection 1: 0 requests\n", b"", 0)
+ANOTHER_OFFICE = Ended(b"", b"society: database of another office\n", 1)
+
+
+def held_by(folder):
+    """What each file of a folder holds."""
+    return {it.name: it.read_bytes() for it in folder.iterdir()}
+
+
+def served_one(program, folder, path, existing, society):
+    """What is written where one peer comes without a request."""
+    server = Server(program, folder, path, existing=existing, society=society)
+    if server.first:
+        told("a peer without a request", server.sent(b""), b"")
+    return server.ended()
