@@ -2,9 +2,8 @@
 import socket
 
 from common import FIRST, NO_WORKS, put_file, request
-from program import LIMIT, Ended, Server, acknowledgement, answer, applied, told, trial
+from program import BAD, LIMIT, Ended, Server, acknowledgement, answer, applied, told, trial
 
-BAD = b'HTTP/1.1 400 Bad Request\r\nContent-Type: application/json\r\nContent-Length: 19\r\nConnection: close\r\n\r\n{"error":"request"}'
 UNKNOWN = b'HTTP/1.1 404 Not Found\r\nContent-Type: application/json\r\nContent-Length: 19\r\nConnection: close\r\n\r\n{"error":"unknown"}'
 ACK_FRONT = b"HDRSO000000900EXAMPLE SOCIETY".ljust(59) + b"01.102026010600000020260106".ljust(42) + b"\r\n"
 NO_WORKS_ACK = ACK_FRONT + b"TRL000000000000000000002\r\n"

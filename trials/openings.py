@@ -3,7 +3,7 @@ import shutil
 
 from common import FIRST, changed
 from leaving import CLOSED_AT_A_CUT, ONE_WAITS, YEAR_BEGUN, change, left_by, names_in, rows_of
-from program import ANOTHER_OFFICE, SERVED_ONE, Ended, held_by, office_of, run, served_one, told, trial
+from program import ANOTHER_OFFICE, SERVED_ONE, Ended, office_of, run, served_one, told, trial
 
 SOUND = Ended(b"sound\n", b"", 0)
 DAMAGED = Ended(b"", b"society: database damaged\n", 1)
@@ -146,13 +146,13 @@ OPENINGS = [
 def check_opened(program, folder, row, society, wanted):
     """Audits and opens the only database of a folder. Its bytes stay after an audit and where it is refused, and its rows where it is opened."""
     (path,) = folder.iterdir()
-    held, is_sound = held_by(folder), wanted == SERVED_ONE
+    held, is_sound = path.read_bytes(), wanted == SERVED_ONE
     audited = run(program, folder, ["audit", "--db", path.name, *office_of(society)])
     told((row, "audited"), audited, SOUND if is_sound else wanted)
-    told((row, "audited"), held_by(folder) == held, True)
+    told((row, "its bytes after an audit"), path.read_bytes() == held, True)
     before = rows_of(path) if is_sound else held
     told((row, "opened"), served_one(program, folder, path.name, False, society), wanted)
-    told((row, "opened"), (rows_of(path) if is_sound else held_by(folder)) == before, True)
+    told((row, "what it has then"), (rows_of(path) if is_sound else path.read_bytes()) == before, True)
 
 
 def each_changed(folder, left, changes):
@@ -199,9 +199,9 @@ def older_databases_are_taken_over(program, folder):
             left = left_by(program, folder, "left", requests)
             wanted = names_in(left), rows_of(left)
             change(left, layout)
-            held = held_by(folder)
+            held = left.read_bytes()
             told("an older one", run(program, folder, ["audit", "--db", left.name, *office_of(900)]), SOUND)
-            told("an older one, audited", held_by(folder) == held, True)
+            told("an older one, audited", left.read_bytes() == held, True)
             told("an older one", served_one(program, folder, left.name, False, 900), SERVED_ONE)
             told("an older one, taken over", (names_in(left), rows_of(left)), wanted)
             left.unlink()

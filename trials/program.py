@@ -105,6 +105,10 @@ def answered(program, folder, path, stream):
 
 
 # Requests and answers.
+# What is answered to bytes that are no request.
+BAD = b'HTTP/1.1 400 Bad Request\r\nContent-Type: application/json\r\nContent-Length: 19\r\nConnection: close\r\n\r\n{"error":"request"}'
+
+
 def acknowledgement(number):
     return get(f"/v1/senders/PB000000012/acks/{number}")
 

@@ -4,7 +4,7 @@ import tty
 
 import common
 from common import CSV_HEADER, FIRST, NO_WORKS, OFFICE, REVISION, get, put_file, put_pool, put_return
-from program import ROOT, Ended, acknowledgement, answer, applied, replayed, run, told, trial
+from program import BAD, ROOT, Ended, acknowledgement, answer, applied, replayed, run, told, trial
 
 ROWS = ROOT / "crates/office_rows"
 
@@ -113,7 +113,6 @@ def broken_off(program, folder, stream):
         os.close(near)
 
 
-BAD = b"HTTP/1.1 400 Bad Request\r\nContent-Type: application/json\r\nContent-Length: 19\r\nConnection: close\r\n\r\n{\"error\":\"request\"}"
 TOO_LARGE = b"HTTP/1.1 413 Payload Too Large\r\nContent-Type: application/json\r\nContent-Length: 16\r\nConnection: close\r\n\r\n{\"error\":\"size\"}"
 
 # A stream, whether its reader fails behind it, what is written for it, the status, and what is written on standard error.
