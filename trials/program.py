@@ -45,7 +45,8 @@ def run(program, folder, words, given=get(f"/v1/senders/{common.SENDER}/acks/1")
     """A run with these arguments, which reads what is given; `streams` are other streams in place of those."""
     streams = {"input": given, **streams} if "stdin" not in streams else streams
     how = {"stdout": subprocess.PIPE, "stderr": subprocess.PIPE, **streams}
-    ran = subprocess.run([str(program), *words], cwd=folder, timeout=LIMIT, check=False, **how)
+    # Its own name is told in its help, whatever its file is called.
+    ran = subprocess.run(["society", *words], executable=program, cwd=folder, timeout=LIMIT, check=False, **how)
     return Ended(ran.stdout, ran.stderr, ran.returncode)
 
 
@@ -73,7 +74,7 @@ class Server:
         words = ["serve", *["--existing"] * existing, "--db", path, "--port", str(self.port)]
         words += ["--connections", str(connections), *office_of(society)]
         pipes = {"stdin": subprocess.DEVNULL, "stdout": subprocess.PIPE, "stderr": subprocess.PIPE}
-        self.process = subprocess.Popen([str(program), *words], cwd=folder, **pipes)
+        self.process = subprocess.Popen(["society", *words], executable=program, cwd=folder, **pipes)
         # (empty where it does not start)
         self.first = self.process.stdout.readline()
 
