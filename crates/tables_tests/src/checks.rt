@@ -2,12 +2,9 @@
 use std::fmt::Debug;
 use std::process::Abort;
 
-/// What is answered to a row is what it wants.
-pub fn told<T: PartialEq + Debug>(rt: &impl Abort, row: &str, seen: &T, wanted: &T) {
-    assert!(rt;
-        *seen == *wanted,
-        "{row}: {seen:?} in the place of {wanted:?}"
-    );
+/// Ends the test where what is seen is not what is wanted, naming the row and both.
+pub fn told<T: PartialEq + Debug + Drop>(rt: &impl Abort, row: &str, seen: T, wanted: T) {
+    assert_eq!(rt; seen, wanted, "at {row:?}");
 }
 
 /// What a row says holds.
