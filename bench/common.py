@@ -62,6 +62,16 @@ def put_file(body, number=1, sender=SENDER):
     return request("PUT", f"/v1/senders/{sender}/transmissions/{number}", body)
 
 
+def put_named(body, name, sender=SENDER):
+    """The put of a file that is named by year."""
+    return request("PUT", f"/v1/senders/{sender}/files/{name}", body)
+
+
+def state_end(segment, last, following, sender=SENDER):
+    """States that a sender's numbers of a segment end with the last, and which year comes then."""
+    return request("PUT", f"/v1/senders/{sender}/segments/{segment}", b'{"last":%d,"next":%d}' % (last, following))
+
+
 def put_return(body, number=1, reporter="RADIO1"):
     return request("PUT", f"/v1/returns/{reporter}/{number}", body)
 

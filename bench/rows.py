@@ -9,7 +9,7 @@ import json
 import sys
 
 import common
-from common import CSV_HEADER, FIRST, FIRST_LINES, NO_WORKS, REVISION, SENDER, changed, get, put_file, put_pool
+from common import CSV_HEADER, FIRST, FIRST_LINES, NO_WORKS, REVISION, SENDER, changed, get, put_file, put_pool, state_end
 
 OTHER = "PB000000034"
 T, B = f"/v1/senders/{SENDER}/", f"/v1/senders/{OTHER}/"
@@ -149,11 +149,7 @@ def recordings(answers):
 
 
 def put_year(name, body=NO_WORKS):
-    return common.request("PUT", f"{T}files/{name}", body)
-
-
-def state_end(segment, last, following):
-    return common.request("PUT", f"{T}segments/{segment}", b'{"last":%d,"next":%d}' % (last, following))
+    return common.put_named(body, name)
 
 
 def standing(front, state, status=201):

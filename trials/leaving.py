@@ -2,18 +2,14 @@
 import contextlib
 import sqlite3
 
-from common import FIRST, NO_WORKS, REVISION, SENDER, put_file, put_pool, put_return, request
+from common import FIRST, NO_WORKS, REVISION, SENDER, put_file, put_named, put_pool, put_return, state_end
 from program import Server, told, trial
 
 
 # Requests that leave a database.
 def put_year(year, body):
     """The put of the first file of a year."""
-    return request("PUT", f"/v1/senders/{SENDER}/files/CW{year}0001EXA_900.V22", body)
-
-
-def state_end(segment, last, following):
-    return request("PUT", f"/v1/senders/{SENDER}/segments/{segment}", b'{"last":%d,"next":%d}' % (last, following))
+    return put_named(body, f"CW{year}0001EXA_900.V22")
 
 
 def played(plays):

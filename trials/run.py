@@ -13,13 +13,13 @@ import tempfile
 
 from program import ROOT, TRIALS, Other
 
-# Each adds its trials.
-import streams
+# Each of these adds its trials.
 import arguments
 import connections
 import files
 import leaving
 import openings
+import streams
 
 BUILDS = [ROOT / "crates/society/out/society", ROOT / "crates/society/out/society.by-rattle"]
 
