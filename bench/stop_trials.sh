@@ -17,6 +17,7 @@ here=$(cd "$(dirname "$0")/.." && pwd)
 copy=$(mktemp -d)
 trap 'rm -rf "$copy"' EXIT
 tar -C "$here" --exclude=out -cf - crates crates.txt HANDLES | tar -C "$copy" -xf -
+sed -i 's/^tables_tests:/& sqlite_disk/' "$copy/crates.txt"
 cd "$copy/crates/tables_tests"
 for module in steps fused stops stop_trials; do
   cp "$here/bench/stop_trials/$module.txt" "src/$module.rt"

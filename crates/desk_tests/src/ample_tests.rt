@@ -1,7 +1,7 @@
 //! With ample memory nothing is answered 503: 300 numbers over the plain store. Over tables the program itself is tried (trials/streams.py).
 use crate::checks::told;
 use crate::streams::{Exchange, answer, ask, served};
-use http_desk::Served;
+use http_connection::Served;
 use society_core::{Desk, PlainStore};
 use std::alloc::{AllocError, Global};
 use std::test::Fail;

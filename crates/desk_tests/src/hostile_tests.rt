@@ -4,7 +4,7 @@ use crate::checks::told;
 use crate::desk_rows::{applied, new_desk, put_whole};
 use crate::streams::{Ended, Source, Stream, answer, first_stream, outcome};
 use cwr_files::FileFault;
-use http_desk::{Counted, DeskFault, FaultKind, Served, serve};
+use http_connection::{Counted, DeskFault, FaultKind, Served, serve};
 use society_core::{Desk, Refusal, Store};
 use std::alloc::{AllocError, Global};
 use std::io::{ErrorKind, Read, Write};

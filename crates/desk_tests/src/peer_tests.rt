@@ -2,7 +2,7 @@
 use crate::checks::told;
 use crate::desk_rows::new_desk;
 use crate::streams::first_exchanges;
-use http_desk::{Counted, DeskFault, FaultKind, serve};
+use http_connection::{Counted, DeskFault, FaultKind, serve};
 use std::alloc::Global;
 use std::cell::Cell;
 use std::io::{ErrorKind, Read, Write};

@@ -1,5 +1,5 @@
 //! Streams of bytes that a connection reads and writes: ones that come in pieces, and ones that fail.
-use http_desk::{Counted, DeskFault, Served, serve};
+use http_connection::{Counted, DeskFault, Served, serve};
 use society_core::{Desk, Store};
 use std::alloc::{AllocError, Global};
 use std::io::{ErrorKind, Read, Write};

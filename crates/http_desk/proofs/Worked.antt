@@ -17,7 +17,6 @@ use Rattle.society_core.specs.declared.answers.Standing.TheVariants.{Applied, He
 use Rattle.http_desk.specs.declared.body_length.BodyLength.TheVariants.{Sized, Faulty, Large}
 use Rattle.http_desk.specs.declared.connection_end.End.TheVariants.{Quiet, Bad, TooLarge, Busy}
 use Rattle.http_desk.specs.BodyLength.{body_length_of, ends_connection}
-use Rattle.http_desk.specs.Upcoming.{ended_with}
 use Rattle.http_desk.specs.EndText.{state_query}
 use Rattle.http_desk.specs.NumberTexts.{number_text}
 use Rattle.http_desk.specs.Path.{asked_of_route, file_number_in_path, is_path, parameter, plain_number_in_path, transmission_number_in_path}
@@ -80,12 +79,6 @@ closed_by_the_second = refl
 
 version_one_zero : ends_connection 0 (only (codes "Connection") (codes "keep-alive")) ≡ true
 version_one_zero = refl
-
-nothing_more : ended_with [] ≡ Quiet
-nothing_more = refl
-
-a_stray_line_end : ended_with (codes "\r\n") ≡ Bad
-a_stray_line_end = refl
 
 -- ---- numbers and paths
 

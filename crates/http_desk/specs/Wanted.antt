@@ -2,19 +2,14 @@
 use Rattle.std.specs.Prelude.{◌≡◌, ℕ, List}
 use Rattle.cwr_files.specs.Fed.{WasFed}
 use Rattle.society_core.specs.Requests.{Query, Puts, PutsReturn, Inquires, AsksElsewhere, query_of}
-use Rattle.http_desk.specs.BodyLength.{is_put}
 use Rattle.http_desk.specs.declared.asked.Asked.{Asked}
 use Rattle.http_desk.specs.declared.asked.Asked.TheVariants as asked
-use Rattle.http_desk.specs.declared.head.Head.{Head}
 use Rattle.http_desk.specs.declared.requests.Wanted.{Wanted}
 use Rattle.http_desk.specs.declared.requests.Wanted.TheVariants as wanted
 use Rattle.http_desk.specs.declared.requests.WithBody.{WithBody}
 use Rattle.http_desk.specs.declared.requests.WithBody.TheVariants.{Segment, Return, Pool, Show, Elsewhere}
 use Rattle.http_desk.specs.EndText.{state_query}
-use Rattle.http_desk.specs.Head.{HasHead}
 use Rattle.http_desk.specs.OrderText.{close_query}
-use Rattle.http_desk.specs.Path.{query_for, request_of}
-use Rattle.http_desk.specs.Upcoming.{HasPart}
 
 -- what is asked with this body, where it was read whole
 abbrev pub asked_whole : WithBody → List ℕ → Query
@@ -33,12 +28,3 @@ asked_with (wanted.Whole ask) body = asked_whole ask body
 abbrev pub StandsFor : Asked → Query → Type 0
 StandsFor (asked.Fed put) query = (bytes : List ℕ) × WasFed put.reader bytes × (query ≡ Puts put.key.sender put.key.number bytes)
 StandsFor (asked.Whole request) query = query ≡ query_of request
-
--- the head at the front of the bytes, of which this is kept, asks so of the office of a society, whatever its body
-abbrev pub AsksFor : ℕ → List ℕ → Head → Wanted → Type 0
-AsksFor society bytes kept wanted =
-    (has : HasHead bytes kept) (body : List ℕ) → asked_with wanted body ≡ query_for society (is_put has.0.method) has.0.target body
-
--- the request at the front of the bytes, of whose head this is kept, asks so of the office of a society
-abbrev pub PartAsks : ℕ → List ℕ → Head → Wanted → Type 0
-PartAsks society bytes kept wanted = (has : HasPart bytes kept) → asked_with wanted has.part.body ≡ request_of society has.part

@@ -9,7 +9,7 @@ use std::alloc::Global;
 
 /// What is asked of the desk, with its body.
 #[derive(Drop)]
-pub(crate) enum Asked<'b> {
+pub enum Asked<'b> {
     /// To put a transmission that was fed while it came.
     Fed(FedPut),
     /// Anything else; its body was read whole.
@@ -17,7 +17,7 @@ pub(crate) enum Asked<'b> {
 }
 
 /// Asks it at the desk.
-pub(crate) fn ask<S: Store>(alloc: Global, desk: &mut Desk<S>, asked: Asked<'_>) -> Answer
+pub fn ask<S: Store>(alloc: Global, desk: &mut Desk<S>, asked: Asked<'_>) -> Answer
     ensures { (query : Query) → StandsFor asked.entry query
         → Calls S.state desk.old desk.new query (reply_of result) }
 {

@@ -6,7 +6,7 @@ use society_core::TransmissionKey;
 
 /// The put of a transmission, whose body was fed to a reader of its sender.
 #[derive(Drop)]
-pub(crate) struct FedPut {
+pub struct FedPut {
     pub key: TransmissionKey,
     pub reader: FileReader,
     ghost same: { reader.sender ≡ key.sender },

@@ -1,38 +1,34 @@
-//! The office's desk as bytes: requests are read from any reader, and their answers written to any writer.
+//! The requests of the office's desk and their answers as bytes: what a method, a target and a body ask, and what is told.
 #![tactic(auto)]
 
-mod answering;
 mod asked;
 mod body_length;
-mod connection;
 mod connection_end;
-mod counted;
 mod end_text;
-mod fault;
 mod fed_put;
-mod feeding;
-mod head;
-mod input;
 mod json;
 mod json_body;
-mod laws;
+mod limits;
 mod number_text;
 mod order_text;
-mod outbox;
 mod parameters;
-mod reply;
 mod requests;
-mod room;
 mod routes;
 mod short_body;
 mod status;
 mod table;
 mod text;
 mod told;
-mod upcoming;
 
-pub use connection::{Served, serve};
+pub use asked::{Asked, ask};
+pub use body_length::BodyLength;
 pub use connection_end::End;
-pub use counted::{Counted, NotWritten};
-pub use fault::{DeskFault, FaultKind};
-pub use laws::{one_cutting, what_was_answered_stays};
+pub use fed_put::FedPut;
+pub use limits::MAX_HEAD;
+pub use parameters::Scratch;
+pub use requests::{Wanted, WithBody, request_with, wanted_for};
+pub use routes::{Route, office_router};
+pub use short_body::ShortBody;
+pub use status::{ContentType, Status};
+pub use text::{put, put_head};
+pub use told::{Told, tell};

@@ -4,7 +4,7 @@ ghost use Rattle.percent_encoding.specs.Percent.{percent_decode};
 ghost use Rattle.http_desk.specs.Parameters.{IsDecoded, IsTaken, parts_of};
 ghost use Rattle.http_desk.specs.Path.{parameter, sender_in_path, plain_number_in_path, transmission_number_in_path, file_number_in_path, segment_in_path, reporter_in_path, return_number_in_path, pool_number_in_path, work_number_in_path, account_in_path};
 
-use crate::head::MAX_HEAD;
+use crate::limits::MAX_HEAD;
 use crate::number_text::{number_spelled, segment_named};
 use matchit::Params;
 use percent_encoding::percent_decode;
@@ -16,7 +16,7 @@ use work_ids::{
 
 /// Room in which one parameter of a path is decoded at a time: a path is no longer than a head.
 #[derive(Drop)]
-pub(crate) struct Scratch {
+pub struct Scratch {
     bytes: Vec<u8>,
     ghost roomy: { 8192 ≤ vec_capacity bytes },
 }
@@ -25,7 +25,7 @@ impl Scratch {
     ghost use Rattle.std.specs.Prelude.{◌≡◌, [], IfOk};
 
     /// With nothing in it yet.
-    pub(crate) fn new(alloc: Global) -> Result<Scratch, AllocError>
+    pub fn new(alloc: Global) -> Result<Scratch, AllocError>
         ensures { IfOk result (λ scratch. scratch.bytes.items ≡ []) }
     {
         let bytes = Vec::with_capacity(alloc, MAX_HEAD)?;

@@ -23,7 +23,7 @@ use work_ids::{PoolNumber, Segment, SenderKey};
 
 /// What is asked, as far as a method and a target tell it, by how its body comes to the desk.
 #[derive(Drop)]
-pub(crate) enum Wanted {
+pub enum Wanted {
     /// To put this transmission, whose body is fed while it comes.
     Fed(TransmissionKey),
     /// This, with a body that is read whole first.
@@ -32,7 +32,7 @@ pub(crate) enum Wanted {
 
 /// What is asked with a body that is read whole.
 #[derive(Drop)]
-pub(crate) enum WithBody {
+pub enum WithBody {
     /// To take down where this sender says that this segment ends.
     Segment { sender: SenderKey, segment: Segment },
     /// To put this performance return.
@@ -229,7 +229,7 @@ fn get_of(route: Route, scratch: &mut Scratch, params: &Params<'_, '_>) -> Optio
 
 /// What is asked of the office of a society by a method and a target, whatever body comes with them; a parameter is
 /// decoded in the scratch.
-pub(crate) fn wanted_for(
+pub fn wanted_for(
     society: u16,
     router: &Router<Route>,
     scratch: &mut Scratch,
@@ -259,7 +259,7 @@ pub(crate) fn wanted_for(
 }
 
 /// What is asked with a body that was read whole. `AllocError` where memory is refused while JSON is read.
-pub(crate) fn request_with<'b>(
+pub fn request_with<'b>(
     alloc: Global,
     wanted: WithBody,
     body: &'b [u8],

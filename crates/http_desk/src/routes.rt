@@ -7,7 +7,7 @@ use std::alloc::{AllocError, Global};
 
 /// What a path leads to.
 #[derive(Clone, Copy, Debug, PartialEq, Eq)]
-pub(crate) enum Route {
+pub enum Route {
     /// A transmission of a sender, under a plain number.
     Transmission,
     /// A transmission of a sender, under the number in the name of its file.
@@ -30,8 +30,8 @@ pub(crate) enum Route {
     Pool,
 }
 
-/// The routes of the office.
-pub(crate) fn routes(alloc: Global) -> Result<Router<Route>, AllocError>
+/// A router with the routes of the office; refused where memory is.
+pub fn office_router(alloc: Global) -> Result<Router<Route>, AllocError>
     ensures { IfOk result (λ router. router ≡ office_routes) }
 {
     let mut router = Router::new(alloc);

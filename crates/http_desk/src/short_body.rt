@@ -15,7 +15,7 @@ const BODY_ROOM: usize = 512;
 
 /// The body of an answer that is made here. It never grows past the room that was taken for it.
 #[derive(Drop)]
-pub(crate) struct ShortBody {
+pub struct ShortBody {
     bytes: Vec<u8>,
     ghost roomy: { 512 ≤ vec_capacity bytes },
 }
@@ -45,7 +45,7 @@ impl ShortBody {
     ghost use Rattle.http_desk.specs.Text.{arrival_text, closed_text, cut_text, ended_text, paid_text, refusal_text, return_text, stored_text};
 
     /// With nothing in it yet.
-    pub(crate) fn new(alloc: Global) -> Result<ShortBody, AllocError>
+    pub fn new(alloc: Global) -> Result<ShortBody, AllocError>
         ensures { IfOk result (λ body. body.bytes.items ≡ []) }
     {
         let bytes = Vec::with_capacity(alloc, BODY_ROOM)?;
@@ -53,7 +53,7 @@ impl ShortBody {
     }
 
     /// What is in it.
-    pub(crate) fn bytes(&self) -> &[u8]
+    pub fn bytes(&self) -> &[u8]
         ensures { result.now ≡ self.now.bytes.items }
     {
         &self.bytes
@@ -87,7 +87,7 @@ impl ShortBody {
     }
 
     /// Puts the body of an accepted transmission into it.
-    pub(crate) fn set_arrival(&mut self, arrival: Arrival)
+    pub fn set_arrival(&mut self, arrival: Arrival)
         ensures { self.new.bytes.items ≡ arrival_text arrival }
     {
         self.bytes.clear();
@@ -99,7 +99,7 @@ impl ShortBody {
     }
 
     /// Puts the body of an end that is taken down into it.
-    pub(crate) fn set_ended(&mut self, front: u32)
+    pub fn set_ended(&mut self, front: u32)
         ensures { self.new.bytes.items ≡ ended_text front }
     {
         self.bytes.clear();
@@ -163,7 +163,7 @@ impl ShortBody {
     }
 
     /// Puts the body of a stored return into it.
-    pub(crate) fn set_stored(&mut self)
+    pub fn set_stored(&mut self)
         ensures { self.new.bytes.items ≡ stored_text }
     {
         self.set(b"{\"state\":\"stored\"}");
@@ -179,7 +179,7 @@ impl ShortBody {
     }
 
     /// Puts the body of a closed pool into it.
-    pub(crate) fn set_closed(&mut self, pool: PoolNumber)
+    pub fn set_closed(&mut self, pool: PoolNumber)
         ensures { self.new.bytes.items ≡ closed_text pool }
     {
         self.bytes.clear();
@@ -237,7 +237,7 @@ impl ShortBody {
     }
 
     /// Puts the body of a refusal into it.
-    pub(crate) fn set_refusal(&mut self, refusal: &Refusal)
+    pub fn set_refusal(&mut self, refusal: &Refusal)
         ensures { self.new.bytes.items ≡ refusal_text refusal.now }
     {
         match refusal {

@@ -6,7 +6,7 @@ use http::StatusCode;
 
 /// The status of an answer.
 #[derive(Clone, Copy, Debug, PartialEq, Eq)]
-pub(crate) enum Status {
+pub enum Status {
     Done,
     Created,
     Accepted,
@@ -20,7 +20,7 @@ pub(crate) enum Status {
 
 /// What the body of an answer is.
 #[derive(Clone, Copy, Debug, PartialEq, Eq)]
-pub(crate) enum ContentType {
+pub enum ContentType {
     Json,
     File,
     Table,

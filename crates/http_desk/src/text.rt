@@ -8,7 +8,7 @@ use crate::status::{ContentType, Status, code, phrase, type_name};
 use itoa::Buffer;
 
 /// Appends bytes for which there is room.
-pub(crate) fn put(out: &mut Vec<u8>, bytes: &[u8])
+pub fn put(out: &mut Vec<u8>, bytes: &[u8])
     requires { vec_len out.old + length bytes.now ≤ vec_capacity out.old }
     ensures items { out.new.items ≡ out.old.items ++ bytes.now }
     ensures len { vec_len out.new ≡ vec_len out.old + length bytes.now }
@@ -83,7 +83,7 @@ fn put_fields(out: &mut Vec<u8>, content_type: ContentType, size: u64, close: bo
 
 /// Appends the head of an answer, at most 512 bytes.
 #[tactic(auto, unfolding(crate::specs::Text::head_text))]
-pub(crate) fn put_head(
+pub fn put_head(
     out: &mut Vec<u8>,
     status: Status,
     content_type: ContentType,

@@ -11,7 +11,7 @@ use std::alloc::{AllocError, Global};
 /// An answer, and its body where it answers a question whose text asks memory: that can be refused, and then the office is
 /// unavailable; such a question left the book as it was.
 #[derive(Drop)]
-pub(crate) struct Told {
+pub struct Told {
     pub answer: Answer,
     pub body: Vec<u8>,
 }
@@ -44,7 +44,7 @@ fn body_of(alloc: Global, answer: &Answer) -> Result<Vec<u8>, AllocError>
 
 /// Makes the body of an answer where one is made before it is sent; where memory is refused for it, the office is
 /// unavailable.
-pub(crate) fn tell(alloc: Global, answer: Answer) -> Told
+pub fn tell(alloc: Global, answer: Answer) -> Told
     ensures ready { IsReadyToSend result }
     ensures tells { TellsReply (reply_of answer) (told_reply result) }
 {

@@ -1,5 +1,5 @@
 //! A stream of requests, served to an office to which nothing has come.
-use http_desk::{Counted, serve};
+use http_connection::{Counted, serve};
 use share_rules::Office;
 use society_core::{Desk, PlainStore};
 use std::alloc::Global;

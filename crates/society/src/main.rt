@@ -3,7 +3,7 @@
 //! at a path; `society audit --db PATH` and the same tells whether that database is sound; `--help` tells of these.
 #![tactic(auto)]
 
-use http_desk::Counted;
+use http_connection::Counted;
 use society_commands::{Host, NoWords, ended, start, why_no_words};
 use sqlite::Wary;
 use std::env;

@@ -1,8 +1,2 @@
--- A pool that is closed, and what the tables hold then.
+-- Pools, credits and balances that stay as they are.
 pub mod PoolsAlike
-pub mod BalanceAdds
-pub mod PoolTables
-pub mod PoolWrites
-pub mod SameTotals
-pub mod PoolHolds
-pub mod Payments

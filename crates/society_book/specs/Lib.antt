@@ -1,10 +1,7 @@
 pub mod AnswersShown
 pub mod Arriving
 pub mod BookRows
-pub mod Choosing
-pub mod Closings
 pub mod Columns
-pub mod CutWorks
 pub mod DerivedRows
 pub mod EndLists
 pub mod Going

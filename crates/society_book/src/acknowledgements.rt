@@ -20,7 +20,7 @@ use work_ids::{SenderKey, TransmissionNumber};
 use works_core::Verdict;
 
 /// The transmission that a body is; `Unread` where it is none of the sender.
-pub(crate) fn read<'a>(
+pub fn read_body<'a>(
     alloc: Global,
     body: &'a [u8],
     sender: &SenderKey,
@@ -50,7 +50,7 @@ fn written(
         return Err(RowFault::Unread);
     };
     let row = TransmissionRow::from_row(row)?;
-    let transmission = read(alloc, row.body, sender)?;
+    let transmission = read_body(alloc, row.body, sender)?;
     let text = write_ack(alloc, office, sender, &transmission, verdicts)?;
     Ok(Some(text))
 }

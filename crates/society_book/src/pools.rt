@@ -19,7 +19,7 @@ use std::alloc::{AllocError, Global};
 use work_ids::{Account, Isrc};
 
 /// What stands in place of an ISRC where a credit is of no recording.
-pub(crate) const NO_ISRC: &[u8] = b"-";
+pub const NO_ISRC: &[u8] = b"-";
 
 // The units that the rows of a balance show; `Unread` where they are more than one, or below 0.
 fn shown_units(rows: &[Row]) -> Result<u64, RowFault>
@@ -41,7 +41,7 @@ fn units_under<S: Alter>(conn: &mut Idle<S>, account: &[u8]) -> Result<u64, RowF
 }
 
 /// The text of an account.
-pub(crate) fn text_of(alloc: Global, account: &Account) -> Result<Vec<u8>, AllocError>
+pub fn text_of(alloc: Global, account: &Account) -> Result<Vec<u8>, AllocError>
     ensures { IfOk result (λ text. text.items ≡ account_text account.now) }
 {
     let (kind, owner, number) = account.pieces();

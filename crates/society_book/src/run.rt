@@ -8,7 +8,7 @@ ghost use Rattle.society_rows.specs.declared.fault.RowFault.TheVariants.{Memory,
 ghost use Rattle.society_book.specs.Runs.{clean_works, notes_in, notes_of, take_row};
 ghost use Rattle.works_core.specs.Recordings.{isrcs_of};
 
-use crate::acknowledgements::read;
+use crate::acknowledgements::read_body;
 use cwr_files::{Group, Transaction, Transmission, known_transmission};
 use share_rules::Office;
 use society_rows::{RowFault, RowFold, TransmissionRow};
@@ -38,7 +38,7 @@ impl Model for Noted {
 }
 
 /// The set of some ISRCs.
-pub(crate) fn distinct_isrcs(alloc: Global, list: Vec<Isrc>) -> Result<BTreeSet<Isrc>, AllocError>
+pub fn distinct_isrcs(alloc: Global, list: Vec<Isrc>) -> Result<BTreeSet<Isrc>, AllocError>
     ensures { IfOk result (IsFromIterResult bytes_cmp list.items) }
 {
     list.into_iter().collect(alloc)
@@ -237,7 +237,7 @@ impl Run {
     }
 
     /// Comes to the rank before the first number of a segment.
-    pub(crate) fn pass(&mut self, rank: u32)
+    pub fn pass(&mut self, rank: u32)
         ensures { self.new ≡ record self.old { reached = rank } }
     {
         self.reached = rank;
@@ -254,7 +254,7 @@ impl RowFold for Run {
         let Some(number) = TransmissionNumber::from_u32(row.number) else {
             return Err(RowFault::Unread);
         };
-        let transmission = read(self.alloc, row.body, &self.sender)?;
+        let transmission = read_body(self.alloc, row.body, &self.sender)?;
         let noted = Noted::of(self.alloc, number, &transmission, &self.office)?;
         self.noted.push(noted)?;
         self.reached = row.number;

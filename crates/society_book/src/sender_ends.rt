@@ -56,7 +56,7 @@ impl SenderEnds {
     }
 
     /// Takes an end more.
-    pub(crate) fn push(&mut self, end: &SegmentEnd) -> Result<(), AllocError>
+    pub fn push(&mut self, end: &SegmentEnd) -> Result<(), AllocError>
         ensures { OnOk result (self.new ≡ self.old ++ end.now ∷ []) }
     {
         // That an end has no fault is part of what it says of itself.
@@ -114,7 +114,7 @@ impl SenderEnds {
     }
 
     /// The first rank behind the end of a rank's segment, where a number is not below the end.
-    pub(crate) fn behind(&self, rank: u32, reached: u32) -> Option<u32>
+    pub fn behind(&self, rank: u32, reached: u32) -> Option<u32>
         requires { rank ≤ 1999999 }
         ensures value { result ≡ behind_end (base_of (segment_of rank)) reached (end_listed self.now (segment_of rank)) }
         ensures later { IfSome result (λ next. (rank < next) × (next ≤ 1999999)) }

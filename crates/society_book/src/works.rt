@@ -9,7 +9,7 @@ ghost use Rattle.works_core.specs.declared.version.WorkVersion.{WorkVersion as V
 ghost use Rattle.society_rows.specs.Between.{between};
 ghost use Rattle.society_book.specs.AnswersShown.{shown_of_kept};
 
-use crate::acknowledgements::read;
+use crate::acknowledgements::read_body;
 use share_rules::Office;
 use society_core::{Work, show};
 use society_rows::{Idle, Question, RowFault, TransmissionRow, VersionRow, ask};
@@ -19,7 +19,7 @@ use work_ids::{SenderKey, TransmissionNumber, WorkNumber};
 use works_core::WorkVersion;
 
 /// The version that a row is; `Unread` where it is none.
-pub(crate) fn version_of(row: &Row) -> Result<WorkVersion, RowFault>
+pub fn version_of(row: &Row) -> Result<WorkVersion, RowFault>
     ensures { IfOk result (λ version. version ≡ version_shown row.now) }
 {
     let row = VersionRow::from_row(row)?;
@@ -39,7 +39,7 @@ pub(crate) fn version_of(row: &Row) -> Result<WorkVersion, RowFault>
 }
 
 /// The last version that the rows of a work show, none where there is no row; `Unread` where they are more than one.
-pub(crate) fn last_version(rows: &[Row]) -> Result<Option<WorkVersion>, RowFault>
+pub fn last_version(rows: &[Row]) -> Result<Option<WorkVersion>, RowFault>
     ensures { (v : Option Version) → ShowVersion v rows.now → IfOk result (λ version. version ≡ v) }
 {
     match rows {
@@ -83,7 +83,7 @@ fn shown(
         return Err(RowFault::Unread);
     };
     let row = TransmissionRow::from_row(row)?;
-    let transmission = read(alloc, row.body, sender)?;
+    let transmission = read_body(alloc, row.body, sender)?;
     match transmission.transaction(version.place) {
         None => Ok(None),
         Some(transaction) => {

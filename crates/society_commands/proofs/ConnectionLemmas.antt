@@ -5,13 +5,13 @@ use Rattle.std.specs.Io.KnownBytes.{Appends}
 use Rattle.std.specs.List.{AllByRecursion}
 use Rattle.std.proofs.lemmas.List.{length-append}
 use Rattle.std.proofs.lemmas.Grind.{flat_map-append}
-use Rattle.http_desk.specs.Counted.{failures_of, inner_of}
+use Rattle.http_connection.specs.Counted.{failures_of, inner_of}
 use Rattle.http_desk.specs.Part.{Part}
-use Rattle.http_desk.specs.Serves.{AreAnswered, IsGivenUp, IsServed}
-use Rattle.http_desk.specs.declared.connection.Served.{Served}
-use Rattle.http_desk.specs.declared.counted.Counted.{Counted}
-use Rattle.http_desk.specs.declared.fault.DeskFault.{DeskFault}
-use Rattle.http_desk.proofs.AnsweredLemmas.{answered_on, none_answered}
+use Rattle.http_connection.specs.Serves.{AreAnswered, IsGivenUp, IsServed}
+use Rattle.http_connection.specs.declared.connection.Served.{Served}
+use Rattle.http_connection.specs.declared.counted.Counted.{Counted}
+use Rattle.http_connection.specs.declared.fault.DeskFault.{DeskFault}
+use Rattle.http_connection.proofs.AnsweredLemmas.{answered_on, none_answered}
 use Rattle.society_core.specs.Requests.{Reply}
 use Rattle.society_core.specs.State.{Rises, State}
 use Rattle.sqlite.specs.State as connection

@@ -15,12 +15,12 @@ use Rattle.society_book.specs.BookRows.{book_of}
 use Rattle.society_book.specs.Kept.{tables_state}
 use Rattle.society_rows.specs.Layouts.{HasOlder}
 use Rattle.society_rows.specs.declared.older.OlderLayout.{OlderLayout}
-use Rattle.society_tables.proofs.opened.OpenTold.{older_apart, older_once}
-use Rattle.society_tables.specs.Existing.{FindsNewest, FindsOffice, SurvivesTaking, WhenOpen}
+use Rattle.society_opening.proofs.opened.OpenTold.{older_apart, older_once}
+use Rattle.society_opening.specs.Existing.{FindsNewest, FindsOffice, SurvivesTaking, WhenOpen}
 use Rattle.society_tables.specs.Older.{HoldsOne, IsTakenOver}
-use Rattle.society_tables.specs.Opening.{HasAnyLayout, IsOpenable, ShowsAs, SurvivesOpening, TellsDatabase}
-use Rattle.society_tables.specs.declared.open_fault.OpenFault.{OpenFault}
-use Rattle.society_tables.specs.declared.open_fault.OpenFault.TheVariants.{Empty, Store}
+use Rattle.society_opening.specs.Opening.{HasAnyLayout, IsOpenable, ShowsAs, SurvivesOpening, TellsDatabase}
+use Rattle.society_opening.specs.declared.open_fault.OpenFault.{OpenFault}
+use Rattle.society_opening.specs.declared.open_fault.OpenFault.TheVariants.{Empty, Store}
 use Rattle.society_commands.specs.Connections.{IsNotOpened, IsOver, IsTakenBook}
 
 -- what older tables were taken over into is the book that is shown

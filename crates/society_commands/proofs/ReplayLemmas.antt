@@ -1,10 +1,10 @@
 -- What a connection comes to, at an office to which nothing has come.
 use Rattle.std.proofs.Common.{◌≡◌, ℕ, IsTrue, List, Option, subst}
-use Rattle.http_desk.specs.Counted.{inner_of}
+use Rattle.http_connection.specs.Counted.{inner_of}
 use Rattle.http_desk.specs.Part.{Part}
-use Rattle.http_desk.specs.Serves.{AreAnswered, Breaks, CausedBy, Serves, queries_of}
-use Rattle.http_desk.specs.declared.counted.Counted.{Counted}
-use Rattle.http_desk.specs.declared.fault.DeskFault.{DeskFault}
+use Rattle.http_connection.specs.Serves.{AreAnswered, Breaks, CausedBy, Serves, queries_of}
+use Rattle.http_connection.specs.declared.counted.Counted.{Counted}
+use Rattle.http_connection.specs.declared.fault.DeskFault.{DeskFault}
 use Rattle.share_rules.specs.declared.office.Office.{Office}
 use Rattle.society_core.specs.Book.{Book, empty_book}
 use Rattle.society_core.specs.Headline.{OneContent, HoldsWhatCame}

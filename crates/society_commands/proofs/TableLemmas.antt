@@ -1,10 +1,10 @@
 -- What is shown of tables in memory, and a stream for which there were none.
 use Rattle.std.proofs.Common.{◌≡◌, List, ℕ, Option, Some, None, [], refl, unwrap_or}
 use Rattle.std.specs.Prelude.{IfSome, true}
-use Rattle.http_desk.specs.Counted.{inner_of}
-use Rattle.http_desk.specs.declared.counted.Counted.{Counted}
-use Rattle.http_desk.specs.declared.fault.FaultKind.TheVariants.{Memory}
-use Rattle.http_desk.proofs.AnsweredLemmas.{none_answered}
+use Rattle.http_connection.specs.Counted.{inner_of}
+use Rattle.http_connection.specs.declared.counted.Counted.{Counted}
+use Rattle.http_connection.specs.declared.fault.FaultKind.TheVariants.{Memory}
+use Rattle.http_connection.proofs.AnsweredLemmas.{none_answered}
 use Rattle.share_rules.specs.declared.office.Office.{Office}
 use Rattle.society_core.specs.Book.{empty_book}
 use Rattle.society_core.specs.State.{State}

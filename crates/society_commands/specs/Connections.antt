@@ -2,12 +2,12 @@
 use Rattle.std.specs.Prelude.{◌≡◌, ◌⊎◌, ℕ, ◌+◌, ◌<◌, ◌≤◌, Bool, true, false, IsTrue, List, [], ◌∷◌, ◌++◌, Option, Result, Ok, Err, codes, decimal, length}
 use Rattle.std.specs.Io.KnownBytes.{Appends}
 use Rattle.std.specs.List.{flat_map, AllByRecursion}
-use Rattle.http_desk.specs.Counted.{failures_of, inner_of}
+use Rattle.http_connection.specs.Counted.{failures_of, inner_of}
 use Rattle.http_desk.specs.Part.{Part}
-use Rattle.http_desk.specs.Serves.{AreAnswered}
-use Rattle.http_desk.specs.declared.connection.Served.{Served}
-use Rattle.http_desk.specs.declared.counted.Counted.{Counted}
-use Rattle.http_desk.specs.declared.fault.DeskFault.{DeskFault}
+use Rattle.http_connection.specs.Serves.{AreAnswered}
+use Rattle.http_connection.specs.declared.connection.Served.{Served}
+use Rattle.http_connection.specs.declared.counted.Counted.{Counted}
+use Rattle.http_connection.specs.declared.fault.DeskFault.{DeskFault}
 use Rattle.share_rules.specs.declared.office.Office.{Office}
 use Rattle.sqlite.specs.Files.{file_state}
 use Rattle.sqlite.specs.Held.{Held}
@@ -26,11 +26,11 @@ use Rattle.society_rows.specs.NewBook.{IsBare}
 use Rattle.society_rows.specs.Stored.{HasLayout}
 use Rattle.society_rows.specs.declared.older.OlderLayout.{OlderLayout}
 use Rattle.society_book.specs.BookRows.{book_of}
-use Rattle.society_tables.specs.Existing.{FindsSoundly, SurvivesTaking, WhenOpen}
+use Rattle.society_opening.specs.Existing.{FindsSoundly, SurvivesTaking, WhenOpen}
 use Rattle.society_tables.specs.Older.{HoldsOne, Takes}
-use Rattle.society_tables.specs.Opening.{HasAnyLayout, IsOpenable, ShowsAs, SurvivesOpening, TellsDatabase}
-use Rattle.society_tables.specs.declared.open_fault.OpenFault.{OpenFault}
-use Rattle.society_tables.specs.declared.open_fault.OpenFault.TheVariants.{Empty, Store}
+use Rattle.society_opening.specs.Opening.{HasAnyLayout, IsOpenable, ShowsAs, SurvivesOpening, TellsDatabase}
+use Rattle.society_opening.specs.declared.open_fault.OpenFault.{OpenFault}
+use Rattle.society_opening.specs.declared.open_fault.OpenFault.TheVariants.{Empty, Store}
 use Rattle.society_commands.specs.Closing.{IsLeftClosed}
 use Rattle.society_commands.specs.Replays.{fault_name}
 use Rattle.society_words.specs.Words.{Serving}

@@ -5,8 +5,8 @@ use Rattle.std.specs.declared.io.ErrorKind.TheVariants.{InvalidData}
 use Rattle.sqlite.specs.declared.error.Error.{Error}
 use Rattle.sqlite.specs.declared.error.Error.TheVariants.{SqliteFailure}
 use Rattle.sqlite.specs.declared.error.ErrorCode.TheVariants.{DatabaseCorrupt, NotADatabase, OutOfMemory}
-use Rattle.society_tables.specs.declared.open_fault.OpenFault.{OpenFault}
-use Rattle.society_tables.specs.declared.open_fault.OpenFault.TheVariants as fault
+use Rattle.society_opening.specs.declared.open_fault.OpenFault.{OpenFault}
+use Rattle.society_opening.specs.declared.open_fault.OpenFault.TheVariants as fault
 use Rattle.society_commands.specs.declared.starting.NoWords.{NoWords}
 use Rattle.society_commands.specs.declared.starting.NoWords.TheVariants as without
 

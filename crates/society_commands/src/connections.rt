@@ -1,11 +1,11 @@
 //! Connections are served one after another, and a line is printed for each.
 ghost use Rattle.std.specs.Prelude.{decimal, IfErr, IfOk, OnOk, OnErr};
-ghost use Rattle.http_desk.specs.Serves.{IsGivenUp, IsServed, KeepsTurns, NeitherFails};
+ghost use Rattle.http_connection.specs.Serves.{IsGivenUp, IsServed, KeepsTurns, NeitherFails};
 ghost use Rattle.society_commands.specs.Connections.{ServesOne, Prints, ServesConnections, StopsEarly, connection_line, outcome_text};
 ghost use Rattle.society_commands.specs.Replays.{most_turns};
 
 use crate::replaying::{TURNS, fault_name};
-use http_desk::{Counted, DeskFault, FaultKind, Served, serve};
+use http_connection::{Counted, DeskFault, FaultKind, Served, serve};
 use itoa::Buffer;
 use society_core::{Desk, Store};
 use std::alloc::Global;

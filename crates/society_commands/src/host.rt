@@ -6,7 +6,7 @@ ghost use Rattle.sqlite.specs.WalFiles.{image_at};
 ghost use Rattle.society_commands.specs.Connections.{IsFoundIn};
 ghost use Rattle.society_commands.specs.Refusals.{fault_by_error};
 
-use society_tables::OpenFault;
+use society_opening::OpenFault;
 use society_words::Database;
 use sqlite::{Connection, Error, ErrorCode, FileFrom, FileStore, Start, Wary};
 use sqlite_disk::Disk;

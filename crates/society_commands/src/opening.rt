@@ -9,10 +9,11 @@ use crate::closing::close_left;
 use crate::host::OpenDatabase;
 use crate::replaying::BROKEN_OFF;
 use crate::serving::serve_store;
-use http_desk::Counted;
+use http_connection::Counted;
 use share_rules::Office;
 use society_core::{Desk, Store};
-use society_tables::{OpenFault, Tables};
+use society_opening::{OpenFault, open, open_existing};
+use society_tables::Tables;
 use society_words::{Database, Place};
 use sqlite::{Alter, Connection, FileStore};
 use std::alloc::Global;
@@ -102,9 +103,9 @@ fn open_tables<M: Alter>(
     ensures fault { IfErr result (λ e. IsNotOpened office.now existing (state M.Store connection) (state M.Store e.1)) }
 {
     if existing {
-        Tables::open_existing(alloc, connection, office)
+        open_existing(alloc, connection, office)
     } else {
-        Tables::open(alloc, connection, office)
+        open(alloc, connection, office)
     }
 }
 

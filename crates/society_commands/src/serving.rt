@@ -4,7 +4,7 @@ ghost use Rattle.society_commands.specs.Connections.{ServesStore, StopsServingSt
 
 use crate::connections::{AcceptFault, print, serve_connections};
 use crate::replaying::{BROKEN_OFF, SERVED};
-use http_desk::Counted;
+use http_connection::Counted;
 use society_core::{Desk, Store};
 use society_words::Place;
 use std::alloc::Global;

@@ -15,7 +15,7 @@ use crate::opening::serve_file;
 use crate::replaying::{SERVED, broken_off, replay};
 use clap::Error;
 use clap::error::ErrorKind as ClapKind;
-use http_desk::{Counted, DeskFault, FaultKind};
+use http_connection::{Counted, DeskFault, FaultKind};
 use society_core::Store;
 use society_tables::Tables;
 use society_words::{Words, words_in};

@@ -1,6 +1,3 @@
--- How a database is opened, and what is told of it.
+-- Questions that open a database, and why one is told as a failure of the store.
 pub mod OpenLemmas
-pub mod OpenTold
-pub mod OpenedLemmas
 pub mod Failing
-pub mod AuditedLemmas

@@ -1,5 +1,4 @@
--- The store over the tables: its questions, its additions, and what is opened after it.
+-- The store over the tables: its questions and its additions.
 pub mod ReturnAdds
 pub mod AddLemmas
 pub mod StoreQuestions
-pub mod Reopening

@@ -1,13 +1,10 @@
 pub mod Again
 pub mod Auditing
-pub mod Audits
-pub mod Existing
 pub mod Faults
 pub mod InMemory
 pub mod Laws
 pub mod LineSteps
 pub mod Older
-pub mod OpenSteps
 pub mod Opening
 pub mod OwnRows
 pub mod Rebuilding

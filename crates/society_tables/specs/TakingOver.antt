@@ -1,5 +1,5 @@
 -- The steps by which tables of an older layout become those of layout 3 (representation).
-use Rattle.std.specs.Prelude.{◌≡◌, ◌++◌, ◌==◌, Bool, not, true, List, [], ◌∷◌, drop, take, Result, IfErr, IfOk, OnErr, OnOk, IsPermutation, IsTrue, ⊤}
+use Rattle.std.specs.Prelude.{◌≡◌, ◌++◌, ◌==◌, Bool, not, true, List, [], ◌∷◌, drop, take, Result, IfOk, OnOk, IsPermutation, IsTrue, ⊤}
 use Rattle.std.specs.List.{AllByRecursion, list_all}
 use Rattle.share_rules.specs.declared.office.Office.{Office}
 use Rattle.sqlite.specs.Effect.{Database}
@@ -8,7 +8,7 @@ use Rattle.sqlite_schema.specs.declared.schema.Table.{Table}
 use Rattle.sqlite_trees.specs.Tree.{Trees}
 use Rattle.society_core.specs.Book.{Book, IsSound}
 use Rattle.society_rows.specs.Layout.{all_tables, office as office_table}
-use Rattle.society_rows.specs.Layouts.{HasOlder, number_of, tables_of}
+use Rattle.society_rows.specs.Layouts.{number_of, tables_of}
 use Rattle.society_rows.specs.Stored.{AreNumbered, HasLayout, KeepsOthers, rows_in}
 use Rattle.society_rows.specs.TableNames.{table_called}
 use Rattle.society_rows.specs.declared.older.OlderLayout.{OlderLayout}
@@ -18,12 +18,10 @@ use Rattle.society_rows.specs.declared.tables.TableName.TheVariants as name
 use Rattle.society_book.specs.BookRows.{AreOfBook}
 use Rattle.society_book.specs.Kept.{HoldsBook, office_row}
 use Rattle.society_tables.specs.InMemory.{FromMemory}
-use Rattle.society_tables.specs.Older.{HoldsOlder, HoldsOne, Takes, office_row_under}
-use Rattle.society_tables.specs.Opening.{Agree, AgreesAt, IsNumbered, ShowsAs, TellsOfficeIn, every_name}
+use Rattle.society_tables.specs.Older.{HoldsOne, Takes, office_row_under}
+use Rattle.society_tables.specs.Opening.{Agree, AgreesAt, IsNumbered, every_name}
 use Rattle.society_tables.specs.Rebuilding.{Passes}
 use Rattle.society_tables.specs.declared.audit_fault.AuditFault.{AuditFault}
-use Rattle.society_tables.specs.declared.open_fault.OpenFault.{OpenFault}
-use Rattle.society_tables.specs.declared.open_fault.OpenFault.TheVariants as fault
 
 -- Statements in a transaction: where the database was of a kind, an answer says this of it before and after; nothing is committed, and a
 -- crash leaves what it left before.
@@ -125,21 +123,3 @@ IsOffice office layout before after done = (after ≡ before) × (rows_in office
 abbrev pub TakesOffice : Office → OlderLayout → Database → Database → Unit {0} → Type 0
 TakesOffice office layout before after done =
     (rows_in office_table before.trees ≡ office_row_under (number_of layout) office ∷ []) × TakesIn office layout before after done
-
--- a fault says this of the rows of the office
-abbrev pub TellsOfOlder : Office → OlderLayout → State → State → Result (Unit {0}) OpenFault → Type 0
-TellsOfOlder office layout old new result = HasCleanDisk new → IsTrue old.in_transaction → HasOlder layout old.now → IfErr result (TellsOfficeIn (number_of layout) office old.now)
-
--- damage is told where the tables stand for none that hold a sound book of the office
-abbrev pub IsDamagedIn : Office → OlderLayout → State → State → Result (Unit {0}) OpenFault → Type 0
-IsDamagedIn office layout old new result =
-    HasCleanDisk new → IsTrue old.in_transaction → HasOlder layout old.now → IfErr result (λ e. e ≡ fault.Damaged → ¬ HoldsOlder office layout old.now.trees)
-
--- the tables of an older layout are this office's and are taken over, or the database is left as it is, and the fault says why
-pub record TakesOver (office : Office) (layout : OlderLayout) (old new : State) (result : Result (Unit {0}) OpenFault) : Type 0 where
-  pub settled : IsTrue old.is_open → old.now ≡ old.committed
-  pub taken : HasCleanDisk new → HasOlder layout old.now → OnOk result (TakesOffice office layout old.now new.now tt × (new.now ≡ new.committed))
-  pub neither : HasCleanDisk new → OnErr result (ShowsAs old.committed new)
-  pub told : HasCleanDisk new → HasOlder layout old.now → IfErr result (TellsOfficeIn (number_of layout) office old.now)
-  pub damaged : HasCleanDisk new → HasOlder layout old.now → IfErr result (λ e. e ≡ fault.Damaged → ¬ HoldsOlder office layout old.now.trees)
-  pub survives : Survives old new (λ db. HasOlder layout old.now → Takes office layout old.now.trees db)

@@ -17,8 +17,8 @@ use society_rows::{Idle, RowFault, TableName, all_rows};
 use sqlite::{Alter, Row};
 use sqlite_value::order::is_same;
 
-/// The tables after the first.
-pub(crate) const OTHER_TABLES: [TableName; 13] = [
+/// The tables after the first, that of the office.
+pub const OTHER_TABLES: [TableName; 13] = [
     TableName::Transmissions,
     TableName::Returns,
     TableName::Pools,
@@ -34,8 +34,8 @@ pub(crate) const OTHER_TABLES: [TableName; 13] = [
     TableName::MechanicalPools,
 ];
 
-/// All rows of a table, by its key, read in a transaction that is rolled back.
-pub(crate) fn listed<S: Alter>(conn: &mut Idle<S>, table: TableName) -> Result<Vec<Row>, RowFault>
+/// All rows of a table, by its key, read in a transaction that is rolled back; its fault is that of the reading.
+pub fn listed<S: Alter>(conn: &mut Idle<S>, table: TableName) -> Result<Vec<Row>, RowFault>
     ensures asked { between S.Store conn.old conn.new Asks result (λ db rows. ListsAll table db rows.items) }
     ensures medium { between S.Store conn.old conn.new ErrsByMedium result }
 {
@@ -58,8 +58,8 @@ pub(crate) fn rows_of_table<S: Alter>(
     Ok(listed(conn, table)?)
 }
 
-/// All rows of a table in memory, whose database stays as it is.
-pub(crate) fn rows_in_memory(
+/// All rows of a table in memory, by its key; the database stays as it is. `Memory` where memory was refused.
+pub fn rows_in_memory(
     memory: &mut Idle<MemoryStore>,
     table: TableName,
 ) -> Result<Vec<Row>, AuditFault>
@@ -93,8 +93,8 @@ fn is_same_row(row: &Row, other: &Row) -> bool
     true
 }
 
-/// Whether two lists have the same rows.
-pub(crate) fn are_same_rows(rows: &[Row], others: &[Row]) -> bool
+/// Whether two lists have the same rows in the same order.
+pub fn are_same_rows(rows: &[Row], others: &[Row]) -> bool
     ensures same { IsTrue result → rows.now ≡ others.now }
     ensures alike { rows.now ≡ others.now → IsTrue result }
 {
@@ -129,8 +129,9 @@ pub(crate) fn table_agrees<S: Alter>(
     }
 }
 
-/// That the table of the office and these have the rows that they have in memory; else `Damaged`.
-pub(crate) fn named_agree<S: Alter>(
+/// That the table of the office and these have the rows that they have in memory; else `Damaged`, and `Memory` or `Store` where memory or
+/// the database failed.
+pub fn named_agree<S: Alter>(
     conn: &mut Idle<S>,
     memory: &mut Idle<MemoryStore>,
     tables: &[TableName],
@@ -147,8 +148,8 @@ pub(crate) fn named_agree<S: Alter>(
     Ok(())
 }
 
-/// That each table has the rows that it has in memory; else `Damaged`.
-pub(crate) fn tables_agree<S: Alter>(
+/// That each table has the rows that it has in memory; else `Damaged`, and `Memory` or `Store` where memory or the database failed.
+pub fn tables_agree<S: Alter>(
     conn: &mut Idle<S>,
     memory: &mut Idle<MemoryStore>,
 ) -> Result<(), AuditFault>

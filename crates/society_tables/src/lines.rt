@@ -16,10 +16,8 @@ ghost use Rattle.works_core.specs.Ends.{EndsAt};
 use crate::audit_fault::AuditFault;
 use crate::line_rows::{ToldRow, are_rows};
 use share_rules::Office;
-use society_book::{
-    Outcome, Run, ascending_works, column_of, recordings_by_key, settle_run, verdict_rows,
-    versions_by_key, whole_run,
-};
+use society_arrivals::{recordings_by_key, versions_by_key, whole_run};
+use society_book::{Outcome, Run, ascending_works, column_of, settle_run, verdict_rows};
 use society_rows::{FrontRow, Idle, Question, RowFault, ask};
 use sqlite::Alter;
 use std::alloc::{AllocError, Global};

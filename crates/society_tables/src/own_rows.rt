@@ -10,26 +10,26 @@ use sqlite::{Alter, Row, Transaction};
 
 /// The rows of transmissions and of the ends of segments.
 #[derive(Drop)]
-pub(crate) struct LineRows {
-    pub(crate) transmissions: Vec<Row>,
-    pub(crate) ends: Vec<Row>,
+pub struct LineRows {
+    pub transmissions: Vec<Row>,
+    pub ends: Vec<Row>,
 }
 
 /// The rows of pools, of their cuts, of the returns that they pay, and of their marks.
 #[derive(Drop)]
-pub(crate) struct PoolRows {
-    pub(crate) pools: Vec<Row>,
-    pub(crate) cuts: Vec<Row>,
-    pub(crate) paid: Vec<Row>,
-    pub(crate) marks: Vec<Row>,
+pub struct PoolRows {
+    pub pools: Vec<Row>,
+    pub cuts: Vec<Row>,
+    pub paid: Vec<Row>,
+    pub marks: Vec<Row>,
 }
 
 /// The rows that are of a book itself, those of each table by its key.
 #[derive(Drop)]
-pub(crate) struct OwnRows {
-    pub(crate) lines: LineRows,
-    pub(crate) returns: Vec<Row>,
-    pub(crate) pools: PoolRows,
+pub struct OwnRows {
+    pub lines: LineRows,
+    pub returns: Vec<Row>,
+    pub pools: PoolRows,
 }
 
 // The rows of transmissions and of the ends of segments.
@@ -62,8 +62,8 @@ fn pool_rows<S: Alter>(tx: &mut Transaction<'_, S>) -> Result<PoolRows, RowFault
     })
 }
 
-/// The rows that are of the book itself, read in a transaction of the caller's.
-pub(crate) fn own_rows<S: Alter>(tx: &mut Transaction<'_, S>) -> Result<OwnRows, RowFault>
+/// The rows that are of the book itself, read in a transaction of the caller's; its fault is that of the reading.
+pub fn own_rows<S: Alter>(tx: &mut Transaction<'_, S>) -> Result<OwnRows, RowFault>
     ensures same_reference { tx.new.conn.ghost_name ≡ tx.old.conn.ghost_name }
     ensures gets { within S.Store tx.old tx.new Gets result ListOwn }
 {
@@ -77,8 +77,8 @@ pub(crate) fn own_rows<S: Alter>(tx: &mut Transaction<'_, S>) -> Result<OwnRows,
     })
 }
 
-/// The rows that are of the book itself, read in a transaction that is rolled back.
-pub(crate) fn listed_own<S: Alter>(conn: &mut Idle<S>) -> Result<OwnRows, RowFault>
+/// The rows that are of the book itself, read in a transaction that is rolled back; its fault is that of the reading.
+pub fn listed_own<S: Alter>(conn: &mut Idle<S>) -> Result<OwnRows, RowFault>
     ensures asked { between S.Store conn.old conn.new Asks result ListOwn }
     ensures medium { between S.Store conn.old conn.new ErrsByMedium result }
 {

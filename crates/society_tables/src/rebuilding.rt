@@ -343,8 +343,9 @@ fn requests_from(alloc: Global, desk: &mut Anew, rows: &OwnRows) -> Result<(), A
     pools_from(alloc, desk, &rows.pools)
 }
 
-/// Tables in memory to which the requests of a book's own rows have come.
-pub(crate) fn rebuild(
+/// Tables in memory to which the requests of a book's own rows have come; `Damaged` only where these are not those of a sound book, and
+/// `Memory` where memory was refused.
+pub fn rebuild(
     alloc: Global,
     office: &Office,
     rows: &OwnRows,

@@ -11,10 +11,12 @@ use cwr_files::FileReader;
 use memory_store::MemoryStore;
 use pool_split::Credit;
 use share_rules::Office;
+use society_arrivals::{arrive, state_end};
 use society_book::{
-    ack_of, arrive, balance_of, close, known_end_of, known_of, known_pool_of, known_return_of,
-    payment_of, place_of, pool_credits, state_end, status_of, verdicts_of, work_of, write_return,
+    ack_of, balance_of, known_end_of, known_of, known_pool_of, known_return_of, payment_of,
+    place_of, pool_credits, status_of, verdicts_of, work_of, write_return,
 };
+use society_closings::close;
 use society_core::{
     Known, KnownEnd, KnownTransmission, Payment, Place, PoolOrder, ReturnKey, SenderStatus, Store,
     StoreFault, Work,
@@ -259,15 +261,16 @@ impl<S: Alter> Tables<S> {
 
 impl<S: Alter> Tables<S> {
     /// The schema of the database, which obeys it.
-    pub(crate) fn schema(&self) -> &Schema
+    pub fn schema(&self) -> &Schema
         ensures live { IsLive (state S.Store self.now.conn) }
     {
         let conn = &self.conn;
         conn.connection.schema()
     }
 
-    /// The tables of an office that lie behind a connection.
-    pub(crate) fn over(conn: Idle<S>, office: &Office) -> Tables<S>
+    /// The tables of an office that lie behind a connection at rest, which has layout 3 with a book of the office where it is clean and
+    /// open; no failure is counted.
+    pub fn over(conn: Idle<S>, office: &Office) -> Tables<S>
         requires rests { ∥ Rests office.now (state S.Store conn) ∥₁ }
         ensures same { result.conn ≡ conn }
         ensures office { result.office ≡ office.now }

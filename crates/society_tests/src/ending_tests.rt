@@ -1,6 +1,6 @@
 //! What is said of a stream that broke off, and of arguments that could not be had.
 use crate::checks::{holds, is_status, is_text};
-use http_desk::{DeskFault, FaultKind};
+use http_connection::{DeskFault, FaultKind};
 use society_commands::{NoWords, ended, report, why_no_words};
 use std::io::ErrorKind;
 use std::test::Fail;

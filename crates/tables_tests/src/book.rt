@@ -24,7 +24,7 @@ pub fn book(alloc: Global) -> Result<Idle<MemoryStore>, RowFault> {
 }
 
 /// Makes a new book of the example society.
-pub fn begin<S: Alter>(conn: &mut Idle<S>) -> Result<(), RowFault> {
+fn begin<S: Alter>(conn: &mut Idle<S>) -> Result<(), RowFault> {
     match layout_found(conn) {
         Found::Nothing => create(
             conn,

@@ -1,13 +1,8 @@
-//! Assertions: each stands here once, and names its row and both values where it fails.
+//! The assertion of these tests: it names its row and both values where it fails.
 use std::fmt::Debug;
 use std::process::Abort;
 
 /// Ends the test where what is seen is not what is wanted, naming the row and both.
 pub fn told<T: PartialEq + Debug + Drop>(rt: &impl Abort, row: &str, seen: T, wanted: T) {
     assert_eq!(rt; seen, wanted, "at {row:?}");
-}
-
-/// What a row says holds.
-pub fn holds(rt: &impl Abort, row: &str, is_so: bool) {
-    assert!(rt; is_so, "{row}");
 }

@@ -4,7 +4,8 @@ ghost use Rattle.std.specs.Prelude.{◌≡◌, false, IfOk};
 use memory_store::MemoryStore;
 use share_rules::{Kind, Office};
 use society_core::{Desk, PoolOrder, Refusal, ReturnKey, Store};
-use society_tables::{OpenFault, Tables};
+use society_opening::{OpenFault, open};
+use society_tables::Tables;
 use sqlite::{Alter, Connection};
 use std::alloc::Global;
 use std::test::Fail;
@@ -136,7 +137,7 @@ pub fn opened<S: Alter + Drop>(
     if !conn.is_autocommit() {
         return Err(Fail::new("no transaction"));
     }
-    Ok(Tables::open(alloc, conn, &office(society)?))
+    Ok(open(alloc, conn, &office(society)?))
 }
 
 /// A registration, two files with no group, a return and a pool of 1,001 units, whose order comes first when it still has to wait.

@@ -1,6 +1,6 @@
-//! Tests of the office's tables: rows are read back as they were written, over memory and over a file; candidates of a pool; what each call
-//! of a store answers; databases in memory that are opened. The built program is tried over databases that SQLite reads and changes by
-//! trials/leaving.py and trials/openings.py.
+//! Tests of the office's tables in memory: rows are read back as they were written; candidates of a pool; what each call of a store answers;
+//! databases that are confirmed. The built program is tried over files, and over databases that SQLite reads and changes, by the scripts of
+//! trials/ (files.py, leaving.py, openings.py).
 #![tactic(auto)]
 
 #[cfg(test)]
@@ -10,19 +10,15 @@ mod book;
 #[cfg(test)]
 mod checks;
 #[cfg(test)]
+mod copying_tests;
+#[cfg(test)]
 mod cut_tests;
-#[cfg(test)]
-mod file_tests;
-#[cfg(test)]
-mod layout_tests;
 #[cfg(test)]
 mod left;
 #[cfg(test)]
 mod lists;
 #[cfg(test)]
 mod open_tests;
-#[cfg(test)]
-mod raising_tests;
 #[cfg(test)]
 mod reads;
 #[cfg(test)]

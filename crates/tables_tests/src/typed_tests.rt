@@ -1,4 +1,4 @@
-//! What the calls of a store answer that bytes do not show as they are: over tables in memory, over tables in a file, and over the plain store.
+//! What the calls of a store answer that bytes do not show as they are: over tables in memory, and over the plain store.
 use crate::checks::told;
 use crate::left::{
     File, Opened, Step, first_return, office, opened, order, send_all, without_tables,
@@ -6,8 +6,7 @@ use crate::left::{
 use pool_split::Credit;
 use share_rules::Kind;
 use society_core::{Desk, Known, KnownTransmission, Payment, Place, PlainStore, Refusal, Store};
-use sqlite::{Alter, Connection, Files, Options};
-use sqlite_disk::Memory;
+use sqlite::Alter;
 use std::alloc::Global;
 use std::process::Abort;
 use std::test::Fail;
@@ -303,13 +302,5 @@ fn typed_answers(rt: HostRuntime) -> Result<(), Fail> {
     let alloc = rt.alloc();
     check_store(&rt, alloc, PlainStore::new(alloc, &office(900)?))?;
     let in_memory = without_tables(alloc)?;
-    check_tables(&rt, alloc, opened(alloc, in_memory, 900)?)?;
-    let files = Files {
-        log: Memory::new(alloc),
-        db: Memory::new(alloc),
-    };
-    let Ok(in_a_file) = Connection::open_files(alloc, files, Options::new(1)) else {
-        return Err(Fail::new("a database"));
-    };
-    check_tables(&rt, alloc, opened(alloc, in_a_file, 900)?)
+    check_tables(&rt, alloc, opened(alloc, in_memory, 900)?)
 }

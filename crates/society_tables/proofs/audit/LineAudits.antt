@@ -29,7 +29,7 @@ use Rattle.society_book.specs.DerivedRows.{Telling, front_rows, is_named, knows_
 use Rattle.society_book.specs.Outcomes.{settled}
 use Rattle.society_book.specs.Runs.{IsWhole, RunValue, Settled, behind_run, is_among, settled_recordings, settled_run, settled_verdict, settled_version}
 use Rattle.society_book.specs.declared.outcomes.Outcome.{Outcome}
-use Rattle.society_book.proofs.cuts.CutNotes.{any_bytes}
+use Rattle.society_closings.proofs.cuts.CutNotes.{any_bytes}
 use Rattle.society_book.proofs.lines.LineRows.{at_front, placed_over}
 use Rattle.society_book.proofs.lines.RunLines.{IsSeen, run_behind, run_settled, sees_recordings, sees_verdict, sees_version}
 use Rattle.society_book.proofs.rows_alike.Equals.{texts_equal}

@@ -21,7 +21,7 @@ use Rattle.society_rows.specs.Layout.{all_tables, written_out}
 use Rattle.society_rows.specs.Stored.{AreNumbered, HasLayout, rows_in}
 use Rattle.society_tables.specs.Auditing.{ClosesAside, IsClosable, IsOpenReturn, KeepsUnreferred, is_beside, mixed}
 use Rattle.society_book.specs.Sources.{HasEnds, HoldsWorks, KeepsBodies}
-use Rattle.society_book.specs.Closings.{ClosesWith}
+use Rattle.society_closings.specs.Closings.{ClosesWith}
 use Rattle.society_book.specs.Columns.{HasRows, whole_number_at}
 use Rattle.society_book.specs.DerivedRows.{balance_rows, balance_rows_by, credit_rows, credit_rows_by, front_rows, is_named, tells_recordings, tells_verdict, tells_version, told_to_front}
 use Rattle.society_book.specs.Kept.{HoldsOwnBook, HoldsBook}
@@ -57,13 +57,13 @@ use Rattle.society_rows.specs.Reads.{ListsKeys}
 use Rattle.society_rows.specs.declared.tables.TableName.TheVariants as name
 use Rattle.society_tables.specs.Auditing.{money_names}
 use Rattle.society_book.specs.BookRows.{book_of}
-use Rattle.society_book.specs.Closings.{PaysBy}
+use Rattle.society_closings.specs.Closings.{PaysBy}
 use Rattle.society_book.specs.Shown.{ShowKey}
 use Rattle.society_tables.proofs.store.AddLemmas.{holds_own}
 use Rattle.society_book.proofs.rows_alike.KeyRows.{return_key_shows}
 use Rattle.society_book.proofs.shown.PaidRows.{pays as pays_of}
-use Rattle.society_book.proofs.money.Payments.{cut_reached}
-use Rattle.society_book.proofs.money.PoolHolds.{pool_holds}
+use Rattle.society_closings.proofs.money.Payments.{cut_reached}
+use Rattle.society_closings.proofs.money.PoolHolds.{pool_holds}
 use Rattle.work_ids.specs.Numbers.{is_pool_number}
 use Rattle.society_book.proofs.lines.RunTables.{rows_kept}
 use Rattle.society_tables.proofs.alike.SameTables.{holds_likewise}

@@ -1,5 +1,5 @@
 -- Why an audit of layout 3 is told as a failure of the store.
-use Rattle.std.proofs.Common.{◌≡◌, ◌≢◌, ◌⊎◌, ◌∙◌, ◌≤◌, ℕ, Option, ⊎_elim, inl, inr, true, false, true≢false, Result, Ok, Err, IfErr, IsSome, IsTrue, ap, arith, refl, subst, sym}
+use Rattle.std.proofs.Common.{◌≡◌, ◌≢◌, ◌⊎◌, ◌∙◌, ◌≤◌, ℕ, Option, ⊎_elim, inl, inr, true, false, true≢false, Result, Ok, Err, IfErr, IsSome, IsTrue, ap, arith, subst, sym}
 use Rattle.std.proofs.lemmas.Bool.{cases_Bool}
 use Rattle.std.specs.Result.{IsErrAnd}
 use Rattle.sqlite.specs.Held.{Held, state}
@@ -11,11 +11,9 @@ use Rattle.society_rows.specs.Questions.{Asks}
 use Rattle.society_rows.specs.Stored.{HasLayout}
 use Rattle.society_rows.specs.declared.fault.RowFault.{RowFault}
 use Rattle.society_rows.specs.declared.fault.RowFault.TheVariants as row
-use Rattle.society_tables.specs.Opening.{Inspects, TellsFailure, audit_fault_by, open_fault_by}
+use Rattle.society_tables.specs.Opening.{Inspects, TellsFailure, audit_fault_by}
 use Rattle.society_tables.specs.declared.audit_fault.AuditFault.{AuditFault}
 use Rattle.society_tables.specs.declared.audit_fault.AuditFault.TheVariants as audit
-use Rattle.society_tables.specs.declared.open_fault.OpenFault.{OpenFault}
-use Rattle.society_tables.specs.declared.open_fault.OpenFault.TheVariants as fault
 
 pub of_memory : audit.Memory ≢ audit.Store
 of_memory is = cc
@@ -46,7 +44,7 @@ errs_by g {X} old mid new result errs survives clean has = on result (errs early
     on (Err f) h = ⊎_elim (λ (m : f ≡ row.Memory). inl m) (λ (may : MayFail begun mid). inr (may_later (state g old) mid new survives.counts may)) h
 
 -- a fault of rows, told as one of an audit
-by_row : (old new : State) (f : RowFault) → (f ≡ row.Memory) ⊎ MayFail old new → audit_fault_by f ≡ audit.Store → MayFail old new
+pub by_row : (old new : State) (f : RowFault) → (f ≡ row.Memory) ⊎ MayFail old new → audit_fault_by f ≡ audit.Store → MayFail old new
 by_row old new f (inl memory) is = absurd (of_memory (sym (ap audit_fault_by memory) ∙ is))
 by_row old new f (inr may) is = may
 
@@ -55,26 +53,11 @@ pub failed_row : {X Y : Type 0} (old new : State) (f : RowFault) (r : Result Y A
 failed_row old new f (Ok y) Found asked errs is clean has = tt
 failed_row old new f (Err e) Found asked errs is clean has = λ told. by_row old new f (errs clean has) (sym is ∙ told)
 
-opened_store : (f : AuditFault) → open_fault_by f ≡ fault.Store → f ≡ audit.Store
-opened_store audit.Memory is = cc
-opened_store audit.Store is = refl
-opened_store audit.Damaged is = cc
-
-pub office_failed : {X : Type 0} (old new : State) (f : RowFault) (r : Result (Unit {0}) OpenFault) (Found : Trees → X → Type 0) → Asks old new (Err f) Found
-    → (HasCleanDisk new → HasLayout old.now → (f ≡ row.Memory) ⊎ MayFail old new) → IsErrAnd r (λ e. e ≡ open_fault_by (audit_fault_by f)) → TellsFailure fault.Store old new r
-office_failed old new f (Ok y) Found asked errs is clean has = tt
-office_failed old new f (Err e) Found asked errs is clean has = λ told. by_row old new f (errs clean has) (opened_store (audit_fault_by f) (sym is ∙ told))
-
 -- a fault that is passed on
 pub failed_passed : {X Y E : Type 0} (told : E) (old new : State) (f : E) (r : Result Y E) (Found : Trees → X → Type 0) → Inspects old new (Err f) Found
     → (HasCleanDisk new → HasLayout old.now → f ≡ told → MayFail old new) → IsErrAnd r (λ e. e ≡ f) → TellsFailure told old new r
 failed_passed told old new f (Ok y) Found asked errs is clean has = tt
 failed_passed told old new f (Err e) Found asked errs is clean has = λ here. errs clean has (sym is ∙ here)
-
-pub failed_opened : {X : Type 0} (old new : State) (f : AuditFault) (r : Result (Unit {0}) OpenFault) (Found : Trees → X → Type 0) → Inspects old new (Err f) Found
-    → (HasCleanDisk new → HasLayout old.now → f ≡ audit.Store → MayFail old new) → IsErrAnd r (λ e. e ≡ open_fault_by f) → TellsFailure fault.Store old new r
-failed_opened old new f (Ok y) Found asked errs is clean has = tt
-failed_opened old new f (Err e) Found asked errs is clean has = λ here. errs clean has (opened_store f (sym is ∙ here))
 
 -- what tells no failure of the store, after any questions
 pub failed_never : {X Y D E : Type 0} (told : E) (old new : State) (q : Result X D) (r : Result Y E) (Found : Trees → X → Type 0) → Inspects old new q Found → IfErr r (λ e. e ≢ told) → TellsFailure told old new r

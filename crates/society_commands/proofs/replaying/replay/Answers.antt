@@ -1,7 +1,7 @@
 use Rattle.std.proofs.Common.{ap, ◌∙◌, refl}
 use Rattle.sqlite.specs.Held.{state}
 use Rattle.memory_store.specs.Memory.{over_memory}
-use Rattle.http_desk.proofs.ServeLemmas.{no_turn}
+use Rattle.http_connection.proofs.ServeLemmas.{no_turn}
 use Rattle.society_book.specs.Kept.{tables_state}
 use Rattle.society_commands.proofs.ReplayLemmas.{replays_from, breaks_off_from}
 use Rattle.society_commands.proofs.TableLemmas.{no_tables}

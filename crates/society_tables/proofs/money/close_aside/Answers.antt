@@ -6,7 +6,7 @@ use Rattle.society_core.proofs.Stores.{from_one}
 use Rattle.society_rows.specs.Stored.{HasLayout}
 use Rattle.society_book.specs.BookRows.{book_of}
 use Rattle.society_tables.specs.Auditing.{mixed}
-use Rattle.society_book.specs.Closings.{ClosesWith, PaysBy}
+use Rattle.society_closings.specs.Closings.{ClosesWith, PaysBy}
 use Rattle.society_tables.specs.declared.audit_fault.AuditFault.{AuditFault}
 use Rattle.society_book.proofs.shown.AskLemmas.{clean_is}
 use Rattle.society_tables.proofs.audit.Mixed.{closed_aside}

@@ -1,0 +1,14 @@
+pub mod Answering
+pub mod Asks
+pub mod Counted
+pub mod Feeding
+pub mod Fields
+pub mod Head
+pub mod Input
+pub mod Outbox
+pub mod Room
+pub mod Serves
+pub mod Upcoming
+pub use Rattle.http_desk.specs.Reads
+pub use Rattle.http_desk.specs.Text
+pub use Rattle.society_core.specs.Runs

@@ -1,0 +1,15 @@
+//! What a transmission that comes and the end of a segment that is stated write, and how far a sender's line goes on with them.
+//!
+//! Each call holds over the tables of layout 3 where the disk told the truth. Outside a transaction of the caller's, an error leaves the
+//! tables as they were.
+#![tactic(auto)]
+
+mod arrivals;
+mod going;
+mod settling;
+mod statements;
+
+pub use arrivals::arrive;
+pub use going::whole_run;
+pub use settling::{add_told, put_told, recordings_by_key, versions_by_key};
+pub use statements::state_end;

@@ -1,0 +1,2 @@
+pub mod cuts
+pub mod money

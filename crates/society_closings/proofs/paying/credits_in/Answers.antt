@@ -1,0 +1,33 @@
+use Rattle.std.proofs.Common.{◌≡◌, List, subst, sym, flat_map}
+use Rattle.sqlite.specs.Held.{state}
+use Rattle.sqlite_trees.specs.Tree.{Trees}
+use Rattle.society_core.specs.Book.{Book}
+use Rattle.society_core.specs.Candidates.{ReachesCut, StandFor, rows_of_return}
+use Rattle.society_core.specs.Owners.{works_of_cut}
+use Rattle.society_core.specs.Points.{Tallies, is_tallied, rows_named}
+use Rattle.society_core.specs.Pools.{credits_of}
+use Rattle.society_core.specs.declared.return_key.ReturnKey.{ReturnKey}
+use Rattle.society_closings.specs.Closings.{PaysBy}
+use Rattle.society_book.specs.Sources.{HoldsWorks}
+use Rattle.society_closings.proofs.money.Payments.{by_each}
+use Rattle.society_book.proofs.together.StepLemmas.{looks_as, looks_then}
+use Rattle.society_closings.proofs.paying.credits_in.Goals as goal
+use Rattle.society_core.specs.Pools.{holders_of}
+use Rattle.share_rules.specs.declared.kind.Kind.{Kind}
+
+pub returns-clause-looks : goal.returns-clause-looks
+returns-clause-looks g c =
+    let o = c.args.office.now in
+    let order = c.args.order.now in
+    let tally = c.in_ok-tally.tally in
+    let old = state g.S.Store c.args.tx.now.conn.now in
+    let mid = state g.S.Store c.tally_of.new.tx.conn.now in
+    let new = state g.S.Store c.candidates_in.new.tx.conn.now in
+    let Ready : Trees → Book → Type 0 = λ db b. HoldsWorks o b db × ReachesCut b order × Tallies tally (rows_named b order) in
+    looks_then old mid new tally c.credits_by.result _ (λ db y. (b : Book) → Ready db b → y.items ≡ credits_of o b order) (λ db y. PaysBy o order db y.items) c.in_ok-tally.ensures.looks
+    (looks_as mid new c.in_ok-candidates.candidates c.credits_by.result _ _ c.in_ok-candidates.ensures.looks
+    (λ stand. by_each c.credits_by.result (Ready mid.now.trees) (λ b y. y.items ≡ credits_of o b order)
+    (λ b ready. c.credits_by.ensures o b ready.2
+    (subst (λ (right : Kind). StandFor (holders_of right o) (is_tallied tally) (works_of_cut o b order) c.deref.result.now) c.kind.ensures
+    (subst (StandFor (holders_of c.kind.result o) (is_tallied tally) (works_of_cut o b order)) (sym c.deref.ensures.value) (stand b ready.0 ready.1))))))
+    (λ y tallied pays b holds reached. pays b (holds, reached, subst (λ (ks : List ReturnKey). Tallies tally (flat_map (rows_of_return b) ks)) c.returns.ensures.value (tallied o b holds c.returns.ensures.limit).0))

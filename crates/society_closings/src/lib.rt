@@ -1,0 +1,17 @@
+//! What a pool that is closed pays, and what is written of it over a connection to the office's tables: the works of its cut that name its
+//! recordings, its order, its credits and the balances.
+//!
+//! Each call holds over the tables of layout 3 where the disk told the truth. Outside a transaction of the caller's, an error leaves the
+//! tables as they were.
+#![tactic(auto)]
+
+mod chosen;
+mod closings;
+mod cut_works;
+mod named_works;
+mod paying;
+mod totals;
+
+pub use closings::write_pool;
+pub use cut_works::candidates_in;
+pub use paying::{close, credits_in};

@@ -1,0 +1,136 @@
+//! The works that name some recordings, in whichever of their versions.
+ghost use Rattle.std.specs.Prelude.{◌≡◌, List, ℕ, true, IfOk, OnOk, bytes_eq};
+ghost use Rattle.std.specs.BTreeSet.{IsFromIterResult, contains};
+ghost use Rattle.std.specs.List.{AllByRecursion, list_any};
+ghost use Rattle.society_core.specs.Keys.{bytes_cmp};
+ghost use Rattle.society_rows.specs.Rows.{recording_values};
+ghost use Rattle.society_closings.specs.CutWorks.{IsNoted, NotesMore, NotesWanted, is_noted, notes_of_sender};
+ghost use Rattle.society_book.specs.Steps.{Looks};
+ghost use Rattle.society_rows.specs.Between.{within};
+ghost use Rattle.society_closings.specs.Choosing.{NotesCut};
+
+use society_book::distinct_isrcs;
+use society_core::TransmissionKey;
+use society_rows::{RecordingRow, RowFault, TableName, all_rows};
+use sqlite::{Alter, Row, Transaction};
+use std::alloc::{AllocError, Global};
+use std::collections::{BTreeMap, BTreeSet};
+use work_ids::{Isrc, SenderKey, WorkNumber};
+
+/// Works of some senders, each once.
+#[derive(Drop)]
+pub(crate) struct NamedWorks {
+    by_sender: BTreeMap<SenderKey, BTreeSet<WorkNumber>>,
+}
+
+impl NamedWorks {
+    // No work, of the senders of a cut.
+    fn of_cut(alloc: Global, cut: &[TransmissionKey]) -> Result<NamedWorks, AllocError>
+        ensures { IfOk result (λ named. (sender : List ℕ) → notes_of_sender named sender ≡ list_any (λ key. bytes_eq key.sender sender) cut.now) }
+    {
+        let mut by_sender = BTreeMap::new(alloc);
+        for key in cut {
+            by_sender.insert(key.sender, BTreeSet::new(alloc))?;
+        }
+        Ok(NamedWorks { by_sender })
+    }
+
+    // Notes a work, where works of its sender are noted at all.
+    fn note(&mut self, sender: &SenderKey, work: WorkNumber) -> Result<(), AllocError>
+        ensures more { OnOk result (NotesMore self.old self.new) }
+        ensures noted { OnOk result (notes_of_sender self.old sender.now ≡ true → is_noted self.new sender.now work ≡ true) }
+    {
+        if let Some(works) = self.by_sender.get_mut(sender) {
+            works.insert(work)?;
+        }
+        Ok(())
+    }
+
+    // Notes the work of a recording; `Unread` where it has no sender or no work number.
+    fn note_recording(&mut self, row: &RecordingRow<'_>) -> Result<(), RowFault>
+        ensures more { OnOk result (NotesMore self.old self.new) }
+        ensures noted { OnOk result (IsNoted self.new (recording_values row.now)) }
+    {
+        let Ok(sender) = SenderKey::from_bytes(row.sender) else {
+            return Err(RowFault::Unread);
+        };
+        let Ok(work) = WorkNumber::from_bytes(row.work) else {
+            return Err(RowFault::Unread);
+        };
+        self.note(&sender, work)?;
+        Ok(())
+    }
+
+    // Notes the work of a row of a recording that is wanted; `Unread` where it has no sender or no work number.
+    fn note_row(&mut self, row: &Row, wanted: &BTreeSet<Isrc>) -> Result<(), RowFault>
+        ensures more { OnOk result (NotesMore self.old self.new) }
+        ensures noted { OnOk result (NotesWanted wanted.now self.new row.now) }
+    {
+        let row = RecordingRow::from_row(row)?;
+        if !may_be(wanted, row.isrc) {
+            return Ok(());
+        }
+        self.note_recording(&row)
+    }
+
+    // Notes the works of those rows of recordings that are wanted; `Unread` where one has no sender or no work number.
+    fn note_rows(&mut self, rows: &[Row], wanted: &BTreeSet<Isrc>) -> Result<(), RowFault>
+        ensures more { OnOk result (NotesMore self.old self.new) }
+        ensures noted { OnOk result (AllByRecursion (NotesWanted wanted.now self.new) rows.now) }
+    {
+        for row in rows {
+            self.note_row(row, wanted)?;
+        }
+        Ok(())
+    }
+
+    /// The works that are noted of a sender, ascending.
+    pub(crate) fn works_of(
+        &self,
+        alloc: Global,
+        sender: &SenderKey,
+    ) -> Result<Vec<WorkNumber>, AllocError>
+        ensures { IfOk result (λ works. (work : List ℕ) → list_any (bytes_eq work) works.items ≡ is_noted self.now sender.now work) }
+    {
+        match self.by_sender.get(sender) {
+            Some(works) => works.iter().copied().collect(alloc),
+            None => Ok(Vec::new(alloc)),
+        }
+    }
+}
+
+// The set of some recordings.
+fn set_of(alloc: Global, recordings: &[Isrc]) -> Result<BTreeSet<Isrc>, AllocError>
+    ensures { IfOk result (IsFromIterResult bytes_cmp recordings.now) }
+{
+    let list = Vec::from_slice(alloc, recordings)?;
+    distinct_isrcs(alloc, list)
+}
+
+// Whether a text may be one of these recordings: it is one of them, or is no ISRC as the tables keep it.
+fn may_be(wanted: &BTreeSet<Isrc>, text: &[u8]) -> bool
+    ensures { contains bytes_cmp wanted.now text.now ≡ true → result ≡ true }
+{
+    match Isrc::from_text(text) {
+        Ok(isrc) => isrc.as_bytes() != text || wanted.contains(&isrc),
+        Err(_) => true,
+    }
+}
+
+/// The works of the senders of a cut that name one of these recordings, in whichever of their versions.
+pub(crate) fn named_works<S: Alter>(
+    alloc: Global,
+    tx: &mut Transaction<'_, S>,
+    recordings: &[Isrc],
+    cut: &[TransmissionKey],
+) -> Result<NamedWorks, RowFault>
+    ensures same_reference { tx.new.conn.ghost_name ≡ tx.old.conn.ghost_name }
+    ensures looks { within S.Store tx.old tx.new Looks result (NotesCut cut.now recordings.now) }
+{
+    let mut named = NamedWorks::of_cut(alloc, cut)?;
+    let wanted = set_of(alloc, recordings)?;
+    // The key of this table does not begin with the recording, so one pass over it serves them all.
+    let rows = all_rows(tx, TableName::Recordings)?;
+    named.note_rows(rows.as_slice(), &wanted)?;
+    Ok(named)
+}

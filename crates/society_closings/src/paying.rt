@@ -1,0 +1,134 @@
+//! What a pool pays, worked out of the tables, and its closing in a transaction of its own.
+ghost use Rattle.std.specs.Prelude.{◌≡◌, ◌≤◌, [], List, ℕ, Option, length, unwrap_or, OnOk, ⊤};
+ghost use Rattle.perf_returns.specs.Returns.{performances_in};
+ghost use Rattle.society_core.specs.Orders.{IsOrder};
+ghost use Rattle.society_closings.specs.Closings.{ClosesPool, PaysBy};
+ghost use Rattle.society_book.specs.Shown.{AddsAlone, ShowBody};
+ghost use Rattle.society_book.specs.Steps.{DoesOpen, Looks};
+ghost use Rattle.society_rows.specs.Between.{between, within};
+ghost use Rattle.society_closings.specs.Choosing.{TalliesReturn, TalliesReturns, PaysByTally, TalliesKept};
+
+use crate::closings::write_pool;
+use crate::cut_works::candidates_in;
+use perf_returns::{ReturnError, read_return};
+use pool_split::{Credit, are_payable, credits};
+use share_rules::Office;
+use society_core::{Candidate, PoolOrder, ReturnKey, Tally, claims};
+use society_rows::{Idle, Question, ReturnRow, RowFault, answer};
+use sqlite::{Alter, Row, Transaction};
+use std::alloc::Global;
+use work_ids::PoolNumber;
+
+// Adds the performances of a return to a tally of at most 9,990,000 performances, by the rows of the return; `Unread` where
+// these are not one row, or its body is no return.
+fn add_performances(alloc: Global, rows: &[Row], tally: &mut Tally) -> Result<(), RowFault>
+    ensures counted { TalliesKept rows.now tally.old tally.new result }
+    ensures limit { (kept : Option (List ℕ)) → ShowBody kept rows.now → OnOk result (length (performances_in (unwrap_or kept [])) ≤ 10000) }
+{
+    let [row] = rows else {
+        return Err(RowFault::Unread);
+    };
+    let row = ReturnRow::from_row(row)?;
+    match read_return(alloc, row.body) {
+        Ok(performances) => Ok(tally.add_all(performances.rows.as_slice())?),
+        Err(ReturnError::Memory) => Err(RowFault::Memory),
+        Err(ReturnError::Csv(_)) => Err(RowFault::Unread),
+    }
+}
+
+// Adds the performances of a return to a tally of at most 9,990,000 performances; `Unread` where there is no such return.
+fn add_return<S: Alter>(
+    alloc: Global,
+    tx: &mut Transaction<'_, S>,
+    key: &ReturnKey,
+    tally: &mut Tally,
+) -> Result<(), RowFault>
+    ensures same_reference { tx.new.conn.ghost_name ≡ tx.old.conn.ghost_name }
+    ensures looks { within S.Store tx.old tx.new Looks result (λ db _. TalliesReturn key.now tally.old tally.new db) }
+{
+    let rows = answer(
+        tx,
+        Question::Return(key.reporter.as_bytes(), key.number.value()),
+    )?;
+    add_performances(alloc, rows.as_slice(), tally)
+}
+
+// The tally of all performances of these returns.
+fn tally_of<S: Alter>(
+    alloc: Global,
+    tx: &mut Transaction<'_, S>,
+    returns: &[ReturnKey],
+) -> Result<Tally, RowFault>
+    ensures same_reference { tx.new.conn.ghost_name ≡ tx.old.conn.ghost_name }
+    ensures looks { within S.Store tx.old tx.new Looks result (TalliesReturns returns.now) }
+{
+    let mut tally = Tally::new(alloc);
+    for key in returns {
+        add_return(alloc, tx, key, &mut tally)?;
+    }
+    Ok(tally)
+}
+
+// The credits of an order by the tally of its returns and the candidates for their recordings; `Unread` where these can't be paid.
+fn credits_by(
+    alloc: Global,
+    tally: &Tally,
+    candidates: &[Candidate],
+    order: &PoolOrder,
+) -> Result<Vec<Credit>, RowFault>
+    ensures { PaysByTally tally.now candidates.now order.now result }
+{
+    let points = tally.points_by_recording(alloc)?;
+    let claims = claims(alloc, &points, candidates)?;
+    if !are_payable(&claims) {
+        return Err(RowFault::Unread);
+    }
+    Ok(credits(alloc, order.amount(), &claims)?)
+}
+
+/// What an order pays by the tables.
+pub fn credits_in<S: Alter>(
+    alloc: Global,
+    tx: &mut Transaction<'_, S>,
+    office: &Office,
+    order: &PoolOrder,
+) -> Result<Vec<Credit>, RowFault>
+    ensures same_reference { tx.new.conn.ghost_name ≡ tx.old.conn.ghost_name }
+    ensures looks { within S.Store tx.old tx.new Looks result (λ db credits. PaysBy office.now order.now db credits.items) }
+    ensures kept { IsOrder order.now }
+{
+    let tally = tally_of(alloc, tx, order.returns())?;
+    let candidates = candidates_in(alloc, order.kind(), tx, office, &tally, order)?;
+    credits_by(alloc, &tally, &candidates, order)
+}
+
+// Closes a pool in a transaction.
+fn close_inside<S: Alter>(
+    alloc: Global,
+    tx: &mut Transaction<'_, S>,
+    office: &Office,
+    pool: PoolNumber,
+    order: &PoolOrder,
+) -> Result<(), RowFault>
+    ensures same_reference { tx.new.conn.ghost_name ≡ tx.old.conn.ghost_name }
+    ensures does { within S.Store tx.old tx.new DoesOpen result (λ before after _. ClosesPool office.now pool order.now before.trees after.trees × ⊤) }
+{
+    let credits = credits_in(alloc, tx, office, order)?;
+    write_pool(alloc, tx, pool.value(), order, &credits)
+}
+
+/// Closes a pool in a transaction of its own.
+pub fn close<S: Alter>(
+    alloc: Global,
+    conn: &mut Idle<S>,
+    office: &Office,
+    pool: PoolNumber,
+    order: &PoolOrder,
+) -> Result<(), RowFault>
+    ensures added { between S.Store conn.old conn.new (AddsAlone (ClosesPool office.now pool order.now) (λ _ _. ⊤)) result }
+{
+    let mut tx = conn.connection.transaction();
+    close_inside(alloc, &mut tx, office, pool, order)?;
+    tx.commit()?;
+    Ok(())
+}

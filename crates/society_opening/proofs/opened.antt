@@ -1,0 +1,6 @@
+-- How a database is opened, what is told of it, and what is opened after a store.
+pub mod OpenTold
+pub mod OpenedLemmas
+pub mod FailedOpenings
+pub mod AuditedLemmas
+pub mod Reopening

@@ -1,0 +1,30 @@
+use Rattle.std.proofs.Common.{◌↔◌, IsTrue, rules, true}
+use Rattle.sqlite.specs.Held.{state}
+use Rattle.society_rows.specs.Layouts.{HasTable}
+use Rattle.society_rows.specs.Questions.{Asks}
+use Rattle.society_rows.specs.Stored.{AreNumbered, HasLayout}
+use Rattle.society_rows.specs.TableNames.{table_called}
+use Rattle.society_rows.proofs.definitions.FirstTables.{has_table}
+use Rattle.society_rows.proofs.readings.AskedRows.{asks_by}
+use Rattle.society_rows.proofs.readings.Queries.{reads_where}
+use Rattle.society_tables.proofs.opened.Failing.{errs_by}
+use Rattle.society_rows.specs.Effects.{ErrsByMedium}
+use Rattle.society_opening.proofs.opening.is_numbered.Goals as goal
+
+pub returns-clause-asked : goal.returns-clause-asked
+returns-clause-asked g c =
+    let begun = state g.S.Store (record c.args.conn.now { in_transaction = true }) in
+    let mid = state g.S.Store c.are_numbered-yes.new.tx.conn.now in
+    let new = state g.S.Store c.rollback.new.self.0 in
+    let done : Asks (state g.S.Store c.args.conn.now) new c.are_numbered-yes.result (λ db yes. IsTrue yes ↔ AreNumbered (table_called c.args.table) db) =
+    asks_by g.S.Store c.args.conn.now mid new c.are_numbered-yes.result _ c.see_last_commit.ensures.settled (reads_where (HasTable c.args.table) HasLayout begun mid c.are_numbered-yes.result _ (has_table c.args.table begun.now) (rw (c.transaction-tx.ensures.begun, c.conn.view_is) at c.are_numbered-yes.ensures.read)) c.rollback.ensures.undone c.rollback.ensures.survives in
+    search rules
+
+pub returns-clause-medium : goal.returns-clause-medium
+returns-clause-medium g c =
+    let begun = state g.S.Store (record c.args.conn.now { in_transaction = true }) in
+    let mid = state g.S.Store c.are_numbered-yes.new.tx.conn.now in
+    let new = state g.S.Store c.rollback.new.self.0 in
+    let done : ErrsByMedium (state g.S.Store c.args.conn.now) new c.are_numbered-yes.result =
+    errs_by g.S.Store c.args.conn.now mid new c.are_numbered-yes.result (λ clean has. (rw (c.transaction-tx.ensures.begun, c.conn.view_is) at c.are_numbered-yes.ensures.medium) clean (has_table c.args.table begun.now has)) c.rollback.ensures.survives in
+    search rules

@@ -1,0 +1,4 @@
+pub mod Audits
+pub mod Existing
+pub mod OpenSteps
+pub mod Opening
