@@ -2,7 +2,8 @@
 import socket
 
 from common import OFFICE
-from program import ANOTHER_OFFICE, DAY, DAY_ANSWERS, EMPTY_DATABASE, SERVED_ONE, Ended, answered, held_by, office_of, run, run_row, served_one, told, trial
+from program import ANOTHER_OFFICE, DAY, DAY_ANSWERS, EMPTY_DATABASE, ROW_NAMES, ROWS, SERVED_ONE, Ended, Server
+from program import answered, held_by, office_of, run, run_row, served_one, told, trial
 
 WANTS_A_FILE = [
     "serve|--existing|--db|office.db|--port|1|--connections|1|--society|900|--territory|40|--name|X",
@@ -79,3 +80,16 @@ def the_file_alone_is_the_book(program, folder):
     told("a normal end", served_one(program, folder, "alone.db", True, 900), SERVED_ONE)
     (folder / "alone.db-wal").unlink(missing_ok=True)
     told("the day's answers", out + answered(program, folder, "alone.db", DAY[DAY_CUT:]), DAY_ANSWERS)
+
+
+# The streams of whole requests among the rows over bytes.
+OVER_A_FILE = ("a_day", "arrivals/", "long_days/", "pools/", "rows_of_kinds/", "rows_of_years/", "years/")
+
+
+@trial
+def rows_over_a_file(program, folder):
+    """Over a file a stream is answered as it is over tables in memory."""
+    for number, row in enumerate(it for it in ROW_NAMES if it.startswith(OVER_A_FILE)):
+        with Server(program, folder, f"{number}.db") as server:
+            told(row, server.sent((ROWS / f"data/{row}.http").read_bytes()), (ROWS / f"data/{row}.answers").read_bytes())
+            told(row, server.ended().status, 0)

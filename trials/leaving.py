@@ -2,8 +2,8 @@
 import contextlib
 import sqlite3
 
-from common import FIRST, NO_WORKS, REVISION, SENDER, put_file, put_named, put_pool, put_return, state_end
-from program import Server, told, trial
+from common import FIRST, NO_WORKS, REVISION, SENDER, order_body, put_file, put_named, put_pool, put_return, request, state_end
+from program import SERVED_ONE, Server, served_one, told, trial
 
 
 # Requests that leave a database.
@@ -29,6 +29,12 @@ CLOSED_AT_A_CUT = b"".join(
 YEAR_BEGUN = put_year(26, REVISION) + put_file(FIRST, 1) + state_end("plain", 1, 26)
 # A registration that waits, one that does not, a return and a pool that pays it.
 ONE_WAITS = put_file(FIRST, 3) + put_file(FIRST, 1) + played(3) + close(1_000, 1)
+# Requests that leave rows in every table: a file of a year behind the end of the plain numbers, and a pool of each right.
+IN_EVERY_TABLE = b"".join(
+    [put_file(FIRST, 1), put_file(REVISION, 2), state_end("plain", 2, 26), put_year(26, NO_WORKS), put_year(27, FIRST)]
+    + [played(10), close(1_001, 1), put_return(b"isrc,plays,seconds\nATABC2600001,7,70\n", 2)]
+    + [request("PUT", "/v1/pools/8", order_body(999, [[SENDER, 2]], [["RADIO1", 2]])[:-1] + b',"kind":"MR"}')]
+)
 # A registration, a file with no group behind a gap, and the revision that fills it; the same, the last one first.
 GAP_FILLED = put_file(FIRST, 1) + put_file(NO_WORKS, 3) + put_file(REVISION, 2)
 REVERSE_ARRIVAL = put_file(NO_WORKS, 3) + put_file(REVISION, 2) + put_file(FIRST, 1)
@@ -157,3 +163,13 @@ LEFT = [
 def rows_that_requests_leave(program, folder):
     for name, requests, wanted in LEFT:
         told(name, rows_of(left_by(program, folder, name, requests)), wanted)
+
+
+@trial
+def a_file_holds_what_was_committed(program, folder):
+    """Every table has rows, and has them still after the file was closed, opened and closed again."""
+    left = left_by(program, folder, "left", IN_EVERY_TABLE)
+    held = rows_of(left)
+    told("tables with rows", {it[0] for it in held}, set(TABLES))
+    told("opened again", served_one(program, folder, left.name, True, 900), SERVED_ONE)
+    told("its rows then", rows_of(left) == held, True)

@@ -1,9 +1,9 @@
 """Databases of an office that were changed, and of older layouts: which are opened, and which are refused as they are."""
 import shutil
 
-from common import FIRST, changed
-from leaving import CLOSED_AT_A_CUT, ONE_WAITS, YEAR_BEGUN, change, left_by, names_in, rows_of
-from program import ANOTHER_OFFICE, SERVED_ONE, Ended, office_of, run, served_one, told, trial
+from common import FIRST, SENDER, changed, get, put_pool, put_return
+from leaving import CLOSED_AT_A_CUT, ONE_WAITS, TABLES, YEAR_BEGUN, change, left_by, names_in, rows_of
+from program import ANOTHER_OFFICE, EMPTY_DATABASE, SERVED_ONE, Ended, Server, answer, office_of, run, served_one, told, trial
 
 SOUND = Ended(b"sound\n", b"", 0)
 DAMAGED = Ended(b"", b"society: database damaged\n", 1)
@@ -171,6 +171,80 @@ def openings(program, folder):
             check_opened(program, room, (name, text), society, wanted)
 
 
+def audited(program, path):
+    return run(program, path.parent, ["audit", "--db", path.name, *office_of(900)])
+
+
+# Changes of a new office's tables, one after another, and what an audit finds behind each.
+LAYOUTS = [
+    ("", SOUND),
+    ("DROP TABLE mechanical_pools", NO_OFFICE),
+    # A column is renamed.
+    ("CREATE TABLE mechanical_pools (number INTEGER NOT NULL PRIMARY KEY, FOREIGN KEY (number) REFERENCES pools (pool)) STRICT", NO_OFFICE),
+    # There is no reference.
+    ("DROP TABLE mechanical_pools; CREATE TABLE mechanical_pools (pool INTEGER NOT NULL PRIMARY KEY) STRICT", NO_OFFICE),
+    # It is the same table.
+    (
+        "DROP TABLE mechanical_pools; CREATE TABLE mechanical_pools (pool INTEGER NOT NULL PRIMARY KEY, FOREIGN KEY (pool) REFERENCES pools (pool)) STRICT",
+        SOUND,
+    ),
+    ("CREATE TABLE more (number INTEGER NOT NULL) STRICT", NO_OFFICE),
+    ("DROP TABLE more", SOUND),
+    # The tables of layout 2 under a row of layout 3, and under one of their own.
+    ("DROP TABLE mechanical_pools; DROP TABLE segment_ends", NO_OFFICE),
+    ("UPDATE office SET layout = 2", SOUND),
+]
+
+
+@trial
+def only_the_layout_is_found(program, folder):
+    change(folder / "empty.db", "CREATE TABLE more (number INTEGER NOT NULL) STRICT; DROP TABLE more")
+    told("empty", audited(program, folder / "empty.db"), EMPTY_DATABASE)
+    path = left_by(program, folder, "office.db", b"")
+    for text, wanted in LAYOUTS:
+        change(path, text)
+        told(text, audited(program, path), wanted)
+
+
+def standing(front, held, units):
+    """What is answered of the sender's numbers and of an account's balance."""
+    numbers = b'{"front":%d,"held":%s}' % (front, held)
+    return answer(b"200 OK", numbers) + answer(b"200 OK", b'{"account":"I00000000295","units":%d}' % units)
+
+
+# A row, whether an office has to be there, whether there is one, and what is answered then.
+BOOKS = [
+    ("an_empty_database_becomes_a_new_book", False, False, standing(0, b"[]", 0)),
+    ("a_database_opens_as_it_was_left", False, True, standing(1, b"[3]", 500)),
+    ("tables_that_are_there_are_opened", True, True, standing(1, b"[3]", 500)),
+]
+
+
+@trial
+def books_are_opened(program, folder):
+    left = left_by(program, folder, "left.db", ONE_WAITS)
+    asked = get(f"/v1/senders/{SENDER}", "/v1/accounts/I00000000295")
+    for row, existing, is_there, wanted in BOOKS:
+        with Server(program, folder, left.name if is_there else "new.db", existing=existing) as server:
+            told(row, (server.sent(asked), server.ended().status), (wanted, 0))
+
+
+@trial
+def tables_that_are_not_there(program, folder):
+    """Nothing is begun where tables have to be there, and those of another office are told as such and stay as they are."""
+    empty = folder / "empty.db"
+    change(empty, "CREATE TABLE more (number INTEGER NOT NULL) STRICT; DROP TABLE more")
+    left = left_by(program, folder, "left.db", ONE_WAITS)
+    for row, path, society, wanted in (
+        ("nothing_is_begun_where_tables_are_to_be_there", empty, 900, EMPTY_DATABASE),
+        ("tables_of_another_office_are_told_as_such", left, 901, ANOTHER_OFFICE),
+    ):
+        held, names = path.read_bytes(), names_in(path)
+        told(row, served_one(program, folder, path.name, True, society), wanted)
+        told((row, "afterwards"), (path.read_bytes() == held, names_in(path)), (True, names))
+    told("tables", (names_in(empty), [it for (it,) in names_in(left) if it in TABLES]), ([], sorted(TABLES)))
+
+
 @trial
 def a_changed_byte_of_a_body_is_damage(program, folder):
     body = changed(FIRST, 1, 1, b"X").hex()
@@ -245,3 +319,60 @@ def older_databases_that_are_not_sound_stay_as_they_are(program, folder):
         change(left, layout)
         for room, text in each_changed(folder, left, changes):
             check_opened(program, room, (layout, text), society, wanted)
+
+
+# Tables of older layouts, by the texts that make them: the office, transmissions, returns and pools.
+FIRST_TABLES = """
+CREATE TABLE office (one INTEGER NOT NULL PRIMARY KEY CHECK (one = 1), layout INTEGER NOT NULL, society INTEGER NOT NULL, territory INTEGER NOT NULL, name TEXT NOT NULL) STRICT;
+CREATE TABLE transmissions (sender TEXT NOT NULL, number INTEGER NOT NULL, body BLOB NOT NULL, PRIMARY KEY (sender, number)) STRICT;
+CREATE TABLE returns (reporter TEXT NOT NULL, number INTEGER NOT NULL, body BLOB NOT NULL, PRIMARY KEY (reporter, number)) STRICT;
+CREATE TABLE pools (pool INTEGER NOT NULL PRIMARY KEY, amount INTEGER NOT NULL) STRICT;
+"""
+CUTS = "CREATE TABLE pool_cuts (pool INTEGER NOT NULL, sender TEXT NOT NULL, number INTEGER NOT NULL, PRIMARY KEY (pool, sender), FOREIGN KEY (pool) REFERENCES pools (pool), FOREIGN KEY (sender, number) REFERENCES transmissions (sender, number)) STRICT;"
+# Cuts that name their transmission first, then their pool.
+CUTS_TURNED = "CREATE TABLE pool_cuts (pool INTEGER NOT NULL, sender TEXT NOT NULL, number INTEGER NOT NULL, PRIMARY KEY (pool, sender), FOREIGN KEY (sender, number) REFERENCES transmissions (sender, number), FOREIGN KEY (pool) REFERENCES pools (pool)) STRICT;"
+PAYMENTS = "CREATE TABLE pool_returns (reporter TEXT NOT NULL, number INTEGER NOT NULL, pool INTEGER NOT NULL, PRIMARY KEY (reporter, number), FOREIGN KEY (reporter, number) REFERENCES returns (reporter, number), FOREIGN KEY (pool) REFERENCES pools (pool)) STRICT;"
+# Payments that name their pool first, then their return.
+PAYMENTS_TURNED = "CREATE TABLE pool_returns (reporter TEXT NOT NULL, number INTEGER NOT NULL, pool INTEGER NOT NULL REFERENCES pools (pool), PRIMARY KEY (reporter, number), FOREIGN KEY (reporter, number) REFERENCES returns (reporter, number)) STRICT;"
+# The six tables that are derived.
+DERIVED = """
+CREATE TABLE fronts (sender TEXT NOT NULL PRIMARY KEY, front INTEGER NOT NULL, works INTEGER NOT NULL) STRICT;
+CREATE TABLE verdicts (sender TEXT NOT NULL, number INTEGER NOT NULL, place INTEGER NOT NULL, fault INTEGER NOT NULL, ordinal INTEGER NOT NULL, revision INTEGER NOT NULL, PRIMARY KEY (sender, number, place)) STRICT;
+CREATE TABLE versions (sender TEXT NOT NULL, work TEXT NOT NULL, revision INTEGER NOT NULL, number INTEGER NOT NULL, place INTEGER NOT NULL, ordinal INTEGER NOT NULL, PRIMARY KEY (sender, work, revision)) STRICT;
+CREATE TABLE recordings (sender TEXT NOT NULL, work TEXT NOT NULL, revision INTEGER NOT NULL, isrc TEXT NOT NULL, PRIMARY KEY (sender, work, revision, isrc)) STRICT;
+CREATE TABLE credits (pool INTEGER NOT NULL, line INTEGER NOT NULL, isrc TEXT NOT NULL, account TEXT NOT NULL, units INTEGER NOT NULL, PRIMARY KEY (pool, line)) STRICT;
+CREATE TABLE balances (account TEXT NOT NULL PRIMARY KEY, units INTEGER NOT NULL) STRICT;
+"""
+OLDER = [
+    ("layout 1", 1, FIRST_TABLES + CUTS + PAYMENTS),
+    ("layout 1, both turned", 1, FIRST_TABLES + CUTS_TURNED + PAYMENTS_TURNED),
+    ("layout 2, payments turned", 2, FIRST_TABLES + CUTS + PAYMENTS_TURNED + DERIVED),
+    ("layout 2, cuts turned", 2, FIRST_TABLES + CUTS_TURNED + PAYMENTS + DERIVED),
+]
+
+
+def made_by(path, layout, texts, left):
+    """A database of an older layout that texts make, with the rows that another one has."""
+    change(path, texts)
+    copies = "".join(f"INSERT INTO {it} SELECT * FROM other.{it};" for (it,) in names_in(path) if it in TABLES)
+    change(path, f"ATTACH '{left}' AS other; PRAGMA foreign_keys = OFF; {copies} UPDATE office SET layout = {layout}")
+
+
+# One more return, and a pool that pays it.
+MORE = put_return(b"isrc,plays,seconds\nATABC2600001,1,20\n", 2) + put_pool(8, 1_001, [[SENDER, 3]], [["RADIO1", 2]])
+TAKEN = answer(b"201 Created", b'{"state":"stored"}') + answer(b"201 Created", b'{"pool":8,"state":"closed"}')
+
+
+@trial
+def older_layouts_are_raised(program, folder):
+    """Whichever of its references a table names first, it is an older one's; what comes later is written into the same tables."""
+    left = left_by(program, folder, "left.db", CLOSED_AT_A_CUT)
+    for row, layout, texts in OLDER:
+        path = folder / f"{row}.db"
+        made_by(path, layout, texts, left)
+        told(row, audited(program, path), SOUND)
+        told(row, served_one(program, folder, path.name, False, 900), SERVED_ONE)
+        told((row, "taken over"), (names_in(path), rows_of(path)), (names_in(left), rows_of(left)))
+        with Server(program, folder, path.name, existing=True) as server:
+            told((row, "more"), (server.sent(MORE), server.ended().status), (TAKEN, 0))
+        told((row, "with more"), audited(program, path), SOUND)

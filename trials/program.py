@@ -11,6 +11,9 @@ sys.path.append(str(ROOT / "bench"))
 import common
 from common import OFFICE, get
 
+# The rows over bytes: requests, and the answers that an office to which nothing has come gives to them.
+ROWS = ROOT / "crates/office_rows"
+ROW_NAMES = (ROWS / "args").read_text().split()
 # The most seconds that one run may take.
 LIMIT = 60
 TRIALS = []

@@ -4,15 +4,12 @@ import tty
 
 import common
 from common import CSV_HEADER, FIRST, NO_WORKS, OFFICE, REVISION, get, put_file, put_pool, put_return
-from program import BAD, ROOT, Ended, acknowledgement, answer, applied, replayed, run, told, trial
-
-ROWS = ROOT / "crates/office_rows"
-
+from program import BAD, ROW_NAMES, ROWS, Ended, acknowledgement, answer, applied, replayed, run, told, trial
 
 @trial
 def rows_over_bytes(program, folder):
     """The rows of crates/office_rows, which are served over the plain store there."""
-    for row in (ROWS / "args").read_text().split():
+    for row in ROW_NAMES:
         ended = run(program, folder, ["replay", *OFFICE], (ROWS / f"data/{row}.http").read_bytes())
         told(row, ended.out + ended.err, (ROWS / f"data/{row}.answers").read_bytes())
 
