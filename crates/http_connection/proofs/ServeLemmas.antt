@@ -17,7 +17,7 @@ use Rattle.http_connection.specs.declared.fault.FaultKind.{FaultKind}
 use Rattle.http_connection.specs.declared.fault.FaultKind.TheVariants.{Read, Write, Turns, Memory}
 use Rattle.http_connection.specs.declared.input.Input.{Input}
 use Rattle.http_desk.specs.BodyLength.{closes}
-use Rattle.http_connection.specs.Counted.{AppendsFront, Known, TakesAtLeast, TakesAtMost, counted_on, ends_of, failures_of, inner_of, reads_of}
+use Rattle.http_connection.specs.Counted.{AppendsFront, Known, TakesAtLeast, TakesAtMost, counted_on, empty_reads_of, failures_of, inner_of, reads_of}
 use Rattle.http_connection.specs.Input.{BeforeEach, IsPiece, all_of, unread, ReadsOn}
 use Rattle.http_connection.specs.Outbox.{Sends}
 use Rattle.http_desk.specs.Part.{Part, print_part, IsOpenPart, IsPart}
@@ -365,7 +365,7 @@ stops_not_memory Memory bytes turns reader writer holds new_holds waiting by e =
 
 -- the turns were kept
 pub keeps_turns : {S R : Type 0} (state : S → State) (remaining : R → Option (List ℕ)) (reader new_reader : Counted R) (pending : List ℕ) (spare : ℕ) (turns : ℕ) (old mid : S) (holds mid_holds : Option (List ℕ)) (waiting : List ℕ) (requests : ℕ)
-    → ends_of new_reader ≤ ends_of reader + 1
+    → empty_reads_of new_reader ≤ empty_reads_of reader + 1
     → SoFar state (remaining (inner_of reader)) (remaining (inner_of new_reader)) pending spare turns (reads_of reader) (reads_of new_reader) old mid holds mid_holds waiting requests
     → KeepsTurns remaining reader new_reader turns
 keeps_turns state remaining reader new_reader pending spare turns old mid holds mid_holds waiting requests ends so = record {

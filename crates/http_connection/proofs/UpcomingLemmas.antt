@@ -17,7 +17,7 @@ use Rattle.http_connection.specs.Input.{BeforeEach, IsPiece, ReadsOn, all_of}
 use Rattle.http_connection.specs.Upcoming.{EndsSo, HasPart, IsUpcoming, IsUpcomingHead, ended_with}
 use Rattle.http_desk.specs.Part.{BeginsWithHead}
 use Rattle.http_desk.specs.Path.{PutsTransmission}
-use Rattle.http_desk.specs.Reads.{Awaits, AwaitsHead, Ends, IsBad, IsTooLarge, small_request}
+use Rattle.http_desk.specs.Reads.{Awaits, AwaitsHead, IsRemainder, IsBad, IsTooLarge, small_request}
 use Rattle.http_connection.specs.Counted.{counted_on}
 use Rattle.http_connection.proofs.Known.{Consumes-none, Consumes-join, Keeps-consumes, counted_none, counted_join}
 use Rattle.http_desk.proofs.HeadLemmas.{Begins-append, none_partial}
@@ -197,7 +197,7 @@ HasHead-is bytes other kept h e = let P : List ℕ → Type 0 = λ v. HasHead v 
 
 -- ---- ends
 
-so : (bytes : List ℕ) (known : Option (List ℕ)) (end : End) → ((left : List ℕ) → Ends (bytes ++ left) [] end) → EndsSo bytes known end
+so : (bytes : List ℕ) (known : Option (List ℕ)) (end : End) → ((left : List ℕ) → IsRemainder (bytes ++ left) [] end) → EndsSo bytes known end
 so bytes known end ends = ends (unwrap_or known [])
 
 pub so_bad : (bytes : List ℕ) (known : Option (List ℕ)) → ((more : List ℕ) → IsBad (bytes ++ more)) → EndsSo bytes known Bad
@@ -211,9 +211,9 @@ none_left None is_end = refl
 none_left (Some left) is_end = is_end
 
 -- at the end of the bytes nothing is left
-at_end : (bytes : List ℕ) (known : Option (List ℕ)) (end : End) → IsAtEnd known → Ends bytes [] end → EndsSo bytes known end
+at_end : (bytes : List ℕ) (known : Option (List ℕ)) (end : End) → IsAtEnd known → IsRemainder bytes [] end → EndsSo bytes known end
 at_end bytes known end is_end ends =
-    let P : List ℕ → Type 0 = λ v. Ends v [] end in
+    let P : List ℕ → Type 0 = λ v. IsRemainder v [] end in
     subst P (sym (append-nil bytes) ∙ ap (λ (v : List ℕ). bytes ++ v) (sym (none_left known is_end))) ends
 
 pub ended_partial : (bytes : List ℕ) (known : Option (List ℕ)) → IsAtEnd known → AwaitsHead bytes → EndsSo bytes known (ended_with bytes)

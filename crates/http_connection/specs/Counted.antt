@@ -28,8 +28,8 @@ abbrev pub reads_of : {T : Type 0} → Counted T → ℕ
 reads_of counted = counted.reads
 
 -- how many of its reads gave no byte
-abbrev pub ends_of : {T : Type 0} → Counted T → ℕ
-ends_of counted = counted.ends
+abbrev pub empty_reads_of : {T : Type 0} → Counted T → ℕ
+empty_reads_of counted = counted.ends
 
 -- a count after so many more, which stops at the greatest number of 64 bits
 abbrev pub counted_on : ℕ → ℕ → ℕ

@@ -15,7 +15,7 @@ use Rattle.http_connection.specs.declared.counted.Counted.{Counted}
 use Rattle.http_connection.specs.declared.fault.DeskFault.{DeskFault}
 use Rattle.http_connection.specs.declared.fault.FaultKind.{FaultKind}
 use Rattle.http_connection.specs.declared.fault.FaultKind.TheVariants.{Read, Write, Turns, Memory}
-use Rattle.http_connection.specs.Counted.{AppendsFront, TakesAtLeast, Known, TakesAtMost, counted_on, ends_of, failures_of, bytes_known, reads_of}
+use Rattle.http_connection.specs.Counted.{AppendsFront, TakesAtLeast, Known, TakesAtMost, counted_on, empty_reads_of, failures_of, bytes_known, reads_of}
 use Rattle.http_connection.specs.Input.{BeforeEach, IsPiece, all_of}
 use Rattle.http_desk.specs.Part.{Part, print_part, IsOpenPart}
 use Rattle.http_desk.specs.Path.{request_of}
@@ -170,7 +170,7 @@ pub record KeepsTurns {R : Type 0} (remaining : Known R) (reader new_reader : Co
   pub needed : BeforeEach IsAwaiting [] pieces
   pub counts : reads_of new_reader ≡ counted_on (reads_of reader) (length pieces)
   pub within : length pieces ≤ turns
-  pub ends : ends_of new_reader ≤ ends_of reader + 1
+  pub ends : empty_reads_of new_reader ≤ empty_reads_of reader + 1
   pub reads : reads_of new_reader ≤ reads_of reader + turns
   pub most : TakesAtMost (bytes_known remaining reader) (bytes_known remaining new_reader) (turns * 16384)
 

@@ -14,7 +14,7 @@ use Rattle.http_connection.specs.declared.upcoming.Upcoming.TheVariants.{Request
 use Rattle.http_connection.specs.Head.{HasHead, IsHeadKept}
 use Rattle.http_connection.specs.Input.{unread}
 use Rattle.http_desk.specs.Part.{Part, print_part, IsPart}
-use Rattle.http_desk.specs.Reads.{Awaits, Ends}
+use Rattle.http_desk.specs.Reads.{Awaits, IsRemainder}
 use Rattle.society_core.specs.State.{Rises}
 
 -- the bytes begin with a whole request, of whose head this is kept
@@ -28,7 +28,7 @@ pub record HasPart (bytes : List ℕ) (kept : Head) : Type 0 where
 
 -- the bytes, with what the reader is known to have left, are this end and no further request
 abbrev pub EndsSo : List ℕ → Option (List ℕ) → End → Type 0
-EndsSo bytes known end = Ends (bytes ++ unwrap_or known []) [] end
+EndsSo bytes known end = IsRemainder (bytes ++ unwrap_or known []) [] end
 
 -- the end of a connection that has no further byte, after these bytes of a head
 abbrev pub ended_with : List ℕ → End

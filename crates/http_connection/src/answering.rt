@@ -2,7 +2,7 @@
 ghost use Rattle.std.specs.Prelude.{◌≡◌, ◌+◌, drop, Ok, IfOk, IfErr, OnOk, OnErr};
 ghost use Rattle.society_core.specs.Requests.{reply_of};
 ghost use Rattle.http_connection.specs.Answering.{CameNext, ComesNext, IsLeftIn, IsReadyNext, is_end};
-ghost use Rattle.http_connection.specs.Counted.{ends_of, failures_of, MeetsEnd};
+ghost use Rattle.http_connection.specs.Counted.{empty_reads_of, failures_of, MeetsEnd};
 ghost use Rattle.http_connection.specs.Head.{HasHead};
 ghost use Rattle.http_connection.specs.Input.{unread, FailsBy};
 ghost use Rattle.http_connection.specs.Outbox.{SendsTo};
@@ -104,8 +104,8 @@ fn answer_whole<S: Store, R: Read>(
     ensures comes { ComesNext S.state R.remaining desk.old desk.new reader.old reader.new
         room.old.input room.new.input result }
     ensures told { IfOk result IsReadyNext }
-    ensures met { IfOk result (λ next. MeetsEnd (is_end next) (ends_of reader.old) (ends_of reader.new)) }
-    ensures unmet { OnErr result (ends_of reader.new ≡ ends_of reader.old) }
+    ensures met { IfOk result (λ next. MeetsEnd (is_end next) (empty_reads_of reader.old) (empty_reads_of reader.new)) }
+    ensures unmet { OnErr result (empty_reads_of reader.new ≡ empty_reads_of reader.old) }
     ensures kept { OnOk result (failures_of reader.new ≡ failures_of reader.old) }
     ensures fault { IfErr result (λ kind.
         FailsBy kind room.new.input.turns (failures_of reader.old) (failures_of reader.new)) }
@@ -141,8 +141,8 @@ fn answer_fed<S: Store, R: Read>(
     ensures comes { ComesNext S.state R.remaining desk.old desk.new reader.old reader.new
         room.old.input room.new.input result }
     ensures told { IfOk result IsReadyNext }
-    ensures met { IfOk result (λ next. MeetsEnd (is_end next) (ends_of reader.old) (ends_of reader.new)) }
-    ensures unmet { OnErr result (ends_of reader.new ≡ ends_of reader.old) }
+    ensures met { IfOk result (λ next. MeetsEnd (is_end next) (empty_reads_of reader.old) (empty_reads_of reader.new)) }
+    ensures unmet { OnErr result (empty_reads_of reader.new ≡ empty_reads_of reader.old) }
     ensures kept { OnOk result (failures_of reader.new ≡ failures_of reader.old) }
     ensures fault { IfErr result (λ kind.
         FailsBy kind room.new.input.turns (failures_of reader.old) (failures_of reader.new)) }
@@ -191,8 +191,8 @@ fn answer_head<S: Store, R: Read>(
     ensures comes { ComesNext S.state R.remaining desk.old desk.new reader.old reader.new
         room.old.input room.new.input result }
     ensures told { IfOk result IsReadyNext }
-    ensures met { IfOk result (λ next. MeetsEnd (is_end next) (ends_of reader.old) (ends_of reader.new)) }
-    ensures unmet { OnErr result (ends_of reader.new ≡ ends_of reader.old) }
+    ensures met { IfOk result (λ next. MeetsEnd (is_end next) (empty_reads_of reader.old) (empty_reads_of reader.new)) }
+    ensures unmet { OnErr result (empty_reads_of reader.new ≡ empty_reads_of reader.old) }
     ensures kept { OnOk result (failures_of reader.new ≡ failures_of reader.old) }
     ensures fault { IfErr result (λ kind.
         FailsBy kind room.new.input.turns (failures_of reader.old) (failures_of reader.new)) }
@@ -222,8 +222,8 @@ pub(crate) fn answer_upcoming<S: Store, R: Read, W: Write>(
         writer.old writer.new room.old room.new) }
     ensures sends { OnOk result (SendsTo W.contents writer.old writer.new room.old.outbox room.new.outbox) }
     ensures told { IfOk result IsReadyNext }
-    ensures met { IfOk result (λ next. MeetsEnd (is_end next) (ends_of reader.old) (ends_of reader.new)) }
-    ensures unmet { OnErr result (ends_of reader.new ≡ ends_of reader.old) }
+    ensures met { IfOk result (λ next. MeetsEnd (is_end next) (empty_reads_of reader.old) (empty_reads_of reader.new)) }
+    ensures unmet { OnErr result (empty_reads_of reader.new ≡ empty_reads_of reader.old) }
     ensures kept { OnOk result (failures_of reader.new ≡ failures_of reader.old) }
     ensures kept_writer { OnOk result (failures_of writer.new ≡ failures_of writer.old) }
     ensures ready { IsReady room.new }

@@ -20,14 +20,14 @@ pub struct NotWritten;
 
 impl<T> Counted<T> {
     ghost use Rattle.std.specs.Prelude.{◌≡◌};
-    ghost use Rattle.http_connection.specs.Counted.{inner_of, ends_of, failures_of, reads_of};
+    ghost use Rattle.http_connection.specs.Counted.{inner_of, empty_reads_of, failures_of, reads_of};
 
     /// Nothing has failed or was read yet.
     pub fn new(inner: T) -> Self
         ensures inner { inner_of result ≡ inner }
         ensures failures { failures_of result ≡ 0 }
         ensures reads { reads_of result ≡ 0 }
-        ensures ends { ends_of result ≡ 0 }
+        ensures ends { empty_reads_of result ≡ 0 }
     {
         Counted {
             inner,
@@ -49,7 +49,7 @@ impl<R: Read> Counted<R> {
     ghost use Rattle.std.specs.Prelude.{◌≡◌, IfOk, OnOk, OnErr};
     ghost use Rattle.std.specs.Io.{ReadsAtMost};
     ghost use Rattle.std.specs.Io.KnownBytes.{ReadConsumes};
-    ghost use Rattle.http_connection.specs.Counted.{inner_of, ends_after, ends_of, failures_of, reads_of, reads_after};
+    ghost use Rattle.http_connection.specs.Counted.{inner_of, ends_after, empty_reads_of, failures_of, reads_of, reads_after};
     ghost use Rattle.society_core.specs.State.{Rises};
 
     /// One read, as the reader does it; an error is counted, and so is a read that gives bytes, and one that gives none.
@@ -60,8 +60,8 @@ impl<R: Read> Counted<R> {
         ensures failed { OnErr result (Rises (failures_of self.old) (failures_of self.new)) }
         ensures counted { IfOk result (λ count. reads_of self.new ≡ reads_after count (reads_of self.old)) }
         ensures uncounted { OnErr result (reads_of self.new ≡ reads_of self.old) }
-        ensures ended { IfOk result (λ count. ends_of self.new ≡ ends_after count (ends_of self.old)) }
-        ensures unended { OnErr result (ends_of self.new ≡ ends_of self.old) }
+        ensures ended { IfOk result (λ count. empty_reads_of self.new ≡ ends_after count (empty_reads_of self.old)) }
+        ensures unended { OnErr result (empty_reads_of self.new ≡ empty_reads_of self.old) }
     {
         let result = self.inner.read(buffer);
         match &result {

@@ -1,7 +1,7 @@
 //! A body is fed to its reader while it comes.
 ghost use Rattle.std.specs.Prelude.{◌≡◌, ◌≤◌, ◌++◌, [], ℕ, List, IfOk, IfErr, OnOk, OnErr, length, take, drop, min};
 ghost use Rattle.cwr_files.specs.Fed.{WasFed};
-ghost use Rattle.http_connection.specs.Counted.{ends_of, failures_of, MeetsEnd};
+ghost use Rattle.http_connection.specs.Counted.{empty_reads_of, failures_of, MeetsEnd};
 ghost use Rattle.http_connection.specs.Feeding.{FeedsRequest, is_cut};
 ghost use Rattle.http_connection.specs.Head.{HasHead};
 ghost use Rattle.http_connection.specs.Input.{unread, FailsBy};
@@ -69,8 +69,8 @@ pub(crate) fn feed_request<R: Read>(
     requires empty { WasFed sink.old [] }
     ensures feeds { FeedsRequest R.remaining reader.old reader.new input.old input.new head.now sink.new result }
     ensures sender { sink.new.sender ≡ sink.old.sender }
-    ensures met { IfOk result (λ feeding. MeetsEnd (is_cut feeding) (ends_of reader.old) (ends_of reader.new)) }
-    ensures unmet { OnErr result (ends_of reader.new ≡ ends_of reader.old) }
+    ensures met { IfOk result (λ feeding. MeetsEnd (is_cut feeding) (empty_reads_of reader.old) (empty_reads_of reader.new)) }
+    ensures unmet { OnErr result (empty_reads_of reader.new ≡ empty_reads_of reader.old) }
     ensures kept { OnOk result (failures_of reader.new ≡ failures_of reader.old) }
     ensures fault { IfErr result (λ kind.
         FailsBy kind input.new.turns (failures_of reader.old) (failures_of reader.new)) }

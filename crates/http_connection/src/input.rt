@@ -25,7 +25,7 @@ pub(crate) struct Input {
 impl Input {
     ghost use Rattle.std.specs.Prelude.{◌≡◌, ◌<◌, ◌≤◌, ◌+◌, ◌^◌, [], true, false, not, length, drop, vec_len, vec_capacity, IfOk, IfErr, OnOk, OnErr};
     ghost use Rattle.std.specs.Io.KnownBytes.{IsAtEnd};
-    ghost use Rattle.http_connection.specs.Counted.{inner_of, ends_of, failures_of, MeetsEnd};
+    ghost use Rattle.http_connection.specs.Counted.{inner_of, empty_reads_of, failures_of, MeetsEnd};
     ghost use Rattle.http_connection.specs.Input.{unread, ReadsFrom, ReadsWhere, FailsBy, max_piece};
     ghost use Rattle.http_desk.specs.Reads.{small_request};
 
@@ -109,8 +109,8 @@ impl Input {
         ensures end { IfOk result (λ gave. gave ≡ false
             → (unread self.new ≡ []) × IsAtEnd (R.remaining (inner_of reader.new))) }
         ensures stays { OnErr result (unread self.new ≡ []) }
-        ensures met { IfOk result (λ gave. MeetsEnd (not gave) (ends_of reader.old) (ends_of reader.new)) }
-        ensures unmet { OnErr result (ends_of reader.new ≡ ends_of reader.old) }
+        ensures met { IfOk result (λ gave. MeetsEnd (not gave) (empty_reads_of reader.old) (empty_reads_of reader.new)) }
+        ensures unmet { OnErr result (empty_reads_of reader.new ≡ empty_reads_of reader.old) }
         ensures kept { OnOk result (failures_of reader.new ≡ failures_of reader.old) }
         ensures fault { IfErr result (λ kind.
             FailsBy kind self.new.turns (failures_of reader.old) (failures_of reader.new)) }
@@ -131,8 +131,8 @@ impl Input {
         ensures end { IfOk result (λ gave. gave ≡ false
             → (unread self.new ≡ unread self.old) × IsAtEnd (R.remaining (inner_of reader.new))) }
         ensures stays { OnErr result (unread self.new ≡ unread self.old) }
-        ensures met { IfOk result (λ gave. MeetsEnd (not gave) (ends_of reader.old) (ends_of reader.new)) }
-        ensures unmet { OnErr result (ends_of reader.new ≡ ends_of reader.old) }
+        ensures met { IfOk result (λ gave. MeetsEnd (not gave) (empty_reads_of reader.old) (empty_reads_of reader.new)) }
+        ensures unmet { OnErr result (empty_reads_of reader.new ≡ empty_reads_of reader.old) }
         ensures kept { OnOk result (failures_of reader.new ≡ failures_of reader.old) }
         ensures fault { IfErr result (λ kind.
             FailsBy kind self.new.turns (failures_of reader.old) (failures_of reader.new)) }

@@ -1,6 +1,6 @@
 //! What comes next on a connection: a request, or the end.
 ghost use Rattle.std.specs.Prelude.{◌≡◌, ◌⊎◌, [], ℕ, List, Option, IfOk, IfErr, IfSome, OnErr, OnOk};
-ghost use Rattle.http_connection.specs.Counted.{inner_of, ends_of, failures_of, MeetsEnd};
+ghost use Rattle.http_connection.specs.Counted.{inner_of, empty_reads_of, failures_of, MeetsEnd};
 ghost use Rattle.http_connection.specs.Head.{HasHead};
 ghost use Rattle.http_connection.specs.Input.{unread, ReadsAwaited, FailsBy};
 ghost use Rattle.http_connection.specs.Outbox.{waiting, SendsTo};
@@ -50,8 +50,8 @@ pub(crate) fn next_answered<R: Read, W: Write>(
     outbox: &mut Outbox,
 ) -> Result<Upcoming, FaultKind>
     ensures reads { ReadsAwaited R.remaining reader.old reader.new input.old input.new }
-    ensures met { IfOk result (λ next. MeetsEnd (is_at_end next) (ends_of reader.old) (ends_of reader.new)) }
-    ensures unmet { OnErr result (ends_of reader.new ≡ ends_of reader.old) }
+    ensures met { IfOk result (λ next. MeetsEnd (is_at_end next) (empty_reads_of reader.old) (empty_reads_of reader.new)) }
+    ensures unmet { OnErr result (empty_reads_of reader.new ≡ empty_reads_of reader.old) }
     ensures next { IfOk result (λ next.
         IsUpcomingHead next (unread input.new) (R.remaining (inner_of reader.new))) }
     ensures written { IfOk result (λ next. (waiting outbox.new ≡ [])
@@ -74,8 +74,8 @@ pub(crate) fn next_answered<R: Read, W: Write>(
 // Reads on until a head stands at the front.
 fn next_head<R: Read>(reader: &mut Counted<R>, input: &mut Input) -> Result<Upcoming, FaultKind>
     ensures reads { ReadsAwaited R.remaining reader.old reader.new input.old input.new }
-    ensures met { IfOk result (λ next. MeetsEnd (is_at_end next) (ends_of reader.old) (ends_of reader.new)) }
-    ensures unmet { OnErr result (ends_of reader.new ≡ ends_of reader.old) }
+    ensures met { IfOk result (λ next. MeetsEnd (is_at_end next) (empty_reads_of reader.old) (empty_reads_of reader.new)) }
+    ensures unmet { OnErr result (empty_reads_of reader.new ≡ empty_reads_of reader.old) }
     ensures next { IfOk result (λ next.
         IsUpcomingHead next (unread input.new) (R.remaining (inner_of reader.new))) }
     ensures awaits { OnErr result (Awaits (unread input.new)) }
@@ -115,8 +115,8 @@ pub(crate) fn whole_request<R: Read>(
 ) -> Result<Upcoming, FaultKind>
     requires { HasHead (unread input.old) head }
     ensures reads { ReadsAwaited R.remaining reader.old reader.new input.old input.new }
-    ensures met { IfOk result (λ next. MeetsEnd (is_at_end next) (ends_of reader.old) (ends_of reader.new)) }
-    ensures unmet { OnErr result (ends_of reader.new ≡ ends_of reader.old) }
+    ensures met { IfOk result (λ next. MeetsEnd (is_at_end next) (empty_reads_of reader.old) (empty_reads_of reader.new)) }
+    ensures unmet { OnErr result (empty_reads_of reader.new ≡ empty_reads_of reader.old) }
     ensures next { IfOk result (λ next.
         IsUpcoming next (unread input.new) (R.remaining (inner_of reader.new))) }
     ensures awaits { OnErr result (Awaits (unread input.new)) }

@@ -8,7 +8,7 @@ use Rattle.http_desk.specs.declared.connection_end.End.TheVariants.{Quiet, Close
 use Rattle.http_desk.specs.declared.body_length.BodyLength.TheVariants.{Sized, Faulty, Large}
 use Rattle.http_desk.specs.BodyLength.{body_length, closes}
 use Rattle.http_desk.specs.Part.{Part, print_part, BeginsWithHead, IsPart, IsOpenPart}
-use Rattle.http_desk.specs.Reads.{Awaits, ReadsAsRequests, Ends, IsBad, IsTooLarge, IsLast, HasNoPart}
+use Rattle.http_desk.specs.Reads.{Awaits, ReadsAsRequests, IsRemainder, IsBad, IsTooLarge, IsLast, HasNoPart}
 use Rattle.http_desk.proofs.HeadLemmas.{Begins-unique, print_request-some}
 
 pub begins_of : (part : Part) (bytes rest : List ℕ) → IsPart part → bytes ≡ print_part part ++ rest → BeginsWithHead bytes part.head (part.body ++ rest)
@@ -100,7 +100,7 @@ data Stops : List ℕ → List Part → End → Type 0 where
   large : {bytes : List ℕ} → IsTooLarge bytes → Stops bytes [] TooLarge
   last : {bytes : List ℕ} {part : Part} → IsLast bytes part → Stops bytes (part ∷ []) Closed
 
-stops : (bytes : List ℕ) (parts : List Part) (end : End) → Ends bytes parts end → end ≢ Busy → Stops bytes parts end
+stops : (bytes : List ℕ) (parts : List Part) (end : End) → IsRemainder bytes parts end → end ≢ Busy → Stops bytes parts end
 stops bytes [] Quiet e n = quiet e
 stops bytes [] Closed e n = absurd e
 stops bytes [] Bad e n = bad e

@@ -1,5 +1,5 @@
 -- Lemmas on ends of segments that are spelled in JSON.
-use Rattle.std.proofs.Common.{◌≡◌, ◌≢◌, ℕ, List, Option, Some, None, Result, Ok, Err, ap}
+use Rattle.std.proofs.Common.{◌≢◌, ℕ, List, Option, Some, None, Result, Ok, Err}
 use Rattle.std.specs.Prelude.{option_and_then}
 use Rattle.work_ids.specs.SegmentEnds.{StatedEnd, segment_fault, stated_end}
 use Rattle.work_ids.specs.declared.segment.Segment.{Segment}

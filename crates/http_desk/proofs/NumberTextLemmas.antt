@@ -1,5 +1,5 @@
 -- Lemmas on numbers as texts: what a rank below the first year is, and what one of a year is.
-use Rattle.std.proofs.Common.{◌≡◌, ℕ, suc, ◌+◌, ◌*◌, ◌-◌, ◌/◌, ◌%◌, ◌<◌, ◌≤◌, Bool, cond, ap, ◌∙◌, arith}
+use Rattle.std.proofs.Common.{◌≡◌, ℕ, suc, ◌+◌, ◌-◌, ◌/◌, ◌%◌, ◌<◌, ◌≤◌, Bool, cond, ap, ◌∙◌, arith}
 use Rattle.std.specs.Prelude.{decimal, codes, ◌++◌}
 use Rattle.std.proofs.lemmas.Bool.{lt-ltb, le-ltb}
 use Rattle.work_ids.specs.Segments.{base_of, segment_at, segment_of, sequence_of}

@@ -15,7 +15,7 @@ use Rattle.society_core.specs.declared.answers.Receipt.TheVariants.{New, Repeate
 use Rattle.society_core.specs.declared.refusal.Refusal.TheVariants.{Reused, File as NoFile, Ended as EndedBefore, Segment as Past, End as NoEnd, Csv, Cut, Unknown}
 use Rattle.society_core.specs.declared.answers.Standing.TheVariants.{Applied, Held}
 use Rattle.http_desk.specs.declared.body_length.BodyLength.TheVariants.{Sized, Faulty, Large}
-use Rattle.http_desk.specs.declared.connection_end.End.TheVariants.{Quiet, Bad, TooLarge, Busy}
+use Rattle.http_desk.specs.declared.connection_end.End.TheVariants.{Bad, TooLarge, Busy}
 use Rattle.http_desk.specs.BodyLength.{body_length_of, ends_connection}
 use Rattle.http_desk.specs.EndText.{state_query}
 use Rattle.http_desk.specs.NumberTexts.{number_text}

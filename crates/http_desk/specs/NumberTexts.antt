@@ -1,5 +1,5 @@
 -- Numbers of transmissions, fronts and segments as texts.
-use Rattle.std.specs.Prelude.{ℕ, List, [], ◌∷◌, ◌++◌, ◌==◌, Option, Some, None, codes, decimal, length, if◌then◌else◌}
+use Rattle.std.specs.Prelude.{ℕ, List, ◌++◌, ◌==◌, Option, Some, None, codes, decimal, length, if◌then◌else◌}
 use Rattle.std.specs.Option.{option_map}
 use Rattle.std.specs.Str.{bytes_eq}
 use Rattle.work_ids.specs.Digits.{decimal_value}
@@ -16,8 +16,8 @@ number_by (Some spelled) text = transmission_number_spelled spelled
 number_by None text = number_in_text is_plain_number text
 
 -- the number of a transmission that a text spells: a plain one, or one of a year as in 26-0001 (profile)
-abbrev pub number_spelled : List ℕ → Option ℕ
-number_spelled text = number_by (dated_in_text text) text
+abbrev pub rank_in_text : List ℕ → Option ℕ
+rank_in_text text = number_by (dated_in_text text) text
 
 -- the segment that a text names: plain, or the last two digits of a year (profile)
 abbrev pub segment_named : List ℕ → Option Segment

@@ -40,8 +40,8 @@ abbrev pub rank_spelled : SpelledNumber → ℕ
 rank_spelled spelled = unwrap_or (transmission_number_spelled spelled) 0
 
 -- the rank of the number that a value spells
-abbrev pub rank_in : Data → Option ℕ
-rank_in value = option_map rank_spelled (spelled_in value)
+abbrev pub rank_in_value : Data → Option ℕ
+rank_in_value value = option_map rank_spelled (spelled_in value)
 
 -- there are two elements
 abbrev pub are_two : Option Items → Bool
@@ -87,12 +87,12 @@ abbrev pub reporter_named : List ℕ → Option (List ℕ)
 reporter_named bytes = result_ok (reporter_of bytes)
 
 -- a sender and the rank of the number of one of its transmissions
-abbrev pub sender_entry : Data → Option (List ℕ × ℕ)
-sender_entry value = named_number sender_of rank_in value
+abbrev pub sender_named : Data → Option (List ℕ × ℕ)
+sender_named value = named_number sender_of rank_in_value value
 
 -- a reporter and the number of one of its returns, a whole number from 0
-abbrev pub return_entry : Data → Option (List ℕ × ℕ)
-return_entry value = named_number reporter_named whole_in value
+abbrev pub return_named : Data → Option (List ℕ × ℕ)
+return_named value = named_number reporter_named whole_in value
 
 -- the right that a text names: PR or MR (CISAC CWR 2.2)
 abbrev pub kind_named : List ℕ → Option Kind
@@ -123,11 +123,11 @@ numbers_by None amount cut returns = None
 
 -- the cut that an object spells
 abbrev pub cut_in : Data → Option (List (List ℕ × ℕ))
-cut_in value = option_and_then (named_numbers_in sender_entry) (get (codes "cut") value)
+cut_in value = option_and_then (named_numbers_in sender_named) (get (codes "cut") value)
 
 -- the returns that it spells
 abbrev pub returns_in : Data → Option (List (List ℕ × ℕ))
-returns_in value = option_and_then (named_numbers_in return_entry) (get (codes "returns") value)
+returns_in value = option_and_then (named_numbers_in return_named) (get (codes "returns") value)
 
 -- what an object spells: its members are the amount, the cut and the returns, the kind where it names one, and no others
 abbrev pub numbers_in : Data → Option OrderNumbers

@@ -26,7 +26,7 @@ use Rattle.http_desk.specs.declared.routes.Route.{Route}
 use Rattle.http_desk.specs.declared.routes.Route.TheVariants.{Transmission, File, Segment, Acknowledgement, Return, Sender, Verdicts, Work, Account, Pool}
 use Rattle.http_desk.specs.BodyLength.{is_put}
 use Rattle.http_desk.specs.EndText.{state_query}
-use Rattle.http_desk.specs.NumberTexts.{number_spelled, segment_named}
+use Rattle.http_desk.specs.NumberTexts.{rank_in_text, segment_named}
 use Rattle.http_desk.specs.OrderText.{close_query, reporter_named, sender_of}
 use Rattle.http_desk.specs.Part.{Part}
 
@@ -83,7 +83,7 @@ plain_number_in_path parts = option_and_then (number_in_text is_plain_number) (p
 
 -- the number of a transmission in it, plain or of a year
 abbrev pub transmission_number_in_path : List (List ℕ × List ℕ) → Option ℕ
-transmission_number_in_path parts = option_and_then number_spelled (parameter (codes "n") parts)
+transmission_number_in_path parts = option_and_then rank_in_text (parameter (codes "n") parts)
 
 -- the number in the name of a file in it, which is sent to this society
 abbrev pub file_number_in_path : ℕ → List (List ℕ × List ℕ) → Option ℕ

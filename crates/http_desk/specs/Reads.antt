@@ -74,24 +74,24 @@ abbrev pub IsLast : List ℕ → Part → Type 0
 IsLast bytes part = (rest : List ℕ) × IsPart part × (closes part.head ≡ true) × (bytes ≡ print_part part ++ rest)
 
 -- what stands after the requests that leave the connection open, where it ends so: one last request or none
-abbrev pub Ends : List ℕ → List Part → End → Type 0
-Ends bytes [] Quiet = bytes ≡ []
-Ends bytes [] Closed = ⊥
-Ends bytes [] Bad = IsBad bytes
-Ends bytes [] TooLarge = IsTooLarge bytes
-Ends bytes [] Busy = MayBeBusy bytes
-Ends bytes (part ∷ []) Closed = IsLast bytes part
-Ends bytes (part ∷ []) Quiet = ⊥
-Ends bytes (part ∷ []) Bad = ⊥
-Ends bytes (part ∷ []) TooLarge = ⊥
-Ends bytes (part ∷ []) Busy = ⊥
-Ends bytes (part ∷ other ∷ parts) end = ⊥
+abbrev pub IsRemainder : List ℕ → List Part → End → Type 0
+IsRemainder bytes [] Quiet = bytes ≡ []
+IsRemainder bytes [] Closed = ⊥
+IsRemainder bytes [] Bad = IsBad bytes
+IsRemainder bytes [] TooLarge = IsTooLarge bytes
+IsRemainder bytes [] Busy = MayBeBusy bytes
+IsRemainder bytes (part ∷ []) Closed = IsLast bytes part
+IsRemainder bytes (part ∷ []) Quiet = ⊥
+IsRemainder bytes (part ∷ []) Bad = ⊥
+IsRemainder bytes (part ∷ []) TooLarge = ⊥
+IsRemainder bytes (part ∷ []) Busy = ⊥
+IsRemainder bytes (part ∷ other ∷ parts) end = ⊥
 
 -- the bytes are these requests in this order, with this end; Busy says that memory was refused while a further one was read
 abbrev pub ReadsAsRequests : List ℕ → List Part → End → Type 0
 ReadsAsRequests bytes parts end =
     (front : List Part) × (last : List Part) × (rest : List ℕ)
-    × (parts ≡ front ++ last) × Cuts bytes front rest × Ends rest last end
+    × (parts ≡ front ++ last) × Cuts bytes front rest × IsRemainder rest last end
 
 -- two readings of the same bytes as requests are one; a refusal of memory, which bytes do not tell, stays out of it
 abbrev pub IsCutOneWay : Type 0

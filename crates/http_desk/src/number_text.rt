@@ -1,7 +1,7 @@
 //! Numbers of transmissions, fronts and segments as texts.
 ghost use Rattle.std.specs.Prelude.{◌≡◌, ◌≤◌, ◌-◌, ◌/◌, ◌%◌};
 ghost use Rattle.work_ids.specs.SpelledNumber.{dated_text};
-ghost use Rattle.http_desk.specs.NumberTexts.{number_spelled, segment_named};
+ghost use Rattle.http_desk.specs.NumberTexts.{rank_in_text, segment_named};
 
 use work_ids::{Segment, SpelledNumber, TransmissionNumber, last_digits, number};
 
@@ -19,7 +19,7 @@ const YEAR_DIGITS: usize = 2;
 
 /// The number of a transmission that a text spells: a plain one, or one of a year as in `26-0001` (profile).
 pub(crate) fn number_spelled(text: &[u8]) -> Option<TransmissionNumber>
-    ensures { result ≡ number_spelled text.now }
+    ensures { result ≡ rank_in_text text.now }
 {
     match SpelledNumber::from_text(text) {
         Some(spelled) => spelled.number(),

@@ -5,7 +5,7 @@ ghost use Rattle.serde_json.specs.Find.{as_array};
 ghost use Rattle.serde_json.specs.View.{view};
 ghost use Rattle.society_core.specs.Requests.{query_of};
 ghost use Rattle.http_desk.specs.JsonBodies.{json_of, whole_in};
-ghost use Rattle.http_desk.specs.OrderText.{are_two, close_query, kind_in, kind_named, members_of_order, named_numbers_in, numbers_in, pair_in, rank_in, rank_spelled, return_entry, sender_entry, spelled_in};
+ghost use Rattle.http_desk.specs.OrderText.{are_two, close_query, kind_in, kind_named, members_of_order, named_numbers_in, numbers_in, pair_in, rank_in_value, rank_spelled, return_named, sender_named, spelled_in};
 ghost use Rattle.http_desk.specs.OrderRead.{numbers_read};
 
 use crate::json_body::{has_members, value_of, whole_member};
@@ -72,7 +72,7 @@ fn rank_of(spelled: SpelledNumber) -> u64
 
 // The rank of the number that a value spells.
 fn rank(value: &Value) -> Option<u64>
-    ensures { result ≡ rank_in (view value.now) }
+    ensures { result ≡ rank_in_value (view value.now) }
 {
     let spelled = spelled_number(value)?;
     Some(rank_of(spelled))
@@ -80,7 +80,7 @@ fn rank(value: &Value) -> Option<u64>
 
 // A text and the rank of a number, where the value is an array of the two.
 fn pair_of_rank(value: &Value) -> Option<(&str, u64)>
-    ensures { option_map (λ pair. (pair.0.now, pair.1)) result ≡ pair_in rank_in (view value.now) }
+    ensures { option_map (λ pair. (pair.0.now, pair.1)) result ≡ pair_in rank_in_value (view value.now) }
 {
     if !is_array_of_two(value) {
         return None;
@@ -104,7 +104,7 @@ fn pair(value: &Value) -> Option<(&str, u64)>
 
 // A sender and the rank of a number.
 fn numbered_sender(value: &Value) -> Option<(SenderKey, u64)>
-    ensures { result ≡ sender_entry (view value.now) }
+    ensures { result ≡ sender_named (view value.now) }
 {
     let (name, number) = pair_of_rank(value)?;
     let sender = SenderKey::from_bytes(name.as_bytes()).ok()?;
@@ -113,7 +113,7 @@ fn numbered_sender(value: &Value) -> Option<(SenderKey, u64)>
 
 // A reporter and a number.
 fn numbered_reporter(value: &Value) -> Option<(Reporter, u64)>
-    ensures { result ≡ return_entry (view value.now) }
+    ensures { result ≡ return_named (view value.now) }
 {
     let (name, number) = pair(value)?;
     let reporter = Reporter::from_bytes(name.as_bytes()).ok()?;
@@ -123,7 +123,7 @@ fn numbered_reporter(value: &Value) -> Option<(Reporter, u64)>
 // The cut of an order.
 fn cut_of(alloc: Global, value: &Value) -> Result<Option<Vec<(SenderKey, u64)>>, AllocError>
     ensures { IfOk result (λ cut.
-        option_map (λ v. v.items) cut ≡ named_numbers_in sender_entry (view value.now)) }
+        option_map (λ v. v.items) cut ≡ named_numbers_in sender_named (view value.now)) }
 {
     let Some(list) = value.as_array() else {
         return Ok(None);
@@ -141,7 +141,7 @@ fn cut_of(alloc: Global, value: &Value) -> Result<Option<Vec<(SenderKey, u64)>>,
 // The returns of an order.
 fn returns_of(alloc: Global, value: &Value) -> Result<Option<Vec<(Reporter, u64)>>, AllocError>
     ensures { IfOk result (λ returns.
-        option_map (λ v. v.items) returns ≡ named_numbers_in return_entry (view value.now)) }
+        option_map (λ v. v.items) returns ≡ named_numbers_in return_named (view value.now)) }
 {
     let Some(list) = value.as_array() else {
         return Ok(None);

@@ -11,7 +11,7 @@ use Rattle.society_core.specs.declared.store.Place.{Place}
 use Rattle.society_book.specs.DerivedRows.{works_to}
 use Rattle.society_book.specs.Kept.{HoldsBook}
 use Rattle.society_book.specs.Outcomes.{settled}
-use Rattle.society_book.specs.Runs.{EndsReady, GoesOnBy, Notes, RunValue, behind_run, is_among, line_at_front, settled_recordings, settled_run, settled_verdict, settled_version}
+use Rattle.society_book.specs.Runs.{EndsReady, GoesOnBy, Notes, RunValue, behind_run, is_key_among, line_at_front, settled_recordings, settled_run, settled_verdict, settled_version}
 use Rattle.society_book.specs.Shown.{PutsLine}
 use Rattle.society_book.specs.Steps.{Arrives, ArrivesTo, StatesEnd, StatesEndTo}
 use Rattle.society_book.specs.declared.outcomes.Outcome.{Outcome}
@@ -69,7 +69,7 @@ LearnsWork sender work old new db =
 abbrev pub LearnsWorks : List ℕ → List (List ℕ) → LineEnd → LineEnd → Trees → Type 0
 LearnsWorks sender works old new db =
     (office : Office) (book : Book) → HoldsBook office book db → EndsAt (λ _. false) (line_at_front office book sender) old
-    → EndsAt (is_among works) (line_at_front office book sender) new
+    → EndsAt (is_key_among works) (line_at_front office book sender) new
 
 -- it is the end of the sender's line at its front, with so many accepted NWR, at which the works of the run are known
 abbrev pub EndsAtFront : List ℕ → ℕ → List Notes → Trees → LineEnd → Type 0

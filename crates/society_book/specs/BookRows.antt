@@ -1,5 +1,5 @@
 -- The rows of the book's own tables, and the book that such rows stand for.
-use Rattle.std.specs.Prelude.{◌≡◌, ◌&&◌, ℕ, pos, Bool, List, [], ◌∷◌, ◌==◌, Option, Some, None, filter, map, bytes_eq}
+use Rattle.std.specs.Prelude.{◌&&◌, ℕ, pos, Bool, List, [], ◌∷◌, ◌==◌, Option, Some, None, filter, map, bytes_eq}
 use Rattle.std.specs.FinMap as finite
 use Rattle.sqlite_value.specs.declared.value.Value.TheVariants.{Int, Text, Blob}
 use Rattle.sqlite_value.specs.Order.{Row}
@@ -17,7 +17,7 @@ use Rattle.society_rows.specs.Layout as layout
 use Rattle.society_rows.specs.SegmentColumns.{segment_column}
 use Rattle.society_rows.specs.Stored.{rows_in}
 use Rattle.work_ids.specs.Blanks.{fill, without_trailing_blanks}
-use Rattle.society_book.specs.Columns.{HasRows, blob_at, segment_at, whole_number_at, text_at}
+use Rattle.society_book.specs.Columns.{HasRows, blob_at, segment_place_at, whole_number_at, text_at}
 
 -- what a key has, as one row or none
 abbrev pub row_of_some : {X : Type 0} → (X → Row) → Option X → List Row
@@ -50,7 +50,7 @@ end_row key end = Text key.sender ∷ Int (segment_column key.segment) ∷ Int (
 
 -- the key of a row of an end
 abbrev pub segment_key_of : Row → SegmentKey
-segment_key_of row = segment_key (text_at 0 row) (segment_at 1 row)
+segment_key_of row = segment_key (text_at 0 row) (segment_place_at 1 row)
 
 -- whether a row is of the end of a segment
 abbrev pub is_end_row : SegmentKey → Row → Bool
@@ -62,7 +62,7 @@ end_rows book key = row_of_some (end_row key) (end_at book key.sender key.segmen
 
 -- the end that a row says
 abbrev pub end_of : Row → End
-end_of row = record { last = whole_number_at 2 row; next = segment_at 3 row }
+end_of row = record { last = whole_number_at 2 row; next = segment_place_at 3 row }
 
 -- the row of a return: reporter without the blanks that fill it, number, body
 abbrev pub return_row : ReturnKey → List ℕ → Row

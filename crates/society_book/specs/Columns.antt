@@ -33,8 +33,8 @@ abbrev pub whole_number_at : ℕ → Row → ℕ
 whole_number_at at row = whole_number_of (column row at)
 
 -- the place of the segment in a column
-abbrev pub segment_at : ℕ → Row → ℕ
-segment_at at row = segment_of_value (column row at)
+abbrev pub segment_place_at : ℕ → Row → ℕ
+segment_place_at at row = segment_of_value (column row at)
 
 -- the bytes in a column
 abbrev pub blob_at : ℕ → Row → List ℕ

@@ -4,7 +4,7 @@ use Rattle.sqlite_value.specs.Order.{Row}
 use Rattle.sender_segments.specs.Ways.{End, StatedEnds, end_stated}
 use Rattle.society_core.specs.Ends.{fault_stated, place_stated}
 use Rattle.society_book.specs.BookRows.{end_of}
-use Rattle.society_book.specs.Columns.{segment_at}
+use Rattle.society_book.specs.Columns.{segment_place_at}
 use Rattle.work_ids.specs.SegmentEnds.{StatedEnd}
 use Rattle.work_ids.specs.Segments.{base_of}
 
@@ -18,7 +18,7 @@ is_faultless end = is_none (fault_stated end)
 
 -- the end of the segment at a place that some rows show, the first one where they show more
 abbrev pub end_shown : List Row → StatedEnds
-end_shown rows = λ segment. option_map end_of (find (λ row. segment_at 1 row == segment) rows)
+end_shown rows = λ segment. option_map end_of (find (λ row. segment_place_at 1 row == segment) rows)
 
 -- the first rank behind an end, where a number is not below it: the end of a segment with this first rank
 abbrev pub behind_end : ℕ → ℕ → Option End → Option ℕ

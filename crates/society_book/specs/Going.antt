@@ -5,7 +5,7 @@ use Rattle.sqlite_trees.specs.Tree.{Trees}
 use Rattle.sender_segments.specs.Ways.{IsGap, is_reached, numbers_up_to}
 use Rattle.society_core.specs.Book.{AreOrderly, Book, body_at, ends_of, is_there}
 use Rattle.society_book.specs.EndLists.{end_listed}
-use Rattle.society_book.specs.Runs.{AreNoted, IsWhole, RunValue, numbers_in}
+use Rattle.society_book.specs.Runs.{AreNoted, IsWhole, RunValue, numbers_of_run}
 use Rattle.society_book.specs.Sources.{HasEnds, HasTransmissions, KeepsSent}
 use Rattle.work_ids.specs.SegmentEnds.{StatedEnd}
 use Rattle.work_ids.specs.Segments.{segment_of}
@@ -18,7 +18,7 @@ ReadsEnds sender db ends = (book : Book) → HasEnds book db → end_listed ends
 pub record ComesTo (office : Office) (book : Book) (sender : List ℕ) (from : ℕ) (run : RunValue) : Type 0 where
   pub its : run.office ≡ office
   pub reached : is_reached (is_there book sender) (ends_of book sender) run.reached ≡ true
-  pub numbers : numbers_up_to (ends_of book sender) run.reached ≡ numbers_up_to (ends_of book sender) from ++ numbers_in run.notes
+  pub numbers : numbers_up_to (ends_of book sender) run.reached ≡ numbers_up_to (ends_of book sender) from ++ numbers_of_run run.notes
   pub each : AreNoted office book sender run.notes
 
 -- and the next number is not there

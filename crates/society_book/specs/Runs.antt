@@ -53,8 +53,8 @@ take_row run row = record run {
 }
 
 -- the numbers of the transmissions of a run
-abbrev pub numbers_in : List Notes → List ℕ
-numbers_in notes = map (λ x. x.number) notes
+abbrev pub numbers_of_run : List Notes → List ℕ
+numbers_of_run notes = map (λ x. x.number) notes
 
 -- a sender's transmissions are noted, each under its number
 abbrev pub AreNoted : Office → Book → List ℕ → List Notes → Type 0
@@ -62,13 +62,13 @@ AreNoted office book sender notes = AllByRecursion (λ x. x ≡ notes_in office 
 
 -- from one book to another a sender's line goes on by these transmissions
 pub record GoesOnBy (office : Office) (a b : Book) (sender : List ℕ) (notes : List Notes) : Type 0 where
-  pub goes : GoesOn a b sender (numbers_in notes)
+  pub goes : GoesOn a b sender (numbers_of_run notes)
   pub each : AreNoted office b sender notes
 
 -- a run is a sender's whole line, up to its front
 pub record IsWhole (office : Office) (book : Book) (sender : List ℕ) (run : RunValue) : Type 0 where
   pub reached : run.reached ≡ front book sender
-  pub numbers : numbers_in run.notes ≡ line book sender
+  pub numbers : numbers_of_run run.notes ≡ line book sender
   pub each : AreNoted office book sender run.notes
 
 -- a transaction of a run: its transmission's number, its place there, its work number as text, its ISRCs and its verdict
@@ -118,9 +118,9 @@ clean_works [] = []
 clean_works (Clean kind number ∷ more) = number ∷ clean_works more
 clean_works (Faulty fault ∷ more) = clean_works more
 
--- whether a work is among some
-abbrev pub is_among : List (List ℕ) → List ℕ → Bool
-is_among works work = list_any (λ other. bytes_eq other work) works
+-- whether a key is among some: the number of a work, or a sender
+abbrev pub is_key_among : List (List ℕ) → List ℕ → Bool
+is_key_among keys key = list_any (λ other. bytes_eq other key) keys
 
 -- a sender's line up to its front
 abbrev pub line_at_front : Office → Book → List ℕ → List Placed

@@ -3,7 +3,6 @@ use Rattle.share_rules.specs.declared.office.Office.{Office}
 use Rattle.sqlite_trees.specs.Tree.{Trees}
 use Rattle.society_core.specs.Book.{Book, IsSound}
 use Rattle.society_rows.specs.Layout as layout
-use Rattle.society_rows.specs.Layout.{all_tables}
 use Rattle.society_rows.specs.Stored.{rows_in}
 use Rattle.society_book.specs.BookRows.{end_rows, is_end_row, is_return_row, is_transmission_row, return_rows, transmission_rows}
 use Rattle.society_book.specs.Columns.{HasRows}

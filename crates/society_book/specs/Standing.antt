@@ -7,8 +7,8 @@ use Rattle.society_book.specs.declared.skips.Skip.{Skip}
 use Rattle.work_ids.specs.Segments.{sequence_of}
 
 -- whether a number is above one and below another
-abbrev pub is_within : ℕ → ℕ → ℕ → Bool
-is_within above below n = nat_lt above n && nat_lt n below
+abbrev pub is_strictly_between : ℕ → ℕ → ℕ → Bool
+is_strictly_between above below n = nat_lt above n && nat_lt n below
 
 -- the numbers of a sender's transmissions above a number, ascending
 abbrev pub numbers_above : Book → List ℕ → ℕ → List ℕ
@@ -16,11 +16,11 @@ numbers_above book sender above = filter (nat_lt above) (numbers_of book sender)
 
 -- those above one number and below another
 abbrev pub numbers_within : Book → List ℕ → ℕ → ℕ → List ℕ
-numbers_within book sender above below = filter (is_within above below) (numbers_of book sender)
+numbers_within book sender above below = filter (is_strictly_between above below) (numbers_of book sender)
 
 -- whether a number is one of those that are skipped
 abbrev pub is_skipped : List Skip → ℕ → Bool
-is_skipped skips n = list_any (λ skip. is_within skip.above skip.below n) skips
+is_skipped skips n = list_any (λ skip. is_strictly_between skip.above skip.below n) skips
 
 -- skips from one rank on that rise up to another
 abbrev pub SkipsRise : ℕ → List Skip → ℕ → Type 0

@@ -7,7 +7,7 @@ use Rattle.sqlite_trees.specs.Tree.{Trees}
 use Rattle.sqlite_value.specs.declared.value.Value.TheVariants.{Int, Text}
 use Rattle.sqlite_value.specs.Order.{Row}
 use Rattle.sender_segments.specs.Ways.{end_stated}
-use Rattle.society_core.specs.Answers.{place_in}
+use Rattle.society_core.specs.Answers.{place_in_book}
 use Rattle.society_core.specs.Book.{Book, body_at, end_at, front, with_end, with_transmission}
 use Rattle.society_core.specs.Ends.{ended_before, number_past, place_stated}
 use Rattle.society_core.specs.declared.store.Place.{Place}
@@ -62,7 +62,7 @@ Arrives office sender number body old new =
 abbrev pub ArrivesTo : Office → List ℕ → ℕ → List ℕ → Trees → Place → Type 0
 ArrivesTo office sender number body old place =
     (book : Book) → HoldsBook office book old → body_at book sender number ≡ None → ended_before book sender number ≡ None
-    → place ≡ place_in (with_transmission book sender number body) sender number
+    → place ≡ place_in_book (with_transmission book sender number body) sender number
 
 -- tables that held a book of the office in which a segment has no end, and no number above this one, hold it with that end
 abbrev pub StatesEnd : Office → List ℕ → StatedEnd → Trees → Trees → Type 0

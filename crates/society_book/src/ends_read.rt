@@ -5,7 +5,7 @@ ghost use Rattle.society_core.specs.Ends.{place_stated};
 ghost use Rattle.society_rows.specs.Between.{between, within};
 ghost use Rattle.society_rows.specs.Questions.{Asks};
 ghost use Rattle.society_book.specs.BookRows.{end_of};
-ghost use Rattle.society_book.specs.Columns.{segment_at};
+ghost use Rattle.society_book.specs.Columns.{segment_place_at};
 ghost use Rattle.society_book.specs.EndLists.{end_listed, end_shown};
 ghost use Rattle.society_book.specs.Going.{ReadsEnds};
 ghost use Rattle.society_book.specs.Steps.{LooksOpen};
@@ -18,7 +18,7 @@ use work_ids::SegmentEnd;
 
 // The end that a row says; `Unread` where it says none.
 fn end_in(row: &Row) -> Result<SegmentEnd, RowFault>
-    ensures { IfOk result (λ end. (place_stated end ≡ segment_at 1 row.now) × (end_stated end ≡ end_of row.now)) }
+    ensures { IfOk result (λ end. (place_stated end ≡ segment_place_at 1 row.now) × (end_stated end ≡ end_of row.now)) }
 {
     let row = SegmentEndRow::from_row(row)?;
     match SegmentEnd::new(row.segment, u64::from(row.last), u64::from(row.next)) {

@@ -1,7 +1,7 @@
 //! What is asked of a sender.
 ghost use Rattle.std.specs.Prelude.{◌≡◌, ◌≤◌, List, ℕ, None, Option, Some, map, IfOk, true};
 ghost use Rattle.sender_segments.specs.Ways.{StatedEnds, numbers_up_to};
-ghost use Rattle.society_core.specs.Answers.{free_under, known_as, known_by, place_in, transmission_known};
+ghost use Rattle.society_core.specs.Answers.{free_under, known_as, known_by, place_in_book, transmission_known};
 ghost use Rattle.society_core.specs.declared.store.KnownTransmission.TheVariants as transmissions;
 ghost use Rattle.society_core.specs.Book.{front, is_in_line, is_one_of, shown_verdicts};
 ghost use Rattle.society_core.specs.Ends.{ended_before};
@@ -86,7 +86,7 @@ fn place_at<S: Alter>(
     number: TransmissionNumber,
     reached: u32,
 ) -> Result<Place, RowFault>
-    ensures asked { between S.Store conn.old conn.new Asks result (ByBook (λ _ book place. reached ≡ front book sender.now → place ≡ place_in book sender.now number)) }
+    ensures asked { between S.Store conn.old conn.new Asks result (ByBook (λ _ book place. reached ≡ front book sender.now → place ≡ place_in_book book sender.now number)) }
 {
     let ends = ends_of(conn, sender)?;
     Ok(Place {
@@ -101,7 +101,7 @@ pub fn place_of<S: Alter>(
     sender: &[u8],
     number: TransmissionNumber,
 ) -> Result<Place, RowFault>
-    ensures asked { between S.Store conn.old conn.new Asks result (ByBook (λ _ book place. place ≡ place_in book sender.now number)) }
+    ensures asked { between S.Store conn.old conn.new Asks result (ByBook (λ _ book place. place ≡ place_in_book book sender.now number)) }
 {
     let reached = front_of(conn, sender)?;
     if reached <= Segment::Plain.greatest() {
@@ -116,7 +116,7 @@ fn same_at_place<S: Alter>(
     sender: &[u8],
     number: TransmissionNumber,
 ) -> Result<KnownTransmission, RowFault>
-    ensures asked { between S.Store conn.old conn.new Asks result (ByBook (λ _ book found. found ≡ transmissions.Same (place_in book sender.now number))) }
+    ensures asked { between S.Store conn.old conn.new Asks result (ByBook (λ _ book found. found ≡ transmissions.Same (place_in_book book sender.now number))) }
 {
     let place = place_of(conn, sender, number)?;
     Ok(KnownTransmission::Same(place))

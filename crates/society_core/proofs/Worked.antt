@@ -5,7 +5,7 @@ use Rattle.sender_segments.specs.Ways.{greatest_passing, numbers_up_to}
 use Rattle.share_rules.specs.declared.office.Office.{Office}
 use Rattle.work_ids.specs.declared.segment.Segment.TheVariants.{Year}
 use Rattle.work_ids.specs.declared.segment_end.SegmentFault.TheVariants as segment_faults
-use Rattle.society_core.specs.Answers.{answer, arrival_at, known_by, place_of, put_answer, shown_answer}
+use Rattle.society_core.specs.Answers.{answer, arrival_at, known_by, place_by, put_answer, shown_answer}
 use Rattle.society_core.specs.Book.{empty_book, greatest_of, is_one_of}
 use Rattle.society_core.specs.Ends.{is_past, last_below, last_number_of}
 use Rattle.society_core.specs.Orders.{order_fault}
@@ -36,10 +36,10 @@ none_before : is_one_of (numbers_up_to (λ _. None) 3) 0 ≡ false
 none_before = refl
 
 -- what is applied, and what is held
-in_the_line : arrival_at false (place_of 3 true) ≡ record { known = false; front = 3; standing = Applied }
+in_the_line : arrival_at false (place_by 3 true) ≡ record { known = false; front = 3; standing = Applied }
 in_the_line = refl
 
-not_in_the_line : arrival_at false (place_of 3 false) ≡ record { known = false; front = 3; standing = Held }
+not_in_the_line : arrival_at false (place_by 3 false) ≡ record { known = false; front = 3; standing = Held }
 not_in_the_line = refl
 
 -- the end of a segment, above which a number is

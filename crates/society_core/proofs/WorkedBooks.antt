@@ -9,7 +9,7 @@ use Rattle.std.specs.declared.cmp.Ordering.TheVariants.{Greater}
 use Rattle.std.proofs.lemmas.Bool.Decides.{nat_tests}
 use Rattle.sender_segments.specs.Ways.{AreRight, End, IsGap, StatedEnds, is_reached, numbers_up_to}
 use Rattle.work_ids.specs.Segments.{most_in}
-use Rattle.society_core.specs.Answers.{place_in, place_of}
+use Rattle.society_core.specs.Answers.{place_in_book, place_by}
 use Rattle.society_core.specs.Book.{Book, ends_among, front, held, is_among, is_one_of, numbers_led_through}
 use Rattle.society_core.specs.Ends.{end_known_as, end_known_by, ended_before, last_below, number_past}
 use Rattle.society_core.specs.Keys.{segment_cmp, segment_key, transmission_cmp, transmission_key}
@@ -65,8 +65,8 @@ module _ (bodies : List (TransmissionKey × List ℕ)) (stated : List (SegmentKe
   keys_are = ap (map (λ (e : TransmissionKey × List ℕ). e.0)) (entries_in_order transmissions_total exact_transmissions bodies known.sorted)
 
   -- where a number stands
-  place_is : (k : ℕ) → place_in (book_of bodies stated) sender k ≡ place_of n (is_one_of (numbers_up_to ends n) k)
-  place_is k = ap₂ place_of front_is (sym (in_line_by (book_of bodies stated) sender (numbers_up_to ends n) led_is k))
+  place_is : (k : ℕ) → place_in_book (book_of bodies stated) sender k ≡ place_by n (is_one_of (numbers_up_to ends n) k)
+  place_is k = ap₂ place_by front_is (sym (in_line_by (book_of bodies stated) sender (numbers_up_to ends n) led_is k))
 
   -- what is held
   held_is : held (book_of bodies stated) sender ≡ map (λ k. k.number) (filter (λ k. bytes_eq k.sender sender && not (is_one_of (numbers_up_to ends n) k.number)) (map (λ e. e.0) bodies))
@@ -124,7 +124,7 @@ unstated = record {
   sorted = ((refl, tt), (tt, tt));
 }
 
-waits : place_in (book_of two []) sender 1260001 ≡ place_of 1 false
+waits : place_in_book (book_of two []) sender 1260001 ≡ place_by 1 false
 waits = place_is two [] no_ends 1 unstated 1260001
 
 held_before : held (book_of two []) sender ≡ 1260001 ∷ []
@@ -141,7 +141,7 @@ led_on = record {
   sorted = ((refl, tt), (tt, tt));
 }
 
-applied : place_in (book_of two (stated 1)) sender 1260001 ≡ place_of 1260001 true
+applied : place_in_book (book_of two (stated 1)) sender 1260001 ≡ place_by 1260001 true
 applied = place_is two (stated 1) (plain_end 1) 1260001 led_on 1260001
 
 none_held : held (book_of two (stated 1)) sender ≡ []
@@ -216,7 +216,7 @@ led_past = record {
   sorted = ((refl, (refl, tt)), ((refl, tt), (tt, tt)));
 }
 
-skipped_waits : place_in (book_of skipped (stated 1)) sender 1250001 ≡ place_of 1260001 false
+skipped_waits : place_in_book (book_of skipped (stated 1)) sender 1250001 ≡ place_by 1260001 false
 skipped_waits = place_is skipped (stated 1) (plain_end 1) 1260001 led_past 1250001
 
 skipped_held : held (book_of skipped (stated 1)) sender ≡ 1250001 ∷ []

@@ -47,12 +47,12 @@ use Rattle.works_core.specs.Recordings.{isrcs_of, right_one}
 use Rattle.works_core.specs.declared.version.WorkVersion.{WorkVersion}
 
 -- where a number stands: its sender's front, and whether it is in the sender's line
-abbrev pub place_of : ℕ → Bool → Place
-place_of front is_applied = record { front = front; is_applied = is_applied }
+abbrev pub place_by : ℕ → Bool → Place
+place_by front is_applied = record { front = front; is_applied = is_applied }
 
 -- where a number stands in a book
-abbrev pub place_in : Book → List ℕ → ℕ → Place
-place_in book sender number = place_of (front book sender) (is_in_line book sender number)
+abbrev pub place_in_book : Book → List ℕ → ℕ → Place
+place_in_book book sender number = place_by (front book sender) (is_in_line book sender number)
 
 -- a transmission is applied where its number is in its sender's line, else it is held (profile)
 abbrev pub standing_at : Bool → Standing
@@ -64,7 +64,7 @@ arrival_at known place = record { known = known; front = place.front; standing =
 
 -- how a transmission stands in a book, and whether it came again
 abbrev pub arrival_in : Bool → Book → List ℕ → ℕ → Arrival
-arrival_in known book sender number = arrival_at known (place_in book sender number)
+arrival_in known book sender number = arrival_at known (place_in_book book sender number)
 
 -- whether what the book has under a number is this body
 abbrev pub known_by : List ℕ → Option (List ℕ) → Known
@@ -89,7 +89,7 @@ known_with place ended Other = transmissions.Other
 -- what a book has under a transmission's number, beside a body
 abbrev pub transmission_known : Book → List ℕ → ℕ → List ℕ → KnownTransmission
 transmission_known book sender number body =
-    known_with (place_in book sender number) (ended_before book sender number) (known_as book sender number body)
+    known_with (place_in_book book sender number) (ended_before book sender number) (known_as book sender number body)
 
 -- the answer to a put of a transmission under a number that is free: that its segment ended before, or how it stands once it is added (profile)
 abbrev pub taken_answer : Book → List ℕ → ℕ → List ℕ → Option ℕ → Reply

@@ -2,7 +2,7 @@
 use Rattle.std.specs.Prelude.{ℕ, ◌≡◌, List, Option, Result, Vec, option_map}
 use Rattle.std.specs.Global.{Global}
 use Rattle.pool_split.specs.declared.claim.Credit.{Credit}
-use Rattle.society_core.specs.Answers.{end_known, place_in, return_known_as, shown_in, transmission_known}
+use Rattle.society_core.specs.Answers.{end_known, place_in_book, return_known_as, shown_in, transmission_known}
 use Rattle.society_core.specs.Book.{ack, front, held, order_at, shown_verdicts, with_end, with_transmission}
 use Rattle.society_core.specs.Ends.{place_stated}
 use Rattle.society_core.specs.Pools.{balance, credits_of}
@@ -35,7 +35,7 @@ IsAckOf s sender number text = option_map (λ bytes. bytes.items) text ≡ ack s
 
 -- where a number of a sender stands
 abbrev pub IsPlaceOf : State → List ℕ → ℕ → Place → Type 0
-IsPlaceOf s sender number place = place ≡ place_in s.book sender number
+IsPlaceOf s sender number place = place ≡ place_in_book s.book sender number
 
 -- how a sender stands
 abbrev pub IsStandingOf : State → List ℕ → SenderStatus → Type 0
@@ -65,7 +65,7 @@ IsBalanceOf s account units = units ≡ balance s.office s.book account
 abbrev pub AddsArrival : State → State → List ℕ → ℕ → List ℕ → Result Place StoreFault → Type 0
 AddsArrival old new sender number body result =
     let next = with_transmission old.book sender number body in
-    Addition old new next result (λ place. place ≡ place_in next sender number)
+    Addition old new next result (λ place. place ≡ place_in_book next sender number)
 
 -- the end of a sender's segment is added, and the sender's front is told then
 abbrev pub AddsEnd : State → State → List ℕ → StatedEnd → Result ℕ StoreFault → Type 0

@@ -7,7 +7,7 @@ ghost use Rattle.std.specs.List.{find};
 ghost use Rattle.std.specs.Ordering.{nat_cmp};
 ghost use Rattle.std.specs.List.Sorted.{IsStrictlySortedBy};
 ghost use Rattle.sender_segments.specs.Ways.{end_stated};
-ghost use Rattle.society_core.specs.Answers.{payer, place_in, pool_of};
+ghost use Rattle.society_core.specs.Answers.{payer, place_in_book, pool_of};
 ghost use Rattle.society_core.specs.Book.{AreOrderly, IsSound, body_at, empty_book, end_at, front, front_in, held, is_in_line, numbers_to, order_at, return_at, with_end, with_pool, with_return, with_transmission};
 ghost use Rattle.society_core.specs.Ends.{is_past, last_number_of, number_past, place_stated};
 ghost use Rattle.society_core.specs.Keys.{bytes_cmp, transmission_cmp};
@@ -300,7 +300,7 @@ impl PlainBook {
     /// Where a number of a sender stands.
     pub fn place(&self, sender: &SenderKey, number: TransmissionNumber) -> Place
         requires { IsSound self.now }
-        ensures { result ≡ place_in self.now sender.now number }
+        ensures { result ≡ place_in_book self.now sender.now number }
     {
         Place {
             front: self.front(sender),
@@ -363,7 +363,7 @@ impl PlainBook {
         requires free { body_at self.old sender.now number ≡ None }
         requires after { IsSound (with_transmission self.old sender.now number body.items) }
         ensures ok { OnOk result (self.new ≡ with_transmission self.old sender.now number body.items) }
-        ensures place { IfOk result (λ place. place ≡ place_in self.new sender.now number) }
+        ensures place { IfOk result (λ place. place ≡ place_in_book self.new sender.now number) }
         ensures err { OnErr result (self.new ≡ self.old) }
     {
         let key = TransmissionKey {

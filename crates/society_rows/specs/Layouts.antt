@@ -56,22 +56,22 @@ pub record HasTables (count : ℕ) (db : Database) : Type 0 where
   pub is : db.schema ≡ schema_from count cuts payments more indexes
 
 -- how many tables the first layout has that has this one
-abbrev pub since : TableName → ℕ
-since name.Office = 6
-since name.Transmissions = 6
-since name.Returns = 6
-since name.Pools = 6
-since name.PoolCuts = 6
-since name.PoolReturns = 6
-since name.Fronts = 12
-since name.Verdicts = 12
-since name.Versions = 12
-since name.Recordings = 12
-since name.Credits = 12
-since name.Balances = 12
-since name.SegmentEnds = 14
-since name.MechanicalPools = 14
+abbrev pub first_table_count : TableName → ℕ
+first_table_count name.Office = 6
+first_table_count name.Transmissions = 6
+first_table_count name.Returns = 6
+first_table_count name.Pools = 6
+first_table_count name.PoolCuts = 6
+first_table_count name.PoolReturns = 6
+first_table_count name.Fronts = 12
+first_table_count name.Verdicts = 12
+first_table_count name.Versions = 12
+first_table_count name.Recordings = 12
+first_table_count name.Credits = 12
+first_table_count name.Balances = 12
+first_table_count name.SegmentEnds = 14
+first_table_count name.MechanicalPools = 14
 
 -- the tables are there of the first layout that has this one
 abbrev pub HasTable : TableName → Database → Type 0
-HasTable table = HasTables (since table)
+HasTable table = HasTables (first_table_count table)

@@ -26,10 +26,10 @@ use Rattle.society_rows.specs.declared.tables.TableName.TheVariants as name
 use Rattle.sqlite.specs.Effect.{Database}
 use Rattle.sqlite.specs.State.{HasCleanDisk, State}
 use Rattle.society_book.specs.BookRows.{end_of, is_end_row, is_return_row, is_transmission_row, return_key_of}
-use Rattle.society_book.specs.Columns.{HasRows, blob_at, segment_at, text_at, whole_number_at}
+use Rattle.society_book.specs.Columns.{HasRows, blob_at, segment_place_at, text_at, whole_number_at}
 use Rattle.society_book.specs.DerivedRows.{front_rows, is_named, knows_sender, tells_recordings, tells_verdict, tells_version, told_to_front, works_to}
 use Rattle.society_book.specs.Outcomes.{settled}
-use Rattle.society_book.specs.Runs.{RunValue, behind_run, is_among, settled_recordings, settled_run, settled_verdict, settled_version}
+use Rattle.society_book.specs.Runs.{RunValue, behind_run, is_key_among, settled_recordings, settled_run, settled_verdict, settled_version}
 use Rattle.society_book.specs.declared.outcomes.Outcome.{Outcome}
 use Rattle.society_book.specs.Sources.{HasTransmissions}
 use Rattle.work_ids.specs.Blanks.{fill, without_trailing_blanks}
@@ -72,11 +72,11 @@ has_end row = length row == 4 && is_text (column row 0) && is_place (column row 
 
 -- whether a row is that of an end that may stand in a book
 abbrev pub is_right_stated : Row → Bool
-is_right_stated row = has_end row && is_end_entry (text_at 0 row) (segment_at 1 row) (end_of row)
+is_right_stated row = has_end row && is_end_entry (text_at 0 row) (segment_place_at 1 row) (end_of row)
 
 -- no transmission that a database has of a book is above the end that a row states
 abbrev pub IsAbove : Book → Row → Type 0
-IsAbove book row = number_past book (text_at 0 row) (segment_at 1 row) (whole_number_at 2 row) ≡ None
+IsAbove book row = number_past book (text_at 0 row) (segment_place_at 1 row) (whole_number_at 2 row) ≡ None
 
 -- whether a row is that of a return that may stand in a book, its reporter written without the blanks that fill it
 abbrev pub is_right_return : Row → Bool
@@ -172,7 +172,7 @@ take_name gone row = record { senders = gone.senders; are_theirs = gone.are_thei
 
 -- each row begins with the text of one of these senders
 abbrev pub AreNamed : List (List ℕ) → List Row → Type 0
-AreNamed senders rows = AllByRecursion (λ row. (is_text (column row 0) ≡ true) × (is_among senders (text_at 0 row) ≡ true)) rows
+AreNamed senders rows = AllByRecursion (λ row. (is_text (column row 0) ≡ true) × (is_key_among senders (text_at 0 row) ≡ true)) rows
 
 -- so do all rows of what is derived of senders' lines
 pub record AreLinesOf (senders : List (List ℕ)) (db : Trees) : Type 0 where
@@ -230,4 +230,4 @@ StaysAside office old new db done = ClosesAside office db old new
 pub record AreSenders (book : Book) (senders : List (List ℕ)) : Type 0 where
   pub each : AllByRecursion (λ sender. knows_sender book sender ≡ true) senders
   pub once : length (ascending bytes_cmp senders) ≡ length senders
-  pub all : (sender : List ℕ) → is_among senders sender ≡ knows_sender book sender
+  pub all : (sender : List ℕ) → is_key_among senders sender ≡ knows_sender book sender

@@ -3,7 +3,7 @@
 ghost use Rattle.std.specs.Prelude.{◌≡◌, ◌∷◌, [], flat_map, map, IfOk};
 ghost use Rattle.society_book.specs.Going.{IsWholeIn};
 ghost use Rattle.society_book.specs.Outcomes.{settled};
-ghost use Rattle.society_book.specs.Runs.{is_among, settled_recordings, settled_verdict, settled_version};
+ghost use Rattle.society_book.specs.Runs.{is_key_among, settled_recordings, settled_verdict, settled_version};
 ghost use Rattle.society_rows.specs.Between.{between};
 ghost use Rattle.society_rows.specs.Layout as layout;
 ghost use Rattle.society_rows.specs.Questions.{Asks};
@@ -42,7 +42,7 @@ fn run_of<S: Alter>(
 
 // The end of a line of no transmission, at which it is known of these works that they have no version.
 fn end_of_none(alloc: Global, works: &[WorkNumber]) -> Result<LineEnd, AllocError>
-    ensures { IfOk result (EndsAt (is_among works.now) []) }
+    ensures { IfOk result (EndsAt (is_key_among works.now) []) }
 {
     let mut end = LineEnd::new(alloc, 0);
     for work in works {

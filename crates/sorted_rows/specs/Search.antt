@@ -10,11 +10,12 @@ use Rattle.sqlite_trees.specs.Tree.{rowid, IsAscending}
 use Rattle.sorted_rows.specs.declared.search.Probe.{Probe}
 use Rattle.sorted_rows.specs.declared.search.Probe.TheVariants.{BelowKey, UpToKey, BelowRowid, BelowEntry}
 
-abbrev pub passes : Probe → Row → Bool
-passes (BelowKey o key) e = is_lt (prefix_cmp o e key.now)
-passes (UpToKey o key) e = not (is_gt (prefix_cmp o e key.now))
-passes (BelowRowid id) e = is_lt (value_cmp (rowid e) (owned id))
-passes (BelowEntry o other) e = is_lt (entry_cmp o e other.now)
+-- whether a row stands before the place that is looked for
+abbrev pub passes_probe : Probe → Row → Bool
+passes_probe (BelowKey o key) e = is_lt (prefix_cmp o e key.now)
+passes_probe (UpToKey o key) e = not (is_gt (prefix_cmp o e key.now))
+passes_probe (BelowRowid id) e = is_lt (value_cmp (rowid e) (owned id))
+passes_probe (BelowEntry o other) e = is_lt (entry_cmp o e other.now)
 
 -- what stands before a row that passes passes too
 abbrev pub IsCutOnce : (Row → Bool) → List Row → Type 0

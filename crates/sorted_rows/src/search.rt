@@ -22,10 +22,10 @@ pub(crate) enum Probe<'a> {
 }
 
 impl Probe<'_> {
-    ghost use Rattle.sorted_rows.specs.Search.{passes, IsCutOnce, AllPass, AllFail, IsRowPlace, lasts};
+    ghost use Rattle.sorted_rows.specs.Search.{passes_probe, IsCutOnce, AllPass, AllFail, IsRowPlace, lasts};
 
     fn passes(self, row: &Row) -> bool
-        ensures { result ≡ passes self.entry row.now }
+        ensures { result ≡ passes_probe self.entry row.now }
     {
         match self {
             Probe::BelowKey(order, key) => row.cmp_prefix(order, key).is_lt(),
@@ -37,8 +37,8 @@ impl Probe<'_> {
 
     /// How many rows of a piece pass.
     fn count(self, rows: &[Row]) -> usize
-        requires { IsCutBy (passes self) rows.now }
-        ensures { IsPlaceOf (passes self.entry) rows.now result }
+        requires { IsCutBy (passes_probe self) rows.now }
+        ensures { IsPlaceOf (passes_probe self.entry) rows.now result }
     {
         let mut low = 0;
         let mut high = rows.len();
@@ -55,9 +55,9 @@ impl Probe<'_> {
 
     /// How many pieces have a last row that passes, so that all their rows do.
     fn whole(self, pieces: &[Vec<Row>]) -> usize
-        requires cut { IsCutBy (passes self) (lasts pieces.now) }
+        requires cut { IsCutBy (passes_probe self) (lasts pieces.now) }
         requires filled { All (λ piece. 0 < length piece.items) pieces.now }
-        ensures { IsPlaceOf (passes self.entry) (lasts pieces.now) result }
+        ensures { IsPlaceOf (passes_probe self.entry) (lasts pieces.now) result }
     {
         let mut low = 0;
         let mut high = pieces.len();
@@ -74,10 +74,10 @@ impl Probe<'_> {
 
     /// The place before the first row that fails.
     pub(crate) fn find(self, pieces: &[Vec<Row>]) -> Place
-        requires cut { IsCutOnce (passes self) (joined pieces.now) }
+        requires cut { IsCutOnce (passes_probe self) (joined pieces.now) }
         requires filled { All (λ piece. 0 < length piece.items) pieces.now }
-        ensures before { AllPass (passes self.entry) (rows_before pieces.now result.piece result.at) }
-        ensures after { AllFail (passes self.entry) (from_place pieces.now result.piece result.at) }
+        ensures before { AllPass (passes_probe self.entry) (rows_before pieces.now result.piece result.at) }
+        ensures after { AllFail (passes_probe self.entry) (from_place pieces.now result.piece result.at) }
         ensures within { result.piece ≤ length pieces.now }
         ensures inside { result.piece < length pieces.now → IsRowPlace pieces.now result.piece result.at }
     {
@@ -91,9 +91,9 @@ impl Probe<'_> {
 
     /// Whether the row before a place passes, if there is one: then all rows before it do.
     fn passes_before(self, pieces: &[Vec<Row>], place: Place) -> bool
-        requires cut { IsCutOnce (passes self) (joined pieces.now) }
+        requires cut { IsCutOnce (passes_probe self) (joined pieces.now) }
         requires filled { All (λ piece. 0 < length piece.items) pieces.now }
-        ensures { IsTrue result → AllPass (passes self.entry) (rows_before pieces.now place.piece place.at) }
+        ensures { IsTrue result → AllPass (passes_probe self.entry) (rows_before pieces.now place.piece place.at) }
     {
         match pieces::before(pieces, place) {
             Some((_, row)) => self.passes(row),
@@ -103,9 +103,9 @@ impl Probe<'_> {
 
     /// Whether the row behind a place fails, if there is one: then all rows behind it do.
     fn fails_behind(self, pieces: &[Vec<Row>], place: Place) -> bool
-        requires cut { IsCutOnce (passes self) (joined pieces.now) }
+        requires cut { IsCutOnce (passes_probe self) (joined pieces.now) }
         requires filled { All (λ piece. 0 < length piece.items) pieces.now }
-        ensures { IsTrue result → AllFail (passes self.entry) (from_place pieces.now place.piece place.at) }
+        ensures { IsTrue result → AllFail (passes_probe self.entry) (from_place pieces.now place.piece place.at) }
     {
         match pieces::after(pieces, place) {
             Some((_, row)) => !self.passes(row),
@@ -115,10 +115,10 @@ impl Probe<'_> {
 
     /// Whether a place is the one that a search would find.
     fn is_at(self, pieces: &[Vec<Row>], place: Place) -> bool
-        requires cut { IsCutOnce (passes self) (joined pieces.now) }
+        requires cut { IsCutOnce (passes_probe self) (joined pieces.now) }
         requires filled { All (λ piece. 0 < length piece.items) pieces.now }
-        ensures before { IsTrue result → AllPass (passes self.entry) (rows_before pieces.now place.piece place.at) }
-        ensures after { IsTrue result → AllFail (passes self.entry) (from_place pieces.now place.piece place.at) }
+        ensures before { IsTrue result → AllPass (passes_probe self.entry) (rows_before pieces.now place.piece place.at) }
+        ensures after { IsTrue result → AllFail (passes_probe self.entry) (from_place pieces.now place.piece place.at) }
         ensures within { IsTrue result → place.piece ≤ length pieces.now }
         ensures inside { IsTrue result → place.piece < length pieces.now → IsRowPlace pieces.now place.piece place.at }
     {
@@ -129,10 +129,10 @@ impl Probe<'_> {
 
     /// The place before the first row that fails: this one, the end, or where it is searched for.
     fn find_else(self, pieces: &[Vec<Row>], place: Place) -> Place
-        requires cut { IsCutOnce (passes self) (joined pieces.now) }
+        requires cut { IsCutOnce (passes_probe self) (joined pieces.now) }
         requires filled { All (λ piece. 0 < length piece.items) pieces.now }
-        ensures before { AllPass (passes self.entry) (rows_before pieces.now result.piece result.at) }
-        ensures after { AllFail (passes self.entry) (from_place pieces.now result.piece result.at) }
+        ensures before { AllPass (passes_probe self.entry) (rows_before pieces.now result.piece result.at) }
+        ensures after { AllFail (passes_probe self.entry) (from_place pieces.now result.piece result.at) }
         ensures within { result.piece ≤ length pieces.now }
         ensures inside { result.piece < length pieces.now → IsRowPlace pieces.now result.piece result.at }
     {
@@ -151,10 +151,10 @@ impl Probe<'_> {
 
     /// The place before the first row that fails. A guess there or one row before it saves the search, and so does the end.
     pub(crate) fn find_near(self, pieces: &[Vec<Row>], guess: Place) -> Place
-        requires cut { IsCutOnce (passes self) (joined pieces.now) }
+        requires cut { IsCutOnce (passes_probe self) (joined pieces.now) }
         requires filled { All (λ piece. 0 < length piece.items) pieces.now }
-        ensures before { AllPass (passes self.entry) (rows_before pieces.now result.piece result.at) }
-        ensures after { AllFail (passes self.entry) (from_place pieces.now result.piece result.at) }
+        ensures before { AllPass (passes_probe self.entry) (rows_before pieces.now result.piece result.at) }
+        ensures after { AllFail (passes_probe self.entry) (from_place pieces.now result.piece result.at) }
         ensures within { result.piece ≤ length pieces.now }
         ensures inside { result.piece < length pieces.now → IsRowPlace pieces.now result.piece result.at }
     {

@@ -3,7 +3,7 @@ use Rattle.std.proofs.Common.{◌≡◌, ◌∙◌, ◌+◌, ◌++◌, ℕ, List
 use Rattle.share_rules.specs.declared.office.Office.{Office}
 use Rattle.sqlite_trees.specs.Tree.{Trees}
 use Rattle.sender_segments.specs.Ways.{end_stated}
-use Rattle.society_core.specs.Answers.{place_in, place_of}
+use Rattle.society_core.specs.Answers.{place_in_book, place_by}
 use Rattle.society_core.specs.Book.{AreOrderly, Book, IsSound, body_at, end_at, front, is_entry, is_in_line, with_end, with_transmission}
 use Rattle.society_core.specs.Ends.{ended_before, fault_stated, number_past, place_stated}
 use Rattle.society_core.proofs.Books.{AllBelow, sound_order, stated_keeps, stated_order}
@@ -54,19 +54,19 @@ held_arrives o s n body reached run db apart is b holds at may =
 
 -- so the transmission comes with its run, and its number stands there then
 pub arrives_with : (o : Office) (s : List ℕ) (n : ℕ) (body : List ℕ) (reached works : ℕ) (run : RunValue) (old new : Trees) → is_entry s n body ≡ true → ((p : Office) (b : Book) → HoldsBook p b old → HasReached p b s reached works)
-    → ArrivesBy o s n body reached old run → TakesRun s n body works run old new → ArrivesWith o s n body old new (place_of run.reached (nat_lt reached run.reached))
+    → ArrivesBy o s n body reached old run → TakesRun s n body works run old new → ArrivesWith o s n body old new (place_by run.reached (nat_lt reached run.reached))
 arrives_with o s n body reached works run old new entry has arrives takes = (
   λ b holds free within. (comes b holds free within).0,
   λ b holds free within. (comes b holds free within).1,
 )
   where
     comes : (b : Book) → HoldsBook o b old → body_at b s n ≡ None → ended_before b s n ≡ None
-        → HoldsBook o (with_transmission b s n body) new × (place_of run.reached (nat_lt reached run.reached) ≡ place_in (with_transmission b s n body) s n)
+        → HoldsBook o (with_transmission b s n body) new × (place_by run.reached (nat_lt reached run.reached) ≡ place_in_book (with_transmission b s n body) s n)
     comes b holds free within =
         let may : MayCome b s n body = record { free = free; entry = entry; within = within } in
         let at = has o b holds in
         let by = arrives b holds at.0 may in
-        (takes o b holds at.1 may by.0, ap₂ place_of by.0.reached (sym by.1))
+        (takes o b holds at.1 may by.0, ap₂ place_by by.0.reached (sym by.1))
 
 -- with an end that may be stated the ends of every sender are in order
 pub ended_order : (b : Book) (s : List ℕ) (stated : StatedEnd) → IsSound b → MayBeStated b s stated → (t : List ℕ)

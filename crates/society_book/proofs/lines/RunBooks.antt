@@ -12,7 +12,7 @@ use Rattle.society_core.proofs.LineNumbers.{whole_line}
 use Rattle.society_book.specs.Arriving.{GoesOnTo, SettlesRun}
 use Rattle.society_book.specs.DerivedRows.{Telling, knows_sender, tells_recordings, tells_verdict, tells_version, told_by}
 use Rattle.society_book.specs.Kept.{HoldsBook}
-use Rattle.society_book.specs.Runs.{RunValue, Settled, behind_run, line_at_front, numbers_in, settled_recordings, settled_run, settled_verdict, settled_version}
+use Rattle.society_book.specs.Runs.{RunValue, Settled, behind_run, line_at_front, numbers_of_run, settled_recordings, settled_run, settled_verdict, settled_version}
 use Rattle.society_book.specs.Shown.{PutsLine}
 use Rattle.society_book.proofs.lines.LineRows.{at_front, placed_over}
 use Rattle.society_book.proofs.lines.RunLines.{IsSeen, run_behind, run_settled, sees_recordings, sees_verdict, sees_version}
@@ -27,8 +27,8 @@ module _ (o : Office) (a b : Book) (s : List ℕ) (run : RunValue) (goes : GoesO
   -- up to the front of the first book the line is the same in both
   same_line : line_at_front o a s ≡ placed_over o b s (line a s)
   same_line =
-      ap (λ (ts : List NumberedTransmission). placed_line (line_of o ts)) (sym (line_stays a b s (numbers_in run.notes) goes.goes.goes s))
-      ∙ ap (placed_over o b s) (numbers_stay a b s (numbers_in run.notes) goes.goes.goes s (front a s) (omega arith) ∙ whole_line a s before)
+      ap (λ (ts : List NumberedTransmission). placed_line (line_of o ts)) (sym (line_stays a b s (numbers_of_run run.notes) goes.goes.goes s))
+      ∙ ap (placed_over o b s) (numbers_stay a b s (numbers_of_run run.notes) goes.goes.goes s (front a s) (omega arith) ∙ whole_line a s before)
 
   -- behind the run stands the line of the second
   new_line : behind_run (line_at_front o a s) run.notes ≡ line_at_front o b s
@@ -38,14 +38,14 @@ module _ (o : Office) (a b : Book) (s : List ℕ) (run : RunValue) (goes : GoesO
       ∙ ap (placed_over o b s) (sym goes.goes.goes.grown)
       ∙ sym (at_front o b s after)
 
-  told_by_run : (tells : Telling) (tell : List ℕ → Settled → List Row) → IsSeen o tells tell → flat_map (tell s) (settled_run (line_at_front o a s) run.notes) ≡ flat_map (told_by tells o b s) (numbers_in run.notes)
+  told_by_run : (tells : Telling) (tell : List ℕ → Settled → List Row) → IsSeen o tells tell → flat_map (tell s) (settled_run (line_at_front o a s) run.notes) ≡ flat_map (told_by tells o b s) (numbers_of_run run.notes)
   told_by_run tells tell seen =
       ap (λ (past : List Placed). flat_map (tell s) (settled_run past run.notes)) same_line
       ∙ sym (run_settled o tells tell seen s b after (line a s) run.notes goes.goes.goes.grown goes.goes.each)
 
   -- what the run tells is what its transmissions tell in the second
   pub settles_line : (old new : Trees) → SettlesRun s (line_at_front o a s) run old new
-      → PutsLine (front_row o b s) (flat_map (told_by tells_verdict o b s) (numbers_in run.notes)) (flat_map (told_by tells_version o b s) (numbers_in run.notes)) (flat_map (told_by tells_recordings o b s) (numbers_in run.notes)) old new
+      → PutsLine (front_row o b s) (flat_map (told_by tells_verdict o b s) (numbers_of_run run.notes)) (flat_map (told_by tells_version o b s) (numbers_of_run run.notes)) (flat_map (told_by tells_recordings o b s) (numbers_of_run run.notes)) old new
   settles_line old new puts =
       puts_as _ _ _ _ _ _ _ _ old new
       (ap₂ (λ (f w : ℕ). Text s ∷ Int (pos f) ∷ Int (pos w) ∷ []) goes.reached (ap (λ (past : List Placed). works_in (judged_of past)) new_line))
@@ -58,4 +58,4 @@ module _ (o : Office) (a b : Book) (s : List ℕ) (run : RunValue) (goes : GoesO
 pub lined_by : (o : Office) (a b : Book) (s : List ℕ) (run : RunValue) → GoesOnTo o a b s run → AreRight (ends_of b s) → ((t : List ℕ) → knows_sender b t ≡ (bytes_eq s t || knows_sender a t))
     → (old new : Trees) → HoldsBook o a old → SettlesRun s (line_at_front o a s) run old new → IsLined o a b new
 lined_by o a b s run goes after knows old new holds settles =
-    lined o a b s (numbers_in run.notes) goes.goes.goes knows old new holds (settles_line o a b s run goes (sound_order a holds.sound s).right after old new settles)
+    lined o a b s (numbers_of_run run.notes) goes.goes.goes knows old new holds (settles_line o a b s run goes (sound_order a holds.sound s).right after old new settles)

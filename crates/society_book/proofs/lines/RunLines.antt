@@ -16,7 +16,7 @@ use Rattle.sender_segments.specs.Ways.{AreRight}
 use Rattle.society_core.specs.Book.{Book, body_at, ends_of, line}
 use Rattle.society_core.specs.Keys.{ascending, bytes_cmp}
 use Rattle.society_book.specs.DerivedRows.{Telling, tells_recordings, tells_verdict, tells_version, told_by, told_from}
-use Rattle.society_book.specs.Runs.{AreNoted, KnowsRun, Notes, Settled, behind_run, clean_works, is_among, notes_in, numbers_in, settled_from, settled_recordings, settled_run, settled_verdict, settled_version, clean_work_number}
+use Rattle.society_book.specs.Runs.{AreNoted, KnowsRun, Notes, Settled, behind_run, clean_works, is_key_among, notes_in, numbers_of_run, settled_from, settled_recordings, settled_run, settled_verdict, settled_version, clean_work_number}
 use Rattle.society_book.proofs.rows_alike.KeyRows.{either_way}
 use Rattle.society_book.proofs.lines.LineRows.{line_goes, placed_over, sent, verdicts_go}
 use Rattle.works_core.specs.Ends.{EndsAt, KnowsWorks}
@@ -80,12 +80,12 @@ module _ (o : Office) (b : Book) (s : List ℕ) where
   one_behind before x noted = ap (λ (y : Notes). placed_behind (placed_over o b s before) x.number 0 y.judged) noted ∙ sym (line_goes o b s before x.number)
 
   -- behind a run stands the line with it
-  pub run_behind : (before : List ℕ) (notes : List Notes) → AreNoted o b s notes → behind_run (placed_over o b s before) notes ≡ placed_over o b s (before ++ numbers_in notes)
+  pub run_behind : (before : List ℕ) (notes : List Notes) → AreNoted o b s notes → behind_run (placed_over o b s before) notes ≡ placed_over o b s (before ++ numbers_of_run notes)
   run_behind before [] are = ap (placed_over o b s) (sym (append-nil before))
   run_behind before (x ∷ xs) are =
       ap (λ (p : List Placed). behind_run p xs) (one_behind before x are.0)
       ∙ run_behind (before ++ x.number ∷ []) xs are.1
-      ∙ ap (placed_over o b s) (append_assoc before (x.number ∷ []) (numbers_in xs))
+      ∙ ap (placed_over o b s) (append_assoc before (x.number ∷ []) (numbers_of_run xs))
 
 module _ (o : Office) (tells : Telling) (tell : List ℕ → Settled → List Row) (seen : IsSeen o tells tell) (s : List ℕ) where
   -- what a transmission tells is told of its settled transactions
@@ -107,15 +107,15 @@ module _ (o : Office) (tells : Telling) (tell : List ℕ → Settled → List Ro
         ∙ sym (ap (λ (y : Notes). flat_map (tell s) (settled_from x.number 0 y.judged y.isrcs (verdicts_from past y.judged))) noted)
 
     -- what a run tells is told of its settled transactions
-    pub run_settled : (before : List ℕ) (notes : List Notes) → line b s ≡ before ++ numbers_in notes → AreNoted o b s notes → flat_map (told_by tells o b s) (numbers_in notes) ≡ flat_map (tell s) (settled_run (placed_over o b s before) notes)
+    pub run_settled : (before : List ℕ) (notes : List Notes) → line b s ≡ before ++ numbers_of_run notes → AreNoted o b s notes → flat_map (told_by tells o b s) (numbers_of_run notes) ≡ flat_map (tell s) (settled_run (placed_over o b s before) notes)
     run_settled before [] is are = refl
     run_settled before (x ∷ xs) is are =
         let past = placed_over o b s before in
         let behind = placed_behind past x.number 0 x.judged in
-        let later : flat_map (told_by tells o b s) (numbers_in xs) ≡ flat_map (tell s) (settled_run behind xs) =
-        run_settled (before ++ x.number ∷ []) xs (is ∙ sym (append_assoc before (x.number ∷ []) (numbers_in xs))) are.1
+        let later : flat_map (told_by tells o b s) (numbers_of_run xs) ≡ flat_map (tell s) (settled_run behind xs) =
+        run_settled (before ++ x.number ∷ []) xs (is ∙ sym (append_assoc before (x.number ∷ []) (numbers_of_run xs))) are.1
         ∙ ap (λ (p : List Placed). flat_map (tell s) (settled_run p xs)) (sym (one_behind o b s before x are.0)) in
-        ap₂ ◌++◌ (one_settled before (numbers_in xs) x is are.0) later
+        ap₂ ◌++◌ (one_settled before (numbers_of_run xs) x is are.0) later
         ∙ sym (flat_map-append (tell s) (settled_from x.number 0 x.judged x.isrcs (verdicts_from (judged_of past) x.judged)) (settled_run behind xs))
 
 -- ---- the works of a run are known
@@ -128,20 +128,20 @@ or_is : (a b : Bool) → b ≡ true → (a || b) ≡ true
 or_is true b h = refl
 or_is false b h = h
 
-first_among : (w : List ℕ) (works : List (List ℕ)) → is_among (w ∷ works) w ≡ true
-first_among w works = is_or (bytes_eq w w) (is_among works w) ((bytes_eq-Decides w w).1 refl)
+first_among : (w : List ℕ) (works : List (List ℕ)) → is_key_among (w ∷ works) w ≡ true
+first_among w works = is_or (bytes_eq w w) (is_key_among works w) ((bytes_eq-Decides w w).1 refl)
 
-among_left : (xs ys : List (List ℕ)) (w : List ℕ) → is_among xs w ≡ true → is_among (xs ++ ys) w ≡ true
+among_left : (xs ys : List (List ℕ)) (w : List ℕ) → is_key_among xs w ≡ true → is_key_among (xs ++ ys) w ≡ true
 among_left [] ys w h = absurd (let x = h in cc)
 among_left (x ∷ xs) ys w h = by_case (bytes_eq x w) h (among_left xs ys w)
   where
-    by_case : (c : Bool) → (c || is_among xs w) ≡ true → (is_among xs w ≡ true → is_among (xs ++ ys) w ≡ true) → (c || is_among (xs ++ ys) w) ≡ true
+    by_case : (c : Bool) → (c || is_key_among xs w) ≡ true → (is_key_among xs w ≡ true → is_key_among (xs ++ ys) w ≡ true) → (c || is_key_among (xs ++ ys) w) ≡ true
     by_case true h later = refl
     by_case false h later = later h
 
-among_right : (xs ys : List (List ℕ)) (w : List ℕ) → is_among ys w ≡ true → is_among (xs ++ ys) w ≡ true
+among_right : (xs ys : List (List ℕ)) (w : List ℕ) → is_key_among ys w ≡ true → is_key_among (xs ++ ys) w ≡ true
 among_right [] ys w h = h
-among_right (x ∷ xs) ys w h = or_is (bytes_eq x w) (is_among (xs ++ ys) w) (among_right xs ys w h)
+among_right (x ∷ xs) ys w h = or_is (bytes_eq x w) (is_key_among (xs ++ ys) w) (among_right xs ys w h)
 
 -- what is known among fewer works is known among more
 knows_more : (p q : List ℕ → Bool) → ((w : List ℕ) → IsTrue (p w) → IsTrue (q w)) → (js : List Judged) → KnowsWorks p js → KnowsWorks q js
@@ -153,20 +153,20 @@ run_more : (p q : List ℕ → Bool) → ((w : List ℕ) → IsTrue (p w) → Is
 run_more p q more [] all = tt
 run_more p q more (x ∷ xs) all = (knows_more p q more x.judged all.0, run_more p q more xs all.1)
 
-knows_clean : (js : List Judged) → KnowsWorks (is_among (clean_works js)) js
+knows_clean : (js : List Judged) → KnowsWorks (is_key_among (clean_works js)) js
 knows_clean [] = tt
 knows_clean (Clean kind number ∷ js) =
-    (first_among number (clean_works js), knows_more (is_among (clean_works js)) (is_among (number ∷ clean_works js)) (λ w h. or_is (bytes_eq number w) (is_among (clean_works js) w) h) js (knows_clean js))
+    (first_among number (clean_works js), knows_more (is_key_among (clean_works js)) (is_key_among (number ∷ clean_works js)) (λ w h. or_is (bytes_eq number w) (is_key_among (clean_works js) w) h) js (knows_clean js))
 knows_clean (Faulty fault ∷ js) = (tt, knows_clean js)
 
 -- the works of the clean transactions of a run are all that have to be known
-pub knows_all : (notes : List Notes) → KnowsRun (is_among (flat_map (λ (x : Notes). clean_works x.judged) notes)) notes
+pub knows_all : (notes : List Notes) → KnowsRun (is_key_among (flat_map (λ (x : Notes). clean_works x.judged) notes)) notes
 knows_all [] = tt
 knows_all (x ∷ xs) =
     let here = clean_works x.judged in
     let later = flat_map (λ (y : Notes). clean_works y.judged) xs in (
-      knows_more (is_among here) (is_among (here ++ later)) (λ w h. among_left here later w h) x.judged (knows_clean x.judged),
-      run_more (is_among later) (is_among (here ++ later)) (λ w h. among_right here later w h) xs (knows_all xs),
+      knows_more (is_key_among here) (is_key_among (here ++ later)) (λ w h. among_left here later w h) x.judged (knows_clean x.judged),
+      run_more (is_key_among later) (is_key_among (here ++ later)) (λ w h. among_right here later w h) xs (knows_all xs),
     )
 
 -- an end of which less is known
@@ -174,16 +174,16 @@ pub ends_less : {past : List Placed} (p q : List ℕ → Bool) (end : _) → ((w
 ends_less p q end less at = record { works = at.works; last = λ w h. at.last w (less w h); right = at.right }
 
 -- whether a work is among some, by their order
-turned : (works : List (List ℕ)) (w : List ℕ) → is_among works w ≡ list_any (eq_by_cmp bytes_cmp w) works
+turned : (works : List (List ℕ)) (w : List ℕ) → is_key_among works w ≡ list_any (eq_by_cmp bytes_cmp w) works
 turned [] w = refl
 turned (x ∷ works) w = ap₂ (λ a b. a || b) (either_way x w ∙ sym (is_eq-slice_cmp w x)) (turned works w)
 
 -- each of them once is enough
-pub among_ascending : (works : List (List ℕ)) (w : List ℕ) → is_among (ascending bytes_cmp works) w ≡ is_among works w
+pub among_ascending : (works : List (List ℕ)) (w : List ℕ) → is_key_among (ascending bytes_cmp works) w ≡ is_key_among works w
 among_ascending works w = turned (ascending bytes_cmp works) w ∙ ascending_has nat_list_cmp_total w works ∙ sym (turned works w)
 
 -- so the works of a run may be asked once
-pub knows_each : (notes : List Notes) → KnowsRun (is_among (ascending bytes_cmp (flat_map (λ (x : Notes). clean_works x.judged) notes))) notes
+pub knows_each : (notes : List Notes) → KnowsRun (is_key_among (ascending bytes_cmp (flat_map (λ (x : Notes). clean_works x.judged) notes))) notes
 knows_each notes =
     let works = flat_map (λ (x : Notes). clean_works x.judged) notes in
-    run_more (is_among works) (is_among (ascending bytes_cmp works)) (λ w h. subst IsTrue (sym (among_ascending works w)) h) notes (knows_all notes)
+    run_more (is_key_among works) (is_key_among (ascending bytes_cmp works)) (λ w h. subst IsTrue (sym (among_ascending works w)) h) notes (knows_all notes)

@@ -17,7 +17,7 @@ use Rattle.society_core.proofs.LineNumbers.{line_is, one_passes}
 use Rattle.society_book.specs.Arriving.{GoesOnTo}
 use Rattle.society_book.specs.EndLists.{behind_end, end_listed}
 use Rattle.society_book.specs.Going.{ComesTo, ComesToEnd, ComesToGap, RunsOn, RunsOver, RunsPast}
-use Rattle.society_book.specs.Runs.{IsWhole, RunValue, numbers_in}
+use Rattle.society_book.specs.Runs.{IsWhole, RunValue, numbers_of_run}
 use Rattle.work_ids.specs.SegmentEnds.{StatedEnd}
 use Rattle.work_ids.specs.Segments.{base_of, most_in, segment_of, sequence_of}
 
@@ -119,7 +119,7 @@ module _ (o : Office) (b : Book) (s : List ℕ) (order : AreOrderly b.transmissi
   pub end_front : (from : ℕ) (run : RunValue) → ComesToEnd o b s from run → run.reached ≡ front b s
   end_front from run end = front_only b.transmissions b.ends s order.right run.reached end.comes.reached end.gap
 
-  pub end_line : (from : ℕ) (run : RunValue) → ComesToEnd o b s from run → line b s ≡ numbers_up_to (ends_of b s) from ++ numbers_in run.notes
+  pub end_line : (from : ℕ) (run : RunValue) → ComesToEnd o b s from run → line b s ≡ numbers_up_to (ends_of b s) from ++ numbers_of_run run.notes
   end_line from run end = line_is b s order.right ∙ ap (numbers_up_to (ends_of b s)) (sym (end_front from run end)) ∙ end.comes.numbers
 
   -- from nothing it is the whole line
@@ -131,8 +131,8 @@ module _ (o : Office) (b : Book) (s : List ℕ) (order : AreOrderly b.transmissi
     pub goes_to : (run : RunValue) → ComesToEnd o b s (front a s) run → GoesOnTo o a b s run
     goes_to run end =
         let before = (same_numbers (ends_of a s) (ends_of b s) keeps (front a s) (front_led a.transmissions a.ends s)).0 ∙ sym (line_is a s right) in
-        let grown : line b s ≡ line a s ++ numbers_in run.notes = end_line (front a s) run end ∙ ap (λ (ns : List ℕ). ns ++ numbers_in run.notes) before in
-        let same : more ≡ numbers_in run.notes = append_cancel_left (line a s) more (numbers_in run.notes) (sym goes.grown ∙ grown) in
+        let grown : line b s ≡ line a s ++ numbers_of_run run.notes = end_line (front a s) run end ∙ ap (λ (ns : List ℕ). ns ++ numbers_of_run run.notes) before in
+        let same : more ≡ numbers_of_run run.notes = append_cancel_left (line a s) more (numbers_of_run run.notes) (sym goes.grown ∙ grown) in
         record {
           goes = record { goes = subst (λ (ns : List ℕ). GoesOn a b s ns) same goes; each = end.comes.each };
           reached = end_front (front a s) run end;

@@ -26,7 +26,7 @@ use Rattle.society_rows.specs.Layout as layout
 use Rattle.society_rows.specs.Reads.{Lists, has_key}
 use Rattle.society_rows.specs.Stored.{rows_in}
 use Rattle.society_book.specs.BookRows.{end_of, end_row, end_rows, is_end_row, row_of_some, same_segment_key, segment_key_of}
-use Rattle.society_book.specs.Columns.{segment_at, text_at}
+use Rattle.society_book.specs.Columns.{segment_place_at, text_at}
 use Rattle.society_book.specs.DerivedRows.{is_named}
 use Rattle.society_book.specs.EndLists.{end_listed, end_shown, is_faultless}
 use Rattle.society_book.specs.Sources.{HasEnds}
@@ -47,7 +47,7 @@ same_segment_is a b h =
 
 -- a row of a segment at a place
 abbrev is_at_place : ℕ → Row → Bool
-is_at_place g row = segment_at 1 row == g
+is_at_place g row = segment_place_at 1 row == g
 
 -- what the first of some rows says
 abbrev first_end : List Row → Option End
@@ -82,10 +82,10 @@ module _ (b : Book) (db : Trees) (has : HasEnds b db) (s : List ℕ) where
   named : filter (has_key (Text s ∷ [])) rows ≡ filter (is_named s) rows
   named =
       filter_same (has_key (Text s ∷ [])) (is_named s) rows
-      (keyed_as_named s rows (all_rows is_end_row segment_key_of (λ r. both_same (text_at 0 r) (segment_at 1 r)) HasName (end_rows b) rows has (λ q. ends_named q (end_at b q.sender q.segment))))
+      (keyed_as_named s rows (all_rows is_end_row segment_key_of (λ r. both_same (text_at 0 r) (segment_place_at 1 r)) HasName (end_rows b) rows has (λ q. ends_named q (end_at b q.sender q.segment))))
 
   as_key : (g : ℕ) (row : Row) → is_end_row (segment_key s g) row ≡ (is_named s row && is_at_place g row)
-  as_key g row = ap₂ (λ x y. x && y) (either_way s (text_at 0 row)) (numbers_either_way g (segment_at 1 row))
+  as_key g row = ap₂ (λ x y. x && y) (either_way s (text_at 0 row)) (numbers_either_way g (segment_place_at 1 row))
 
   of_key : (g : ℕ) → filter (is_end_row (segment_key s g)) rows ≡ filter (is_at_place g) (filter (is_named s) rows)
   of_key g =
@@ -130,14 +130,14 @@ listed_push list end g =
     ∙ map_or end_stated (find (λ (x : StatedEnd). place_stated x == g) list) (cond (place_stated end == g) (Some end) None)
     ∙ ap (option_or (end_listed list g)) (one_stated end g (place_stated end == g))
 
-shown_push : (rows : List Row) (row : Row) (g : ℕ) → end_shown (rows ++ row ∷ []) g ≡ option_or (end_shown rows g) (cond (segment_at 1 row == g) (Some (end_of row)) None)
+shown_push : (rows : List Row) (row : Row) (g : ℕ) → end_shown (rows ++ row ∷ []) g ≡ option_or (end_shown rows g) (cond (segment_place_at 1 row == g) (Some (end_of row)) None)
 shown_push rows row g =
     ap (option_map end_of) (find-append (is_at_place g) rows (row ∷ []))
     ∙ map_or end_of (find (is_at_place g) rows) (cond (is_at_place g row) (Some row) None)
-    ∙ ap (option_or (end_shown rows g)) (one_shown row (segment_at 1 row == g))
+    ∙ ap (option_or (end_shown rows g)) (one_shown row (segment_place_at 1 row == g))
 
 -- so does one row more
-pub listed_shown : (list : List StatedEnd) (rows : List Row) (end : StatedEnd) (row : Row) → end_listed list ≡ end_shown rows → place_stated end ≡ segment_at 1 row → end_stated end ≡ end_of row → end_listed (list ++ end ∷ []) ≡ end_shown (rows ++ row ∷ [])
+pub listed_shown : (list : List StatedEnd) (rows : List Row) (end : StatedEnd) (row : Row) → end_listed list ≡ end_shown rows → place_stated end ≡ segment_place_at 1 row → end_stated end ≡ end_of row → end_listed (list ++ end ∷ []) ≡ end_shown (rows ++ row ∷ [])
 listed_shown list rows end row same place is = λ i g. at_place g i
   where
     at_place : (g : ℕ) → end_listed (list ++ end ∷ []) g ≡ end_shown (rows ++ row ∷ []) g

@@ -19,7 +19,7 @@ use Rattle.society_core.proofs.HeldLemmas.{held_ascend, held_waits}
 use Rattle.society_core.proofs.KeptFronts.{kept_front_fits}
 use Rattle.society_core.proofs.LineNumbers.{each_of, in_line_is, one_of_either, one_that_passes, sorted_same}
 use Rattle.society_core.proofs.NumbersThere.{numbers_ascend, there_of_numbers}
-use Rattle.society_book.specs.Standing.{AreSkipped, ListsSkipped, SkipsRise, is_skipped, is_within, numbers_above, numbers_within}
+use Rattle.society_book.specs.Standing.{AreSkipped, ListsSkipped, SkipsRise, is_skipped, is_strictly_between, numbers_above, numbers_within}
 use Rattle.society_book.specs.declared.skips.Skip.{Skip}
 use Rattle.society_book.proofs.shown.Skips.{order, past_fails, within_fails}
 use Rattle.work_ids.specs.Segments.{base_of, most_in, segment_of, sequence_of}
@@ -42,7 +42,7 @@ lt_fails a b h = grind (arith, nat_tests, h)
 lt_says : (a b : ℕ) → nat_lt a b ≡ true → a < b
 lt_says a b h = grind (arith, nat_tests)
 
-within_says : (above below n : ℕ) → is_within above below n ≡ true → (above < n) × (n < below)
+within_says : (above below n : ℕ) → is_strictly_between above below n ≡ true → (above < n) × (n < below)
 within_says above below n h = by_both (nat_lt above n) refl (nat_lt n below) refl h
   where
     by_both : (x : Bool) → nat_lt above n ≡ x → (y : Bool) → nat_lt n below ≡ y → (x && y) ≡ true → (above < n) × (n < below)
@@ -78,10 +78,10 @@ module _ (b : Book) (s : List ℕ) where
   abbrev skipped : List Skip → List ℕ
   skipped skips = flat_map (λ skip. numbers_within b s skip.above skip.below) skips
 
-  all_within : (above below : ℕ) → AllByRecursion (λ n. is_within above below n ≡ true) (numbers_within b s above below)
+  all_within : (above below : ℕ) → AllByRecursion (λ n. is_strictly_between above below n ≡ true) (numbers_within b s above below)
   all_within above below =
-      each_of (λ n. is_within above below n ≡ true) (numbers_within b s above below)
-      (λ n one. of_both (is_within above below n) (is_one_of (numbers_of b s) n) (sym (one_that_passes (is_within above below) n (numbers_of b s)) ∙ one))
+      each_of (λ n. is_strictly_between above below n ≡ true) (numbers_within b s above below)
+      (λ n one. of_both (is_strictly_between above below n) (is_one_of (numbers_of b s) n) (sym (one_that_passes (is_strictly_between above below) n (numbers_of b s)) ∙ one))
 
   all_above : (above : ℕ) → AllByRecursion (λ n. above < n) (numbers_above b s above)
   all_above above =
@@ -95,7 +95,7 @@ module _ (b : Book) (s : List ℕ) where
       let next = rise.1 in
       let to = rise_to skip.below high skips rise.2 in
       all-append (IsBetween low high) (numbers_within b s skip.above skip.below) (skipped skips)
-      (all_weaker (λ n. is_within skip.above skip.below n ≡ true) (IsBetween low high)
+      (all_weaker (λ n. is_strictly_between skip.above skip.below n ≡ true) (IsBetween low high)
       (λ n is. let both = within_says skip.above skip.below n is in let x = both.0 in let y = both.1 in record { above = omega (arith, x, first); up_to = omega (arith, y, to) })
       (numbers_within b s skip.above skip.below) (all_within skip.above skip.below))
       (all_weaker (IsBetween skip.below high) (IsBetween low high) (λ n is. let x = is.above in record { above = omega (arith, x, first, next); up_to = is.up_to }) (skipped skips) (skips_bound skip.below high skips rise.2))
@@ -108,9 +108,9 @@ module _ (b : Book) (s : List ℕ) where
   skips_sorted low high [] rise = none_sorted
   skips_sorted low high (skip ∷ skips) rise =
       sorted_join skip.below (numbers_within b s skip.above skip.below) (skipped skips)
-      (IsStrictlySortedBy-filter nat_cmp (is_within skip.above skip.below) (numbers_of b s) (numbers_ascend b s))
+      (IsStrictlySortedBy-filter nat_cmp (is_strictly_between skip.above skip.below) (numbers_of b s) (numbers_ascend b s))
       (skips_sorted skip.below high skips rise.2)
-      (all_weaker (λ n. is_within skip.above skip.below n ≡ true) (λ n. n ≤ skip.below) (λ n is. let high = (within_says skip.above skip.below n is).1 in omega (arith, high)) (numbers_within b s skip.above skip.below) (all_within skip.above skip.below))
+      (all_weaker (λ n. is_strictly_between skip.above skip.below n ≡ true) (λ n. n ≤ skip.below) (λ n is. let high = (within_says skip.above skip.below n is).1 in omega (arith, high)) (numbers_within b s skip.above skip.below) (all_within skip.above skip.below))
       (all_weaker (IsBetween skip.below high) (λ n. skip.below < n) (λ n is. is.above) (skipped skips) (skips_bound skip.below high skips rise.2))
 
   -- a number is among them where it is skipped and there
@@ -118,8 +118,8 @@ module _ (b : Book) (s : List ℕ) where
   one_skipped [] n = refl
   one_skipped (skip ∷ skips) n =
       one_of_either (numbers_within b s skip.above skip.below) (skipped skips) n
-      ∙ ap₂ (λ x y. x || y) (one_that_passes (is_within skip.above skip.below) n (numbers_of b s) ∙ ap (λ t. is_within skip.above skip.below n && t) (there_of_numbers b s n)) (one_skipped skips n)
-      ∙ spread (is_within skip.above skip.below n) (is_skipped skips n) (is_there b s n)
+      ∙ ap₂ (λ x y. x || y) (one_that_passes (is_strictly_between skip.above skip.below) n (numbers_of b s) ∙ ap (λ t. is_strictly_between skip.above skip.below n && t) (there_of_numbers b s n)) (one_skipped skips n)
+      ∙ spread (is_strictly_between skip.above skip.below n) (is_skipped skips n) (is_there b s n)
     where
       spread : (x y t : Bool) → ((x && t) || (y && t)) ≡ ((x || y) && t)
       spread true true true = refl
@@ -237,7 +237,7 @@ other_segment g h apart = by_case (h == g) refl
     by_case true is = absurd (apart ((Decides-eqb h g).0 is))
 
 -- they are those above its rank and below the rank behind the segment
-past_is_within : (g last n : ℕ) → is_past g last n ≡ is_within (base_of g + last) ((base_of g + most_in g) + 1) n
+past_is_within : (g last n : ℕ) → is_past g last n ≡ is_strictly_between (base_of g + last) ((base_of g + most_in g) + 1) n
 past_is_within g last n =
     ⊎_elim
     (λ (former : segment_of n < g).
@@ -257,7 +257,7 @@ past_is_within g last n =
     made : IsMade n (segment_of n) (sequence_of n)
     made = number_is n
 
-    own : segment_of n ≡ g → is_past g last n ≡ is_within (base_of g + last) ((base_of g + most_in g) + 1) n
+    own : segment_of n ≡ g → is_past g last n ≡ is_strictly_between (base_of g + last) ((base_of g + most_in g) + 1) n
     own same =
         let base : base_of (segment_of n) ≡ base_of g = ap base_of same in
         let most : most_in (segment_of n) ≡ most_in g = ap most_in same in
@@ -274,4 +274,4 @@ past_is_within g last n =
 
 -- so the greatest of them is the last of these
 pub past_found : (b : Book) (s : List ℕ) (g last : ℕ) → last_number_of (numbers_within b s (base_of g + last) ((base_of g + most_in g) + 1)) ≡ number_past b s g last
-past_found b s g last = ap last_number_of (sym (filter_same (is_past g last) (is_within (base_of g + last) ((base_of g + most_in g) + 1)) (past_is_within g last) (numbers_of b s)))
+past_found b s g last = ap last_number_of (sym (filter_same (is_past g last) (is_strictly_between (base_of g + last) ((base_of g + most_in g) + 1)) (past_is_within g last) (numbers_of b s)))

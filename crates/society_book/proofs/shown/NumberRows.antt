@@ -35,7 +35,7 @@ use Rattle.society_rows.specs.Stored.{rows_in}
 use Rattle.society_book.specs.BookRows.{is_transmission_row, row_of_some, transmission_key_of, transmission_row, transmission_rows}
 use Rattle.society_book.specs.Columns.{whole_number_at, text_at}
 use Rattle.society_book.specs.Sources.{HasTransmissions}
-use Rattle.society_book.specs.Standing.{is_within, numbers_above, numbers_within}
+use Rattle.society_book.specs.Standing.{is_strictly_between, numbers_above, numbers_within}
 use Rattle.society_book.proofs.rows_alike.Equals.{texts_equal, truth_of}
 use Rattle.society_book.proofs.rows_alike.KeyRows.{HasKeyForm, both_same, either_way, transmissions_formed}
 use Rattle.society_book.proofs.rows_alike.RowLemmas.{all_rows, only}
@@ -63,7 +63,7 @@ below_test m n = truth_of (is_lt (value_cmp (Int (pos m)) (Int (pos n)))) ∙ ap
     ints_below a b = grind (arith, nat_tests)
 
 -- one above a number and below another
-within_so : (s : List ℕ) (f t : ℕ) (row : Row) → HasKeyForm row → is_above_and_below (Text s) (Int (pos f)) (Int (pos t)) row ≡ (bytes_eq s (text_at 0 row) && is_within f t (whole_number_at 1 row))
+within_so : (s : List ℕ) (f t : ℕ) (row : Row) → HasKeyForm row → is_above_and_below (Text s) (Int (pos f)) (Int (pos t)) row ≡ (bytes_eq s (text_at 0 row) && is_strictly_between f t (whole_number_at 1 row))
 within_so s f t row form =
     ap₂ (λ x y. x && y)
     (ap (λ v. equal Binary v (Text s)) form.0 ∙ texts_equal (text_at 0 row) s ∙ either_way (text_at 0 row) s)
@@ -327,7 +327,7 @@ above_found b db has s above found keys =
 pub within_found : (b : Book) (db : Trees) → HasTransmissions b db → (s : List ℕ) (above below : ℕ) (found : List Row) → ListsKeys layout.transmissions (is_above_and_below (Text s) (Int (pos above)) (Int (pos below))) 2 db found → map (whole_number_at 1) found ≡ numbers_within b s above below
 within_found b db has s above below found keys =
     ap (map (whole_number_at 1)) keys.cut ∙ numbers_kept keys.whole
-    ∙ numbers_found b db has s (is_within above below) (is_above_and_below (Text s) (Int (pos above)) (Int (pos below))) (within_so s above below) keys.whole keys.listed
+    ∙ numbers_found b db has s (is_strictly_between above below) (is_above_and_below (Text s) (Int (pos above)) (Int (pos below))) (within_so s above below) keys.whole keys.listed
 
 -- what follows where an answer without a value went well
 pub where_well : {P Q : Type 0} (r : Result (Unit {0}) RowFault) → OnOk r P → (P → Q) → IfOk r (λ _. Q)

@@ -1,9 +1,9 @@
 -- A front among the plain numbers: all numbers up to it are in the line, whatever ends were stated.
-use Rattle.std.proofs.Common.{◌≡◌, ℕ, ◌-◌, ◌<◌, ◌≤◌, ◌==◌, ◌&&◌, Bool, true, false, nat_le, List, [], Option, None, refl, ap, sym, ◌∙◌, arith, ⊎_elim}
+use Rattle.std.proofs.Common.{◌≡◌, ℕ, ◌-◌, ◌<◌, ◌≤◌, ◌&&◌, Bool, true, false, nat_le, List, [], None, refl, ap, sym, ◌∙◌, arith, ⊎_elim}
 use Rattle.std.proofs.lemmas.Bool.{cases_lt}
 use Rattle.std.proofs.lemmas.Bool.Decides.{nat_tests}
-use Rattle.std.specs.List.{list_any, range_with_len}
-use Rattle.work_ids.specs.Segments.{segment_of, sequence_of}
+use Rattle.std.specs.List.{range_with_len}
+use Rattle.work_ids.specs.Segments.{segment_of}
 use Rattle.sender_segments.specs.Ways.{AreRight, StatedEnds, leads_to, numbers_up_to}
 use Rattle.sender_segments.proofs.LedTo.{up_to_front}
 use Rattle.sender_segments.proofs.Ranks.{made_plain}

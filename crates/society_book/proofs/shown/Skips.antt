@@ -7,7 +7,7 @@ use Rattle.sender_segments.proofs.LedTo.{base_segment, led_over, led_together, s
 use Rattle.sender_segments.proofs.Ranks.{bases_order, bases_rise, number_is}
 use Rattle.sender_segments.proofs.Ways.{segments_rise}
 use Rattle.society_book.specs.EndLists.{passed_to}
-use Rattle.society_book.specs.Standing.{AreSkipped, SkipsRise, is_skipped, is_within}
+use Rattle.society_book.specs.Standing.{AreSkipped, SkipsRise, is_skipped, is_strictly_between}
 use Rattle.society_book.specs.declared.skips.Skip.{Skip}
 use Rattle.work_ids.specs.Segments.{base_of, most_in, segment_of, sequence_of}
 
@@ -17,13 +17,13 @@ le_of a b h = grind (arith, nat_tests)
 below_of : (a b : ℕ) → nat_le a b ≡ false → b < a
 below_of a b h = grind (arith, nat_tests)
 
-within_holds : (above below n : ℕ) → above < n → n < below → is_within above below n ≡ true
+within_holds : (above below n : ℕ) → above < n → n < below → is_strictly_between above below n ≡ true
 within_holds above below n low high = grind (arith, nat_tests, low, high)
 
-pub within_fails : (above below n : ℕ) → n ≤ above → is_within above below n ≡ false
+pub within_fails : (above below n : ℕ) → n ≤ above → is_strictly_between above below n ≡ false
 within_fails above below n high = grind (arith, nat_tests, high)
 
-pub past_fails : (above below n : ℕ) → below ≤ n → is_within above below n ≡ false
+pub past_fails : (above below n : ℕ) → below ≤ n → is_strictly_between above below n ≡ false
 past_fails above below n low = by_first (nat_lt above n)
   where
     not_below : nat_lt n below ≡ false
@@ -89,13 +89,13 @@ none_skipped low high n (skip ∷ list) rise le =
     let rest = rise_within skip.below high list rise.2 in
     ap₂ (λ x y. x || y) (past_fails skip.above skip.below n (omega (arith, rest, le))) (none_skipped skip.below high n list rise.2 le)
 
-skipped_with : (list : List Skip) (skip : Skip) (n : ℕ) → is_skipped (list ++ skip ∷ []) n ≡ (is_skipped list n || is_within skip.above skip.below n)
-skipped_with [] skip n = last (is_within skip.above skip.below n)
+skipped_with : (list : List Skip) (skip : Skip) (n : ℕ) → is_skipped (list ++ skip ∷ []) n ≡ (is_skipped list n || is_strictly_between skip.above skip.below n)
+skipped_with [] skip n = last (is_strictly_between skip.above skip.below n)
   where
     last : (x : Bool) → (x || false) ≡ x
     last true = refl
     last false = refl
-skipped_with (first ∷ list) skip n = ap (λ x. is_within first.above first.below n || x) (skipped_with list skip n) ∙ regroup (is_within first.above first.below n) (is_skipped list n) (is_within skip.above skip.below n)
+skipped_with (first ∷ list) skip n = ap (λ x. is_strictly_between first.above first.below n || x) (skipped_with list skip n) ∙ regroup (is_strictly_between first.above first.below n) (is_skipped list n) (is_strictly_between skip.above skip.below n)
   where
     regroup : (x y z : Bool) → (x || (y || z)) ≡ ((x || y) || z)
     regroup true y z = refl
@@ -136,7 +136,7 @@ module _ (ends : StatedEnds) (right : AreRight ends) (front : ℕ) where
 
       -- which of the numbers before the next segment a skip between the two has
       module _ (n : ℕ) (some : 1 ≤ sequence_of n) where
-        of_former : segment_of n < g → is_within (base_of (suc g)) next n ≡ false
+        of_former : segment_of n < g → is_strictly_between (base_of (suc g)) next n ≡ false
         of_former before =
             let its = behind n some in
             let far = order (segment_of n) g before in
@@ -144,7 +144,7 @@ module _ (ends : StatedEnds) (right : AreRight ends) (front : ℕ) where
             let up = bases_rise g in
             within_fails (base_of (suc g)) next n (omega (arith, low, far, up))
 
-        of_own : segment_of n ≡ g → (is_within (base_of (suc g)) next n ≡ false) × (is_skipped list n ≡ false) × (leads_to ends n ≡ true)
+        of_own : segment_of n ≡ g → (is_strictly_between (base_of (suc g)) next n ≡ false) × (is_skipped list n ≡ false) × (leads_to ends n ≡ true)
         of_own same =
             let its = behind n some in
             let low = its.0 in
@@ -158,7 +158,7 @@ module _ (ends : StatedEnds) (right : AreRight ends) (front : ℕ) where
               led_together ends right first n (sym same) so_far.led,
             )
 
-        of_skipped : g < segment_of n → segment_of n < by.end.next → (is_within (base_of (suc g)) next n ≡ true) × (leads_to ends n ≡ false) × (base_of (suc g) < next)
+        of_skipped : g < segment_of n → segment_of n < by.end.next → (is_strictly_between (base_of (suc g)) next n ≡ true) × (leads_to ends n ≡ false) × (base_of (suc g) < next)
         of_skipped after before =
             let its = behind n some in
             let low = its.0 in
@@ -203,7 +203,7 @@ module _ (ends : StatedEnds) (right : AreRight ends) (front : ℕ) where
             rise = rises_with 0 first list skip so_far.rise first_below apart;
             skipped = λ n some before.
                 skipped_with list skip n
-                ∙ by_place n before ((is_skipped list n || is_within (base_of (suc g)) next n) ≡ not (leads_to ends n))
+                ∙ by_place n before ((is_skipped list n || is_strictly_between (base_of (suc g)) next n) ≡ not (leads_to ends n))
                 (λ former. ap₂ (λ x y. x || y) (so_far.skipped n some former) (of_former n some former) ∙ last (not (leads_to ends n)))
                 (λ own. let is = of_own n some own in ap₂ (λ x y. x || y) is.1 is.0 ∙ sym (ap not is.2))
                 (λ after till. let is = of_skipped n some after till in ap (λ y. is_skipped list n || y) is.0 ∙ or_true (is_skipped list n) ∙ sym (ap not is.1));

@@ -1,8 +1,5 @@
 -- What the rows of a transmission's verdicts show.
-use Rattle.std.proofs.Common.{◌≡◌, ◌∙◌, ◌+◌, ◌&&◌, ◌==◌, ◌++◌, ℕ, suc, zero, pos, Bool, true, false, cond, List, [], ◌∷◌, Option, Some, None, length, refl, ap, sym, subst, arith, map, filter, IsPermutation, unwrap_or, Less, ne_eqb}
-use Rattle.std.proofs.Common.{IfOk, Ok, Err, Result, option_map, Vec}
-use Rattle.std.specs.declared.alloc.Global.{Global}
-use Rattle.society_rows.specs.declared.fault.RowFault.{RowFault}
+use Rattle.std.proofs.Common.{◌≡◌, ◌∙◌, ◌+◌, ◌&&◌, ◌==◌, ◌++◌, ℕ, suc, zero, pos, Bool, true, false, cond, List, [], ◌∷◌, Some, None, length, refl, ap, sym, subst, arith, map, filter, IsPermutation, unwrap_or, Less, ne_eqb}
 use Rattle.std.specs.List.{AllByRecursion, enumerate_from, flat_map}
 use Rattle.std.proofs.lemmas.List.Sorted.{IsPermutation-trans}
 use Rattle.std.proofs.lemmas.Slice.Eq.{bytes_eq-Decides}

@@ -10,7 +10,7 @@ use Rattle.sqlite.specs.Effect.{Database}
 use Rattle.society_rows.specs.declared.tables.TableName.{TableName}
 use Rattle.society_rows.specs.declared.tables.TableName.TheVariants as name
 use Rattle.society_rows.specs.Layout.{all_tables, pool_cuts, pool_returns, written_out, no_schema, tables_with}
-use Rattle.society_rows.specs.Layouts.{HasFirst, IsFirst, IsFirstWith, HasTable, HasTables, schema_to, since}
+use Rattle.society_rows.specs.Layouts.{HasFirst, IsFirst, IsFirstWith, HasTable, HasTables, schema_to, first_table_count}
 use Rattle.society_rows.specs.Stored.{HasLayout}
 
 -- tables take the trees that they name
@@ -103,7 +103,7 @@ first_long count low db first_ones =
     let all = tables_with has.cuts has.payments in
     ap (λ (s : Schema). length s.tables) has.is ∙ ap length (tables_are count has.cuts has.payments) ∙ length-take-le count all (omega (arith, longer has.cuts has.payments))
 
-since_one : (table : TableName) → since table ≤ 14
+since_one : (table : TableName) → first_table_count table ≤ 14
 since_one name.Office = lit≤ tt
 since_one name.Transmissions = lit≤ tt
 since_one name.Returns = lit≤ tt
@@ -121,7 +121,7 @@ since_one name.MechanicalPools = lit≤ tt
 
 -- layout 3 has every table
 pub has_table : (table : TableName) (db : Database) → HasLayout db → HasTable table db
-has_table table = has_tables (since table) 14 (since_one table)
+has_table table = has_tables (first_table_count table) 14 (since_one table)
 
 -- what is so of the tree of each table of layout 3 is so of the tree of every table
 pub all_laid : (P : ℕ → Type 0) (schema : Schema) → IsFirst 14 schema → AllByRecursion (λ t. P t.tree) schema.tables → AllByRecursion (λ t. P t.tree) all_tables

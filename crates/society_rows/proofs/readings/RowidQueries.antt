@@ -20,7 +20,7 @@ use Rattle.society_rows.specs.declared.tables.TableName.{TableName}
 use Rattle.society_rows.specs.declared.tables.TableName.TheVariants as name
 use Rattle.society_rows.specs.Effects.{ErrsByMediumOver}
 use Rattle.society_rows.specs.Layout.{written_out}
-use Rattle.society_rows.specs.Layouts.{HasTable, since}
+use Rattle.society_rows.specs.Layouts.{HasTable, first_table_count}
 use Rattle.society_rows.specs.Reads.{ReadsOver, Selected}
 use Rattle.society_rows.specs.Stored.{AreNumbered}
 use Rattle.society_rows.specs.TableNames.{table_called, rowids_text}
@@ -108,7 +108,7 @@ pub mechanical_pools_is : IsQuery 14 (rowids_text name.MechanicalPools) 0 (rowid
 unfolding understood everything written_out
 mechanical_pools_is = record { few = lit≤ tt; under = λ cuts payments more indexes. record { command = refl; plain = (refl, refl); unlisted = refl; single = (refl, refl) } }
 
-pub rowids_are : (table : TableName) → IsQuery (since table) (rowids_text table) 0 (rowids_of (table_called table)) (name_shown table ∷ [])
+pub rowids_are : (table : TableName) → IsQuery (first_table_count table) (rowids_text table) 0 (rowids_of (table_called table)) (name_shown table ∷ [])
 rowids_are name.Office = office_is
 rowids_are name.Transmissions = transmissions_is
 rowids_are name.Returns = returns_is

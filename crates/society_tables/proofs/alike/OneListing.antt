@@ -33,7 +33,7 @@ use Rattle.society_rows.specs.TableNames.{listing_width, table_called}
 use Rattle.society_rows.specs.declared.tables.TableName.{TableName}
 use Rattle.society_rows.specs.declared.tables.TableName.TheVariants as name
 use Rattle.society_book.specs.BookRows.{cut_row, cut_rows, end_row, end_rows, is_end_row, is_of_pool, is_return_row, is_transmission_row, marks_by, marks_of, mechanical_rows, paid_row, paid_rows, pool_row, pool_rows, return_key_of, return_row, return_rows, row_of_some, rows_of_order, segment_key_of, transmission_key_of, transmission_row, transmission_rows}
-use Rattle.society_book.specs.Columns.{HasRows, segment_at, segment_of_value, text_at, whole_number_at}
+use Rattle.society_book.specs.Columns.{HasRows, segment_place_at, segment_of_value, text_at, whole_number_at}
 use Rattle.society_book.specs.DerivedRows.{Telling, balance_rows, balance_rows_by, credit_row, credit_rows, credit_rows_by, credits_to, front_rows, is_named, knows_sender, tells_recordings, tells_verdict, tells_version, told_by, told_from, told_to_front, work_text, works_to}
 use Rattle.society_book.specs.Kept.{HoldsBook, office_row}
 use Rattle.society_book.proofs.rows_alike.BookLemmas.{IsRefilled, refilled}
@@ -261,7 +261,7 @@ listed_alike o b one two holds also name.Balances xs ys lists others =
     listed_once is_named (text_at 0) (λ r. same_name (text_at 0 r)) (balance_rows o b) (Words ∷ []) (owed o b) (λ q. owed_told o b q (credits_to o b q) refl)
     layout.balances one two xs ys holds.derived.balances also.derived.balances lists others
 listed_alike o b one two holds also name.SegmentEnds xs ys lists others =
-    listed_once is_end_row segment_key_of (λ r. both_same (text_at 0 r) (segment_at 1 r)) (end_rows b) end_kinds alone (λ q. ended_told b q (end_at b q.sender q.segment))
+    listed_once is_end_row segment_key_of (λ r. both_same (text_at 0 r) (segment_place_at 1 r)) (end_rows b) end_kinds alone (λ q. ended_told b q (end_at b q.sender q.segment))
     layout.segment_ends one two xs ys holds.kept.ends also.kept.ends lists others
 listed_alike o b one two holds also name.MechanicalPools xs ys lists others =
     listed_once (is_of_pool 0) (whole_number_at 0) (λ r. same_number (whole_number_at 0 r)) (mechanical_rows b) (Number ∷ []) alone (λ q. marks_told b q (order_at b q))

@@ -24,7 +24,7 @@ use Rattle.society_core.specs.declared.store.Known.TheVariants.{Same, Other}
 use Rattle.society_core.proofs.HeadlineLemmas.{none_past}
 use Rattle.society_core.proofs.KeyOrders.{exact_segments, segments_total}
 use Rattle.society_book.specs.BookRows.{segment_key_of, end_of, end_row, end_rows, is_end_row, row_of_some}
-use Rattle.society_book.specs.Columns.{HasRows, segment_at, text_at, whole_number_at}
+use Rattle.society_book.specs.Columns.{HasRows, segment_place_at, text_at, whole_number_at}
 use Rattle.society_book.proofs.rows_alike.BookLemmas.{end_back, end_key_back}
 use Rattle.society_book.proofs.rows_alike.KeyRows.{both_same}
 use Rattle.society_book.proofs.rows_alike.RowLemmas.{all_rows, one_else}
@@ -55,13 +55,13 @@ stated_more b first old new rows i d within before on = record {
 }
 
 -- the column of a segment says its place
-place_back : (place : ℕ) → segment_at 0 (Int (segment_column place) ∷ []) ≡ place
+place_back : (place : ℕ) → segment_place_at 0 (Int (segment_column place) ∷ []) ≡ place
 place_back zero = refl
 place_back (suc year) = refl
 
 -- each row of the table of ends is that of an end of the book
 pub all_stated : (b : Book) (rows : List Row) → HasRows is_end_row (end_rows b) rows → AllByRecursion (IsStated b) rows
-all_stated b rows has = all_rows is_end_row segment_key_of (λ r. both_same (text_at 0 r) (segment_at 1 r)) (IsStated b) (end_rows b) rows has (λ q. told q (end_at b q.sender q.segment) refl)
+all_stated b rows has = all_rows is_end_row segment_key_of (λ r. both_same (text_at 0 r) (segment_place_at 1 r)) (IsStated b) (end_rows b) rows has (λ q. told q (end_at b q.sender q.segment) refl)
   where
     told : (q : SegmentKey) (o : Option End) → end_at b q.sender q.segment ≡ o → AllByRecursion (IsStated b) (row_of_some (end_row q) o)
     told q None is = tt
@@ -101,7 +101,7 @@ same_end_itself e = ap₂ (λ x y. x && y) (same_number e.last) (same_number e.n
 known_end : (end kept : End) → kept ≡ end → end_known_by end (Some kept) ≡ Same
 known_end end kept same = ap (λ (k : End). if same_end k end then Same else Other) same ∙ ap (λ (t : Bool). if t then Same else Other) (same_end_itself end)
 
-module _ (o : Office) (b old : Book) (row : Row) (sound : IsSound b) (stated : StatedEnd) (at_place : place_stated stated ≡ segment_at 1 row) (at_end : end_stated stated ≡ end_of row) (right : fault_stated stated ≡ None) where
+module _ (o : Office) (b old : Book) (row : Row) (sound : IsSound b) (stated : StatedEnd) (at_place : place_stated stated ≡ segment_place_at 1 row) (at_end : end_stated stated ≡ end_of row) (right : fault_stated stated ≡ None) where
   abbrev sender : List ℕ
   sender = text_at 0 row
 
@@ -163,22 +163,22 @@ five false b c d e h = absurd (false≢true h)
 -- what an end of a sound book says of its numbers
 record IsRightEnd (row : Row) : Type 0 where
   sender : is_sender_key (text_at 0 row) ≡ true
-  place : segment_at 1 row ≤ 100
-  last : whole_number_at 2 row ≤ most_in (segment_at 1 row)
-  later : segment_at 1 row < segment_at 3 row
-  next : segment_at 3 row ≤ 100
+  place : segment_place_at 1 row ≤ 100
+  last : whole_number_at 2 row ≤ most_in (segment_place_at 1 row)
+  later : segment_place_at 1 row < segment_place_at 3 row
+  next : segment_place_at 3 row ≤ 100
 
-right_end : (row : Row) → is_end_entry (text_at 0 row) (segment_at 1 row) (end_of row) ≡ true → IsRightEnd row
+right_end : (row : Row) → is_end_entry (text_at 0 row) (segment_place_at 1 row) (end_of row) ≡ true → IsRightEnd row
 right_end row entry =
-    let parts = five (is_sender_key (text_at 0 row)) (nat_le (segment_at 1 row) 100) (nat_le (whole_number_at 2 row) (most_in (segment_at 1 row))) (nat_lt (segment_at 1 row) (segment_at 3 row)) (nat_le (segment_at 3 row) 100) entry in
-    record { sender = parts.0; place = leb-true _ _ parts.1; last = leb-true _ _ parts.2; later = below (segment_at 1 row) (segment_at 3 row) parts.3; next = leb-true _ _ parts.4 }
+    let parts = five (is_sender_key (text_at 0 row)) (nat_le (segment_place_at 1 row) 100) (nat_le (whole_number_at 2 row) (most_in (segment_place_at 1 row))) (nat_lt (segment_place_at 1 row) (segment_place_at 3 row)) (nat_le (segment_place_at 3 row) 100) entry in
+    record { sender = parts.0; place = leb-true _ _ parts.1; last = leb-true _ _ parts.2; later = below (segment_place_at 1 row) (segment_place_at 3 row) parts.3; next = leb-true _ _ parts.4 }
   where
     below : (a c : ℕ) → nat_lt a c ≡ true → a < c
     below a c h = grind (arith, nat_tests)
 
 -- an end of a sound book may stand in it
-stated_entry : (b : Book) (row : Row) → IsSound b → IsStated b row → is_end_entry (text_at 0 row) (segment_at 1 row) (end_of row) ≡ true
-stated_entry b row sound is = sound.ends (text_at 0 row) (segment_at 1 row) (end_of row) is.there
+stated_entry : (b : Book) (row : Row) → IsSound b → IsStated b row → is_end_entry (text_at 0 row) (segment_place_at 1 row) (end_of row) ≡ true
+stated_entry b row sound is = sound.ends (text_at 0 row) (segment_place_at 1 row) (end_of row) is.there
 
 most : (g : ℕ) → most_in g ≤ 999999
 most zero = omega arith
@@ -190,22 +190,22 @@ year_at zero some within = absurd (omega (some, arith))
 year_at (suc year) some within = (year, refl, omega (within, arith))
 
 -- a row of an end that may stand in a book can be read
-pub entry_forms : (row : Row) → row ≡ end_row (segment_key_of row) (end_of row) → is_end_entry (text_at 0 row) (segment_at 1 row) (end_of row) ≡ true → IsOfForms segment_end_forms row
+pub entry_forms : (row : Row) → row ≡ end_row (segment_key_of row) (end_of row) → is_end_entry (text_at 0 row) (segment_place_at 1 row) (end_of row) ≡ true → IsOfForms segment_end_forms row
 entry_forms row form entry =
     let parts = right_end row entry in
-    let low = most (segment_at 1 row) in
+    let low = most (segment_place_at 1 row) in
     let last = parts.last in
     let later = parts.later in
-    let year = year_at (segment_at 3 row) (omega (later, arith)) parts.next in
+    let year = year_at (segment_place_at 3 row) (omega (later, arith)) parts.next in
     subst (IsOfForms segment_end_forms) (sym form)
-    (refl, ((text_at 0 row, refl), ((segment_at 1 row, refl, parts.place), ((whole_number_at 2 row, refl, omega (last, low, arith)), ((year.0, ap (λ v. Int v) year.1, year.2), tt)))))
+    (refl, ((text_at 0 row, refl), ((segment_place_at 1 row, refl, parts.place), ((whole_number_at 2 row, refl, omega (last, low, arith)), ((year.0, ap (λ v. Int v) year.1, year.2), tt)))))
 
 -- so can that of an end of a book
 pub stated_forms : (b : Book) (row : Row) → IsSound b → IsStated b row → IsOfForms segment_end_forms row
 stated_forms b row sound is = entry_forms row is.form (stated_entry b row sound is)
 
 -- and what is read of it has no fault
-pub stated_right : (b : Book) (row : Row) (segment : Segment) (last next : ℕ) → IsSound b → IsStated b row → index_of segment ≡ segment_at 1 row → last ≡ whole_number_at 2 row → next + 1 ≡ segment_at 3 row → segment_fault segment last next ≡ None
+pub stated_right : (b : Book) (row : Row) (segment : Segment) (last next : ℕ) → IsSound b → IsStated b row → index_of segment ≡ segment_place_at 1 row → last ≡ whole_number_at 2 row → next + 1 ≡ segment_place_at 3 row → segment_fault segment last next ≡ None
 stated_right b row segment last next sound is place count year =
     let parts = right_end row (stated_entry b row sound is) in
     ap (λ (t : Bool). if t then Some OutOfRange else (if is_next_not_later segment next then Some NotLater else None)) (within parts)
@@ -234,14 +234,14 @@ module _ (sender : List ℕ) (place last year : ℕ) (row : Row) (values : (Text
   pub sender_read : sender ≡ text_at 0 row
   sender_read = ap (text_at 0) values
 
-  pub place_read : place ≡ segment_at 1 row
-  place_read = sym (place_back place) ∙ ap (segment_at 1) values
+  pub place_read : place ≡ segment_place_at 1 row
+  place_read = sym (place_back place) ∙ ap (segment_place_at 1) values
 
   pub last_read : last ≡ whole_number_at 2 row
   last_read = ap (whole_number_at 2) values
 
-  pub year_read : year + 1 ≡ segment_at 3 row
-  year_read = let e : year + 1 ≡ suc year = omega arith in e ∙ ap (segment_at 3) values
+  pub year_read : year + 1 ≡ segment_place_at 3 row
+  year_read = let e : year + 1 ≡ suc year = omega arith in e ∙ ap (segment_place_at 3) values
 
 -- the end that was made of numbers has these
 made_of : (segment : Segment) (last next : ℕ) (fault : Option SegmentFault) (r : Result StatedEnd SegmentFault) (end : StatedEnd) → r ≡ stated_end segment last next fault → r ≡ Ok end → end ≡ record { segment = segment; last = last; next = next }
@@ -253,9 +253,9 @@ pub above_row : (row : Row) (sender : List ℕ) (segment : Segment) (last next :
     → (book : Book) (end : StatedEnd) (r : Result StatedEnd SegmentFault) → r ≡ stated_end segment last next (segment_fault segment last next) → r ≡ Ok end → number_past book sender (place_stated end) end.last ≡ None → IsAbove book row
 above_row row sender segment last next values book end r by is none =
     let read = made_of segment last next (segment_fault segment last next) r end by is in
-    let place : place_stated end ≡ segment_at 1 row = ap place_stated read ∙ place_read sender (index_of segment) last next row values in
+    let place : place_stated end ≡ segment_place_at 1 row = ap place_stated read ∙ place_read sender (index_of segment) last next row values in
     let count : end.last ≡ whole_number_at 2 row = ap (λ (e : StatedEnd). e.last) read ∙ last_read sender (index_of segment) last next row values in
-    subst (λ (n : ℕ). number_past book (text_at 0 row) (segment_at 1 row) n ≡ None) count
+    subst (λ (n : ℕ). number_past book (text_at 0 row) (segment_place_at 1 row) n ≡ None) count
     (subst (λ (g : ℕ). number_past book (text_at 0 row) g end.last ≡ None) place
     (subst (λ (t : List ℕ). number_past book t (place_stated end) end.last ≡ None) (sender_read sender (index_of segment) last next row values) none))
 

@@ -17,7 +17,7 @@ use Rattle.society_book.specs.DerivedRows.{front_rows, knows_sender, is_named, t
 use Rattle.society_book.specs.Kept.{HoldsOwnBook, HoldsBook}
 use Rattle.society_tables.specs.Opening.{Agree}
 use Rattle.society_tables.specs.Rebuilding.{without_pools}
-use Rattle.society_book.specs.Runs.{is_among}
+use Rattle.society_book.specs.Runs.{is_key_among}
 use Rattle.society_tables.proofs.store.AddLemmas.{holds_own}
 use Rattle.society_tables.proofs.audit.LineAudits.{nothing_told}
 use Rattle.society_tables.proofs.audit.Mixed.{begun_mixed, whole_mixed}
@@ -35,17 +35,17 @@ all_of expected of_these none rows had s = subst (λ (l : List Row). IsPermutati
 
 -- the tables of a new book hold, beside the bodies and the lines of all senders, the book that these stand for without its pools
 pub begins_aside : (o : Office) (bodies : Trees) (then : Database) (senders : List (List ℕ)) → IsSound (without_pools (book_of bodies)) → KeepsBodies (book_of bodies) bodies → HasEnds (book_of bodies) bodies → AreSenders (book_of bodies) senders
-    → HasLayout then → HoldsBook o empty_book then.trees → HasLines o (book_of bodies) (is_among senders) bodies → HoldsAside o bodies then
+    → HasLayout then → HoldsBook o empty_book then.trees → HasLines o (book_of bodies) (is_key_among senders) bodies → HoldsAside o bodies then
 begins_aside o bodies then senders sound kept stated these laid empty lines =
     let b = book_of bodies in
-    let nobody : (s : List ℕ) → is_among senders s ≡ false → knows_sender b s ≡ false = λ s none. sym (these.all s) ∙ none in
+    let nobody : (s : List ℕ) → is_key_among senders s ≡ false → knows_sender b s ≡ false = λ s none. sym (these.all s) ∙ none in
     record {
       layout = laid;
       holds = holds_own o (without_pools b) (mixed bodies then.trees) (begun_mixed o b bodies then.trees sound kept stated empty
-          (all_of (front_rows o b) (is_among senders) (λ s none. unknown_front o b s (nobody s none)) (rows_in layout.fronts bodies) lines.fronts)
-          (all_of (told_to_front tells_verdict o b) (is_among senders) (λ s none. nothing_told tells_verdict o b s (nobody s none)) (rows_in layout.verdicts bodies) lines.verdicts)
-          (all_of (told_to_front tells_version o b) (is_among senders) (λ s none. nothing_told tells_version o b s (nobody s none)) (rows_in layout.versions bodies) lines.versions)
-          (all_of (told_to_front tells_recordings o b) (is_among senders) (λ s none. nothing_told tells_recordings o b s (nobody s none)) (rows_in layout.recordings bodies) lines.recordings)
+          (all_of (front_rows o b) (is_key_among senders) (λ s none. unknown_front o b s (nobody s none)) (rows_in layout.fronts bodies) lines.fronts)
+          (all_of (told_to_front tells_verdict o b) (is_key_among senders) (λ s none. nothing_told tells_verdict o b s (nobody s none)) (rows_in layout.verdicts bodies) lines.verdicts)
+          (all_of (told_to_front tells_version o b) (is_key_among senders) (λ s none. nothing_told tells_version o b s (nobody s none)) (rows_in layout.versions bodies) lines.versions)
+          (all_of (told_to_front tells_recordings o b) (is_key_among senders) (λ s none. nothing_told tells_recordings o b s (nobody s none)) (rows_in layout.recordings bodies) lines.recordings)
           lines.numbered);
     }
 

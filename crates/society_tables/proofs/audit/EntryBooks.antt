@@ -21,7 +21,7 @@ use Rattle.society_rows.specs.Stored.{rows_in}
 use Rattle.society_tables.specs.Auditing.{AreEndsAbove, HoldsEntries, IsAbove, has_body, has_end, is_right_return, is_right_sent, is_right_stated}
 use Rattle.society_book.specs.Sources.{HasEnds, KeepsBodies}
 use Rattle.society_book.specs.BookRows.{book_of, end_of, end_row, is_end_row, is_return_row, is_transmission_row, return_key_of, return_row, segment_key_of, transmission_key_of, transmission_row}
-use Rattle.society_book.specs.Columns.{blob_at, segment_at, whole_number_at, text_at}
+use Rattle.society_book.specs.Columns.{blob_at, segment_place_at, whole_number_at, text_at}
 use Rattle.society_tables.specs.Rebuilding.{without_pools}
 use Rattle.society_book.proofs.shown.AskLemmas.{first_true, second_true}
 use Rattle.society_book.proofs.rows_alike.BookLemmas.{returns_tie, segments_tie, transmissions_tie}
@@ -33,7 +33,7 @@ pub sent_form : (r : Row) → is_right_sent r ≡ true → r ≡ transmission_ro
 sent_form r right = body_form r (first_true (has_body r) (is_entry (text_at 0 r) (whole_number_at 1 r) (blob_at 2 r)) right)
 
 pub stated_form : (r : Row) → is_right_stated r ≡ true → r ≡ end_row (segment_key_of r) (end_of r)
-stated_form r right = end_form r (first_true (has_end r) (is_end_entry (text_at 0 r) (segment_at 1 r) (end_of r)) right)
+stated_form r right = end_form r (first_true (has_end r) (is_end_entry (text_at 0 r) (segment_place_at 1 r) (end_of r)) right)
 
 abbrev is_unfilled : Row → Bool
 is_unfilled r = bytes_eq (without_trailing_blanks (fill 20 (text_at 0 r))) (text_at 0 r)
@@ -78,7 +78,7 @@ within_ends these db holds above sender number there end stated =
     let found = had_by segments_total exact_segments is_end_row segment_key_of (λ q r. segments_tie q (segment_key_of r)) end_of end_row (IsRightAbove b) (λ r h. stated_form r h.0) (rows_in layout.segment_ends db)
     (all_both (λ r. is_right_stated r ≡ true) (IsAbove b) (rows_in layout.segment_ends db) holds.ends.right (above b kept.transmissions)) (segment_key sender (segment_of number)) end stated in
     let r = found.0 in
-    let here : number_past b (text_at 0 r) (segment_at 1 r) (whole_number_at 2 r) ≡ None = found.1.1 in
+    let here : number_past b (text_at 0 r) (segment_place_at 1 r) (whole_number_at 2 r) ≡ None = found.1.1 in
     let none : number_past b sender (segment_of number) end.last ≡ None =
     subst (λ (e : End). number_past b sender (segment_of number) e.last ≡ None) found.3
     (subst (λ (key : SegmentKey). number_past b key.sender key.segment (end_of r).last ≡ None) (sym found.2) here) in
@@ -97,7 +97,7 @@ sound_entries these db holds above = record {
       let found = had_by segments_total exact_segments is_end_row segment_key_of (λ q r. segments_tie q (segment_key_of r)) end_of end_row (λ r. is_right_stated r ≡ true) stated_form (rows_in layout.segment_ends db) holds.ends.right (segment_key sender segment) end has in
       let r = found.0 in
       subst (λ (key : SegmentKey). is_end_entry key.sender key.segment end ≡ true) (sym found.2)
-      (subst (λ (e : End). is_end_entry (text_at 0 r) (segment_at 1 r) e ≡ true) found.3 (second_true (has_end r) (is_end_entry (text_at 0 r) (segment_at 1 r) (end_of r)) found.1));
+      (subst (λ (e : End). is_end_entry (text_at 0 r) (segment_place_at 1 r) e ≡ true) found.3 (second_true (has_end r) (is_end_entry (text_at 0 r) (segment_place_at 1 r) (end_of r)) found.1));
   within = λ sender number there. within_ends these db holds above sender number there;
   returns = λ key body has.
       let found = had_by returns_total exact_returns is_return_row return_key_of (λ q r. returns_tie q (return_key_of r)) (blob_at 2) return_row (λ r. is_right_return r ≡ true) return_form (rows_in layout.returns db) holds.returns.right key body has in

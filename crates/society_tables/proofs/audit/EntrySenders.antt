@@ -22,9 +22,9 @@ use Rattle.society_rows.specs.Layout as layout
 use Rattle.society_rows.specs.Stored.{rows_in}
 use Rattle.society_tables.specs.Auditing.{AreSenders, HoldsEntries, senders_in}
 use Rattle.society_book.specs.BookRows.{book_of, end_entry, is_end_row, is_transmission_row, segment_key_of, transmission_entry, transmission_key_of}
-use Rattle.society_book.specs.Columns.{segment_at, text_at, whole_number_at}
+use Rattle.society_book.specs.Columns.{segment_place_at, text_at, whole_number_at}
 use Rattle.society_book.specs.DerivedRows.{has_sent, has_stated, knows_sender}
-use Rattle.society_book.specs.Runs.{is_among}
+use Rattle.society_book.specs.Runs.{is_key_among}
 use Rattle.society_book.proofs.shown.AskLemmas.{first_true}
 use Rattle.society_book.proofs.rows_alike.BookLemmas.{segments_tie, transmissions_tie}
 use Rattle.society_book.proofs.lines.KnownSenders.{has_of, has_there, is_or, key_there, or_is}
@@ -48,13 +48,13 @@ module _ {K X : Type 0} {R : K → K → Ordering} (total : IsTotalOrder R) (exa
   names rs = map (text_at 0) rs
 
   -- the sender of a row that has a key is among those of the rows
-  key_named : (q : K) (rs : List Row) → list_any (is_of q) rs ≡ true → is_among (names rs) (sender_of q) ≡ true
+  key_named : (q : K) (rs : List Row) → list_any (is_of q) rs ≡ true → is_key_among (names rs) (sender_of q) ≡ true
   key_named q [] h = absurd (false≢true h)
   key_named q (r ∷ rs) h = by_case (is_of q r) refl h (key_named q rs)
     where
-      by_case : (t : Bool) → is_of q r ≡ t → (t || list_any (is_of q) rs) ≡ true → (list_any (is_of q) rs ≡ true → is_among (names rs) (sender_of q) ≡ true) → (bytes_eq (text_at 0 r) (sender_of q) || is_among (names rs) (sender_of q)) ≡ true
-      by_case true is h later = is_or (bytes_eq (text_at 0 r) (sender_of q)) (is_among (names rs) (sender_of q)) ((bytes_eq-Decides (text_at 0 r) (sender_of q)).1 (sym (named q r is)))
-      by_case false is h later = or_is (bytes_eq (text_at 0 r) (sender_of q)) (is_among (names rs) (sender_of q)) (later h)
+      by_case : (t : Bool) → is_of q r ≡ t → (t || list_any (is_of q) rs) ≡ true → (list_any (is_of q) rs ≡ true → is_key_among (names rs) (sender_of q) ≡ true) → (bytes_eq (text_at 0 r) (sender_of q) || is_key_among (names rs) (sender_of q)) ≡ true
+      by_case true is h later = is_or (bytes_eq (text_at 0 r) (sender_of q)) (is_key_among (names rs) (sender_of q)) ((bytes_eq-Decides (text_at 0 r) (sender_of q)).1 (sym (named q r is)))
+      by_case false is h later = or_is (bytes_eq (text_at 0 r) (sender_of q)) (is_key_among (names rs) (sender_of q)) (later h)
 
   -- a key of a sender under which there is a row
   record HasKey (s : List ℕ) (rs : List Row) : Type 0 where
@@ -63,11 +63,11 @@ module _ {K X : Type 0} {R : K → K → Ordering} (total : IsTotalOrder R) (exa
     there : list_any (is_of key) rs ≡ true
 
   -- and one of them has a row under some key
-  named_key : (s : List ℕ) (rs : List Row) → is_among (names rs) s ≡ true → HasKey s rs
+  named_key : (s : List ℕ) (rs : List Row) → is_key_among (names rs) s ≡ true → HasKey s rs
   named_key s [] h = absurd (false≢true h)
   named_key s (r ∷ rs) h = by_case (bytes_eq (text_at 0 r) s) refl h (named_key s rs)
     where
-      by_case : (t : Bool) → bytes_eq (text_at 0 r) s ≡ t → (t || is_among (names rs) s) ≡ true → (is_among (names rs) s ≡ true → HasKey s rs) → HasKey s (r ∷ rs)
+      by_case : (t : Bool) → bytes_eq (text_at 0 r) s ≡ t → (t || is_key_among (names rs) s) ≡ true → (is_key_among (names rs) s ≡ true → HasKey s rs) → HasKey s (r ∷ rs)
       by_case true is h later = record {
         key = (entry r).0;
         of = its r ∙ (bytes_eq-Decides (text_at 0 r) s).0 is;
@@ -83,30 +83,30 @@ module _ {K X : Type 0} {R : K → K → Ordering} (total : IsTotalOrder R) (exa
   key_found q = ap is_some (finite.get-from_entries total (map entry rows) q ∙ found_first total exact is_of entry agrees q rows) ∙ first_kept entry (is_of q) rows
 
   -- the senders of rows are those of the map that they make
-  pub named_where : (s : List ℕ) → is_among (names rows) s ≡ has_of total exact sender_of (finite.keys those) s
+  pub named_where : (s : List ℕ) → is_key_among (names rows) s ≡ has_of total exact sender_of (finite.keys those) s
   named_where s =
-      same_truth (is_among (names rows) s) (has_of total exact sender_of (finite.keys those) s)
+      same_truth (is_key_among (names rows) s) (has_of total exact sender_of (finite.keys those) s)
       (λ h. let found = named_key s rows h in subst (λ (t : List ℕ). has_of total exact sender_of (finite.keys those) t ≡ true) found.of (has_there total exact sender_of those found.key (key_found found.key ∙ found.there)))
-      (λ h. let found = key_there total exact sender_of those s h in subst (λ (t : List ℕ). is_among (names rows) t ≡ true) found.1 (key_named found.0 rows (sym (key_found found.0) ∙ found.2)))
+      (λ h. let found = key_there total exact sender_of those s h in subst (λ (t : List ℕ). is_key_among (names rows) t ≡ true) found.1 (key_named found.0 rows (sym (key_found found.0) ∙ found.2)))
 
 -- each of a list is among what has all of the list
-each_among : (xs ys : List (List ℕ)) → ((s : List ℕ) → is_among xs s ≡ true → is_among ys s ≡ true) → AllByRecursion (λ s. is_among ys s ≡ true) xs
+each_among : (xs ys : List (List ℕ)) → ((s : List ℕ) → is_key_among xs s ≡ true → is_key_among ys s ≡ true) → AllByRecursion (λ s. is_key_among ys s ≡ true) xs
 each_among [] ys all = tt
 each_among (x ∷ xs) ys all = (
-  all x (is_or (bytes_eq x x) (is_among xs x) ((bytes_eq-Decides x x).1 refl)),
-  each_among xs ys (λ s h. all s (or_is (bytes_eq x s) (is_among xs s) h)),
+  all x (is_or (bytes_eq x x) (is_key_among xs x) ((bytes_eq-Decides x x).1 refl)),
+  each_among xs ys (λ s h. all s (or_is (bytes_eq x s) (is_key_among xs s) h)),
 )
 
-among_either : (xs ys : List (List ℕ)) (s : List ℕ) → is_among (xs ++ ys) s ≡ (is_among xs s || is_among ys s)
+among_either : (xs ys : List (List ℕ)) (s : List ℕ) → is_key_among (xs ++ ys) s ≡ (is_key_among xs s || is_key_among ys s)
 among_either [] ys s = refl
-among_either (x ∷ xs) ys s = ap (λ t. bytes_eq x s || t) (among_either xs ys s) ∙ sym (regroup (bytes_eq x s) (is_among xs s) (is_among ys s))
+among_either (x ∷ xs) ys s = ap (λ t. bytes_eq x s || t) (among_either xs ys s) ∙ sym (regroup (bytes_eq x s) (is_key_among xs s) (is_key_among ys s))
   where
     regroup : (a b c : Bool) → ((a || b) || c) ≡ (a || (b || c))
     regroup true b c = refl
     regroup false b c = refl
 
 module _ (these : List (List ℕ)) (db : Trees) (holds : HoldsEntries these db) where
-  named_sent : (s : List ℕ) → is_among (map (text_at 0) (rows_in layout.transmissions db)) s ≡ has_sent (book_of db) s
+  named_sent : (s : List ℕ) → is_key_among (map (text_at 0) (rows_in layout.transmissions db)) s ≡ has_sent (book_of db) s
   unfolding book_of
   named_sent s =
       named_where transmissions_total exact_transmissions is_transmission_row transmission_entry (λ q r. transmissions_tie q (transmission_key_of r)) (λ (key : TransmissionKey). key.sender) (λ r. refl)
@@ -114,24 +114,24 @@ module _ (these : List (List ℕ)) (db : Trees) (holds : HoldsEntries these db) 
       (λ r. ap₂ (λ x y. x && y) ((bytes_eq-Decides (text_at 0 r) (text_at 0 r)).1 refl) ((Decides-eqb (whole_number_at 1 r) (whole_number_at 1 r)).1 refl))
       (rows_in layout.transmissions db) s
 
-  named_stated : (s : List ℕ) → is_among (map (text_at 0) (rows_in layout.segment_ends db)) s ≡ has_stated (book_of db) s
+  named_stated : (s : List ℕ) → is_key_among (map (text_at 0) (rows_in layout.segment_ends db)) s ≡ has_stated (book_of db) s
   unfolding book_of
   named_stated s =
       named_where segments_total exact_segments is_end_row end_entry (λ q r. segments_tie q (segment_key_of r)) (λ (key : SegmentKey). key.sender) (λ r. refl)
-      (λ q r is. (bytes_eq-Decides q.sender (text_at 0 r)).0 (first_true (bytes_eq q.sender (text_at 0 r)) (q.segment == segment_at 1 r) is))
-      (λ r. ap₂ (λ x y. x && y) ((bytes_eq-Decides (text_at 0 r) (text_at 0 r)).1 refl) ((Decides-eqb (segment_at 1 r) (segment_at 1 r)).1 refl))
+      (λ q r is. (bytes_eq-Decides q.sender (text_at 0 r)).0 (first_true (bytes_eq q.sender (text_at 0 r)) (q.segment == segment_place_at 1 r) is))
+      (λ r. ap₂ (λ x y. x && y) ((bytes_eq-Decides (text_at 0 r) (text_at 0 r)).1 refl) ((Decides-eqb (segment_place_at 1 r) (segment_place_at 1 r)).1 refl))
       (rows_in layout.segment_ends db) s
 
-  all_named : (s : List ℕ) → is_among these s ≡ knows_sender (book_of db) s
+  all_named : (s : List ℕ) → is_key_among these s ≡ knows_sender (book_of db) s
   all_named s =
-      ap (λ (names : List (List ℕ)). is_among names s) holds.senders
+      ap (λ (names : List (List ℕ)). is_key_among names s) holds.senders
       ∙ among_ascending (senders_in db) s
       ∙ among_either (map (text_at 0) (rows_in layout.transmissions db)) (map (text_at 0) (rows_in layout.segment_ends db)) s
       ∙ ap₂ (λ x y. x || y) (named_sent s) (named_stated s)
 
   pub senders_of_entries : AreSenders (book_of db) these
   senders_of_entries = record {
-    each = all_weaker (λ s. is_among these s ≡ true) (λ s. knows_sender (book_of db) s ≡ true) (λ s among. sym (all_named s) ∙ among) these (each_among these these (λ s h. h));
+    each = all_weaker (λ s. is_key_among these s ≡ true) (λ s. knows_sender (book_of db) s ≡ true) (λ s among. sym (all_named s) ∙ among) these (each_among these these (λ s h. h));
     once = subst (λ (names : List (List ℕ)). length (ascending bytes_cmp names) ≡ length names) (sym holds.senders) (ap length (ascending_again nat_list_cmp_total exact_bytes (senders_in db)));
     all = all_named;
   }

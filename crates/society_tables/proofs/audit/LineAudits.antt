@@ -27,7 +27,7 @@ use Rattle.society_rows.specs.declared.line_senders.LineTable.TheVariants as nam
 use Rattle.society_book.specs.Columns.{HasRows, text_at, text_of}
 use Rattle.society_book.specs.DerivedRows.{Telling, front_rows, is_named, knows_sender, tells_recordings, tells_verdict, tells_version, told_by, told_to_front, works_to}
 use Rattle.society_book.specs.Outcomes.{settled}
-use Rattle.society_book.specs.Runs.{IsWhole, RunValue, Settled, behind_run, is_among, settled_recordings, settled_run, settled_verdict, settled_version}
+use Rattle.society_book.specs.Runs.{IsWhole, RunValue, Settled, behind_run, is_key_among, settled_recordings, settled_run, settled_verdict, settled_version}
 use Rattle.society_book.specs.declared.outcomes.Outcome.{Outcome}
 use Rattle.society_closings.proofs.cuts.CutNotes.{any_bytes}
 use Rattle.society_book.proofs.lines.LineRows.{at_front, placed_over}
@@ -103,32 +103,32 @@ same_sender senders s (row ∷ rows) named = (
 )
 
 -- no row begins with the text of another
-unnamed : (senders : List (List ℕ)) (t : List ℕ) → is_among senders t ≡ false → (rows : List Row) → AreNamed senders rows → filter (is_named t) rows ≡ []
+unnamed : (senders : List (List ℕ)) (t : List ℕ) → is_key_among senders t ≡ false → (rows : List Row) → AreNamed senders rows → filter (is_named t) rows ≡ []
 unnamed senders t out [] named = refl
 unnamed senders t out (row ∷ rows) named = by_case (bytes_eq (text_at 0 row) t) refl (unnamed senders t out rows named.1)
   where
     by_case : (x : Bool) → bytes_eq (text_at 0 row) t ≡ x → filter (is_named t) rows ≡ [] → cond x (row ∷ filter (is_named t) rows) (filter (is_named t) rows) ≡ []
-    by_case true is later = absurd (false≢true (sym out ∙ subst (λ (s : List ℕ). is_among senders s ≡ true) ((bytes_eq-Decides (text_at 0 row) t).0 is) named.0.1))
+    by_case true is later = absurd (false≢true (sym out ∙ subst (λ (s : List ℕ). is_key_among senders s ≡ true) ((bytes_eq-Decides (text_at 0 row) t).0 is) named.0.1))
     by_case false is later = later
 
 -- what holds of each of some senders holds of one that is among them
-of_each : (P : List ℕ → Type 0) (senders : List (List ℕ)) → AllByRecursion P senders → (s : List ℕ) → is_among senders s ≡ true → P s
+of_each : (P : List ℕ → Type 0) (senders : List (List ℕ)) → AllByRecursion P senders → (s : List ℕ) → is_key_among senders s ≡ true → P s
 of_each P [] all s is = absurd (false≢true is)
 of_each P (x ∷ xs) all s is = by_case (bytes_eq x s) refl is (of_each P xs all.1 s)
   where
-    by_case : (t : Bool) → bytes_eq x s ≡ t → (t || is_among xs s) ≡ true → (is_among xs s ≡ true → P s) → P s
+    by_case : (t : Bool) → bytes_eq x s ≡ t → (t || is_key_among xs s) ≡ true → (is_key_among xs s ≡ true → P s) → P s
     by_case true same h later = subst P ((bytes_eq-Decides x s).0 same) all.0
     by_case false other h later = later h
 
 -- where each row is of one of some senders, and those of each are what is expected of it, they have what is expected of all
-had : (senders : List (List ℕ)) (expected : List ℕ → List Row) (rows : List Row) → AreNamed senders rows → ((s : List ℕ) → is_among senders s ≡ true → IsPermutation (filter (of_sender s) rows) (expected s))
-    → HasRows is_named (where_of (is_among senders) expected) rows
-had senders expected rows named each t = by_case (is_among senders t) refl
+had : (senders : List (List ℕ)) (expected : List ℕ → List Row) (rows : List Row) → AreNamed senders rows → ((s : List ℕ) → is_key_among senders s ≡ true → IsPermutation (filter (of_sender s) rows) (expected s))
+    → HasRows is_named (where_of (is_key_among senders) expected) rows
+had senders expected rows named each t = by_case (is_key_among senders t) refl
   where
     same : filter (of_sender t) rows ≡ filter (is_named t) rows
     same = filter_same (of_sender t) (is_named t) rows (same_sender senders t rows named)
 
-    by_case : (x : Bool) → is_among senders t ≡ x → IsPermutation (where_of (is_among senders) expected t) (filter (is_named t) rows)
+    by_case : (x : Bool) → is_key_among senders t ≡ x → IsPermutation (where_of (is_key_among senders) expected t) (filter (is_named t) rows)
     by_case true is =
         subst (λ (b : Bool). IsPermutation (cond b (expected t) []) (filter (is_named t) rows)) (sym is)
         (IsPermutation-sym (filter (is_named t) rows) (expected t) (subst (λ (l : List Row). IsPermutation l (expected t)) same (each t is)))
@@ -137,9 +137,9 @@ had senders expected rows named each t = by_case (is_among senders t) refl
         (subst (IsPermutation []) (sym (unnamed senders t is rows named)) (IsPermutation-refl []))
 
 -- with the lines of all these senders, and rows of no others, a database has what is derived of them
-pub has_lines : (o : Office) (b : Book) (senders : List (List ℕ)) (db : Trees) → AllByRecursion (λ s. knows_sender b s ≡ true) senders → AllByRecursion (λ s. HasLine o b s db) senders → AreLinesOf senders db → AreNumbered layout.fronts db → HasLines o b (is_among senders) db
+pub has_lines : (o : Office) (b : Book) (senders : List (List ℕ)) (db : Trees) → AllByRecursion (λ s. knows_sender b s ≡ true) senders → AllByRecursion (λ s. HasLine o b s db) senders → AreLinesOf senders db → AreNumbered layout.fronts db → HasLines o b (is_key_among senders) db
 has_lines o b senders db known lines named numbered =
-    let its : (s : List ℕ) → is_among senders s ≡ true → HasLine o b s db = of_each (λ s. HasLine o b s db) senders lines in
+    let its : (s : List ℕ) → is_key_among senders s ≡ true → HasLine o b s db = of_each (λ s. HasLine o b s db) senders lines in
     record {
       fronts = had senders (front_rows o b) (rows_in layout.fronts db) named.fronts
           (λ s is. subst (λ (x : Bool). IsPermutation (filter (of_sender s) (rows_in layout.fronts db)) (cond x ((Text s ∷ Int (pos (front b s)) ∷ Int (pos (works_to o b s)) ∷ []) ∷ []) []))
@@ -164,11 +164,11 @@ pub same_senders : (rows : List Row) (gone : SenderRows) → (fold take_name gon
 same_senders [] gone = refl
 same_senders (row ∷ rows) gone = same_senders rows (take_name gone row)
 
-flipped : (name : List ℕ) (xs : List (List ℕ)) → list_any (bytes_eq name) xs ≡ is_among xs name
+flipped : (name : List ℕ) (xs : List (List ℕ)) → list_any (bytes_eq name) xs ≡ is_key_among xs name
 flipped name [] = refl
 flipped name (x ∷ xs) = ap₂ (λ (a b : Bool). a || b) (either_way name x) (flipped name xs)
 
-named_row : (senders : List (List ℕ)) (set : BTreeSet (List ℕ)) → IsFromIterResult bytes_cmp senders set → (r : Row) → is_of_one set r ≡ true → (is_text (column r 0) ≡ true) × (is_among senders (text_at 0 r) ≡ true)
+named_row : (senders : List (List ℕ)) (set : BTreeSet (List ℕ)) → IsFromIterResult bytes_cmp senders set → (r : Row) → is_of_one set r ≡ true → (is_text (column r 0) ≡ true) × (is_key_among senders (text_at 0 r) ≡ true)
 named_row senders set made r is = (
   first_true (is_text (column r 0)) _ (first_true (is_of_sender r) (contains bytes_cmp set (text_at 0 r)) is),
   sym (flipped (text_at 0 r) senders) ∙ any_bytes (text_at 0 r) senders ∙ sym (made.0 (text_at 0 r)) ∙ second_true (is_of_sender r) (contains bytes_cmp set (text_at 0 r)) is,
@@ -183,7 +183,7 @@ unfirst P turns (row ∷ rows) all = (turns row all.0, unfirst P turns rows all.
 pub named_rows : (senders : List (List ℕ)) (set : BTreeSet (List ℕ)) → IsFromIterResult bytes_cmp senders set → (table : LineTable) (db : Trees) (rows : List Row) → ListsSenders table db rows
     → AllByRecursion (λ r. is_of_one set r ≡ true) rows → AreNamed senders (rows_in (line_table table) db)
 named_rows senders set made table db rows lists all =
-    let Named : Row → Type 0 = λ r. (is_text (column r 0) ≡ true) × (is_among senders (text_at 0 r) ≡ true) in
+    let Named : Row → Type 0 = λ r. (is_text (column r 0) ≡ true) × (is_key_among senders (text_at 0 r) ≡ true) in
     let firsts : List Row = map first_of (rows_in (line_table table) db) in
     unfirst Named (λ r its. its) (rows_in (line_table table) db)
     (all-permutation Named rows firsts (IsPermutation-sym firsts rows lists) (all_weaker (λ r. is_of_one set r ≡ true) Named (named_row senders set made) rows all))

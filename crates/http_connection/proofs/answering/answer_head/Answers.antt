@@ -1,4 +1,4 @@
-use Rattle.std.proofs.Common.{◌∙◌, ap, subst, sym}
+use Rattle.std.proofs.Common.{subst, sym}
 use Rattle.share_rules.specs.declared.office.Office.{Office}
 use Rattle.http_connection.specs.declared.input.Input.{Input}
 use Rattle.http_desk.specs.declared.requests.Wanted.TheVariants.{Fed, Whole}

@@ -1,4 +1,4 @@
-use Rattle.std.proofs.Common.{sym, refl, ap, ◌∙◌}
+use Rattle.std.proofs.Common.{sym, refl, ap}
 use Rattle.http_desk.specs.EndText.{state_judged, state_query}
 use Rattle.http_desk.proofs.end_text.state_by.Goals as goal
 

@@ -2,7 +2,7 @@ use Rattle.std.proofs.Common.{◌≡◌, Ok, ap, ap₂, nat_lt, subst, sym}
 use Rattle.sqlite.specs.Effect.{Database}
 use Rattle.sqlite.specs.Held.{state}
 use Rattle.society_core.proofs.Stores.{transmission_entry}
-use Rattle.society_core.specs.Answers.{place_of}
+use Rattle.society_core.specs.Answers.{place_by}
 use Rattle.society_core.specs.declared.store.Place.{Place}
 use Rattle.society_book.specs.Arriving.{ArrivesBy, ArrivesWith, TakesRun}
 use Rattle.society_book.proofs.lines.ArrivedRuns.{arrives_with}
@@ -22,8 +22,8 @@ returns-clause-does g c =
     let later = state g.S.Store c.run_from.new.tx.conn.now in
     let new = state g.S.Store c.take_run.new.tx.conn.now in
     let entry = transmission_entry s n body c.as_bytes.ensures.key c.value-number.ensures.number c.requires.right in
-    let place : Place = place_of run.reached (nat_lt reached.front run.reached) in
-    let is : place ≡ place_of c.reached.result (nat_lt reached.front c.reached-2.result) = ap₂ place_of (sym c.reached.ensures) (ap (nat_lt reached.front) (sym c.reached-2.ensures)) in
+    let place : Place = place_by run.reached (nat_lt reached.front run.reached) in
+    let is : place ≡ place_by c.reached.result (nat_lt reached.front c.reached-2.result) = ap₂ place_by (sym c.reached.ensures) (ap (nat_lt reached.front) (sym c.reached-2.ensures)) in
     does_open_then old mid new reached (Ok _) _ (λ before after y. ArrivesBy o s n body reached.front before.trees run × TakesRun s n body reached.works run before.trees after.trees × (y ≡ place)) _ (rw c.as_bytes.ensures.bytes at c.in_ok-reached.ensures.looks)
     (does_as mid new tt (Ok _) (λ before after _. ArrivesBy o s n body reached.front before.trees run × TakesRun s n body reached.works run before.trees after.trees) (λ before after y. ArrivesBy o s n body reached.front before.trees run × TakesRun s n body reached.works run before.trees after.trees × (y ≡ place))
     (does_then mid later new run (Ok tt) _ (λ before after _. TakesRun s n body reached.works run before.trees after.trees) _ c.in_ok-run.ensures.looks c.in_ok-take_run.ensures.does

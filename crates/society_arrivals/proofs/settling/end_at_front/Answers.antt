@@ -1,6 +1,6 @@
 use Rattle.std.proofs.Common.{◌∙◌, List, ℕ, Ok, subst, sym}
 use Rattle.sqlite.specs.Held.{state}
-use Rattle.society_book.specs.Runs.{KnowsRun, is_among, line_at_front}
+use Rattle.society_book.specs.Runs.{KnowsRun, is_key_among, line_at_front}
 use Rattle.society_book.proofs.lines.RunLines.{knows_each}
 use Rattle.society_book.proofs.together.StepLemmas.{looks_as}
 use Rattle.society_arrivals.proofs.settling.end_at_front.Goals as goal
@@ -10,7 +10,7 @@ returns-clause-looks g c =
     let run = c.args.run.now in
     looks_as (state g.S.Store c.args.tx.now.conn.now) (state g.S.Store c.learn_all.new.tx.conn.now) tt (Ok c.learn_all.new.end) _ _ c.in_ok-learn_all.ensures.looks
     (λ learned o b holds is. (
-      is_among c.as_slice.result.now,
+      is_key_among c.as_slice.result.now,
       learned o b holds (c.new-end.ensures (line_at_front o b c.args.sender.now) is),
-      subst (λ (works : List (List ℕ)). KnowsRun (is_among works) run) (sym (c.as_slice.ensures.value ∙ c.in_ok-asked.ensures)) (knows_each run),
+      subst (λ (works : List (List ℕ)). KnowsRun (is_key_among works) run) (sym (c.as_slice.ensures.value ∙ c.in_ok-asked.ensures)) (knows_each run),
     ))

@@ -1,7 +1,7 @@
 use Rattle.std.proofs.Common.{◌∙◌, ℕ, Ok, ap, ap₂, sym}
 use Rattle.sender_segments.specs.Ways.{numbers_up_to}
 use Rattle.society_core.proofs.LineNumbers.{in_line_is}
-use Rattle.society_core.specs.Answers.{place_of}
+use Rattle.society_core.specs.Answers.{place_by}
 use Rattle.society_core.specs.Book.{ends_of, is_one_of}
 use Rattle.society_book.proofs.shown.QuestionLemmas.{then_asked}
 use Rattle.society_book.proofs.senders.place_of.Goals as goal
@@ -15,6 +15,6 @@ returns-then-reached-greatest g c =
           then_asked _ _ c.in_ok-reached.reached (Ok _) _ _ c.in_ok-reached.ensures.asked
           (λ told o book holds.
           let at = told o book holds in
-          ap₂ place_of (c.plain_place.ensures.front ∙ at)
+          ap₂ place_by (c.plain_place.ensures.front ∙ at)
           (c.plain_place.ensures.applied (ends_of book s) ∙ ap (λ (k : ℕ). is_one_of (numbers_up_to (ends_of book s) k) n) at ∙ sym (in_line_is book s n)));
     }

@@ -1,4 +1,4 @@
-use Rattle.std.proofs.Common.{◌∙◌, ◌++◌, [], List, ℕ, Ok, ap₂, arith, sym}
+use Rattle.std.proofs.Common.{◌∙◌, ◌++◌, [], List, ℕ, Ok, ap₂, arith}
 use Rattle.society_core.specs.Book.{front}
 use Rattle.society_book.specs.Standing.{numbers_above}
 use Rattle.society_book.proofs.shown.HeldNumbers.{held_is}

@@ -1,4 +1,4 @@
-use Rattle.std.proofs.Common.{Ok, List, arith, subst}
+use Rattle.std.proofs.Common.{Ok, arith, subst}
 use Rattle.std.specs.List.{AllByRecursion}
 use Rattle.std.proofs.lemmas.List.{take_all}
 use Rattle.sqlite.specs.Held.{state}

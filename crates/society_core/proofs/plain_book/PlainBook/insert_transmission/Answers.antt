@@ -1,6 +1,6 @@
 use Rattle.std.proofs.Common.{ap, ap₂, sym, subst, ◌∙◌}
 use Rattle.sender_segments.specs.Ways.{numbers_up_to}
-use Rattle.society_core.specs.Answers.{place_of}
+use Rattle.society_core.specs.Answers.{place_by}
 use Rattle.society_core.specs.Book.{AreOrderly, Book, Transmissions, ends_among, with_transmission}
 use Rattle.society_core.specs.PlainMaps.{ends_kept, plain_book}
 use Rattle.society_core.proofs.Books.{sound_order}
@@ -36,4 +36,4 @@ returns-clause-place c =
     let line = c.new-line.result in
     let ends = ends_kept line.ends.now in
     let led = led_by after sender ends line.sender line.front (ap (λ r. ends_kept r.now) c.new-line.ensures.ends) c.new-line.ensures.sender (c.new-line.ensures.front ∙ c.in_ok-front.ensures.front) in
-    ap₂ place_of c.in_ok-front.ensures.front (c.has.ensures ∙ in_line_by after sender (numbers_up_to (ends_among ends line.sender) line.front) led c.args.number)
+    ap₂ place_by c.in_ok-front.ensures.front (c.has.ensures ∙ in_line_by after sender (numbers_up_to (ends_among ends line.sender) line.front) led c.args.number)

@@ -1,6 +1,6 @@
 use Rattle.std.proofs.Common.{◌≡◌}
 use Rattle.std.proofs.Math.Logic.{∥∥₁_map}
-use Rattle.society_core.specs.Answers.{place_in}
+use Rattle.society_core.specs.Answers.{place_in_book}
 use Rattle.society_core.specs.Book.{with_transmission}
 use Rattle.society_book.specs.BookRows.{book_of}
 use Rattle.society_book.specs.Steps.{Arrives, ArrivesTo}
@@ -28,5 +28,5 @@ returns g c =
     addition o _ _ (Arrives o s c.args.number body) (ArrivesTo o s c.args.number body) (with_transmission book s c.args.number body) c.arrive-answer.result
     (rw (c.sender.ensures, c.body.ensures) at c.arrive-answer.ensures.added)
     (λ clean holds db arrives. arrives book holds (c.requires.free clean) (c.requires.within clean))
-    (λ place. place ≡ place_in (with_transmission book s c.args.number body) s c.args.number) (λ place. one_place place _) (λ clean holds place says. says book holds (c.requires.free clean) (c.requires.within clean))
+    (λ place. place ≡ place_in_book (with_transmission book s c.args.number body) s c.args.number) (λ place. one_place place _) (λ clean holds place says. says book holds (c.requires.free clean) (c.requires.within clean))
     _ _ c.told.result c.args.self.now.rests (below_greatest _ c.args.self.now.small c.if-self.false) c.told.ensures

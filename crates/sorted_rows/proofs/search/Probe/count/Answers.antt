@@ -1,6 +1,6 @@
 use Rattle.std.proofs.Common.{arith, sym, ◌+◌, ◌-◌, ◌/◌, ◌<◌, length, []}
 use Rattle.std.proofs.lemmas.List.{get_or_read}
-use Rattle.sorted_rows.specs.Search.{passes}
+use Rattle.sorted_rows.specs.Search.{passes_probe}
 use Rattle.sqlite_trees.proofs.MemoryLemmas.{passes_before, fails_after}
 use Rattle.sorted_rows.proofs.search.Probe.count.Goals as goal
 
@@ -12,7 +12,7 @@ loop-low-preserved-then-passes c =
     let test = rw (get_or_read rows middle _ within c.index-rows-middle.is []) at (sym c.if-passes.ensures) in
     record {
       ends = (omega arith, omega arith);
-      below = λ k p. passes_before (passes c.args.self) rows middle c.requires within test k (omega arith);
+      below = λ k p. passes_before (passes_probe c.args.self) rows middle c.requires within test k (omega arith);
       above = c.loop-low.invariant.above;
     }
 
@@ -25,5 +25,5 @@ loop-low-preserved c =
     record {
       ends = (omega arith, omega arith);
       below = c.loop-low.invariant.below;
-      above = fails_after (passes c.args.self) rows middle c.requires test;
+      above = fails_after (passes_probe c.args.self) rows middle c.requires test;
     }

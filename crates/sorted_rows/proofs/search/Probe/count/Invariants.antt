@@ -1,12 +1,12 @@
 use Rattle.std.proofs.Common.{◌≡◌, ◌-◌, ◌≤◌, ◌<◌, ℕ, length, true, false, get_or, []}
-use Rattle.sorted_rows.specs.Search.{passes}
+use Rattle.sorted_rows.specs.Search.{passes_probe}
 use Rattle.sorted_rows.proofs.search.Probe.count.Given as goal
 
 abbrev pub invariant-loop-low : goal.invariant-loop-low
 invariant-loop-low l = record {
   ends : (l.low ≤ l.high) × (l.high ≤ length l.rows);
-  below : (k : ℕ) → k < l.low → passes l.self (get_or l.rows k []) ≡ true;
-  above : (k : ℕ) → l.high ≤ k → k < length l.rows → passes l.self (get_or l.rows k []) ≡ false;
+  below : (k : ℕ) → k < l.low → passes_probe l.self (get_or l.rows k []) ≡ true;
+  above : (k : ℕ) → l.high ≤ k → k < length l.rows → passes_probe l.self (get_or l.rows k []) ≡ false;
 }
 
 abbrev pub decreases-loop-low : goal.decreases-loop-low

@@ -1,12 +1,12 @@
 use Rattle.std.proofs.Common.{sym, subst, ◌∙◌}
-use Rattle.sorted_rows.specs.Search.{passes, AllFail, IsCutOnce}
+use Rattle.sorted_rows.specs.Search.{passes_probe, AllFail, IsCutOnce}
 use Rattle.sorted_rows.proofs.SearchLemmas.{cut_behind, fail_from}
 use Rattle.sorted_rows.proofs.WriteLemmas.{not_is}
 use Rattle.sorted_rows.proofs.search.Probe.fails_behind.Goals as goal
 
 pub returns-in-Some : goal.returns-in-Some
 returns-in-Some c = λ is.
-    let test = passes c.args.self in
+    let test = passes_probe c.args.self in
     let rows = rw c.in-Some.is at c.after.ensures in
     let cut = subst (IsCutOnce test) rows (cut_behind test c.args.pieces.now c.args.place.piece c.args.place.at c.requires.cut) in
     subst (AllFail test) (sym rows) (fail_from test _ _ cut (sym c.passes.ensures ∙ not_is _ is))

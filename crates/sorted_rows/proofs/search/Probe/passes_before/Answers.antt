@@ -1,11 +1,11 @@
 use Rattle.std.proofs.Common.{sym, subst, ◌∙◌}
-use Rattle.sorted_rows.specs.Search.{passes, AllPass, IsCutOnce}
+use Rattle.sorted_rows.specs.Search.{passes_probe, AllPass, IsCutOnce}
 use Rattle.sorted_rows.proofs.SearchLemmas.{cut_before, pass_up_to}
 use Rattle.sorted_rows.proofs.search.Probe.passes_before.Goals as goal
 
 pub returns-in-Some : goal.returns-in-Some
 returns-in-Some c = λ is.
-    let test = passes c.args.self in
+    let test = passes_probe c.args.self in
     let rows = rw c.in-Some.is at c.before-2.ensures in
     let cut = subst (IsCutOnce test) rows (cut_before test c.args.pieces.now c.args.place.piece c.args.place.at c.requires.cut) in
     subst (AllPass test) (sym rows) (pass_up_to test _ _ cut (sym c.passes.ensures ∙ is))

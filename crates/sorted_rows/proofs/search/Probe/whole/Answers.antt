@@ -1,5 +1,5 @@
 use Rattle.std.proofs.Common.{arith, sym, ◌≡◌, ◌+◌, ◌-◌, ◌/◌, length}
-use Rattle.sorted_rows.specs.Search.{passes, lasts}
+use Rattle.sorted_rows.specs.Search.{passes_probe, lasts}
 use Rattle.sqlite_trees.proofs.MemoryLemmas.{passes_before, fails_after}
 use Rattle.sorted_rows.proofs.SearchLemmas.{length-lasts}
 use Rattle.sorted_rows.proofs.search.Probe.whole.Goals as goal
@@ -12,7 +12,7 @@ loop-low-preserved-then-passes c =
     let test = rw c.last_row.ensures at (sym c.if-passes.ensures) in
     record {
       ends = (omega arith, omega arith);
-      below = λ k p. passes_before (passes c.args.self) (lasts pieces) middle c.requires.cut (omega arith) test k (omega arith);
+      below = λ k p. passes_before (passes_probe c.args.self) (lasts pieces) middle c.requires.cut (omega arith) test k (omega arith);
       above = c.loop-low.invariant.above;
     }
 
@@ -25,5 +25,5 @@ loop-low-preserved c =
     record {
       ends = (omega arith, omega arith);
       below = c.loop-low.invariant.below;
-      above = λ k p q. fails_after (passes c.args.self) (lasts pieces) middle c.requires.cut test k p (omega arith);
+      above = λ k p q. fails_after (passes_probe c.args.self) (lasts pieces) middle c.requires.cut test k p (omega arith);
     }

@@ -1,12 +1,12 @@
 use Rattle.std.proofs.Common.{◌≡◌, ◌-◌, ◌≤◌, ◌<◌, ℕ, length, true, false, get_or, []}
-use Rattle.sorted_rows.specs.Search.{passes, lasts}
+use Rattle.sorted_rows.specs.Search.{passes_probe, lasts}
 use Rattle.sorted_rows.proofs.search.Probe.whole.Given as goal
 
 abbrev pub invariant-loop-low : goal.invariant-loop-low
 invariant-loop-low l = record {
   ends : (l.low ≤ l.high) × (l.high ≤ length l.pieces);
-  below : (k : ℕ) → k < l.low → passes l.self (get_or (lasts l.pieces) k []) ≡ true;
-  above : (k : ℕ) → l.high ≤ k → k < length l.pieces → passes l.self (get_or (lasts l.pieces) k []) ≡ false;
+  below : (k : ℕ) → k < l.low → passes_probe l.self (get_or (lasts l.pieces) k []) ≡ true;
+  above : (k : ℕ) → l.high ≤ k → k < length l.pieces → passes_probe l.self (get_or (lasts l.pieces) k []) ≡ false;
 }
 
 abbrev pub decreases-loop-low : goal.decreases-loop-low
