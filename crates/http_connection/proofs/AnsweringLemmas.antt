@@ -134,19 +134,19 @@ not_whole bytes more kept awaits has =
 
 -- all that waited was written where more bytes are awaited
 all_written : (holds new_holds : Option (List ℕ)) (waiting later bytes more : List ℕ) (kept : Head) (known : Option (List ℕ)) → Sends holds new_holds waiting later
-    → (later ≡ []) ⊎ IsUpcoming (Request kept) bytes known → Awaits (bytes ++ more) → Appends holds new_holds waiting
+    → (later ≡ []) ⊎ ((society : ℕ) → IsUpcoming society (Request kept) bytes known) → Awaits (bytes ++ more) → Appends holds new_holds waiting
 all_written holds new_holds waiting later bytes more kept known sends written awaits =
     elim (written) [
       | inl nil ↦
           Appends-is holds new_holds sends.0 waiting sends.2
           (sym (sends.1 ∙ ap (λ (v : List ℕ). sends.0 ++ v) nil ∙ append-nil sends.0))
-      | inr has ↦ absurd (not_whole bytes more kept awaits has)
+      | inr has ↦ absurd (not_whole bytes more kept awaits (has 0))
     ]
 
 pub left_by : {S R W : Type 0} (state : S → State) (remaining : R → Option (List ℕ)) (contents : W → Option (List ℕ)) (desk new_desk : S) (reader mid_reader new_reader : Counted R) (writer new_writer : Counted W) (input mid_input new_input : Input) (waiting later : List ℕ) (kept : Head) (result : Result Next FaultKind)
     → ReadsAwaited remaining reader mid_reader input mid_input → failures_of mid_reader ≡ failures_of reader
     → Sends (contents (inner_of writer)) (contents (inner_of new_writer)) waiting later
-    → (later ≡ []) ⊎ IsUpcoming (Request kept) (unread mid_input) (remaining (inner_of mid_reader))
+    → (later ≡ []) ⊎ ((society : ℕ) → IsUpcoming society (Request kept) (unread mid_input) (remaining (inner_of mid_reader)))
     → ComesNext state remaining desk new_desk mid_reader new_reader mid_input new_input result
     → IfErr result (λ kind. FailsBy kind new_input.turns (failures_of mid_reader) (failures_of new_reader))
     → IfErr result (IsLeft state remaining contents desk new_desk reader new_reader writer new_writer input new_input waiting)

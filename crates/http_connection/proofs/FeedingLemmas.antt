@@ -150,16 +150,16 @@ module _ (before : List ℕ) (turns : ℕ) (known : Option (List ℕ)) (reads : 
     short some nil =
         omega (arith, so.size, some, ap length nil, length-append (take kept.length before ++ so.fed) rest, length-append (take kept.length before) so.fed, length-take kept.length before)
 
-    pub fed_cut : 1 ≤ left → rest ≡ [] → IsAtEnd now → EndsSo (pending before kept so.fed rest) now Bad
+    pub fed_cut : 1 ≤ left → rest ≡ [] → IsAtEnd now → (society : ℕ) → EndsSo society (pending before kept so.fed rest) now Bad
     fed_cut some nil is_end = ended_short _ now kept is_end (pending_head before so.fed rest kept h) (short some nil)
 
     pub fed_awaits : 1 ≤ left → rest ≡ [] → Awaits (pending before kept so.fed rest)
     fed_awaits some nil = awaits_body _ kept (pending_head before so.fed rest kept h) (short some nil)
 
     -- memory was refused for the body of a transmission
-    pub fed_refused : 1 ≤ left → PutsTransmission h.0 → EndsSo (pending before kept so.fed rest) now Busy
+    pub fed_refused : (society : ℕ) → 1 ≤ left → PutsTransmission society h.0 → EndsSo society (pending before kept so.fed rest) now Busy
     unfolding pending_head
-    fed_refused some puts = ended_refused _ now kept (pending_head before so.fed rest kept h) puts (omega (arith, so.size, some))
+    fed_refused society some puts = ended_refused society _ now kept (pending_head before so.fed rest kept h) puts (omega (arith, so.size, some))
 
     -- all was fed
     pub fed_is_part : left ≡ 0 → IsPart (record { head = h.0; body = so.fed })

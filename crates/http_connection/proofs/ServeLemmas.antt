@@ -6,6 +6,7 @@ use Rattle.std.proofs.lemmas.List.{append-nil}
 use Rattle.std.proofs.lemmas.Grind.{flat_map-append}
 use Rattle.std.specs.Io.KnownBytes.{Appends, Consumes}
 use Rattle.httparse.specs.Grammar.{print_request}
+use Rattle.share_rules.specs.declared.office.Office.{Office}
 use Rattle.society_core.specs.Requests.{Reply}
 use Rattle.society_core.specs.State.{Rises, State}
 use Rattle.http_connection.specs.declared.connection.Served.{Served}
@@ -21,7 +22,7 @@ use Rattle.http_connection.specs.Counted.{AppendsFront, Known, TakesAtLeast, Tak
 use Rattle.http_connection.specs.Input.{BeforeEach, IsPiece, all_of, unread, ReadsOn}
 use Rattle.http_connection.specs.Outbox.{Sends}
 use Rattle.http_desk.specs.Part.{Part, print_part, IsOpenPart, IsPart}
-use Rattle.http_desk.specs.Reads.{Awaits, Cuts, ReadsAsRequests}
+use Rattle.http_desk.specs.Reads.{Awaits, Cuts, IsRemainder, ReadsAsRequests}
 use Rattle.http_connection.specs.Serves.{AreAnswered, Breaks, CausedBy, IsAwaiting, IsGivenUp, IsServed, KeepsTurns, NeedsMore, Serves, Steps, Stopped, Unwritten, Written}
 use Rattle.http_desk.specs.Text.{reply_text, texts, ending}
 use Rattle.http_connection.specs.Upcoming.{EndsSo, StopsBy}
@@ -192,7 +193,7 @@ pub record Finishes {S : Type 0} (state : S → State) (known : Option (List ℕ
   pub given : IfSome known (λ all. all ≡ bytes)
   pub parts : List Part
   pub replies : List Reply
-  pub reads : ReadsAsRequests bytes parts end
+  pub reads : ReadsAsRequests (state old).office.society bytes parts end
   pub answers : AreAnswered state parts replies old now
   pub written : Sends holds now_holds (texts parts replies) waiting
   pub count : requests ≡ length parts
@@ -262,6 +263,11 @@ ended_write requests failures new_failures before mid bytes (Err fault) p = λ i
 
 -- ---- what was read
 
+-- an end at a desk that stayed the same
+pub ends_there : {S : Type 0} (state : S → State) (desk new_desk : S) (bytes : List ℕ) (known : Option (List ℕ)) (end : End) → new_desk ≡ desk
+    → EndsSo (state desk).office.society bytes known end → EndsSo (state new_desk).office.society bytes known end
+ends_there {S} state desk new_desk bytes known end same ends = subst (λ (d : S). EndsSo (state d).office.society bytes known end) (sym same) ends
+
 cut : (bytes left : List ℕ) (parts : List Part) (held : List ℕ) → AllByRecursion IsOpenPart parts → bytes ≡ (flat_map print_part parts ++ held) ++ left → Cuts bytes parts (held ++ left)
 cut bytes left parts held each e = record { whole = e ∙ append_assoc (flat_map print_part parts) held left; each = each }
 
@@ -273,17 +279,19 @@ module _ {S : Type 0} (state : S → State) (known now : Option (List ℕ)) (pen
   cut_so : Cuts all_so so.parts (pending ++ unwrap_or now [])
   cut_so = cut all_so (unwrap_or now []) so.parts pending so.each refl
 
-  pub finishes : (end : End) → EndsSo pending now end → Finishes state known old mid holds mid_holds waiting requests end
-  finishes end ends = record {
-    bytes = all_so;
-    given = given_of known now _ so.consumed;
-    parts = so.parts;
-    replies = so.replies;
-    reads = (so.parts, [], pending ++ unwrap_or now [], sym (append-nil so.parts), cut_so, ends);
-    answers = so.answers;
-    written = so.written;
-    count = so.count;
-  }
+  pub finishes : (end : End) → EndsSo (state mid).office.society pending now end → Finishes state known old mid holds mid_holds waiting requests end
+  finishes end ends =
+      let ends_there = subst (λ (n : ℕ). IsRemainder n (pending ++ unwrap_or now []) [] end) (ap (λ (o : Office). o.society) so.answers.office) ends in
+      record {
+        bytes = all_so;
+        given = given_of known now _ so.consumed;
+        parts = so.parts;
+        replies = so.replies;
+        reads = (so.parts, [], pending ++ unwrap_or now [], sym (append-nil so.parts), cut_so, ends_there);
+        answers = so.answers;
+        written = so.written;
+        count = so.count;
+      }
 
   needed_so : Awaits pending → NeedsMore known now requests
   needed_so awaits = record {
@@ -311,7 +319,7 @@ module _ {S : Type 0} (state : S → State) (known now : Option (List ℕ)) (pen
   stopped : (last : Option (List ℕ)) → Appends mid_holds last waiting → Stopped all_so so.parts so.replies holds last
   stopped last appends = (pending ++ unwrap_or now [], cut_so, Sends-flushed holds mid_holds last _ waiting so.written appends)
 
-  broken : (kind : FaultKind) (last : Option (List ℕ)) → Written kind all_so so.parts so.replies holds last → Breaks state (record { kind = kind; requests = requests }) known old mid holds last
+  broken : (kind : FaultKind) (last : Option (List ℕ)) → Written (state old).office.society kind all_so so.parts so.replies holds last → Breaks state (record { kind = kind; requests = requests }) known old mid holds last
   broken kind last w = record {
     bytes = all_so;
     given = given_of known now _ so.consumed;
@@ -463,7 +471,7 @@ module _ {S : Type 0} (state : S → State) (known now : Option (List ℕ)) (pen
   begun : (rest : List ℕ) → pending ++ rest ≡ print_part part ++ (left ++ rest)
   begun rest = ap (λ (v : List ℕ). v ++ rest) whole ∙ append_assoc (print_part part) left rest
 
-  reads_closed : close ≡ true → ReadsAsRequests every (so.parts ++ part ∷ []) Closed
+  reads_closed : close ≡ true → ReadsAsRequests (state old).office.society every (so.parts ++ part ∷ []) Closed
   reads_closed e = (
     so.parts,
     part ∷ [],
@@ -490,7 +498,7 @@ module _ {S : Type 0} (state : S → State) (known now : Option (List ℕ)) (pen
       AppendsFront-is holds last _ _ (Sends-front holds mid_holds last (texts so.parts so.replies) waiting (reply_text reply close) so.written f) texts_are
 
   unwritten_by : (shut : Bool) → close ≡ shut → AppendsFront holds last (texts (so.parts ++ part ∷ []) (so.replies ++ reply ∷ []))
-      → Unwritten every (so.parts ++ part ∷ []) (so.replies ++ reply ∷ []) holds last
+      → Unwritten (state old).office.society every (so.parts ++ part ∷ []) (so.replies ++ reply ∷ []) holds last
   unwritten_by false e f =
       inl (
         left ++ unwrap_or now [],

@@ -197,30 +197,30 @@ HasHead-is bytes other kept h e = let P : List ℕ → Type 0 = λ v. HasHead v 
 
 -- ---- ends
 
-so : (bytes : List ℕ) (known : Option (List ℕ)) (end : End) → ((left : List ℕ) → IsRemainder (bytes ++ left) [] end) → EndsSo bytes known end
-so bytes known end ends = ends (unwrap_or known [])
+so : (society : ℕ) (bytes : List ℕ) (known : Option (List ℕ)) (end : End) → ((left : List ℕ) → IsRemainder society (bytes ++ left) [] end) → EndsSo society bytes known end
+so society bytes known end ends = ends (unwrap_or known [])
 
-pub so_bad : (bytes : List ℕ) (known : Option (List ℕ)) → ((more : List ℕ) → IsBad (bytes ++ more)) → EndsSo bytes known Bad
-so_bad bytes known bad = so bytes known Bad bad
+pub so_bad : (bytes : List ℕ) (known : Option (List ℕ)) → ((more : List ℕ) → IsBad (bytes ++ more)) → (society : ℕ) → EndsSo society bytes known Bad
+so_bad bytes known bad society = so society bytes known Bad bad
 
-pub so_large : (bytes : List ℕ) (known : Option (List ℕ)) → ((more : List ℕ) → IsTooLarge (bytes ++ more)) → EndsSo bytes known TooLarge
-so_large bytes known large = so bytes known TooLarge large
+pub so_large : (bytes : List ℕ) (known : Option (List ℕ)) → ((more : List ℕ) → IsTooLarge (bytes ++ more)) → (society : ℕ) → EndsSo society bytes known TooLarge
+so_large bytes known large society = so society bytes known TooLarge large
 
 none_left : (known : Option (List ℕ)) → IsAtEnd known → unwrap_or known [] ≡ []
 none_left None is_end = refl
 none_left (Some left) is_end = is_end
 
 -- at the end of the bytes nothing is left
-at_end : (bytes : List ℕ) (known : Option (List ℕ)) (end : End) → IsAtEnd known → IsRemainder bytes [] end → EndsSo bytes known end
-at_end bytes known end is_end ends =
-    let P : List ℕ → Type 0 = λ v. IsRemainder v [] end in
+at_end : (society : ℕ) (bytes : List ℕ) (known : Option (List ℕ)) (end : End) → IsAtEnd known → IsRemainder society bytes [] end → EndsSo society bytes known end
+at_end society bytes known end is_end ends =
+    let P : List ℕ → Type 0 = λ v. IsRemainder society v [] end in
     subst P (sym (append-nil bytes) ∙ ap (λ (v : List ℕ). bytes ++ v) (sym (none_left known is_end))) ends
 
-pub ended_partial : (bytes : List ℕ) (known : Option (List ℕ)) → IsAtEnd known → AwaitsHead bytes → EndsSo bytes known (ended_with bytes)
-ended_partial [] known is_end awaits = at_end [] known Quiet is_end refl
-ended_partial (b ∷ bytes) known is_end awaits =
+pub ended_partial : (bytes : List ℕ) (known : Option (List ℕ)) → IsAtEnd known → AwaitsHead bytes → (society : ℕ) → EndsSo society bytes known (ended_with bytes)
+ended_partial [] known is_end awaits society = at_end society [] known Quiet is_end refl
+ended_partial (b ∷ bytes) known is_end awaits society =
     let some : b ∷ bytes ≢ [] = λ e. cc in
-    at_end (b ∷ bytes) known Bad is_end (inl (some, none_partial (b ∷ bytes) awaits.none))
+    at_end society (b ∷ bytes) known Bad is_end (inl (some, none_partial (b ∷ bytes) awaits.none))
 
 -- a head and less than its body
 short_body : (bytes rest : List ℕ) (head : RequestHead) (kept : Head) → BeginsWithHead bytes head rest → IsHeadKept head kept
@@ -229,22 +229,22 @@ short_body bytes rest head kept begins is short =
     omega (arith, ap length begins.reads.1, length-append (print_request head) rest, is.size, short)
 
 pub ended_short : (bytes : List ℕ) (known : Option (List ℕ)) (kept : Head) → IsAtEnd known → HasHead bytes kept
-    → length bytes < kept.length + kept.body → EndsSo bytes known Bad
-ended_short bytes known kept is_end h short =
-    at_end bytes known Bad is_end
+    → length bytes < kept.length + kept.body → (society : ℕ) → EndsSo society bytes known Bad
+ended_short bytes known kept is_end h short society =
+    at_end society bytes known Bad is_end
     (inr (h.0, h.1, h.2, inr (kept.body, h.3.body, short_body bytes h.1 h.0 kept h.2 h.3 short)))
 
 pub ended_busy : (bytes : List ℕ) (known : Option (List ℕ)) (kept : Head) → HasHead bytes kept
-    → small_request < kept.length + kept.body → EndsSo bytes known Busy
-ended_busy bytes known kept h large =
-    so bytes known Busy
+    → small_request < kept.length + kept.body → (society : ℕ) → EndsSo society bytes known Busy
+ended_busy bytes known kept h large society =
+    so society bytes known Busy
     (λ left. (h.0, h.1 ++ left, Begins-append bytes left h.1 h.0 h.2, (kept.body, h.3.body, inl (omega (arith, h.3.size, large)))))
 
 -- memory was refused for the body of a transmission
-pub ended_refused : (bytes : List ℕ) (known : Option (List ℕ)) (kept : Head) → (h : HasHead bytes kept) → PutsTransmission h.0
-    → 1 ≤ kept.body → EndsSo bytes known Busy
-ended_refused bytes known kept h puts some =
-    so bytes known Busy
+pub ended_refused : (society : ℕ) (bytes : List ℕ) (known : Option (List ℕ)) (kept : Head) → (h : HasHead bytes kept) → PutsTransmission society h.0
+    → 1 ≤ kept.body → EndsSo society bytes known Busy
+ended_refused society bytes known kept h puts some =
+    so society bytes known Busy
     (λ rest. (h.0, h.1 ++ rest, Begins-append bytes rest h.1 h.0 h.2, (kept.body, h.3.body, inr (puts, some))))
 
 pub awaits_body : (bytes : List ℕ) (kept : Head) → HasHead bytes kept → length bytes < kept.length + kept.body → Awaits bytes
@@ -297,6 +297,6 @@ part_head bytes kept has = (
   has.is_kept,
 )
 
-pub upcoming_head : (next : Upcoming) (bytes : List ℕ) (known : Option (List ℕ)) → IsUpcoming next bytes known → IsUpcomingHead next bytes known
-upcoming_head (Request kept) bytes known is = part_head bytes kept is
-upcoming_head (Ended end) bytes known is = is
+pub upcoming_head : (society : ℕ) (next : Upcoming) (bytes : List ℕ) (known : Option (List ℕ)) → IsUpcoming society next bytes known → IsUpcomingHead society next bytes known
+upcoming_head society (Request kept) bytes known is = part_head bytes kept is
+upcoming_head society (Ended end) bytes known is = is

@@ -39,7 +39,7 @@ pub record TakesRequest {S : Type 0} (state : S → State) (desk new_desk : S) (
 -- a request was taken, or the bytes have this end, or more are awaited
 abbrev pub TakesOrEnds : {S : Type 0} → (S → State) → S → S → List ℕ → List ℕ → Option (List ℕ) → Result Next FaultKind → Type 0
 TakesOrEnds state desk new_desk bytes rest known (Ok (Request answered)) = TakesRequest state desk new_desk bytes rest answered.told answered.closes
-TakesOrEnds state desk new_desk bytes rest known (Ok (Ended end)) = EndsSo bytes known end × (new_desk ≡ desk)
+TakesOrEnds state desk new_desk bytes rest known (Ok (Ended end)) = EndsSo (state desk).office.society bytes known end × (new_desk ≡ desk)
 TakesOrEnds state desk new_desk bytes rest known (Err kind) = Awaits bytes × (new_desk ≡ desk)
 
 -- what came next, and the bytes that were read for it and not answered before; each read was needed

@@ -27,7 +27,7 @@ pub record HasFed (before rest : List ℕ) (turns new_turns : ℕ) (known new_kn
 -- why feeding ended, with so many bytes of the body still to be fed: with none; at the end of the bytes; for want of memory; or more bytes were awaited
 abbrev pub EndsFeeding : Result Feeding FaultKind → ℕ → List ℕ → Option (List ℕ) → Type 0
 EndsFeeding (Ok Whole) left bytes known = left ≡ 0
-EndsFeeding (Ok Cut) left bytes known = EndsSo bytes known Bad
+EndsFeeding (Ok Cut) left bytes known = (society : ℕ) → EndsSo society bytes known Bad
 EndsFeeding (Ok Refused) left bytes known = 1 ≤ left
 EndsFeeding (Err kind) left bytes known = Awaits bytes
 

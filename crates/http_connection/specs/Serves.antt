@@ -84,7 +84,7 @@ pub record Serves {S : Type 0} (state : S → State) (known : Option (List ℕ))
   pub parts : List Part
   pub replies : List Reply
   pub end : End
-  pub reads : ReadsAsRequests bytes parts end
+  pub reads : ReadsAsRequests (state desk).office.society bytes parts end
   pub answers : AreAnswered state parts replies desk new_desk
   pub written : Appends holds new_holds (texts parts replies ++ ending end)
   pub count : requests ≡ length parts
@@ -100,21 +100,21 @@ UnwrittenAnswers bytes parts replies holds new_holds =
     (rest : List ℕ) × Cuts bytes parts rest × AppendsFront holds new_holds (texts parts replies)
 
 -- the bytes are these requests with an end, and what was written is a front of the answers and the text of the end
-abbrev pub UnwrittenEnd : List ℕ → List Part → List Reply → Option (List ℕ) → Option (List ℕ) → Type 0
-UnwrittenEnd bytes parts replies holds new_holds =
-    (end : End) × ReadsAsRequests bytes parts end × AppendsFront holds new_holds (texts parts replies ++ ending end)
+abbrev pub UnwrittenEnd : ℕ → List ℕ → List Part → List Reply → Option (List ℕ) → Option (List ℕ) → Type 0
+UnwrittenEnd society bytes parts replies holds new_holds =
+    (end : End) × ReadsAsRequests society bytes parts end × AppendsFront holds new_holds (texts parts replies ++ ending end)
 
 -- not all that was due was written: answers, or, where these are all, what is due at the end
-abbrev pub Unwritten : List ℕ → List Part → List Reply → Option (List ℕ) → Option (List ℕ) → Type 0
-Unwritten bytes parts replies holds new_holds =
-    UnwrittenAnswers bytes parts replies holds new_holds ⊎ UnwrittenEnd bytes parts replies holds new_holds
+abbrev pub Unwritten : ℕ → List ℕ → List Part → List Reply → Option (List ℕ) → Option (List ℕ) → Type 0
+Unwritten society bytes parts replies holds new_holds =
+    UnwrittenAnswers bytes parts replies holds new_holds ⊎ UnwrittenEnd society bytes parts replies holds new_holds
 
--- what was read and written before a fault
-abbrev pub Written : FaultKind → List ℕ → List Part → List Reply → Option (List ℕ) → Option (List ℕ) → Type 0
-Written Read = Stopped
-Written Turns = Stopped
-Written Memory = Stopped
-Written Write = Unwritten
+-- what was read and written before a fault at the office of a society
+abbrev pub Written : ℕ → FaultKind → List ℕ → List Part → List Reply → Option (List ℕ) → Option (List ℕ) → Type 0
+Written society Read = Stopped
+Written society Turns = Stopped
+Written society Memory = Stopped
+Written society Write = Unwritten society
 
 -- up to a fault these requests were read and answered, as far as the answers could be written
 pub record Breaks {S : Type 0} (state : S → State) (fault : DeskFault) (known : Option (List ℕ)) (desk new_desk : S) (holds new_holds : Option (List ℕ)) : Type 0 where
@@ -123,7 +123,7 @@ pub record Breaks {S : Type 0} (state : S → State) (fault : DeskFault) (known 
   pub parts : List Part
   pub replies : List Reply
   pub answers : AreAnswered state parts replies desk new_desk
-  pub written : Written fault.kind bytes parts replies holds new_holds
+  pub written : Written (state desk).office.society fault.kind bytes parts replies holds new_holds
   pub count : fault.requests ≡ length parts
 
 -- a further read was needed: what was read is the requests that were answered, and behind them nothing that is whole, refused or too large

@@ -26,9 +26,9 @@ pub record HasPart (bytes : List ℕ) (kept : Head) : Type 0 where
   pub is_kept : IsHeadKept part.head kept
   pub size : kept.body ≡ length part.body
 
--- the bytes, with what the reader is known to have left, are this end and no further request
-abbrev pub EndsSo : List ℕ → Option (List ℕ) → End → Type 0
-EndsSo bytes known end = IsRemainder (bytes ++ unwrap_or known []) [] end
+-- the bytes, with what the reader is known to have left, are this end at the office of a society, and no further request
+abbrev pub EndsSo : ℕ → List ℕ → Option (List ℕ) → End → Type 0
+EndsSo society bytes known end = IsRemainder society (bytes ++ unwrap_or known []) [] end
 
 -- the end of a connection that has no further byte, after these bytes of a head
 abbrev pub ended_with : List ℕ → End
@@ -36,14 +36,14 @@ ended_with [] = Quiet
 ended_with (byte ∷ bytes) = Bad
 
 -- a head stands there, or the end
-abbrev pub IsUpcomingHead : Upcoming → List ℕ → Option (List ℕ) → Type 0
-IsUpcomingHead (Request kept) bytes known = HasHead bytes kept
-IsUpcomingHead (Ended end) bytes known = EndsSo bytes known end
+abbrev pub IsUpcomingHead : ℕ → Upcoming → List ℕ → Option (List ℕ) → Type 0
+IsUpcomingHead society (Request kept) bytes known = HasHead bytes kept
+IsUpcomingHead society (Ended end) bytes known = EndsSo society bytes known end
 
 -- a whole request stands there, or the end
-abbrev pub IsUpcoming : Upcoming → List ℕ → Option (List ℕ) → Type 0
-IsUpcoming (Request kept) bytes known = HasPart bytes kept
-IsUpcoming (Ended end) bytes known = EndsSo bytes known end
+abbrev pub IsUpcoming : ℕ → Upcoming → List ℕ → Option (List ℕ) → Type 0
+IsUpcoming society (Request kept) bytes known = HasPart bytes kept
+IsUpcoming society (Ended end) bytes known = EndsSo society bytes known end
 
 -- whether the end stands there
 abbrev pub is_at_end : Upcoming → Bool

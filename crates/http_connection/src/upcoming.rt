@@ -26,7 +26,7 @@ pub(crate) enum Upcoming {
 
 // What stands at the front, where no more bytes are needed to tell it.
 fn settled(bytes: &[u8]) -> Option<Upcoming>
-    ensures { IfSome result (λ next. (known : Option (List ℕ)) → IsUpcoming next bytes.now known) }
+    ensures { IfSome result (λ next. (society : ℕ) (known : Option (List ℕ)) → IsUpcoming society next bytes.now known) }
 {
     match read_head(bytes) {
         Reading::Whole(head) => {
@@ -52,10 +52,10 @@ pub(crate) fn next_answered<R: Read, W: Write>(
     ensures reads { ReadsAwaited R.remaining reader.old reader.new input.old input.new }
     ensures met { IfOk result (λ next. MeetsEnd (is_at_end next) (empty_reads_of reader.old) (empty_reads_of reader.new)) }
     ensures unmet { OnErr result (empty_reads_of reader.new ≡ empty_reads_of reader.old) }
-    ensures next { IfOk result (λ next.
-        IsUpcomingHead next (unread input.new) (R.remaining (inner_of reader.new))) }
+    ensures next { IfOk result (λ next. (society : ℕ)
+        → IsUpcomingHead society next (unread input.new) (R.remaining (inner_of reader.new))) }
     ensures written { IfOk result (λ next. (waiting outbox.new ≡ [])
-        ⊎ IsUpcoming next (unread input.new) (R.remaining (inner_of reader.new))) }
+        ⊎ ((society : ℕ) → IsUpcoming society next (unread input.new) (R.remaining (inner_of reader.new)))) }
     ensures sends { OnOk result (SendsTo W.contents writer.old writer.new outbox.old outbox.new) }
     ensures kept { OnOk result (failures_of reader.new ≡ failures_of reader.old) }
     ensures kept_writer { OnOk result (failures_of writer.new ≡ failures_of writer.old) }
@@ -76,8 +76,8 @@ fn next_head<R: Read>(reader: &mut Counted<R>, input: &mut Input) -> Result<Upco
     ensures reads { ReadsAwaited R.remaining reader.old reader.new input.old input.new }
     ensures met { IfOk result (λ next. MeetsEnd (is_at_end next) (empty_reads_of reader.old) (empty_reads_of reader.new)) }
     ensures unmet { OnErr result (empty_reads_of reader.new ≡ empty_reads_of reader.old) }
-    ensures next { IfOk result (λ next.
-        IsUpcomingHead next (unread input.new) (R.remaining (inner_of reader.new))) }
+    ensures next { IfOk result (λ next. (society : ℕ)
+        → IsUpcomingHead society next (unread input.new) (R.remaining (inner_of reader.new))) }
     ensures awaits { OnErr result (Awaits (unread input.new)) }
     ensures kept { OnOk result (failures_of reader.new ≡ failures_of reader.old) }
     ensures fault { IfErr result (λ kind.
@@ -117,8 +117,8 @@ pub(crate) fn whole_request<R: Read>(
     ensures reads { ReadsAwaited R.remaining reader.old reader.new input.old input.new }
     ensures met { IfOk result (λ next. MeetsEnd (is_at_end next) (empty_reads_of reader.old) (empty_reads_of reader.new)) }
     ensures unmet { OnErr result (empty_reads_of reader.new ≡ empty_reads_of reader.old) }
-    ensures next { IfOk result (λ next.
-        IsUpcoming next (unread input.new) (R.remaining (inner_of reader.new))) }
+    ensures next { IfOk result (λ next. (society : ℕ)
+        → IsUpcoming society next (unread input.new) (R.remaining (inner_of reader.new))) }
     ensures awaits { OnErr result (Awaits (unread input.new)) }
     ensures kept { OnOk result (failures_of reader.new ≡ failures_of reader.old) }
     ensures fault { IfErr result (λ kind.

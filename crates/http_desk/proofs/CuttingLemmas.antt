@@ -100,18 +100,18 @@ data Stops : List ℕ → List Part → End → Type 0 where
   large : {bytes : List ℕ} → IsTooLarge bytes → Stops bytes [] TooLarge
   last : {bytes : List ℕ} {part : Part} → IsLast bytes part → Stops bytes (part ∷ []) Closed
 
-stops : (bytes : List ℕ) (parts : List Part) (end : End) → IsRemainder bytes parts end → end ≢ Busy → Stops bytes parts end
-stops bytes [] Quiet e n = quiet e
-stops bytes [] Closed e n = absurd e
-stops bytes [] Bad e n = bad e
-stops bytes [] TooLarge e n = large e
-stops bytes [] Busy e n = absurd (n refl)
-stops bytes (part ∷ []) Closed e n = last e
-stops bytes (part ∷ []) Quiet e n = absurd e
-stops bytes (part ∷ []) Bad e n = absurd e
-stops bytes (part ∷ []) TooLarge e n = absurd e
-stops bytes (part ∷ []) Busy e n = absurd e
-stops bytes (part ∷ other ∷ parts) end e n = absurd e
+stops : (society : ℕ) (bytes : List ℕ) (parts : List Part) (end : End) → IsRemainder society bytes parts end → end ≢ Busy → Stops bytes parts end
+stops society bytes [] Quiet e n = quiet e
+stops society bytes [] Closed e n = absurd e
+stops society bytes [] Bad e n = bad e
+stops society bytes [] TooLarge e n = large e
+stops society bytes [] Busy e n = absurd (n refl)
+stops society bytes (part ∷ []) Closed e n = last e
+stops society bytes (part ∷ []) Quiet e n = absurd e
+stops society bytes (part ∷ []) Bad e n = absurd e
+stops society bytes (part ∷ []) TooLarge e n = absurd e
+stops society bytes (part ∷ []) Busy e n = absurd e
+stops society bytes (part ∷ other ∷ parts) end e n = absurd e
 
 same_stop : (bytes : List ℕ) (ps qs : List Part) (e f : End) → Stops bytes ps e → Stops bytes qs f → (ps ≡ qs) × (e ≡ f)
 same_stop bytes _ _ _ _ (quiet a) (quiet b) = (refl, refl)
@@ -161,8 +161,8 @@ one_way bytes r s (p ∷ ps) (q ∷ qs) ls ms e f a b x y u v =
     let later = one_way (flat_map print_part ps ++ r) r s ps qs ls ms e f a.1 b.1 refl same.1 u v in
     (ap (λ (t : Part). t ∷ (ps ++ ls)) same.0 ∙ ap (λ (ts : List Part). q ∷ ts) later.0, later.1)
 
-pub one_reading : (bytes : List ℕ) (parts others : List Part) (end other : End) → ReadsAsRequests bytes parts end → ReadsAsRequests bytes others other
+pub one_reading : (society : ℕ) (bytes : List ℕ) (parts others : List Part) (end other : End) → ReadsAsRequests society bytes parts end → ReadsAsRequests society bytes others other
     → end ≢ Busy → other ≢ Busy → (parts ≡ others) × (end ≡ other)
-one_reading bytes parts others end other a b n m =
-    let same = one_way bytes a.2 b.2 a.0 b.0 a.1 b.1 end other a.4.each b.4.each a.4.whole b.4.whole (stops a.2 a.1 end a.5 n) (stops b.2 b.1 other b.5 m) in
+one_reading society bytes parts others end other a b n m =
+    let same = one_way bytes a.2 b.2 a.0 b.0 a.1 b.1 end other a.4.each b.4.each a.4.whole b.4.whole (stops society a.2 a.1 end a.5 n) (stops society b.2 b.1 other b.5 m) in
     (a.3 ∙ same.0 ∙ sym b.3, same.1)

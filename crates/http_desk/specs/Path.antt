@@ -171,7 +171,7 @@ query_for society put target body =
 abbrev pub request_of : ℕ → Part → Query
 request_of society part = query_for society (is_put part.head.method) part.head.target part.body
 
--- a head asks the office of some society to put a transmission, whatever the body behind it: the name of a file tells of which
-abbrev pub PutsTransmission : RequestHead → Type 0
-PutsTransmission head =
-    (society : ℕ) × (sender : List ℕ) × (number : ℕ) × ((body : List ℕ) → query_for society (is_put head.method) head.target body ≡ Puts sender number body)
+-- a head asks the office of a society to put a transmission, whatever the body behind it
+abbrev pub PutsTransmission : ℕ → RequestHead → Type 0
+PutsTransmission society head =
+    (sender : List ℕ) × (number : ℕ) × ((body : List ℕ) → query_for society (is_put head.method) head.target body ≡ Puts sender number body)

@@ -59,42 +59,42 @@ IsTooLarge bytes = (head : RequestHead) × (rest : List ℕ) × BeginsWithHead b
 abbrev pub small_request : ℕ
 small_request = 65536
 
--- memory is asked while a request with this head and so large a body is read: it is above that, or puts a transmission, whose body is kept from its first byte on (profile)
-abbrev pub AsksMemory : RequestHead → ℕ → Type 0
-AsksMemory head size = (small_request < length (print_request head) + size) ⊎ (PutsTransmission head × (1 ≤ size))
+-- memory is asked at the office of a society while a request with this head and so large a body is read: it is above that, or puts a transmission there, whose body is kept from its first byte on (profile)
+abbrev pub AsksMemory : ℕ → RequestHead → ℕ → Type 0
+AsksMemory society head size = (small_request < length (print_request head) + size) ⊎ (PutsTransmission society head × (1 ≤ size))
 
--- a head without fault after which memory can be refused
-abbrev pub MayBeBusy : List ℕ → Type 0
-MayBeBusy bytes =
+-- a head without fault after which memory can be refused at the office of a society
+abbrev pub MayBeBusy : ℕ → List ℕ → Type 0
+MayBeBusy society bytes =
     (head : RequestHead) × (rest : List ℕ) × BeginsWithHead bytes head rest
-    × ((size : ℕ) × (body_length head ≡ Sized size) × AsksMemory head size)
+    × ((size : ℕ) × (body_length head ≡ Sized size) × AsksMemory society head size)
 
 -- the bytes are a request that ends the connection, and what is not read
 abbrev pub IsLast : List ℕ → Part → Type 0
 IsLast bytes part = (rest : List ℕ) × IsPart part × (closes part.head ≡ true) × (bytes ≡ print_part part ++ rest)
 
--- what stands after the requests that leave the connection open, where it ends so: one last request or none
-abbrev pub IsRemainder : List ℕ → List Part → End → Type 0
-IsRemainder bytes [] Quiet = bytes ≡ []
-IsRemainder bytes [] Closed = ⊥
-IsRemainder bytes [] Bad = IsBad bytes
-IsRemainder bytes [] TooLarge = IsTooLarge bytes
-IsRemainder bytes [] Busy = MayBeBusy bytes
-IsRemainder bytes (part ∷ []) Closed = IsLast bytes part
-IsRemainder bytes (part ∷ []) Quiet = ⊥
-IsRemainder bytes (part ∷ []) Bad = ⊥
-IsRemainder bytes (part ∷ []) TooLarge = ⊥
-IsRemainder bytes (part ∷ []) Busy = ⊥
-IsRemainder bytes (part ∷ other ∷ parts) end = ⊥
+-- what stands after the requests that leave a connection to the office of a society open, where it ends so: one last request or none
+abbrev pub IsRemainder : ℕ → List ℕ → List Part → End → Type 0
+IsRemainder society bytes [] Quiet = bytes ≡ []
+IsRemainder society bytes [] Closed = ⊥
+IsRemainder society bytes [] Bad = IsBad bytes
+IsRemainder society bytes [] TooLarge = IsTooLarge bytes
+IsRemainder society bytes [] Busy = MayBeBusy society bytes
+IsRemainder society bytes (part ∷ []) Closed = IsLast bytes part
+IsRemainder society bytes (part ∷ []) Quiet = ⊥
+IsRemainder society bytes (part ∷ []) Bad = ⊥
+IsRemainder society bytes (part ∷ []) TooLarge = ⊥
+IsRemainder society bytes (part ∷ []) Busy = ⊥
+IsRemainder society bytes (part ∷ other ∷ parts) end = ⊥
 
--- the bytes are these requests in this order, with this end; Busy says that memory was refused while a further one was read
-abbrev pub ReadsAsRequests : List ℕ → List Part → End → Type 0
-ReadsAsRequests bytes parts end =
+-- the bytes are these requests to the office of a society in this order, with this end; Busy says that memory was refused while a further one was read
+abbrev pub ReadsAsRequests : ℕ → List ℕ → List Part → End → Type 0
+ReadsAsRequests society bytes parts end =
     (front : List Part) × (last : List Part) × (rest : List ℕ)
-    × (parts ≡ front ++ last) × Cuts bytes front rest × IsRemainder rest last end
+    × (parts ≡ front ++ last) × Cuts bytes front rest × IsRemainder society rest last end
 
 -- two readings of the same bytes as requests are one; a refusal of memory, which bytes do not tell, stays out of it
 abbrev pub IsCutOneWay : Type 0
 IsCutOneWay =
-    (bytes : List ℕ) (parts others : List Part) (end other : End) → ReadsAsRequests bytes parts end → ReadsAsRequests bytes others other
+    (society : ℕ) (bytes : List ℕ) (parts others : List Part) (end other : End) → ReadsAsRequests society bytes parts end → ReadsAsRequests society bytes others other
     → end ≢ Busy → other ≢ Busy → (parts ≡ others) × (end ≡ other)

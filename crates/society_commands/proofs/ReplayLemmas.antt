@@ -2,7 +2,8 @@
 use Rattle.std.proofs.Common.{◌≡◌, ℕ, IsTrue, List, Option, subst}
 use Rattle.http_connection.specs.Counted.{inner_of}
 use Rattle.http_desk.specs.Part.{Part}
-use Rattle.http_connection.specs.Serves.{AreAnswered, Breaks, CausedBy, Serves, queries_of}
+use Rattle.http_desk.specs.Reads.{ReadsAsRequests}
+use Rattle.http_connection.specs.Serves.{AreAnswered, Breaks, CausedBy, Serves, Written, queries_of}
 use Rattle.http_connection.specs.declared.counted.Counted.{Counted}
 use Rattle.http_connection.specs.declared.fault.DeskFault.{DeskFault}
 use Rattle.share_rules.specs.declared.office.Office.{Office}
@@ -37,7 +38,7 @@ module _ {S R W : Type 0} (desk new_desk : S) (state : S → State) (office : Of
     parts = s.parts;
     replies = s.replies;
     end = s.end;
-    reads = s.reads;
+    reads = subst (λ (o : Office). ReadsAsRequests o.society s.bytes s.parts s.end) same s.reads;
     answers = from_nothing state office desk new_desk s.parts s.replies same empty clean s.answers;
     written = s.written;
   }
@@ -52,7 +53,7 @@ module _ {S R W : Type 0} (desk new_desk : S) (state : S → State) (office : Of
     parts = b.parts;
     replies = b.replies;
     answers = from_nothing state office desk new_desk b.parts b.replies same empty clean b.answers;
-    written = b.written;
+    written = subst (λ (o : Office). Written o.society fault.kind b.bytes b.parts b.replies (contents (inner_of out)) (contents (inner_of new_out))) same b.written;
     count = b.count;
     cause = cause;
   }

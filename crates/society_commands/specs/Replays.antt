@@ -35,7 +35,7 @@ pub record Replays {R W : Type 0} (office : Office) (remaining : R → Option (L
   pub parts : List Part
   pub replies : List Reply
   pub end : End
-  pub reads : ReadsAsRequests bytes parts end
+  pub reads : ReadsAsRequests office.society bytes parts end
   pub answers : AnswersFromNothing office parts replies
   pub written : Appends (contents (inner_of out)) (contents (inner_of new_out)) (texts parts replies ++ ending end)
 
@@ -47,7 +47,7 @@ pub record BreaksOff {R W : Type 0} (office : Office) (remaining : R → Option 
   pub parts : List Part
   pub replies : List Reply
   pub answers : AnswersFromNothing office parts replies
-  pub written : Written fault.kind bytes parts replies (contents (inner_of out)) (contents (inner_of new_out))
+  pub written : Written office.society fault.kind bytes parts replies (contents (inner_of out)) (contents (inner_of new_out))
   pub count : fault.requests ≡ length parts
   pub cause : CausedBy fault.kind fault.requests most_turns remaining reader new_reader out new_out
 

@@ -4,7 +4,7 @@ use Rattle.http_connection.specs.declared.input.Input.{Input}
 use Rattle.http_connection.specs.Input.{unread}
 use Rattle.http_connection.specs.Outbox.{waiting}
 use Rattle.http_desk.specs.Told.{told_reply}
-use Rattle.http_connection.proofs.ServeLemmas.{SoFar-start, SoFar-next, SoFar-reads, SoFar-same, SoFar-input, finishes, ended_served, ended_fault, ended_cause, given_up, keeps_turns, countable, goes_on, closes_on, failed, fewer, smaller, rises_from}
+use Rattle.http_connection.proofs.ServeLemmas.{SoFar-start, SoFar-next, SoFar-reads, SoFar-same, SoFar-input, ends_there, finishes, ended_served, ended_fault, ended_cause, given_up, keeps_turns, countable, goes_on, closes_on, failed, fewer, smaller, rises_from}
 use Rattle.http_connection.proofs.connection.serve_in.Goals as goal
 
 pub loop-answered-init : goal.loop-answered-init
@@ -19,7 +19,7 @@ returns-in-Ok-Ended-clause-served g c =
     let before = SoFar-next g.S.Store.state _ _ _ _ n.bytes _ _ _ _ _ _ _ _ _ _ (g.W.Write.contents c.answer_upcoming.new.writer.inner) _ (waiting c.answer_upcoming.new.room.outbox) _ c.loop-answered.invariant.0 n.reads c.in-Ok-Ended.ensures.sends in
     let so = SoFar-same g.S.Store.state c.loop-answered.desk c.answer_upcoming.new.desk _ _ n.bytes _ _ _ _ _ _ (g.W.Write.contents c.answer_upcoming.new.writer.inner) (waiting c.answer_upcoming.new.room.outbox) _ n.comes.1 before in
     ended_served g.S.Store.state _ _ _ _ _ (g.W.Write.contents c.close_with.new.writer.inner) _ _ c.in-Ok-Ended.end
-    (finishes g.S.Store.state _ _ n.bytes _ _ _ _ _ _ _ _ (waiting c.answer_upcoming.new.room.outbox) _ so c.in-Ok-Ended.end n.comes.0) c.close_with.result c.close_with.ensures.served
+    (finishes g.S.Store.state _ _ n.bytes _ _ _ _ _ _ _ _ (waiting c.answer_upcoming.new.room.outbox) _ so c.in-Ok-Ended.end (ends_there g.S.Store.state c.loop-answered.desk c.answer_upcoming.new.desk n.bytes (g.R.Read.remaining c.answer_upcoming.new.reader.inner) c.in-Ok-Ended.end n.comes.1 n.comes.0)) c.close_with.result c.close_with.ensures.served
 
 pub returns-in-Ok-Ended-clause-fault : goal.returns-in-Ok-Ended-clause-fault
 returns-in-Ok-Ended-clause-fault g c =
@@ -29,7 +29,7 @@ returns-in-Ok-Ended-clause-fault g c =
     ended_cause g.S.Store.state g.R.Read.remaining g.W.Write.contents c.args.desk.now c.answer_upcoming.new.desk c.args.reader.now c.answer_upcoming.new.reader c.args.writer.now c.answer_upcoming.new.writer c.close_with.new.writer
     c.args.room.now.input.turns _ _ c.close_with.result (c.in-Ok-Ended.ensures.kept_writer ∙ c.loop-answered.invariant.3) c.close_with.ensures.fault
     (ended_fault g.S.Store.state _ _ _ _ _ (g.W.Write.contents c.close_with.new.writer.inner) _ _ c.in-Ok-Ended.end
-    (finishes g.S.Store.state _ _ n.bytes _ _ _ _ _ _ _ _ (waiting c.answer_upcoming.new.room.outbox) _ so c.in-Ok-Ended.end n.comes.0) _ _ c.close_with.result c.close_with.ensures.fault)
+    (finishes g.S.Store.state _ _ n.bytes _ _ _ _ _ _ _ _ (waiting c.answer_upcoming.new.room.outbox) _ so c.in-Ok-Ended.end (ends_there g.S.Store.state c.loop-answered.desk c.answer_upcoming.new.desk n.bytes (g.R.Read.remaining c.answer_upcoming.new.reader.inner) c.in-Ok-Ended.end n.comes.1 n.comes.0)) _ _ c.close_with.result c.close_with.ensures.fault)
 
 pub returns-in-Ok-Ended-clause-turns : goal.returns-in-Ok-Ended-clause-turns
 returns-in-Ok-Ended-clause-turns g c =

@@ -11,4 +11,4 @@ pub returns-in-Some-clause-reads : goal.returns-in-Some-clause-reads
 returns-in-Some-clause-reads g c = ReadsOn-same Awaits _ _ _ _ _ _ refl refl c.args.reader.now.reads_fit
 
 pub returns-in-Some-clause-next : goal.returns-in-Some-clause-next
-returns-in-Some-clause-next g c = upcoming_head _ _ _ (rw c.unread.ensures at (c.in-Some.ensures (g.R.Read.remaining (inner_of c.args.reader.now))))
+returns-in-Some-clause-next g c = λ society. upcoming_head society _ _ _ (rw c.unread.ensures at (c.in-Some.ensures society (g.R.Read.remaining (inner_of c.args.reader.now))))

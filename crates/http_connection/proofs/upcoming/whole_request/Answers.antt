@@ -29,7 +29,7 @@ loop-input-preserved g c =
 
 pub returns-clause-next : goal.returns-clause-next
 returns-clause-next g c =
-    whole_part _ _ c.loop-input.invariant.2 (omega (arith, ap length c.unread.ensures))
+    λ society. whole_part _ _ c.loop-input.invariant.2 (omega (arith, ap length c.unread.ensures))
 
 pub returns-then-not-branch-clause-reads : goal.returns-then-not-branch-clause-reads
 returns-then-not-branch-clause-reads g c =
