@@ -4,34 +4,49 @@
 #![tactic(auto)]
 
 use http_connection::Counted;
-use society_commands::{Host, NoWords, ended, start, why_no_words};
+use society_commands::{
+    Host, HostFiles, NoWords, StandardStreams, ended, start, why_no_words, without_streams,
+};
 use sqlite::Wary;
 use std::env;
 use std::process::ExitCode;
 
 fn main(rt: HostRuntime) -> ExitCode {
+    // Before anything else is opened: what is opened first would get the number of a stream that is missing.
+    let streams = match StandardStreams::complete(&rt) {
+        Ok(streams) => streams,
+        Err(_) => return ExitCode::from(without_streams(&mut rt.stderr())),
+    };
+    let status = run(&rt);
+    drop(streams);
+    ExitCode::from(status)
+}
+
+/// Does what the program's arguments ask for, and answers the exit status.
+fn run(rt: &HostRuntime) -> u8 {
     let alloc = rt.alloc();
-    let args = match env::args(&rt) {
+    let args = match env::args(rt) {
         Ok(args) => args,
         Err(error) => {
             let why = why_no_words(&error);
-            return ExitCode::from(ended(Err(why), &mut rt.stderr()));
+            return ended(Err(why), &mut rt.stderr());
         }
     };
     let Ok(words) = args.collect::<Vec<String>>(alloc) else {
-        return ExitCode::from(ended(Err(NoWords::Memory), &mut rt.stderr()));
+        return ended(Err(NoWords::Memory), &mut rt.stderr());
     };
     let mut reader = Counted::new(rt.stdin());
     let mut out = Counted::new(rt.stdout());
     // A torn write may leave any bytes: nothing more is supposed of the files.
-    let host = Host::<Wary>::new(&rt);
-    let outcome = start(
-        &host,
+    let (outcome, left) = start(
+        &Host::new(rt),
+        HostFiles::new(rt, Wary),
         alloc,
         words.as_slice(),
         &mut reader,
         &mut out,
         &mut rt.stderr(),
     );
-    ExitCode::from(ended(outcome, &mut rt.stderr()))
+    drop(left);
+    ended(outcome, &mut rt.stderr())
 }

@@ -1,5 +1,5 @@
 -- Connections come one after another: their requests are one run, and their lines stand behind one another.
-use Rattle.std.proofs.Common.{◌≡◌, ℕ, ◌+◌, Bool, List, [], ◌∷◌, ◌++◌, Option, Some, None, Result, Ok, Err, arith, ap, append_assoc, append-nil, inl, inr, length, refl, subst, sym, zero, ◌∙◌}
+use Rattle.std.proofs.Common.{◌≡◌, ℕ, ◌+◌, Bool, List, [], ◌∷◌, ◌++◌, Option, Some, None, Result, Ok, Err, arith, false, ap, append_assoc, append-nil, inl, inr, length, refl, subst, sym, zero, ◌∙◌}
 use Rattle.std.specs.Prelude.{IfOk, IfErr, codes}
 use Rattle.std.specs.Io.KnownBytes.{Appends}
 use Rattle.std.specs.List.{AllByRecursion}
@@ -16,6 +16,9 @@ use Rattle.society_core.specs.Requests.{Reply}
 use Rattle.society_core.specs.State.{Rises, State}
 use Rattle.sqlite.specs.State as connection
 use Rattle.share_rules.specs.declared.office.Office.{Office}
+use Rattle.society_words.specs.declared.words.Place.{Place}
+use Rattle.society_commands.specs.Doors.{CameIn}
+use Rattle.society_commands.specs.declared.host.Listen.{Ghosts as Listens}
 use Rattle.society_commands.specs.Connections.{ServesOne, Connection, IsCounted, IsOver, Prints, ServesConnections, ServesDatabase, ServesStore, StopsServingDatabase, StopsServingStore, connection_line, connection_lines, parts_brought, replies_given, requests_of}
 
 -- ---- what is printed
@@ -130,32 +133,33 @@ brings state remaining contents desk new_desk reader new_reader writer new_write
 }
 
 -- what was served over a store, behind `listening`
-pub serves_store : {S W : Type 0} (state : S → State) (desk new_desk : S) (contents : W → Option (List ℕ)) (first out new_out : Counted W) (count : ℕ)
-    → Prints contents first out (codes "listening\n") → ServesConnections state desk new_desk contents out new_out count
-    → ServesStore state desk new_desk contents first new_out count
-serves_store state desk new_desk contents first out new_out count listening s = record {
+pub serves_store : {N S W : Type 0} (net : Listens N) (state : S → State) (desk new_desk : S) (contents : W → Option (List ℕ)) (first out new_out : Counted W) (port count : ℕ) (failed : Bool)
+    → Prints contents first out (codes "listening\n") → ServesConnections state desk new_desk contents out new_out count → CameIn net.listens_at port count failed
+    → ServesStore net state desk new_desk contents first new_out port count failed
+serves_store net state desk new_desk contents first out new_out port count failed listening s came = record {
   connections = s.connections;
   number = s.number;
   counted = s.counted;
   answers = s.answers;
   printed = prints_on contents first out new_out (codes "listening\n") (connection_lines 1 s.connections) listening s.printed;
+  came_in = came;
 }
 
 -- a store over a database was served, from where it was opened to where it is left
-module _ {S W : Type 0} (opened begun ended last : S) (state : S → State) (office : Office) (existing : Bool) (found : connection.State) (over : IsOver office existing found (state opened)) (same : begun ≡ opened) (stays : last ≡ ended)
-    (contents : W → Option (List ℕ)) (out new_out : Counted W) (count : ℕ) where
-  pub serves_database : ServesStore state begun ended contents out new_out count → ServesDatabase state office existing found last contents out new_out count
+module _ {N S W : Type 0} (net : Listens N) (opened begun ended last : S) (state : S → State) (office : Office) (existing : Bool) (found : connection.State) (over : IsOver office existing found (state opened)) (same : begun ≡ opened) (stays : last ≡ ended)
+    (contents : W → Option (List ℕ)) (out new_out : Counted W) (place : Place) where
+  pub serves_database : ServesStore net state begun ended contents out new_out place.port place.connections false → ServesDatabase net state office existing found last contents out new_out place
   serves_database s = (
     opened,
     over,
-    subst (λ (d : S). ServesStore state opened d contents out new_out count) (sym stays)
-        (subst (λ (d : S). ServesStore state d ended contents out new_out count) same s),
+    subst (λ (d : S). ServesStore net state opened d contents out new_out place.port place.connections false) (sym stays)
+        (subst (λ (d : S). ServesStore net state d ended contents out new_out place.port place.connections false) same s),
   )
 
-  pub stops_database : StopsServingStore state begun ended contents out new_out count → StopsServingDatabase state office existing found last contents out new_out count
+  pub stops_database : StopsServingStore net state begun ended contents out new_out place → StopsServingDatabase net state office existing found last contents out new_out place
   stops_database s = (
     opened,
     over,
-    subst (λ (d : S). StopsServingStore state opened d contents out new_out count) (sym stays)
-        (subst (λ (d : S). StopsServingStore state d ended contents out new_out count) same s),
+    subst (λ (d : S). StopsServingStore net state opened d contents out new_out place) (sym stays)
+        (subst (λ (d : S). StopsServingStore net state d ended contents out new_out place) same s),
   )

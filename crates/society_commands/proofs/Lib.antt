@@ -1,5 +1,6 @@
 pub mod ClosingLemmas
 pub mod ConnectionLemmas
 pub mod DatabaseLemmas
+pub mod RefusalLemmas
 pub mod ReplayLemmas
 pub mod TableLemmas

@@ -1,12 +1,15 @@
 -- What is left of the two files of an office's database, the database file and its log, once it is closed.
 use Rattle.std.specs.Prelude.{◌≡◌, Option, Some, None, Result, Ok, Err}
 use Rattle.sqlite.specs.Closing.{HoldsAlone}
-use Rattle.sqlite.specs.Files.{IsClosed, image_of}
+use Rattle.sqlite.specs.Files.{FailsToClose, IsClosed, image_of}
 use Rattle.sqlite.specs.Held.{Held}
+use Rattle.sqlite.specs.declared.file.Leftover.{Leftover}
 use Rattle.sqlite_disk.specs.declared.Disk.{Ghosts}
 use Rattle.sqlite_disk.specs.declared.Files.{Files}
 use Rattle.sqlite_store.specs.declared.store.FileStore.{FileStore}
+use Rattle.sqlite_store.specs.FileStore.{view}
 use Rattle.sqlite_trees.specs.Tree.{Trees}
+use Rattle.sqlite_trees.specs.View.{IsClean}
 use Rattle.sqlite_wal.specs.Files.{outcomes}
 use Rattle.sqlite_wal.specs.Reads.{AreClean}
 use Rattle.sqlite_wal.specs.Recovery.{Image}
@@ -15,6 +18,8 @@ use Rattle.society_core.specs.Book.{Book}
 use Rattle.society_core.specs.State.{State}
 use Rattle.society_book.specs.BookRows.{book_of}
 use Rattle.society_tables.specs.Older.{HoldsOne}
+use Rattle.society_commands.specs.declared.left.Left.{Left}
+use Rattle.society_commands.specs.declared.left.Left.TheVariants.{Closed, Connection, Nothing, Refused, Unclosed}
 
 -- the database file alone, with no log, holds tables of the office with this book, as it reads now and after a crash
 pub record HoldsBookAlone {D : Type 0} (g : Ghosts D) (office : Office) (book : Book) (files : Files D) : Type 0 where
@@ -24,18 +29,19 @@ pub record HoldsBookAlone {D : Type 0} (g : Ghosts D) (office : Office) (book : 
   pub holds : HoldsOne office trees
   pub same : book ≡ book_of trees
 
--- A store over files was closed: over files that told the truth its book is in the database file alone; or, where the disk failed or
--- memory was refused, a crash leaves nothing that it could not leave before.
-abbrev pub Closes : {D S : Type 0} {g : Ghosts D} → (S → State) → (S → Held (FileStore D g)) → S → Result (Files D) (FileStore D g) → Type 0
-Closes {g = g} state conn_of store (Ok files) = AreClean g files.log files.db → HoldsBookAlone g (state store).office (state store).book files
-Closes state conn_of store (Err last) = IsClosed (conn_of store) last
+-- A store over files was closed: over files that told the truth its book is in the database file alone; or it was not, since the disk failed
+-- or memory was refused, as the error says, and a crash leaves nothing that it could not leave before.
+abbrev pub Closes : {D S : Type 0} {g : Ghosts D} → (S → State) → (S → Held (FileStore D g)) → S → Left D g → Type 0
+Closes {g = g} state conn_of store (Closed files) = AreClean g files.log files.db → HoldsBookAlone g (state store).office (state store).book files
+Closes state conn_of store (Unclosed error last) = IsClosed (conn_of store) last × (IsClean (view last) → FailsToClose (conn_of store) last error)
+Closes state conn_of store _ = ⊥
 
--- what is left of a database was closed where it is a store
-abbrev pub ClosesLeft : {C D S : Type 0} {g : Ghosts D} → (S → State) → (S → Held (FileStore D g)) → Result S C → Option (Result (Files D) (FileStore D g)) → Type 0
-ClosesLeft state conn_of (Ok store) (Some closed) = Closes state conn_of store closed
-ClosesLeft state conn_of (Ok store) None = ⊥
-ClosesLeft state conn_of (Err conn) closed = Unit {0}
+-- what is left where a database was opened as an office's or was not: its store, closed, or the connection as it was left
+abbrev pub IsLeft : {D S : Type 0} {g : Ghosts D} → (S → State) → (S → Held (FileStore D g)) → Result S (Held (FileStore D g)) → Left D g → Type 0
+IsLeft state conn_of (Ok store) left = Closes state conn_of store left
+IsLeft state conn_of (Err conn) left = left ≡ Connection conn
 
--- it was closed so
-abbrev pub IsLeftClosed : {C D S : Type 0} {g : Ghosts D} → (S → State) → (S → Held (FileStore D g)) → Result S C → Type 0
-IsLeftClosed {D = D} {g = g} state conn_of left = (closed : Option (Result (Files D) (FileStore D g))) × ClosesLeft state conn_of left closed
+-- what is left where no database was opened: its files, where they were
+abbrev pub IsRest : {D : Type 0} {g : Ghosts D} → Option (Leftover D g) → Left D g → Type 0
+IsRest None left = left ≡ Nothing
+IsRest (Some rest) left = left ≡ Refused rest

@@ -1,7 +1,9 @@
 -- What connections come to that are served one after another, and the lines that are printed of them.
-use Rattle.std.specs.Prelude.{◌≡◌, ◌⊎◌, ℕ, ◌+◌, ◌<◌, ◌≤◌, Bool, true, false, IsTrue, List, [], ◌∷◌, ◌++◌, Option, Result, Ok, Err, codes, decimal, length}
+use Rattle.std.specs.Prelude.{◌≡◌, ◌⊎◌, ℕ, ◌+◌, ◌<◌, ◌≤◌, Bool, true, false, IsTrue, List, [], ◌∷◌, ◌++◌, Option, None, Result, Ok, Err, codes, decimal, length}
 use Rattle.std.specs.Io.KnownBytes.{Appends}
 use Rattle.std.specs.List.{flat_map, AllByRecursion}
+use Rattle.std.specs.declared.net.socket_addr.SocketAddrV4.{SocketAddrV4}
+use Rattle.std.specs.declared.net.tcp.TcpListener.{TcpListener}
 use Rattle.http_connection.specs.Counted.{failures_of, inner_of}
 use Rattle.http_desk.specs.Part.{Part}
 use Rattle.http_connection.specs.Serves.{AreAnswered}
@@ -11,11 +13,10 @@ use Rattle.http_connection.specs.declared.fault.DeskFault.{DeskFault}
 use Rattle.share_rules.specs.declared.office.Office.{Office}
 use Rattle.sqlite.specs.Files.{file_state}
 use Rattle.sqlite.specs.Held.{Held}
-use Rattle.sqlite.specs.Start.{FindsIn}
+use Rattle.sqlite.specs.declared.file.Leftover.{Leftover}
 use Rattle.sqlite.specs.State as connection
-use Rattle.sqlite.specs.Recovery.{Image}
 use Rattle.sqlite_trees.specs.Tree.{Trees}
-use Rattle.sqlite_disk.specs.declared.Disk.{Ghosts}
+use Rattle.sqlite_disk.specs.declared.Disk as disk
 use Rattle.sqlite_store.specs.declared.store.FileStore.{FileStore}
 use Rattle.society_core.specs.Book.{Book, empty_book}
 use Rattle.society_core.specs.Requests.{Reply}
@@ -31,8 +32,15 @@ use Rattle.society_tables.specs.Older.{HoldsOne, Takes}
 use Rattle.society_opening.specs.Opening.{HasAnyLayout, IsOpenable, ShowsAs, SurvivesOpening, TellsDatabase}
 use Rattle.society_opening.specs.declared.open_fault.OpenFault.{OpenFault}
 use Rattle.society_opening.specs.declared.open_fault.OpenFault.TheVariants.{Empty, Store}
-use Rattle.society_commands.specs.Closing.{IsLeftClosed}
+use Rattle.society_words.specs.declared.words.Place.{Place}
+use Rattle.society_commands.specs.Closing.{IsLeft, IsRest}
+use Rattle.society_commands.specs.Doors.{CameIn, HasAdmitted, IsLoopback}
 use Rattle.society_commands.specs.Replays.{fault_name}
+use Rattle.society_commands.specs.declared.door.Door.{Door}
+use Rattle.society_commands.specs.declared.host.Listen.{Ghosts as Listens}
+use Rattle.society_commands.specs.declared.host.OpenDatabase.{Ghosts as Opens}
+use Rattle.society_commands.specs.declared.left.Left.{Left}
+use Rattle.society_commands.specs.declared.left.Left.TheVariants as left
 use Rattle.society_words.specs.Words.{Serving}
 
 -- how many requests a connection brought, by what it came to
@@ -93,19 +101,32 @@ pub record ServesConnections {S W : Type 0} (state : S → State) (desk new_desk
   pub answers : AreAnswered state (parts_brought connections) (replies_given connections) desk new_desk
   pub printed : Prints contents out new_out (connection_lines 1 connections)
 
--- so many connections were served over a store, and nothing else was asked of it; `listening` was printed before, and a line for each
-pub record ServesStore {S W : Type 0} (state : S → State) (desk new_desk : S) (contents : W → Option (List ℕ)) (out new_out : Counted W) (count : ℕ) : Type 0 where
+-- fewer connections than were asked for were served, since one could not be accepted at the door
+abbrev pub StopsEarly : {S W : Type 0} → (S → State) → S → S → (W → Option (List ℕ)) → Counted W → Counted W → TcpListener → Door → ℕ → Type 0
+StopsEarly state desk new_desk contents out new_out listener door connections =
+    (count : ℕ) × (count < connections) × ServesConnections state desk new_desk contents out new_out count × HasAdmitted listener door count true
+
+-- so many connections came in at a port of this machine alone and were served over a store, and nothing else was asked of it; `listening`
+-- was printed before, and a line for each. Each that could be accepted was served, whatever became of those before; this is whether the next
+-- one could not be
+pub record ServesStore {N S W : Type 0} (net : Listens N) (state : S → State) (desk new_desk : S) (contents : W → Option (List ℕ)) (out new_out : Counted W) (port count : ℕ) (failed : Bool) : Type 0 where
   pub connections : List Connection
   pub number : length connections ≡ count
   pub counted : AllByRecursion IsCounted connections
   pub answers : AreAnswered state (parts_brought connections) (replies_given connections) desk new_desk
   pub printed : Prints contents out new_out (codes "listening\n" ++ connection_lines 1 connections)
+  pub came_in : CameIn net.listens_at port count failed
 
--- serving over a store ended early: it could not listen, so the store is the same and nothing was printed; or fewer connections came
-abbrev pub StopsServingStore : {S W : Type 0} → (S → State) → S → S → (W → Option (List ℕ)) → Counted W → Counted W → ℕ → Type 0
-StopsServingStore state desk new_desk contents out new_out connections =
-    ((new_desk ≡ desk) × (new_out ≡ out))
-    ⊎ ((count : ℕ) × (count < connections) × ServesStore state desk new_desk contents out new_out count)
+-- nothing can listen at a port of this machine alone
+abbrev pub CannotListen : {N : Type 0} → Listens N → ℕ → Type 0
+CannotListen net port = (address : SocketAddrV4) × IsLoopback port address × net.may_fail_at address
+
+-- serving over a store ended early: it could not listen, so the store is the same and nothing was printed; or fewer connections came than
+-- were asked for, and then one could not be accepted
+abbrev pub StopsServingStore : {N S W : Type 0} → Listens N → (S → State) → S → S → (W → Option (List ℕ)) → Counted W → Counted W → Place → Type 0
+StopsServingStore net state desk new_desk contents out new_out place =
+    (CannotListen net place.port × (new_desk ≡ desk) × (new_out ≡ out))
+    ⊎ ((count : ℕ) × (count < place.connections) × ServesStore net state desk new_desk contents out new_out place.port count true)
 
 -- a book is that of the tables that older ones of an office were taken over into
 abbrev pub IsTakenBook : Office → OlderLayout → Trees → Book → Type 0
@@ -127,11 +148,6 @@ pub record IsOver (office : Office) (existing : Bool) (found : connection.State)
   pub taken : IsTrue found.is_open → IsTrue begun.is_clean → (layout : OlderLayout) → HasOlder layout found.committed
       → IsTakenBook office layout found.committed.trees begun.book
 
--- what a connection shows of a file that was opened and held this: over a disk that tells the truth it is open, and shows the database
--- that the file and its log recover to
-abbrev pub IsFoundIn : Image → connection.State → Type 0
-IsFoundIn image s = connection.HasCleanDisk s → connection.Opens s × connection.IsLive s × FindsIn image s
-
 -- what a crash leaves in an opening: what it left before, or the whole of what older tables become, or also the new book of the office,
 -- where one may begin and no table was there
 abbrev pub LeavesOpening : Bool → Office → connection.State → connection.State → Type 0
@@ -149,58 +165,79 @@ pub record IsNotOpened (office : Office) (existing : Bool) (found left : connect
   pub unchanged : connection.HasCleanDisk left → ShowsAs found.committed left
   pub crash : LeavesOpening existing office found left
 
+-- A database that had to be an office's was not found to be a sound one: this is why, and it was left as it was, of whatever layout.
+pub record IsNotSound (office : Office) (found left : connection.State) : Type 0 where
+  pub not_opened : IsNotOpened office true found left
+  pub crash : connection.Survives found left (λ db. ⊥)
+
 -- a database was found to hold a sound book of the office with what is derived from it, or to be of an older layout and stand for one that
 -- does; it shows that still, and a crash leaves what it left before
 pub record IsSoundDatabase (office : Office) (found left : connection.State) : Type 0 where
   pub sound : FindsSoundly office found left
   pub crash : connection.Survives found left (λ db. ⊥)
 
--- a database in files that was opened so was audited and is sound, and `sound` was printed
-abbrev pub FindsSound : {D W : Type 0} (g : Ghosts D) → (connection.State → Type 0) → Office → (W → Option (List ℕ)) → Counted W → Counted W → Type 0
-FindsSound {D = D} g MayOpen office contents out new_out =
-    (conn : Held (FileStore D g)) × MayOpen (file_state conn)
-    × ((left : Held (FileStore D g)) × IsSoundDatabase office (file_state conn) (file_state left))
+-- what a connection shows that was opened at a path: what it may show, and where a database had to be there, it was
+abbrev pub IsOpenedAt : {O F : Type 0} → Opens O F → List ℕ → Bool → connection.State → Type 0
+IsOpenedAt opener path existing s = opener.may_open path s × (IsTrue existing → opener.may_find path true)
+
+-- no database was opened at a path: it had to be there and was not, which is told as empty and nothing is made; or it is refused
+abbrev pub IsRefusedAt : {O F : Type 0} {g : disk.Ghosts F} → Opens O F → List ℕ → Bool → OpenFault → Option (Leftover F g) → Type 0
+IsRefusedAt {g = g} opener path existing fault rest =
+    (IsTrue existing × opener.may_find path false × (fault ≡ Empty) × (rest ≡ None)) ⊎ opener.may_refuse g path fault rest
+
+-- the same, and this is all that is left
+abbrev pub LeavesRefused : {O F : Type 0} {g : disk.Ghosts F} → Opens O F → List ℕ → Bool → Left F g → Type 0
+LeavesRefused {F = F} {g = g} opener path existing left = (fault : OpenFault) × (rest : Option (Leftover F g)) × IsRefusedAt opener path existing fault rest × IsRest rest left
+
+-- a database that was there was opened at a path, audited and found sound; its connection is left, and `sound` was printed
+abbrev pub FindsSound : {O F W : Type 0} {g : disk.Ghosts F} → Opens O F → List ℕ → Office → (W → Option (List ℕ)) → Counted W → Counted W → Left F g → Type 0
+FindsSound {F = F} {g = g} opener path office contents out new_out rest =
+    (conn : Held (FileStore F g)) × IsOpenedAt opener path true (file_state conn)
+    × ((ended : Held (FileStore F g)) × IsSoundDatabase office (file_state conn) (file_state ended) × (rest ≡ left.Connection ended))
     × Prints contents out new_out (codes "sound\n")
 
+-- no database was opened at a path to be audited, or one was and is not sound; it is left as it was, and nothing was printed
+abbrev pub FindsUnsound : {O F W : Type 0} {g : disk.Ghosts F} → Opens O F → List ℕ → Office → Counted W → Counted W → Left F g → Type 0
+FindsUnsound {F = F} {g = g} opener path office out new_out rest =
+    (LeavesRefused opener path true rest
+    ⊎ ((conn : Held (FileStore F g)) × IsOpenedAt opener path true (file_state conn)
+    × ((ended : Held (FileStore F g)) × IsNotSound office (file_state conn) (file_state ended) × (rest ≡ left.Connection ended))))
+    × (new_out ≡ out)
+
 -- so many connections were served over a store that was opened over what a connection was found with, and this is the store behind them
-abbrev pub ServesDatabase : {S W : Type 0} → (S → State) → Office → Bool → connection.State → S → (W → Option (List ℕ)) → Counted W → Counted W → ℕ → Type 0
-ServesDatabase {S} state office existing found ended contents out new_out count =
-    (begun : S) × IsOver office existing found (state begun) × ServesStore state begun ended contents out new_out count
+abbrev pub ServesDatabase : {N S W : Type 0} → Listens N → (S → State) → Office → Bool → connection.State → S → (W → Option (List ℕ)) → Counted W → Counted W → Place → Type 0
+ServesDatabase {S = S} net state office existing found ended contents out new_out place =
+    (begun : S) × IsOver office existing found (state begun) × ServesStore net state begun ended contents out new_out place.port place.connections false
 
 -- serving so ended early, and this is the store then
-abbrev pub StopsServingDatabase : {S W : Type 0} → (S → State) → Office → Bool → connection.State → S → (W → Option (List ℕ)) → Counted W → Counted W → ℕ → Type 0
-StopsServingDatabase {S} state office existing found ended contents out new_out connections =
-    (begun : S) × IsOver office existing found (state begun) × StopsServingStore state begun ended contents out new_out connections
+abbrev pub StopsServingDatabase : {N S W : Type 0} → Listens N → (S → State) → Office → Bool → connection.State → S → (W → Option (List ℕ)) → Counted W → Counted W → Place → Type 0
+StopsServingDatabase {S = S} net state office existing found ended contents out new_out place =
+    (begun : S) × IsOver office existing found (state begun) × StopsServingStore net state begun ended contents out new_out place
 
 -- so many connections were served over a database, and its store is left as they left it
-abbrev pub LeavesServed : {C S W : Type 0} → (S → State) → Office → Bool → connection.State → Result S C → (W → Option (List ℕ)) → Counted W → Counted W → ℕ → Type 0
-LeavesServed state office existing found (Ok ended) contents out new_out count = ServesDatabase state office existing found ended contents out new_out count
-LeavesServed state office existing found (Err left) contents out new_out count = ⊥
+abbrev pub LeavesServed : {C N S W : Type 0} → Listens N → (S → State) → Office → Bool → connection.State → Result S C → (W → Option (List ℕ)) → Counted W → Counted W → Place → Type 0
+LeavesServed net state office existing found (Ok ended) contents out new_out place = ServesDatabase net state office existing found ended contents out new_out place
+LeavesServed net state office existing found (Err left) contents out new_out place = ⊥
 
 -- serving ended early, and its store is left as the connections left it; or the database was not opened, its connection is left as
 -- opening left it, and nothing was printed
-abbrev pub LeavesBroken : {C S W : Type 0} → (C → connection.State) → (S → State) → Office → Bool → connection.State → Result S C → (W → Option (List ℕ)) → Counted W → Counted W → ℕ → Type 0
-LeavesBroken show state office existing found (Ok ended) contents out new_out connections =
-    StopsServingDatabase state office existing found ended contents out new_out connections
-LeavesBroken show state office existing found (Err left) contents out new_out connections =
+abbrev pub LeavesBroken : {C N S W : Type 0} → (C → connection.State) → Listens N → (S → State) → Office → Bool → connection.State → Result S C → (W → Option (List ℕ)) → Counted W → Counted W → Place → Type 0
+LeavesBroken show net state office existing found (Ok ended) contents out new_out place =
+    StopsServingDatabase net state office existing found ended contents out new_out place
+LeavesBroken show net state office existing found (Err left) contents out new_out place =
     IsNotOpened office existing found (show left) × (new_out ≡ out)
 
--- as many connections as were asked for were served over a database in files that was opened so, and its store was closed as they left it
-abbrev pub ServesOpened : {D S W : Type 0} {g : Ghosts D} → (S → State) → (S → Held (FileStore D g)) → (List ℕ → connection.State → Type 0) → Serving → (W → Option (List ℕ)) → Counted W → Counted W → Type 0
-ServesOpened {D = D} {S = S} {g = g} state conn_of MayOpen s contents out new_out =
-    (conn : Held (FileStore D g)) × MayOpen s.path (file_state conn)
-    × ((left : Result S (Held (FileStore D g))) × LeavesServed state s.office s.existing (file_state conn) left contents out new_out s.place.connections
-    × IsLeftClosed state conn_of left)
+-- the database of a path was opened, as many connections as were asked for were served over it, and its store was closed as they left it
+abbrev pub ServesOpened : {F N O S W : Type 0} {g : disk.Ghosts F} → (S → State) → (S → Held (FileStore F g)) → Listens N → Opens O F → Serving → (W → Option (List ℕ)) → Counted W → Counted W → Left F g → Type 0
+ServesOpened {F = F} {S = S} {g = g} state conn_of net opener s contents out new_out left =
+    (conn : Held (FileStore F g)) × IsOpenedAt opener s.path s.existing (file_state conn)
+    × ((ended : Result S (Held (FileStore F g))) × LeavesServed net state s.office s.existing (file_state conn) ended contents out new_out s.place
+    × IsLeft state conn_of ended left)
 
--- serving so ended early: no database could be had, and nothing was printed; or this was left of it, and closed where it is a store
-abbrev pub StopsServingOpened : {D S W : Type 0} {g : Ghosts D} → (S → State) → (S → Held (FileStore D g)) → (List ℕ → connection.State → Type 0) → Serving → (W → Option (List ℕ)) → Counted W → Counted W → Type 0
-StopsServingOpened {D = D} {S = S} {g = g} state conn_of MayOpen s contents out new_out =
-    (new_out ≡ out)
-    ⊎ ((conn : Held (FileStore D g)) × MayOpen s.path (file_state conn)
-    × ((left : Result S (Held (FileStore D g))) × LeavesBroken file_state state s.office s.existing (file_state conn) left contents out new_out s.place.connections
-    × IsLeftClosed state conn_of left))
-
--- fewer connections than were asked for were served
-abbrev pub StopsEarly : {S W : Type 0} → (S → State) → S → S → (W → Option (List ℕ)) → Counted W → Counted W → ℕ → Type 0
-StopsEarly state desk new_desk contents out new_out connections =
-    (count : ℕ) × (count < connections) × ServesConnections state desk new_desk contents out new_out count
+-- serving so ended early: no database could be opened, and nothing was printed; or this was left of it, and closed where it is a store
+abbrev pub StopsServingOpened : {F N O S W : Type 0} {g : disk.Ghosts F} → (S → State) → (S → Held (FileStore F g)) → Listens N → Opens O F → Serving → (W → Option (List ℕ)) → Counted W → Counted W → Left F g → Type 0
+StopsServingOpened {F = F} {S = S} {g = g} state conn_of net opener s contents out new_out left =
+    (LeavesRefused opener s.path s.existing left × (new_out ≡ out))
+    ⊎ ((conn : Held (FileStore F g)) × IsOpenedAt opener s.path s.existing (file_state conn)
+    × ((ended : Result S (Held (FileStore F g))) × LeavesBroken file_state net state s.office s.existing (file_state conn) ended contents out new_out s.place
+    × IsLeft state conn_of ended left))

@@ -1,4 +1,6 @@
 pub mod Closing
 pub mod Connections
+pub mod Doors
+pub mod Found
 pub mod Replays
 pub mod Refusals

@@ -1,11 +1,12 @@
 //! Whether a database holds an office's book: told without a word to it.
 ghost use Rattle.std.specs.Prelude.{◌≡◌, ◌⊎◌, codes, false, true};
 ghost use Rattle.sqlite.specs.Held.{state};
-ghost use Rattle.society_commands.specs.Connections.{FindsSound, IsNotOpened, IsSoundDatabase, Prints};
+ghost use Rattle.society_commands.specs.Connections.{FindsSound, FindsUnsound, IsNotSound, IsSoundDatabase, Prints};
 
 use crate::connections::print;
 use crate::host::OpenDatabase;
-use crate::opening::open_fault;
+use crate::left::Left;
+use crate::opening::{open_fault, open_there};
 use crate::replaying::SERVED;
 use http_connection::Counted;
 use share_rules::Office;
@@ -15,31 +16,30 @@ use sqlite::{Alter, Connection};
 use std::alloc::Global;
 use std::io::Write;
 
-/// Audits the database at a path as the office's, as it is opened to be served, and writes nothing to it. Prints `sound` and answers
-/// 0 where it holds the office's book; else writes one line on `err`, prints nothing, and answers 1.
-pub fn audit_file<H: OpenDatabase, W: Write, E: Write>(
-    host: &H,
+/// Audits the database at a path, which has to be there, as the office's, and writes nothing to it. Prints `sound` and answers
+/// 0 where it holds the office's book; else writes one line on `err`, prints nothing, and answers 1. What is left of it comes back.
+pub fn audit_file<O: OpenDatabase + Drop, W: Write, E: Write>(
+    opener: O,
     alloc: Global,
     path: &str,
     office: &Office,
     out: &mut Counted<W>,
     err: &mut E,
-) -> u8
-    ensures status { (result ≡ 0) ⊎ (result ≡ 1) }
-    ensures sound { result ≡ 0
-        → FindsSound H.File.Disk (H.may_open path.now) office.now W.contents out.old out.new }
-    ensures fault { result ≡ 1 → out.new ≡ out.old }
+) -> (u8, Left<O::File>)
+    ensures status { (result.0 ≡ 0) ⊎ (result.0 ≡ 1) }
+    ensures sound { result.0 ≡ 0 → FindsSound O.OpenDatabase path.now office.now W.contents out.old out.new result.1 }
+    ensures fault { result.0 ≡ 1 → FindsUnsound O.OpenDatabase path.now office.now out.old out.new result.1 }
 {
     let database = Database {
         path,
         existing: true,
     };
-    match host.open_database(database) {
+    match open_there(opener, database) {
         Ok(connection) => {
-            let (status, _left) = audit_database(alloc, connection, office, out, err);
-            status
+            let (status, connection) = audit_database(alloc, connection, office, out, err);
+            (status, Left::Connection(connection))
         }
-        Err(fault) => open_fault(fault, err),
+        Err((fault, rest)) => (open_fault(fault, err), Left::of_rest(rest)),
     }
 }
 
@@ -57,7 +57,7 @@ pub fn audit_database<M: Alter + Drop, W: Write, E: Write>(
     ensures status { (result.0 ≡ 0) ⊎ (result.0 ≡ 1) }
     ensures sound { result.0 ≡ 0 → IsSoundDatabase office.now (state M.Store connection) (state M.Store result.1)
         × Prints W.contents out.old out.new (codes "sound\n") }
-    ensures fault { result.0 ≡ 1 → IsNotOpened office.now true (state M.Store connection) (state M.Store result.1)
+    ensures fault { result.0 ≡ 1 → IsNotSound office.now (state M.Store connection) (state M.Store result.1)
         × (out.new ≡ out.old) }
 {
     match audit_existing(alloc, connection, office) {

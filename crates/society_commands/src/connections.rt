@@ -1,9 +1,12 @@
 //! Connections are served one after another, and a line is printed for each.
-ghost use Rattle.std.specs.Prelude.{decimal, IfErr, IfOk, OnOk, OnErr};
+ghost use Rattle.std.specs.Prelude.{decimal, false, IfErr, IfOk, OnOk, OnErr};
 ghost use Rattle.http_connection.specs.Serves.{IsGivenUp, IsServed, KeepsTurns, NeitherFails};
 ghost use Rattle.society_commands.specs.Connections.{ServesOne, Prints, ServesConnections, StopsEarly, connection_line, outcome_text};
+ghost use Rattle.society_commands.specs.Doors.{HasAdmitted, listener_of};
 ghost use Rattle.society_commands.specs.Replays.{most_turns};
 
+use crate::door::{AcceptFault, Door};
+use crate::parting::part;
 use crate::replaying::{TURNS, fault_name};
 use http_connection::{Counted, DeskFault, FaultKind, Served, serve};
 use itoa::Buffer;
@@ -11,57 +14,82 @@ use society_core::{Desk, Store};
 use std::alloc::Global;
 use std::io::{Read, Write};
 use std::net::{TcpListener, TcpStream};
-use std::time::Duration;
+use std::time::{Clock, Duration};
 
 /// Longest wait of one read or write, in seconds.
 const LONGEST_WAIT: u64 = 30;
 
-/// A connection could not be accepted.
-#[derive(Clone, Copy, Debug, PartialEq, Eq)]
-pub struct AcceptFault;
-
-/// Serves so many connections at the desk, one after another, and prints for each a line that says how many requests it
-/// brought and how it ended. A connection that breaks off does not end it; it ends early where none can be accepted. The
-/// book is then that of a run of all requests that came.
-pub fn serve_connections<S: Store, W: Write>(
+/// Serves so many connections at the desk, one after another as they come in at a listener, and prints for each a line that says how many
+/// requests it brought and how it ended. A connection that breaks off does not end it; it ends early at the first that cannot be accepted.
+/// The book is then that of a run of all requests that came. The door by which they came in comes back.
+pub fn serve_connections<C: Clock, S: Store, W: Write>(
+    clock: &C,
     alloc: Global,
     desk: &mut Desk<S>,
-    listener: &TcpListener,
+    listener: TcpListener,
+    connections: u32,
+    out: &mut Counted<W>,
+) -> (Result<(), AcceptFault>, Door)
+    ensures served { OnOk result.0
+        (ServesConnections S.state desk.old desk.new W.contents out.old out.new connections) }
+    ensures admitted { OnOk result.0 (HasAdmitted listener result.1 connections false) }
+    ensures fault { OnErr result.0
+        (StopsEarly S.state desk.old desk.new W.contents out.old out.new listener result.1 connections) }
+{
+    let mut door = Door::new(listener);
+    let outcome = serve_at(clock, alloc, desk, &mut door, connections, out);
+    (outcome, door)
+}
+
+// The same by a door that is new.
+fn serve_at<C: Clock, S: Store, W: Write>(
+    clock: &C,
+    alloc: Global,
+    desk: &mut Desk<S>,
+    door: &mut Door,
     connections: u32,
     out: &mut Counted<W>,
 ) -> Result<(), AcceptFault>
+    requires { HasAdmitted (listener_of door.old) door.old 0 false }
     ensures served { OnOk result
         (ServesConnections S.state desk.old desk.new W.contents out.old out.new connections) }
+    ensures admitted { OnOk result (HasAdmitted (listener_of door.old) door.new connections false) }
     ensures fault { OnErr result
-        (StopsEarly S.state desk.old desk.new W.contents out.old out.new connections) }
+        (StopsEarly S.state desk.old desk.new W.contents out.old out.new (listener_of door.old) door.new connections) }
 {
-    if connections == 0 {
-        return Ok(());
-    }
-    let mut number = 0;
-    for stream in listener.incoming() {
-        let Ok(stream) = stream else {
+    for number in 0..connections {
+        let Ok(stream) = door.admit() else {
             return Err(AcceptFault);
         };
-        let outcome = serve_stream(alloc, desk, &stream);
-        number += 1;
-        print_line(out, number, &outcome);
-        if number == connections {
-            return Ok(());
-        }
+        let outcome = serve_stream(clock, alloc, desk, stream);
+        print_line(out, number + 1, &outcome);
     }
-    Err(AcceptFault)
+    Ok(())
 }
 
-// Serves one connection, of which no read and no write waits longer than half a minute, where the system lets that be set.
-fn serve_stream<S: Store>(
+// Serves one connection, of which no read and no write waits longer than half a minute, where the system lets that be set, and lets it go.
+fn serve_stream<C: Clock, S: Store>(
+    clock: &C,
+    alloc: Global,
+    desk: &mut Desk<S>,
+    stream: TcpStream,
+) -> Result<Served, DeskFault>
+    ensures { ServesOne S.state desk.old desk.new result }
+{
+    bound_waits(&stream);
+    let outcome = serve_both_ways(alloc, desk, &stream);
+    part(clock, stream);
+    outcome
+}
+
+// Serves what a stream gives, and answers on it.
+fn serve_both_ways<S: Store>(
     alloc: Global,
     desk: &mut Desk<S>,
     stream: &TcpStream,
 ) -> Result<Served, DeskFault>
     ensures { ServesOne S.state desk.old desk.new result }
 {
-    bound_waits(stream);
     let mut reader = Counted::new(stream);
     let mut writer = Counted::new(stream);
     serve_between(alloc, desk, &mut reader, &mut writer)

@@ -1,132 +1,213 @@
-//! What the program asks of the machine: ports, and files that hold databases.
-ghost use Rattle.std.specs.Prelude.{◌≡◌, IfOk, List, ℕ, false};
+//! What the program asks of the machine: an address to listen at, the clocks, and a file that holds a database.
+ghost use Rattle.std.specs.Prelude.{◌≡◌, ◌⊎◌, Bool, IfErr, IfOk, List, Option, None, OnErr, ℕ, false, true};
+ghost use Rattle.std.specs.declared.net.socket_addr.SocketAddrV4.{SocketAddrV4 as Address};
+ghost use Rattle.std.specs.declared.net.tcp.TcpListener.{TcpListener as Listener};
 ghost use Rattle.sqlite.specs.Files.{file_state};
 ghost use Rattle.sqlite.specs.State as connection;
-ghost use Rattle.sqlite.specs.WalFiles.{image_at};
-ghost use Rattle.society_commands.specs.Connections.{IsFoundIn};
-ghost use Rattle.society_commands.specs.Refusals.{fault_by_error};
+ghost use Rattle.sqlite.specs.declared.file.Leftover.{Leftover as Rest};
+ghost use Rattle.sqlite_disk.specs.declared.Disk.{Ghosts};
+ghost use Rattle.sqlite_std_file.specs.File.{IsFresh};
+ghost use Rattle.sqlite_wal.specs.Files.{image_at};
+ghost use Rattle.society_commands.specs.Found.{IsFoundIn};
+ghost use Rattle.society_commands.specs.Refusals.{FaultsAs, fault_by_start, RefusesFiles, presence_by};
+ghost use Rattle.society_opening.specs.declared.open_fault.OpenFault.{OpenFault as Fault};
 
 use society_opening::OpenFault;
-use society_words::Database;
-use sqlite::{Connection, Error, ErrorCode, FileFrom, FileStore, Start, Wary};
+use sqlite::{Connection, Error, ErrorCode, FileFrom, FileStore, Leftover, Start};
 use sqlite_disk::Disk;
-use std::fs;
-use std::io::{self, ErrorKind};
-use std::marker::PhantomData;
-use std::net::{Net, SocketAddr, TcpListener, TcpStream};
+use std::fs::{self, File};
+use std::io::{self, ErrorKind, Read};
+use std::net::{SocketAddrV4, TcpListener};
+use std::time::{Clock, Duration};
 
-/// What opens databases by their paths.
+/// What every database file begins with (SQLite's file format, 1.3.1).
+const HEADER: &[u8] = b"SQLite format 3\0";
+
+/// What listens at addresses.
+pub trait Listen {
+    /// What may listen at an address.
+    ghost listens_at: { Address → Listener → Type 0 };
+
+    /// At which address nothing may be able to listen.
+    ghost may_fail_at: { Address → Type 0 };
+
+    /// Listens at an address. The error is the system's: that the port is taken, say.
+    fn listen(&self, address: SocketAddrV4) -> io::Result<TcpListener>
+        ensures listens { IfOk result (λ listener. listens_at address listener) }
+        ensures fault { OnErr result (may_fail_at address) };
+}
+
+/// What opens the database at a path, once: an opener is used up by it, so that what is served is what was there.
 pub trait OpenDatabase {
     /// A file that holds a database, or its log.
     type File: Disk + Drop;
 
+    /// What a look at a path may tell: whether a database is there.
+    ghost may_find: { List ℕ → Bool → Type 0 };
+
     /// What a connection may show that was opened at a path.
     ghost may_open: { List ℕ → connection.State → Type 0 };
 
-    /// A connection to the database at a path. Where there is none it is made, or nothing is made and this is `Empty`, if the database
-    /// has to be there already. `Memory` where memory was refused, `Schema` where the file holds no tables that can be read, `Damaged`
-    /// where it is not as it was written, else `Store`.
+    /// Why what is at a path may be refused, and what may be left of its files.
+    ghost may_refuse: { (g : Ghosts Self.File) → List ℕ → Fault → Option (Rest Self.File g) → Type 0 };
+
+    /// Whether there is a database at a path: a file with a byte in it, or with its log beside it. `Memory` where memory was refused,
+    /// `Store` where the path cannot be looked at.
+    fn has_database(&self, path: &str) -> Result<bool, OpenFault>
+        ensures found { IfOk result (λ found. may_find path.now found) }
+        ensures refused { IfErr result (λ fault. may_refuse Self.File.Disk path.now fault None) };
+
+    /// A connection to the database at a path; where there is none it is made. `Memory` where memory was refused, `Damaged` where it is
+    /// not as it was written, else `Store`; with what is left of the files, where they were opened.
     fn open_database(
-        &self,
-        database: Database<'_>,
-    ) -> Result<Connection<FileStore<Self::File>>, OpenFault>
-        ensures opened { IfOk result (λ c. may_open database.entry.path.now (file_state c)) }
-        ensures idle { IfOk result (λ c. c.in_transaction ≡ false) };
+        self,
+        path: &str,
+    ) -> Result<Connection<FileStore<Self::File>>, (OpenFault, Option<Leftover<Self::File>>)>
+        ensures opened { IfOk result (λ c. may_open path.now (file_state c)) }
+        ensures idle { IfOk result (λ c. c.in_transaction ≡ false) }
+        ensures refused { IfErr result (λ e. may_refuse Self.File.Disk path.now e.0 e.1) };
 }
 
-/// What a file is supposed to hold when it is opened, made anew for each opening. A function over it is proved for all contents.
-pub trait Begin: Start {
-    /// This supposition.
-    fn begin() -> Self;
-}
-
-impl Begin for Wary {
-    fn begin() -> Wary {
-        Wary
-    }
-}
-
-/// The machine that the program runs on, where `S` stands for what its files hold.
-#[derive(Drop)]
-pub struct Host<'a, S> {
+/// The machine that the program runs on.
+#[derive(Clone, Copy)]
+pub struct Host<'a> {
     runtime: &'a HostRuntime,
-    files: PhantomData<S>,
 }
 
-impl<'a, S> Host<'a, S> {
+impl<'a> Host<'a> {
     /// The machine of this runtime.
-    pub fn new(runtime: &'a HostRuntime) -> Host<'a, S> {
-        Host {
-            runtime,
-            files: PhantomData,
-        }
+    pub fn new(runtime: &'a HostRuntime) -> Host<'a> {
+        Host { runtime }
     }
 }
 
-impl<'a, S> Net for Host<'a, S> {
-    type Stream = TcpStream;
+impl<'a> Listen for Host<'a> {
+    // No clause of the system's ties a listener to its address.
+    ghost listens_at = { λ address listener. Unit {0} };
 
-    type Listener = TcpListener;
+    ghost may_fail_at = { λ address. Unit {0} };
 
-    fn bind(&self, addr: SocketAddr) -> io::Result<TcpListener> {
-        self.runtime.bind(addr)
-    }
-
-    fn connect(&self, addr: SocketAddr) -> io::Result<TcpStream> {
-        self.runtime.connect(addr)
+    fn listen(&self, address: SocketAddrV4) -> io::Result<TcpListener> {
+        TcpListener::bind(self.runtime, address)
     }
 }
 
-impl<'a, S: Begin> OpenDatabase for Host<'a, S> {
+impl<'a> Clock for Host<'a> {
+    fn monotonic(&self) -> io::Result<Duration> {
+        self.runtime.monotonic()
+    }
+
+    fn since_1970(&self) -> io::Result<Duration> {
+        self.runtime.since_1970()
+    }
+}
+
+/// The files of this machine, where `S` stands for what the file that is opened holds. It opens one.
+#[derive(Drop)]
+pub struct HostFiles<'a, S: Start> {
+    runtime: &'a HostRuntime,
+    found: S,
+}
+
+impl<'a, S: Start> HostFiles<'a, S> {
+    /// The files of this runtime's machine.
+    pub fn new(runtime: &'a HostRuntime, found: S) -> HostFiles<'a, S> {
+        HostFiles { runtime, found }
+    }
+}
+
+impl<'a, S: Start> OpenDatabase for HostFiles<'a, S> {
     type File = FileFrom<S>;
 
-    // No clause ties a path to bytes: `S` stands for those of the file that is opened.
+    // No clause of the system's ties a path to what is there.
+    ghost may_find = { λ path found. Unit {0} };
+
+    // Nor to bytes: `S` stands for those of the file that is opened.
     ghost may_open = { λ path s. IsFoundIn (image_at S.Start) s };
 
+    ghost may_refuse = { λ g path fault left. RefusesFiles (λ files. IsFresh true files.log × IsFresh false files.db) fault left };
+
+    fn has_database(&self, path: &str) -> Result<bool, OpenFault> {
+        match fs::metadata(self.runtime, path) {
+            Ok(file) if file.len() > 0 => Ok(true),
+            Ok(_) => has_log(self.runtime, path),
+            Err(error) => presence_by(error.kind()),
+        }
+    }
+
     fn open_database(
-        &self,
-        database: Database<'_>,
-    ) -> Result<Connection<FileStore<Self::File>>, OpenFault> {
-        if database.existing && is_missing(self.runtime, database.path)? {
-            return Err(OpenFault::Empty);
-        }
-        match Connection::open_from(self.runtime, database.path, false, S::begin()) {
+        self,
+        path: &str,
+    ) -> Result<Connection<FileStore<Self::File>>, (OpenFault, Option<Leftover<Self::File>>)> {
+        let runtime = self.runtime;
+        match Connection::open_from(runtime, path, false, self.found) {
             Ok(connection) => Ok(connection),
-            Err((error, _)) => Err(fault_of(&error)),
+            Err((error, left)) => Err((fault_at(runtime, path, &error), left)),
         }
     }
 }
 
-/// Whether there is no database at a path: no file, or one without a byte and no log beside it. A file without a byte may have all
-/// that was written to it in its log.
-fn is_missing(host: &HostRuntime, path: &str) -> Result<bool, OpenFault> {
-    match fs::metadata(host, path) {
-        Ok(file) if file.len() > 0 => Ok(false),
-        Ok(_) => has_no_log(host, path),
-        Err(error) if error.kind() == ErrorKind::NotFound => Ok(true),
-        Err(_) => Err(OpenFault::Store),
+/// What it says of a database's presence that a look at its path failed so: that there is none, or that the store failed.
+fn presence_by(kind: ErrorKind) -> Result<bool, OpenFault>
+    ensures { result ≡ presence_by kind }
+{
+    match kind {
+        ErrorKind::NotFound => Ok(false),
+        _ => Err(OpenFault::Store),
     }
 }
 
-/// Whether there is no log beside the database at a path.
-fn has_no_log(host: &HostRuntime, path: &str) -> Result<bool, OpenFault> {
-    let Ok(log) = format!(in host.alloc(); "{path}-wal") else {
+/// Whether there is a log beside the database at a path. A file without a byte may have all that was written to it in its log.
+fn has_log(runtime: &HostRuntime, path: &str) -> Result<bool, OpenFault>
+    ensures { IfErr result (λ fault. (fault ≡ OpenFault.Memory) ⊎ (fault ≡ OpenFault.Store)) }
+{
+    let Ok(log) = format!(in runtime.alloc(); "{path}-wal") else {
         return Err(OpenFault::Memory);
     };
-    match fs::exists(host, log.as_str()) {
-        Ok(exists) => Ok(!exists),
+    match fs::exists(runtime, log.as_str()) {
+        Ok(exists) => Ok(exists),
         Err(_) => Err(OpenFault::Store),
     }
 }
 
-/// What an error of opening a file says.
-fn fault_of(error: &Error) -> OpenFault
-    ensures { result ≡ fault_by_error error.now }
+/// What an error of opening the database at a path says. Where SQLite finds no database in the files, the file's first bytes tell whether
+/// it was one.
+fn fault_at(runtime: &HostRuntime, path: &str, error: &Error) -> OpenFault
+    ensures { FaultsAs error.now result }
 {
     match error {
         Error::SqliteFailure(ErrorCode::OutOfMemory) => OpenFault::Memory,
-        Error::SqliteFailure(ErrorCode::NotADatabase) => OpenFault::Schema,
+        Error::SqliteFailure(ErrorCode::NotADatabase) => no_database(runtime, path),
         Error::SqliteFailure(ErrorCode::DatabaseCorrupt) => OpenFault::Damaged,
         _ => OpenFault::Store,
+    }
+}
+
+/// What is said of a file in which SQLite finds no database: it is damaged where it begins as one, or has no byte and so all that was
+/// written to it in its log; else it is none.
+fn no_database(runtime: &HostRuntime, path: &str) -> OpenFault
+    ensures { (result ≡ OpenFault.Damaged) ⊎ (result ≡ OpenFault.Store) }
+{
+    let mut first = [0; HEADER.len()];
+    match File::open(runtime, path) {
+        Ok(mut file) => match file.read(&mut first) {
+            Ok(count) => fault_by_start(&first[..count]),
+            Err(_) => OpenFault::Store,
+        },
+        Err(_) => OpenFault::Store,
+    }
+}
+
+/// What is said of such a file by its first bytes, sixteen or all that it has.
+fn fault_by_start(first: &[u8]) -> OpenFault
+    ensures { result ≡ fault_by_start first.now }
+{
+    if first.is_empty() {
+        return OpenFault::Damaged;
+    }
+    if first == HEADER {
+        OpenFault::Damaged
+    } else {
+        OpenFault::Store
     }
 }

@@ -5,16 +5,23 @@
 mod auditing;
 mod closing;
 mod connections;
+mod door;
 mod host;
+mod left;
 mod opening;
+mod parting;
 mod replaying;
 mod serving;
 mod starting;
+mod streams;
 
 pub use auditing::{audit_database, audit_file};
-pub use connections::{AcceptFault, serve_connections};
-pub use host::{Begin, Host, OpenDatabase};
+pub use connections::serve_connections;
+pub use door::{AcceptFault, Door};
+pub use host::{Host, HostFiles, Listen, OpenDatabase};
+pub use left::Left;
 pub use opening::{open_fault, serve_file};
 pub use replaying::{BROKEN_OFF, SERVED, TURNS, replay, report};
 pub use serving::serve_store;
 pub use starting::{NoWords, ended, start, why_no_words};
+pub use streams::{StandardStreams, without_streams};

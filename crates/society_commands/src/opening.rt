@@ -1,12 +1,14 @@
 //! The office over a database: how one is opened, and what is said where it is not.
 ghost use Rattle.std.specs.Prelude.{◌≡◌, ◌⊎◌, IfErr, IfOk, false};
+ghost use Rattle.sqlite.specs.Files.{file_state};
 ghost use Rattle.sqlite.specs.Held.{state};
-ghost use Rattle.society_commands.specs.Connections.{IsNotOpened, IsOver, LeavesBroken, LeavesServed, ServesOpened, StopsServingOpened};
+ghost use Rattle.society_commands.specs.Connections.{IsNotOpened, IsOpenedAt, IsOver, IsRefusedAt, LeavesBroken, LeavesServed, ServesOpened, StopsServingOpened};
 ghost use Rattle.society_commands.specs.Refusals.{database_fault};
 ghost use Rattle.society_words.specs.Words.{serving_of};
 
 use crate::closing::close_left;
-use crate::host::OpenDatabase;
+use crate::host::{Listen, OpenDatabase};
+use crate::left::Left;
 use crate::replaying::BROKEN_OFF;
 use crate::serving::serve_store;
 use http_connection::Counted;
@@ -15,56 +17,68 @@ use society_core::{Desk, Store};
 use society_opening::{OpenFault, open, open_existing};
 use society_tables::Tables;
 use society_words::{Database, Place};
-use sqlite::{Alter, Connection, FileStore};
+use sqlite::{Alter, Connection, FileStore, Leftover};
 use std::alloc::Global;
 use std::io::Write;
-use std::net::{Net, TcpListener, TcpStream};
+use std::time::Clock;
 
-/// Opens a database as the office's, serves so many connections over it, and closes it, so that its file alone is the book. Answers
+/// Opens the database of a path as the office's, serves so many connections over it, and closes it, so that its file alone is the book. Answers
 /// the exit status: 0, or 1 with one line on `err` where the database is not opened, or the port cannot be listened on or a connection
-/// not accepted. That it can't be closed changes no status: its file and the log together are the book then, as while it was open.
-pub fn serve_file<
-    H: Net<Listener = TcpListener, Stream = TcpStream> + OpenDatabase,
-    W: Write,
-    E: Write,
->(
-    host: &H,
+/// not accepted. That it can't be closed changes no status: its file and the log together are the book then, as while it was open. What is
+/// left of the database comes back.
+pub fn serve_file<N: Listen + Clock, O: OpenDatabase + Drop, W: Write, E: Write>(
+    net: &N,
+    opener: O,
     alloc: Global,
     database: Database<'_>,
     place: Place,
     office: &Office,
     out: &mut Counted<W>,
     err: &mut E,
-) -> u8
-    ensures status { (result ≡ 0) ⊎ (result ≡ 1) }
-    ensures served { result ≡ 0 → ServesOpened ⟦<Tables<FileStore<H::File>> as Store>⟧.state (λ t. t.conn) H.may_open
-        (serving_of database.entry place office.now) W.contents out.old out.new }
+) -> (u8, Left<O::File>)
+    ensures status { (result.0 ≡ 0) ⊎ (result.0 ≡ 1) }
+    ensures served { result.0 ≡ 0 → ServesOpened ⟦<Tables<FileStore<O::File>> as Store>⟧.state (λ t. t.conn) N.Listen O.OpenDatabase
+        (serving_of database.entry place office.now) W.contents out.old out.new result.1 }
     // Nothing is printed where the database is not opened, or nothing can be listened on; else fewer connections came. In each case
     // the clause names what is left of the database.
-    ensures broken_off { result ≡ 1 → StopsServingOpened ⟦<Tables<FileStore<H::File>> as Store>⟧.state (λ t. t.conn) H.may_open
-        (serving_of database.entry place office.now) W.contents out.old out.new }
+    ensures broken_off { result.0 ≡ 1 → StopsServingOpened ⟦<Tables<FileStore<O::File>> as Store>⟧.state (λ t. t.conn) N.Listen O.OpenDatabase
+        (serving_of database.entry place office.now) W.contents out.old out.new result.1 }
 {
-    match host.open_database(database) {
+    match open_there(opener, database) {
         Ok(connection) => {
             let existing = database.existing;
             let (status, left) = serve_database(
-                host, alloc, connection, existing, place, office, out, err,
+                net, alloc, connection, existing, place, office, out, err,
             );
-            drop(close_left(left, err));
-            status
+            (status, close_left(left, status, err))
         }
-        Err(fault) => open_fault(fault, err),
+        Err((fault, rest)) => (open_fault(fault, err), Left::of_rest(rest)),
     }
+}
+
+/// A connection to the database of a path. Where it has to be there and is not, nothing is made, and this is `Empty`; else the faults are the
+/// opener's, with what is left of the files, where they were opened.
+pub(crate) fn open_there<O: OpenDatabase + Drop>(
+    opener: O,
+    database: Database<'_>,
+) -> Result<Connection<FileStore<O::File>>, (OpenFault, Option<Leftover<O::File>>)>
+    ensures opened { IfOk result (λ c. IsOpenedAt O.OpenDatabase database.entry.path.now database.entry.existing (file_state c)) }
+    ensures idle { IfOk result (λ c. c.in_transaction ≡ false) }
+    ensures refused { IfErr result (λ e. IsRefusedAt O.OpenDatabase database.entry.path.now database.entry.existing e.0 e.1) }
+{
+    if database.existing {
+        match opener.has_database(database.path) {
+            Ok(true) => {}
+            Ok(false) => return Err((OpenFault::Empty, None)),
+            Err(fault) => return Err((fault, None)),
+        }
+    }
+    opener.open_database(database.path)
 }
 
 /// Opens a database as the office's, and serves so many connections over it. Answers the exit status as `serve_file`, and hands back
 /// the tables, as the last request left them, or the connection where the office was not opened.
-fn serve_database<
-    N: Net<Listener = TcpListener, Stream = TcpStream>,
-    M: Alter + Drop,
-    W: Write,
-    E: Write,
->(
+fn serve_database<N: Listen + Clock, M: Alter + Drop, W: Write, E: Write>(
     net: &N,
     alloc: Global,
     connection: Connection<M>,
@@ -76,10 +90,10 @@ fn serve_database<
 ) -> (u8, Result<Tables<M>, Connection<M>>)
     requires { connection.in_transaction ≡ false }
     ensures status { (result.0 ≡ 0) ⊎ (result.0 ≡ 1) }
-    ensures served { result.0 ≡ 0 → LeavesServed ⟦<Tables<M> as Store>⟧.state office.now existing (state M.Store connection)
-        result.1 W.contents out.old out.new place.connections }
-    ensures broken_off { result.0 ≡ 1 → LeavesBroken (state M.Store) ⟦<Tables<M> as Store>⟧.state office.now existing (state M.Store connection)
-        result.1 W.contents out.old out.new place.connections }
+    ensures served { result.0 ≡ 0 → LeavesServed N.Listen ⟦<Tables<M> as Store>⟧.state office.now existing (state M.Store connection)
+        result.1 W.contents out.old out.new place }
+    ensures broken_off { result.0 ≡ 1 → LeavesBroken (state M.Store) N.Listen ⟦<Tables<M> as Store>⟧.state office.now existing
+        (state M.Store connection) result.1 W.contents out.old out.new place }
 {
     match open_tables(alloc, connection, existing, office) {
         Ok(tables) => {

@@ -1,37 +1,44 @@
 //! The office as a server on this machine.
-ghost use Rattle.std.specs.Prelude.{◌≡◌, ◌⊎◌};
+ghost use Rattle.std.specs.Prelude.{◌≡◌, ◌⊎◌, false};
 ghost use Rattle.society_commands.specs.Connections.{ServesStore, StopsServingStore};
 
-use crate::connections::{AcceptFault, print, serve_connections};
+use crate::connections::{print, serve_connections};
+use crate::door::AcceptFault;
+use crate::host::Listen;
 use crate::replaying::{BROKEN_OFF, SERVED};
 use http_connection::Counted;
 use society_core::{Desk, Store};
 use society_words::Place;
 use std::alloc::Global;
 use std::io::Write;
-use std::net::{Ipv4Addr, Net, TcpListener, TcpStream};
+use std::net::{Ipv4Addr, SocketAddrV4};
+use std::time::Clock;
 
-/// Listens on this machine at a port, prints `listening`, and serves so many connections at the desk, and no other request. Answers
+/// Listens on this machine alone at a port, prints `listening`, and serves so many connections at the desk, and no other request. Answers
 /// the exit status: 0, or 1 with one line on `err` where it cannot listen or accept.
-pub fn serve_store<
-    N: Net<Listener = TcpListener, Stream = TcpStream>,
-    S: Store,
-    W: Write,
-    E: Write,
->(net: &N, alloc: Global, desk: &mut Desk<S>, place: Place, out: &mut Counted<W>, err: &mut E) -> u8
+pub fn serve_store<N: Listen + Clock, S: Store, W: Write, E: Write>(
+    net: &N,
+    alloc: Global,
+    desk: &mut Desk<S>,
+    place: Place,
+    out: &mut Counted<W>,
+    err: &mut E,
+) -> u8
     ensures status { (result ≡ 0) ⊎ (result ≡ 1) }
     // The store is led from where it stood to where the last request left it.
     ensures served { result ≡ 0
-        → ServesStore S.state desk.old desk.new W.contents out.old out.new place.connections }
+        → ServesStore N.Listen S.state desk.old desk.new W.contents out.old out.new place.port place.connections false }
     // The store is the same and nothing is printed where it cannot listen; else fewer connections came.
     ensures broken_off { result ≡ 1
-        → StopsServingStore S.state desk.old desk.new W.contents out.old out.new place.connections }
+        → StopsServingStore N.Listen S.state desk.old desk.new W.contents out.old out.new place }
 {
-    let Ok(listener) = TcpListener::bind(net, (Ipv4Addr::LOCALHOST, place.port)) else {
+    let address = SocketAddrV4::new(Ipv4Addr::LOCALHOST, place.port);
+    let Ok(listener) = net.listen(address) else {
         return break_off(err, "cannot listen");
     };
     print(out, b"listening\n");
-    match serve_connections(alloc, desk, &listener, place.connections, out) {
+    let (outcome, _door) = serve_connections(net, alloc, desk, listener, place.connections, out);
+    match outcome {
         Ok(()) => SERVED,
         Err(AcceptFault) => break_off(err, "cannot accept"),
     }

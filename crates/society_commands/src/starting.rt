@@ -3,14 +3,15 @@ ghost use Rattle.std.specs.Prelude.{◌≡◌, ◌≢◌, ◌⊎◌, IfErr, IfOk
 ghost use Rattle.std.specs.IoError.{error_kind};
 ghost use Rattle.clap.specs.Words.{kind_of};
 ghost use Rattle.clap.specs.declared.error.kind.ErrorKind.TheVariants.{DisplayHelp, OutOfMemory};
-ghost use Rattle.society_commands.specs.Connections.{FindsSound, ServesOpened, StopsServingOpened};
+ghost use Rattle.society_commands.specs.Connections.{FindsSound, FindsUnsound, ServesOpened, StopsServingOpened};
 ghost use Rattle.society_commands.specs.Replays.{Replays, BreaksOff};
 ghost use Rattle.society_commands.specs.Refusals.{status_after, no_words_by, status_without};
 ghost use Rattle.society_words.specs.Words.{AsksHelp, EndsAudit, EndsReplay, EndsServing, IsWrong, asks};
 
 use crate::auditing::audit_file;
 use crate::connections::print;
-use crate::host::OpenDatabase;
+use crate::host::{Listen, OpenDatabase};
+use crate::left::Left;
 use crate::opening::serve_file;
 use crate::replaying::{SERVED, broken_off, replay};
 use clap::Error;
@@ -22,7 +23,7 @@ use society_words::{Words, words_in};
 use sqlite::FileStore;
 use std::alloc::Global;
 use std::io::{self, ErrorKind, Read, Write};
-use std::net::{Net, TcpListener, TcpStream};
+use std::time::Clock;
 
 /// Status where the words are none that the program knows.
 const WRONG_WORDS: u8 = 2;
@@ -39,47 +40,51 @@ pub enum NoWords {
 /// Does what the program's words ask for: replays the reader at the office that they name, or serves connections there over the
 /// database that they name, or audits that database, or tells of the words on `out`; where they are wrong, says so on `err` and reads
 /// and writes nothing else. Answers the exit status: that of `replay`, `serve_file` or `audit_file`, 0 for help, 2 for wrong words;
-/// else memory was refused for the words.
-pub fn start<
-    H: Net<Listener = TcpListener, Stream = TcpStream> + OpenDatabase,
-    R: Read,
-    W: Write,
-    E: Write,
->(
-    host: &H,
+/// else memory was refused for the words. What is left of the database comes back with it.
+pub fn start<N: Listen + Clock, O: OpenDatabase + Drop, R: Read, W: Write, E: Write>(
+    net: &N,
+    opener: O,
     alloc: Global,
     words: &[String],
     reader: &mut Counted<R>,
     out: &mut Counted<W>,
     err: &mut E,
-) -> Result<u8, NoWords>
-    ensures err { OnErr result ((reader.new ≡ reader.old) × (out.new ≡ out.old)) }
-    ensures memory { IfErr result (λ why. why ≡ NoWords.Memory) }
+) -> (Result<u8, NoWords>, Left<O::File>)
+    ensures err { OnErr result.0 ((reader.new ≡ reader.old) × (out.new ≡ out.old)) }
+    ensures memory { IfErr result.0 (λ why. why ≡ NoWords.Memory) }
     ensures wrong { IsWrong (asks words.now)
-        → IfOk result (λ status. (status ≡ 2) × (reader.new ≡ reader.old) × (out.new ≡ out.old)) }
-    ensures help { asks words.now ≡ AsksHelp → IfOk result (λ status. (status ≡ 0) × (reader.new ≡ reader.old)) }
-    ensures status { IfOk result (λ status. (status ≡ 0) ⊎ ((status ≡ 1) ⊎ ((status ≡ 2) × IsWrong (asks words.now)))) }
-    ensures replayed { EndsReplay (asks words.now) 0 result (λ office.
+        → IfOk result.0 (λ status. (status ≡ 2) × (reader.new ≡ reader.old) × (out.new ≡ out.old)) }
+    ensures help { asks words.now ≡ AsksHelp → IfOk result.0 (λ status. (status ≡ 0) × (reader.new ≡ reader.old)) }
+    ensures status { IfOk result.0 (λ status. (status ≡ 0) ⊎ ((status ≡ 1) ⊎ ((status ≡ 2) × IsWrong (asks words.now)))) }
+    ensures replayed { EndsReplay (asks words.now) 0 result.0 (λ office.
         Replays office R.remaining W.contents reader.old out.old out.new) }
-    ensures broken_off { EndsReplay (asks words.now) 1 result (λ office.
+    ensures broken_off { EndsReplay (asks words.now) 1 result.0 (λ office.
         BreaksOff office R.remaining W.contents reader.old reader.new out.old out.new) }
-    ensures served { EndsServing (asks words.now) 0 result (λ s.
-        ServesOpened ⟦<Tables<FileStore<H::File>> as Store>⟧.state (λ t. t.conn) H.may_open s W.contents out.old out.new) }
-    ensures stopped { EndsServing (asks words.now) 1 result (λ s.
-        StopsServingOpened ⟦<Tables<FileStore<H::File>> as Store>⟧.state (λ t. t.conn) H.may_open s W.contents out.old out.new) }
-    ensures sound { EndsAudit (asks words.now) 0 result (λ path office.
-        FindsSound H.File.Disk (H.may_open path) office W.contents out.old out.new) }
-    ensures unsound { EndsAudit (asks words.now) 1 result (λ path office. out.new ≡ out.old) }
+    ensures served { EndsServing (asks words.now) 0 result.0 (λ s. ServesOpened
+        ⟦<Tables<FileStore<O::File>> as Store>⟧.state (λ t. t.conn) N.Listen O.OpenDatabase s W.contents out.old out.new result.1) }
+    ensures stopped { EndsServing (asks words.now) 1 result.0 (λ s. StopsServingOpened
+        ⟦<Tables<FileStore<O::File>> as Store>⟧.state (λ t. t.conn) N.Listen O.OpenDatabase s W.contents out.old out.new result.1) }
+    ensures sound { EndsAudit (asks words.now) 0 result.0 (λ path office.
+        FindsSound O.OpenDatabase path office W.contents out.old out.new result.1) }
+    ensures unsound { EndsAudit (asks words.now) 1 result.0 (λ path office.
+        FindsUnsound O.OpenDatabase path office out.old out.new result.1) }
 {
     match words_in(alloc, words) {
-        Ok(Words::Replay(office)) => Ok(replay(alloc, &office, reader, out, err)),
-        Ok(Words::Serve(database, place, office)) => {
-            Ok(serve_file(host, alloc, database, place, &office, out, err))
+        Ok(Words::Replay(office)) => {
+            let status = replay(alloc, &office, reader, out, err);
+            (Ok(status), Left::Nothing)
         }
-        Ok(Words::Audit(path, office)) => Ok(audit_file(host, alloc, path, &office, out, err)),
-        Ok(Words::BadName) => Ok(refuse(err, "bad name")),
-        Ok(Words::BadWords) => Ok(refuse(err, "bad words")),
-        Err(error) => explain(alloc, &error, out, err),
+        Ok(Words::Serve(database, place, office)) => {
+            let (status, left) = serve_file(net, opener, alloc, database, place, &office, out, err);
+            (Ok(status), left)
+        }
+        Ok(Words::Audit(path, office)) => {
+            let (status, left) = audit_file(opener, alloc, path, &office, out, err);
+            (Ok(status), left)
+        }
+        Ok(Words::BadName) => (Ok(refuse(err, "bad name")), Left::Nothing),
+        Ok(Words::BadWords) => (Ok(refuse(err, "bad words")), Left::Nothing),
+        Err(error) => (explain(alloc, &error, out, err), Left::Nothing),
     }
 }
 

@@ -8,12 +8,15 @@ returns-in-Ok-clause-sound g c = λ zero. (record { sound = c.in-Ok.ensures.soun
 pub returns-in-Err-clause-fault : goal.returns-in-Err-clause-fault
 returns-in-Err-clause-fault g c = λ one. (
   record {
-    fault = c.in-Err.fault;
-    told = c.in-Err.ensures.told;
-    empty = λ existing opened none. c.in-Err.ensures.empty opened none;
-    failed = c.in-Err.ensures.failed;
-    unchanged = c.in-Err.ensures.unchanged;
-    crash = crash_there c.args.office.now _ _ c.in-Err.ensures.crash;
+    not_opened = record {
+      fault = c.in-Err.fault;
+      told = c.in-Err.ensures.told;
+      empty = λ existing opened none. c.in-Err.ensures.empty opened none;
+      failed = c.in-Err.ensures.failed;
+      unchanged = c.in-Err.ensures.unchanged;
+      crash = crash_there c.args.office.now _ _ c.in-Err.ensures.crash;
+    };
+    crash = c.in-Err.ensures.crash;
   },
   refl,
 )

@@ -10,10 +10,10 @@ pub returns-in-Ok-Replay-clause-help : goal.returns-in-Ok-Replay-clause-help
 returns-in-Ok-Replay-clause-help g c = λ help. absurd (read_no_help _ _ c.in-Ok-Replay.ensures.ok help)
 
 pub returns-in-Ok-Replay-clause-replayed : goal.returns-in-Ok-Replay-clause-replayed
-returns-in-Ok-Replay-clause-replayed g c = λ wants zero. (c.in-Ok-Replay.office, asks_for _ c.in-Ok-Replay.office (rw c.in-Ok-Replay.field-0-is at c.in-Ok-Replay.ensures.ok), c.replay.ensures.served zero)
+returns-in-Ok-Replay-clause-replayed g c = λ wants zero. (c.in-Ok-Replay.office, asks_for _ c.in-Ok-Replay.office (rw c.in-Ok-Replay.field-0-is at c.in-Ok-Replay.ensures.ok), c.replay-status.ensures.served zero)
 
 pub returns-in-Ok-Replay-clause-broken_off : goal.returns-in-Ok-Replay-clause-broken_off
-returns-in-Ok-Replay-clause-broken_off g c = λ wants one. (c.in-Ok-Replay.office, asks_for _ c.in-Ok-Replay.office (rw c.in-Ok-Replay.field-0-is at c.in-Ok-Replay.ensures.ok), c.replay.ensures.broken_off one)
+returns-in-Ok-Replay-clause-broken_off g c = λ wants one. (c.in-Ok-Replay.office, asks_for _ c.in-Ok-Replay.office (rw c.in-Ok-Replay.field-0-is at c.in-Ok-Replay.ensures.ok), c.replay-status.ensures.broken_off one)
 
 pub returns-in-Ok-Replay-clause-served : goal.returns-in-Ok-Replay-clause-served
 returns-in-Ok-Replay-clause-served g c = λ wants. absurd (serving_read _ _ (rw c.in-Ok-Replay.field-0-is at c.in-Ok-Replay.ensures.ok) wants)
@@ -41,11 +41,11 @@ returns-in-Ok-Serve-clause-broken_off g c = λ wants. absurd (replay_read _ _ (r
 
 pub returns-in-Ok-Serve-clause-served : goal.returns-in-Ok-Serve-clause-served
 returns-in-Ok-Serve-clause-served g c = λ wants zero.
-    (serving_of c.in-Ok-Serve.database c.in-Ok-Serve.place c.in-Ok-Serve.office, asks_to_serve _ c.in-Ok-Serve.database c.in-Ok-Serve.place c.in-Ok-Serve.office (rw c.in-Ok-Serve.field-0-is at c.in-Ok-Serve.ensures.ok), c.serve_file.ensures.served zero)
+    (serving_of c.in-Ok-Serve.database c.in-Ok-Serve.place c.in-Ok-Serve.office, asks_to_serve _ c.in-Ok-Serve.database c.in-Ok-Serve.place c.in-Ok-Serve.office (rw c.in-Ok-Serve.field-0-is at c.in-Ok-Serve.ensures.ok), c.serve_file-status.ensures.served zero)
 
 pub returns-in-Ok-Serve-clause-stopped : goal.returns-in-Ok-Serve-clause-stopped
 returns-in-Ok-Serve-clause-stopped g c = λ wants one.
-    (serving_of c.in-Ok-Serve.database c.in-Ok-Serve.place c.in-Ok-Serve.office, asks_to_serve _ c.in-Ok-Serve.database c.in-Ok-Serve.place c.in-Ok-Serve.office (rw c.in-Ok-Serve.field-0-is at c.in-Ok-Serve.ensures.ok), c.serve_file.ensures.broken_off one)
+    (serving_of c.in-Ok-Serve.database c.in-Ok-Serve.place c.in-Ok-Serve.office, asks_to_serve _ c.in-Ok-Serve.database c.in-Ok-Serve.place c.in-Ok-Serve.office (rw c.in-Ok-Serve.field-0-is at c.in-Ok-Serve.ensures.ok), c.serve_file-status.ensures.broken_off one)
 
 pub returns-in-Ok-Serve-clause-sound : goal.returns-in-Ok-Serve-clause-sound
 returns-in-Ok-Serve-clause-sound g c = λ wants. absurd (audit_read _ _ (rw c.in-Ok-Serve.field-0-is at c.in-Ok-Serve.ensures.ok) wants)
@@ -72,10 +72,10 @@ pub returns-in-Ok-Audit-clause-stopped : goal.returns-in-Ok-Audit-clause-stopped
 returns-in-Ok-Audit-clause-stopped g c = λ wants. absurd (serving_read _ _ (rw c.in-Ok-Audit.field-0-is at c.in-Ok-Audit.ensures.ok) wants)
 
 pub returns-in-Ok-Audit-clause-sound : goal.returns-in-Ok-Audit-clause-sound
-returns-in-Ok-Audit-clause-sound g c = λ wants zero. (c.in-Ok-Audit.path.now, c.in-Ok-Audit.office, asks_to_audit _ c.in-Ok-Audit.path c.in-Ok-Audit.office (rw c.in-Ok-Audit.field-0-is at c.in-Ok-Audit.ensures.ok), c.audit_file.ensures.sound zero)
+returns-in-Ok-Audit-clause-sound g c = λ wants zero. (c.in-Ok-Audit.path.now, c.in-Ok-Audit.office, asks_to_audit _ c.in-Ok-Audit.path c.in-Ok-Audit.office (rw c.in-Ok-Audit.field-0-is at c.in-Ok-Audit.ensures.ok), c.audit_file-status.ensures.sound zero)
 
 pub returns-in-Ok-Audit-clause-unsound : goal.returns-in-Ok-Audit-clause-unsound
-returns-in-Ok-Audit-clause-unsound g c = λ wants one. (c.in-Ok-Audit.path.now, c.in-Ok-Audit.office, asks_to_audit _ c.in-Ok-Audit.path c.in-Ok-Audit.office (rw c.in-Ok-Audit.field-0-is at c.in-Ok-Audit.ensures.ok), c.audit_file.ensures.fault one)
+returns-in-Ok-Audit-clause-unsound g c = λ wants one. (c.in-Ok-Audit.path.now, c.in-Ok-Audit.office, asks_to_audit _ c.in-Ok-Audit.path c.in-Ok-Audit.office (rw c.in-Ok-Audit.field-0-is at c.in-Ok-Audit.ensures.ok), c.audit_file-status.ensures.fault one)
 
 pub returns-in-Ok-BadName-clause-help : goal.returns-in-Ok-BadName-clause-help
 returns-in-Ok-BadName-clause-help g c = λ help. absurd (read_no_help _ _ c.in-Ok-BadName.ensures.ok help)
