@@ -1,6 +1,6 @@
 //! The rows over bytes. Each word names two files: the requests of a stream, and the answers that are wanted of an office to which
 //! nothing has come. They are served over the plain store, as they are and with one byte a read; a line tells how many requests
-//! there were, and what differs is written behind it. Over tables the program itself serves them (.ci/rows.py).
+//! there were, and what differs is written behind it. Over tables the program itself serves them (trials/streams.py).
 #![tactic(auto)]
 
 mod comparing;
