@@ -1,6 +1,6 @@
 #!/usr/bin/env python3
-"""Runs `rt ci` and then the trials of the built program, passes on what they print, and tells before its last line, which counts both, the
-processor minutes of each crate and part.
+"""Runs `rt ci`, the trials of the built program and the tests of society-office, and passes on what they print. Before its last line, which
+counts all, it tells the processor minutes of each crate and part, and whether release/society is the program that was built.
 
 A part is what a process of the prover works on: a proof, a crate's tests, its first edit (the seed, a whole proof from nothing), or one of
 the further edits, which go over what the seed kept. Processes are looked at twice a second, so what a process did in its last half second
@@ -16,6 +16,7 @@ import threading
 import time
 
 sys.path.append(os.path.join(os.path.dirname(os.path.abspath(__file__)), "..", "trials"))
+import release
 import run as trials
 
 PARTS = ("proofs", "tests", "seeds", "edits")
@@ -120,19 +121,43 @@ def passed_on(words):
     return ran.returncode, counts
 
 
+def tools_checked(program):
+    """How many tests of society-office (office/) passed and failed over a program. What its script prints is passed on; where it fails without
+    a test's word, that counts as one that failed."""
+    line, environment = "", {**os.environ, "SOCIETY_PROGRAM": str(program)}
+    how = {"stdin": subprocess.DEVNULL, "stdout": subprocess.PIPE, "stderr": subprocess.STDOUT, "env": environment}
+    with subprocess.Popen([str(release.TOP / "office/check")], text=True, errors="replace", **how) as ran:
+        for line in ran.stdout:
+            print(line, end="", flush=True)
+    passed, failed = (sum(int(it) for it in re.findall(rf"(\d+) (?:{word})", line)) for word in ("passed", "failed|errors?"))
+    return passed, failed or int(ran.returncode != 0)
+
+
+def added(counts, others):
+    """How many passed and failed in both."""
+    return [one + other for one, other in zip(counts, others)]
+
+
 def main():
-    meter, begun = Meter(), time.monotonic()
+    release.unmark()
+    meter, begun, begun_with = Meter(), time.monotonic(), release.made_from()
     threading.Thread(target=meter.run, daemon=True).start()
     status, counts = passed_on(sys.argv[1:])
-    # A program that was not proved, or is not built, is not tried.
+    told = []
+    # A program that was not proved, or is not built, is neither tried nor compared.
     if status == 0:
-        counts = [one + other for one, other in zip(counts, trials.check())]
+        counts = added(counts, trials.check(trials.builds()))
+        counts = added(counts, tools_checked(release.built_in(release.TOP)))
+        line, is_right = release.compared()
+        told, counts = [line], added(counts, (0, int(not is_right)))
     meter.ended.set()
-    for line in meter.table((time.monotonic() - begun) / 60):
-        print(line)
+    print(*meter.table((time.monotonic() - begun) / 60), *told, sep="\n")
     if counts:
         print("{} passed, {} failed".format(*counts), flush=True)
-    return status or int(counts[1:] != [0])
+    passed = status == 0 and counts[1:] == [0]
+    if passed:
+        release.mark(begun_with)
+    return status or int(not passed)
 
 
 if __name__ == "__main__":

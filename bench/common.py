@@ -15,7 +15,6 @@ import threading
 import time
 
 ROOT = pathlib.Path(__file__).resolve().parent.parent
-PROGRAM = ROOT / "crates/society/out/society"
 OFFICE = ["--society", "900", "--territory", "40", "--name", "EXAMPLE SOCIETY"]
 MAX_BODY = 1_048_576
 SENDER = "PB000000012"
@@ -26,9 +25,20 @@ STATUS = re.compile(rb"HTTP/1\.1 (\d\d\d) ")
 
 
 # Arguments.
+def program_at_hand():
+    """The program that bin/society runs; where it would have to be built, release/society as it is, which a line then says."""
+    runs = subprocess.run([ROOT / "bin/program"], stdout=subprocess.PIPE, text=True, check=False).stdout.strip()
+    if runs:
+        return pathlib.Path(runs)
+    if not (ROOT / "release/society").exists():
+        sys.exit("there is no program: `bin/society --help` builds one")
+    print("no program is built of these sources: release/society is taken as it is", file=sys.stderr, flush=True)
+    return ROOT / "release/society"
+
+
 def program_file(name):
     """The absolute path of the program named, which is there and can be run."""
-    path = os.path.abspath(name)
+    path = os.path.abspath(name or program_at_hand())
     if not os.access(path, os.X_OK) or os.path.isdir(path):
         raise argparse.ArgumentTypeError(f"no program at {path}: `bin/society --help` builds it, or name one with --program")
     return path
@@ -37,7 +47,7 @@ def program_file(name):
 def parser(text, program=program_file):
     """A parser with `--program`, whose help is the script's own text; `program` reads the name."""
     it = argparse.ArgumentParser(description=text, formatter_class=argparse.RawDescriptionHelpFormatter)
-    it.add_argument("--program", type=program, default=str(PROGRAM), help="the built program (default: crates/society/out/society of this checkout)")
+    it.add_argument("--program", type=program, default="", help="the program (default: the one that bin/society runs)")
     return it
 
 

@@ -27,6 +27,24 @@ def a_file_that_is_empty(program, folder):
 
 
 @trial
+def a_path_that_cannot_be_looked_at(program, folder):
+    """It is not told as one where nothing is."""
+    (folder / "office.db").write_bytes(b"")
+    for row in WANTS_A_FILE:
+        told(row, run_row(program, folder, row.replace("office.db", "office.db/office.db")), Ended(b"", b"society: database store\n", 1))
+
+
+@trial
+def a_file_that_has_all_in_its_log(program, folder):
+    """An office that was killed before its first copy has its book in the log: with it the file is an office's, and without it empty."""
+    told("what came", DAY_ANSWERS.startswith(answered(program, folder, "office.db", DAY[:DAY_CUT])), True)
+    words = ["audit", "--db", "office.db", *OFFICE]
+    told("with its log", run(program, folder, words), Ended(b"sound\n", b"", 0))
+    (folder / "office.db-wal").unlink()
+    told("without it", run(program, folder, words), EMPTY_DATABASE)
+
+
+@trial
 def a_port_that_is_taken(program, folder):
     with socket.create_server(("127.0.0.1", 0)) as taken:
         port = str(taken.getsockname()[1])

@@ -260,6 +260,47 @@ def pools_alone_are_no_office(program, folder):
     check_opened(program, folder, "pools", 900, NO_OFFICE)
 
 
+NO_DATABASE = Ended(b"", b"society: database store\n", 1)
+
+# Rows that are taken from under those that refer to them; sqlite3 lets that be done, since it does not look at references by itself.
+UNREFERRED = ["returns", "transmissions", "pools"]
+
+
+def zeroed(data, page):
+    """A database whose page has only zeros; pages have 4,096 bytes."""
+    return data[: page * 4_096] + bytes(4_096) + data[(page + 1) * 4_096 :]
+
+
+@trial
+def files_that_are_no_database(program, folder):
+    """A file that does not begin as a database is told as the store's fault, one that does and is none as damaged; each keeps its bytes."""
+    left = left_by(program, folder, "left", CLOSED_AT_A_CUT)
+    held = left.read_bytes()
+    for row, data, wanted in (
+        ("a text", b"isrc,plays,seconds\n" * 1_000, NO_DATABASE),
+        ("a short text", b"SQL", NO_DATABASE),
+        ("another header", b"sqlite" + held[6:], NO_DATABASE),
+        ("cut behind its header", held[:100], DAMAGED),
+        ("cut in the middle", held[: len(held) // 2], DAMAGED),
+        ("its first page but for the header", held[:16] + bytes(4_080) + held[4_096:], DAMAGED),
+        *((f"page {it}", zeroed(held, it), DAMAGED) for it in range(1, len(held) // 4_096)),
+    ):
+        room = folder / row
+        room.mkdir()
+        (room / "office.db").write_bytes(data)
+        check_opened(program, room, row, 900, wanted)
+
+
+@trial
+def rows_that_lost_what_they_refer_to(program, folder):
+    left = left_by(program, folder, "left", CLOSED_AT_A_CUT)
+    deletions = [f"PRAGMA foreign_keys = OFF; DELETE FROM {it}" for it in UNREFERRED]
+    for layout in ("", LAYOUT_2, LAYOUT_1):
+        for room, text in each_changed(folder, left, [f"{layout}; {it}" for it in deletions]):
+            check_opened(program, room, text, 900, DAMAGED)
+            shutil.rmtree(room)
+
+
 # What makes each older layout of layout 3.
 LAYOUT_2 = SECOND_LAYOUT
 LAYOUT_1 = f"{SECOND_LAYOUT}; {FIRST_LAYOUT}"

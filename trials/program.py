@@ -1,9 +1,11 @@
 """What the trials share: runs of the built program, what they write, and a server over a file."""
+import contextlib
 import dataclasses
 import pathlib
 import socket
 import subprocess
 import sys
+import time
 
 ROOT = pathlib.Path(__file__).resolve().parent.parent
 sys.path.append(str(ROOT / "bench"))
@@ -17,6 +19,8 @@ ROW_NAMES = (ROWS / "args").read_text().split()
 # The most seconds that one run may take.
 LIMIT = 60
 TRIALS = []
+# Those that take half a minute: of several programs the first one is tried so.
+SLOW = []
 
 
 class Other(Exception):
@@ -26,6 +30,12 @@ class Other(Exception):
 def trial(function):
     """Adds a trial: it is given a program, and an empty folder to run it in."""
     TRIALS.append(function)
+    return function
+
+
+def slow(function):
+    """Says of a trial that it takes half a minute."""
+    SLOW.append(function)
     return function
 
 
@@ -72,13 +82,18 @@ def office_of(society):
 class Server:
     """`society serve` over a database of the folder, on a free port."""
 
-    def __init__(self, program, folder, path, connections=1, existing=False, society=900):
+    def __init__(self, program, folder, path, connections=1, existing=False, society=900, closed="", **limits):
+        """`closed` are standard streams that a shell closes first, as `1>&-`; `limits` go to the process."""
         self.port = common.free_port()
         words = ["serve", *["--existing"] * existing, "--db", path, "--port", str(self.port)]
         words += ["--connections", str(connections), *office_of(society)]
         pipes = {"stdin": subprocess.DEVNULL, "stdout": subprocess.PIPE, "stderr": subprocess.PIPE}
-        self.process = subprocess.Popen(["society", *words], executable=program, cwd=folder, **pipes)
-        # (empty where it does not start)
+        if closed:
+            started = {"args": ["sh", "-c", f'exec "$0" "$@" {closed}', program, *words]}
+        else:
+            started = {"args": ["society", *words], "executable": program}
+        self.process = subprocess.Popen(**started, cwd=folder, **pipes, **limits)
+        # (empty where it does not start, or can't print)
         self.first = self.process.stdout.readline()
 
     def sent(self, stream):
@@ -87,6 +102,14 @@ class Server:
             peer.sendall(stream)
             peer.shutdown(socket.SHUT_WR)
             return b"".join(iter(lambda: peer.recv(1 << 16), b""))
+
+    def wait(self):
+        """Waits until it listens, by a peer that sends nothing, which is a connection too."""
+        for _ in range(20 * LIMIT):
+            with contextlib.suppress(ConnectionRefusedError):
+                return told("a peer without a request", self.sent(b""), b"")
+            time.sleep(0.05)
+        raise Other("it does not listen")
 
     def ended(self):
         """What is written until the program ends by itself."""

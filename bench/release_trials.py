@@ -1,0 +1,154 @@
+#!/usr/bin/env python3
+"""Tries what goes by release/: which program bin/society runs and what it says, when bin/release renews it, and how the gate compares.
+
+All of it happens in a copy of the checkout, with a toolchain that proves nothing and a program that does nothing. A line tells of each
+trial; the status is 1 where one is not as wanted. It takes some 8 processor seconds.
+"""
+import argparse
+import pathlib
+import shutil
+import subprocess
+import sys
+import tempfile
+
+from common import ROOT
+
+# A toolchain: its line, a proof of all crates, and a build of the program.
+TOOLCHAIN = """#!/bin/sh
+case "$1" in
+  version) echo "toolchain one" ;;
+  all) echo "== work_ids" ;;
+  run) mkdir -p out && cp {program} out/society && echo "rt: running" >&2 ;;
+esac
+"""
+# Trials of the program, all as wanted.
+TRIALS = "def builds():\n    return []\n\n\ndef check(programs):\n    return 34, 0\n"
+PROGRAM = "/bin/true"
+SOURCE, DEFINITION, PROOF = "crates/work_ids/src/lib.rt", "crates/work_ids/specs/Lib.antt", "crates/work_ids/proofs/Lib.antt"
+OTHERS = "the sources are others than those that release/society was made from"
+SAME = "release: release/society is the program that was built, byte for byte"
+
+
+class Checkout:
+    """A copy of this checkout without a release, and a folder with the toolchain."""
+
+    def __init__(self, folder):
+        self.top, self.tools = folder / "office", folder / "tools"
+        names = subprocess.run(["git", "ls-files", "-co", "--exclude-standard", "-z"], cwd=ROOT, stdout=subprocess.PIPE, check=True).stdout
+        for name in filter(None, names.decode().split("\0")):
+            if (ROOT / name).is_file() and not name.startswith("release/"):
+                (self.top / name).parent.mkdir(parents=True, exist_ok=True)
+                shutil.copy(ROOT / name, self.top / name)
+        self.write("trials/run.py", TRIALS)
+        self.tools.mkdir()
+        (self.tools / "rt").write_text(TOOLCHAIN.format(program=PROGRAM))
+        (self.tools / "rt").chmod(0o755)
+
+    def write(self, name, text):
+        (self.top / name).write_text(text)
+
+    def add(self, name, text="\n"):
+        """Adds something to a file, which may be no text."""
+        with open(self.top / name, "ab") as file:
+            file.write(text.encode())
+
+    def run(self, *words, toolchain=True):
+        """All that a command prints, and its status."""
+        path = "/usr/bin:/bin"
+        how = {"PATH": f"{self.tools}:{path}" if toolchain else path, "SOCIETY_VERBOSE": "1", "LANG": "C.UTF-8"}
+        ran = subprocess.run(words, cwd=self.top, env=how, stdout=subprocess.PIPE, stderr=subprocess.STDOUT, text=True, check=False)
+        return ran.stdout, ran.returncode
+
+    def gate(self, ending="5 passed, 0 failed"):
+        """What the gate prints in its last two lines where `rt ci` ends so, and its status. The program is built before."""
+        built = self.top / "crates/society/out/society"
+        built.parent.mkdir(parents=True, exist_ok=True)
+        shutil.copy(PROGRAM, built)
+        printed, status = self.run(sys.executable, ".ci/timed.py", "sh", "-c", f"echo '{ending}'; echo '{ending}' | grep -q ', 0 failed'")
+        return printed.splitlines()[-2:], status
+
+    def unbuild(self):
+        shutil.rmtree(self.top / "crates/society/out", ignore_errors=True)
+
+
+def trials(it):
+    """The name of each trial, what is seen, and what is wanted of it: a status, or a status and a text that is printed."""
+    release, why = ("bin/release",), ("bin/release", "--why")
+    yield "no release: the gate passes and says so", it.gate(), (0, "release: there is no release/society (bin/release makes it)")
+    it.unbuild()
+    yield "no release, no toolchain: a sentence", it.run("bin/society", toolchain=False), (1, "whose command rt is not on this machine")
+    yield "no gate: not renewed", it.run(*release), (1, "has not passed since it was last begun")
+    yield "a gate that fails", it.gate("4 passed, 1 failed"), (1, "4 passed, 1 failed")
+    yield "is no leave to renew", it.run(*release), (1, "has not passed since it was last begun")
+    it.gate()
+    it.add("crates/society/out/society")
+    yield "a program that the gate did not build: not renewed", it.run(*release), (1, "is not the program that the gate built")
+    it.gate()
+    yield "a gate that passed: renewed", it.run(*release), (0, "toolchain toolchain one")
+    yield "the gate finds it the same", it.gate(), (0, SAME)
+    it.unbuild()
+    yield "it is run", it.run("bin/society"), (0, "/release/society")
+    yield "also without a toolchain", it.run("bin/society", toolchain=False), (0, "/release/society")
+    yield "the check is silent", it.run("bin/release", "--check"), (0, "")
+    it.add(PROOF)
+    yield "a proof does not count", it.run(*why), (0, "")
+    yield from of_other_sources(it, why)
+    yield from of_other_toolchains(it, why)
+    yield from of_a_changed_program(it, why)
+
+
+def of_other_sources(it, why):
+    for name in (SOURCE, DEFINITION, "HANDLES"):
+        kept = (it.top / name).read_text()
+        it.add(name)
+        yield f"{name} changed", it.run(*why), (1, OTHERS)
+        it.write(name, kept)
+    it.write("crates/work_ids/specs/Added.antt", "")
+    yield "a definition added", it.run(*why), (1, OTHERS)
+    (it.top / "crates/work_ids/specs/Added.antt").unlink()
+    it.add("crates.txt", "more_tests: work_ids\n")
+    yield "a crate of tests added", it.run(*why), (0, "")
+    kept = (it.top / SOURCE).read_text()
+    it.add(SOURCE)
+    yield "other sources, no toolchain: a sentence", it.run("bin/society", toolchain=False), (1, "release/society is there to be run as it is")
+    yield "other sources: built", it.run("bin/society"), (0, "society: building")
+    yield "and run without building", it.run("bin/society"), (0, "/crates/society/out/society\n")
+    yield "the gate passes and says so", it.gate(), (0, "release: release/society is of other sources")
+    it.write(SOURCE, kept)
+    yield "a gate of other sources: not renewed", it.run("bin/release"), (1, "the gate has passed on other sources")
+
+
+def of_other_toolchains(it, why):
+    kept = (it.tools / "rt").read_text()
+    (it.tools / "rt").write_text(kept.replace("toolchain one", "toolchain two"))
+    yield "another toolchain", it.run(*why), (1, "the toolchain is another")
+    yield "the release is run all the same", it.run("bin/society"), (0, "/release/society")
+    yield "the gate passes and says so", it.gate(), (0, "made by another toolchain")
+    (it.tools / "rt").write_text(kept)
+
+
+def of_a_changed_program(it, why):
+    kept = (it.top / "release/society").read_bytes()
+    it.add("release/society")
+    yield "a byte more in release/society", it.run(*why), (1, "is not the file whose sum")
+    yield "the gate fails", it.gate(), (1, "39 passed, 1 failed")
+    it.run("sh", "-c", "cd release && sha256sum society > society.sha256")
+    yield "also where its sum was renewed", it.gate(), (1, "release: FAILED: release/society is not the program that was built")
+    (it.top / "release/society").write_bytes(kept)
+    yield "its sum alone is another: the gate fails", it.gate(), (1, "release: FAILED: release/society is not the file whose sum")
+
+
+def main():
+    argparse.ArgumentParser(description=__doc__, formatter_class=argparse.RawDescriptionHelpFormatter).parse_args()
+    failed = 0
+    with tempfile.TemporaryDirectory() as folder:
+        for name, (printed, status), (wanted, text) in trials(Checkout(pathlib.Path(folder))):
+            printed = "\n".join(printed) if isinstance(printed, list) else printed
+            is_right = status == wanted and text in printed and bool(text) == bool(printed)
+            failed += not is_right
+            print(f"{'as wanted' if is_right else 'NOT AS WANTED'}: {name}" + ("" if is_right else f": status {status}, {printed!r}"), flush=True)
+    sys.exit(int(failed > 0))
+
+
+if __name__ == "__main__":
+    main()

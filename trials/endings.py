@@ -1,0 +1,203 @@
+"""How connections and the program end: what a peer reads last, what is printed, and what is done where the system refuses."""
+import contextlib
+import errno
+import http.client
+import resource
+import socket
+import struct
+import time
+
+from common import FIRST, OFFICE, SENDER, get, put_file, request, works_file
+from leaving import CLOSED_AT_A_CUT, change, left_by
+from program import BAD, LIMIT, Ended, Server, acknowledgement, answer, applied, run, slow, told, trial
+
+# What is answered to a body that is too long, at the end of its connection.
+TOO_LONG = b'HTTP/1.1 413 Payload Too Large\r\nContent-Type: application/json\r\nContent-Length: 16\r\nConnection: close\r\n\r\n{"error":"size"}'
+LONG_BODY = b"x" * (2 << 20)
+PATH = f"/v1/senders/{SENDER}/transmissions/1"
+# The most seconds between the end of a connection and the next one.
+PARTING = 4
+
+
+def connected(server):
+    return socket.create_connection(("127.0.0.1", server.port), LIMIT)
+
+
+def read_all(peer):
+    return b"".join(iter(lambda: peer.recv(1 << 16), b""))
+
+
+def is_next_served(server, row, number=1):
+    """Another peer is served, and soon."""
+    begun = time.monotonic()
+    told(row, server.sent(put_file(FIRST, number)), applied(number))
+    told((row, "soon"), time.monotonic() - begun < PARTING, True)
+
+
+@trial
+def a_refusal_of_a_long_body_is_read(program, folder):
+    """A client that sends 2 MiB before it reads gets its 413, each time."""
+    with Server(program, folder, "office.db", connections=50) as server:
+        for number in range(50):
+            peer = http.client.HTTPConnection("127.0.0.1", server.port, LIMIT)
+            peer.request("PUT", PATH, LONG_BODY)
+            response = peer.getresponse()
+            told(number, (response.status, response.read()), (413, b'{"error":"size"}'))
+            peer.close()
+        told("its end", server.ended().status, 0)
+
+
+# What a peer sends before it reads, and all that it reads then.
+LAST_ANSWERS = [
+    ("413", request("PUT", PATH, LONG_BODY), TOO_LONG),
+    ("400", b"GARBAGE\r\n\r\n" + LONG_BODY, BAD),
+    (
+        "close",
+        acknowledgement(1)[:-2] + b"Connection: close\r\n\r\n" + LONG_BODY,
+        b'HTTP/1.1 404 Not Found\r\nContent-Type: application/json\r\nContent-Length: 19\r\nConnection: close\r\n\r\n{"error":"unknown"}',
+    ),
+]
+
+
+@trial
+def the_last_answer_is_read(program, folder):
+    """By a peer that sends all that it has before it reads, and keeps its sending half open."""
+    with Server(program, folder, "office.db", connections=len(LAST_ANSWERS)) as server:
+        for row, sent, wanted in LAST_ANSWERS:
+            with connected(server) as peer:
+                peer.sendall(sent)
+                told(row, read_all(peer), wanted)
+        told("its end", server.ended().status, 0)
+
+
+@trial
+def a_peer_that_goes_on_sending(program, folder):
+    """After its last answer it is let go, though it sends on or keeps its connection open; the next one is served soon."""
+    with Server(program, folder, "office.db", connections=4) as server:
+        with connected(server) as peer, contextlib.suppress(OSError):
+            peer.sendall(b"GARBAGE\r\n\r\n")
+            for _ in range(40):
+                peer.sendall(LONG_BODY)
+        is_next_served(server, "a peer that sent on")
+        with connected(server) as peer:
+            peer.sendall(b"GARBAGE\r\n\r\n")
+            told("a peer that waits", read_all(peer), BAD)
+            is_next_served(server, "the one after a peer that waits", 2)
+        told("its end", server.ended().status, 0)
+
+
+@trial
+def a_peer_that_resets(program, folder):
+    """Its connection breaks off, which its line tells; the next one is served."""
+    with Server(program, folder, "office.db", connections=2) as server:
+        peer = connected(server)
+        peer.sendall(put_file(FIRST, 1)[:1_000])
+        time.sleep(0.3)
+        # Closed so, it sends a reset.
+        peer.setsockopt(socket.SOL_SOCKET, socket.SO_LINGER, struct.pack("ii", 1, 0))
+        peer.close()
+        is_next_served(server, "the one after it")
+        lines = b"listening\nconnection 1: read fault after 0 requests\nconnection 2: 1 requests\n"
+        told("the lines", server.ended(), Ended(lines, b"", 0))
+
+
+@slow
+@trial
+def slow_and_silent_peers(program, folder):
+    """A slow peer is answered; a silent one is let go after half a minute, and the next one is served."""
+    asked = put_file(FIRST, 1)
+    with Server(program, folder, "office.db", connections=3) as server:
+        with connected(server) as peer:
+            peer.sendall(asked[:10])
+            time.sleep(1.5)
+            peer.sendall(asked[10:])
+            peer.shutdown(socket.SHUT_WR)
+            told("a slow peer", read_all(peer), applied(1))
+        with connected(server) as silent:
+            silent.sendall(b"GET /v1")
+            begun = time.monotonic()
+            told("the one after a silent peer", server.sent(get(f"/v1/senders/{SENDER}")), answer(b"200 OK", b'{"front":1,"held":[]}'))
+            told("when", 28 < time.monotonic() - begun < 30 + PARTING, True)
+        told("its line", server.ended().out.splitlines()[2], b"connection 2: read fault after 0 requests")
+
+
+@trial
+def this_machine_alone(program, folder):
+    """Only 127.0.0.1 is listened at."""
+    with Server(program, folder, "office.db") as server:
+        with socket.socket() as peer:
+            told("127.0.0.2", peer.connect_ex(("127.0.0.2", server.port)), errno.ECONNREFUSED)
+        told("127.0.0.1", server.sent(b""), b"")
+
+
+@trial
+def a_port_that_is_taken_leaves_the_file(program, folder):
+    """The database is opened before the port: its fault is told first, and it keeps its bytes where the port is taken."""
+    left = left_by(program, folder, "left.db", CLOSED_AT_A_CUT)
+    held = left.read_bytes()
+    with socket.create_server(("127.0.0.1", 0)) as taken:
+        words = ["serve", "--db", "left.db", "--port", str(taken.getsockname()[1]), "--connections", "1", *OFFICE]
+        told("a taken port", run(program, folder, words), Ended(b"", b"society: cannot listen\n", 1))
+        told("its bytes", left.read_bytes() == held, True)
+        change(left, "DELETE FROM versions")
+        told("a damaged file", run(program, folder, words), Ended(b"", b"society: database damaged\n", 1))
+
+
+# Which standard streams a shell closes before it starts the program.
+CLOSED = ["0<&-", "1>&-", "2>&-", "0<&- 1>&-", "1>&- 2>&-", "0<&- 1>&- 2>&-"]
+ASKED = put_file(FIRST, 1) + get(f"/v1/senders/{SENDER}")
+GOT = applied(1) + answer(b"200 OK", b'{"front":1,"held":[]}')
+
+
+@trial
+def without_standard_streams(program, folder):
+    """A peer reads its answers and nothing else, and the file holds the book."""
+    for number, closed in enumerate(CLOSED):
+        with Server(program, folder, f"{number}.db", connections=2, closed=closed) as server:
+            server.wait()
+            told(closed, server.sent(ASKED), GOT)
+            server.process.wait(LIMIT)
+        told((closed, "audited"), run(program, folder, ["audit", "--db", f"{number}.db", *OFFICE]), Ended(b"sound\n", b"", 0))
+
+
+def limited(kind, limit):
+    """What sets a limit of the system for the program; where a file would grow past one it is told of that, and not ended."""
+    return {"preexec_fn": lambda: resource.setrlimit(kind, (limit, limit)), "restore_signals": False}
+
+
+@trial
+def a_connection_that_cannot_be_accepted(program, folder):
+    """With no descriptor left for a connection it ends; the file holds the book."""
+    for limit in range(4, 20):
+        with Server(program, folder, "office.db", connections=2, **limited(resource.RLIMIT_NOFILE, limit)) as server:
+            ended = server.ended()
+        told("its status", ended.status, 1)
+        if ended.out:
+            # (the system refuses before anybody comes)
+            told("no descriptor is left", ended, Ended(b"listening\n", b"society: cannot accept\n", 1))
+            break
+    told("audited", run(program, folder, ["audit", "--db", "office.db", *OFFICE]), Ended(b"sound\n", b"", 0))
+
+
+@trial
+def a_log_that_cannot_be_copied(program, folder):
+    """Where the file can't grow the log stays, which one line says; both hold the book."""
+    with Server(program, folder, "office.db") as server:
+        server.sent(put_file(works_file(1, 400), 1))
+        told("a normal end", server.ended().status, 0)
+    size = (folder / "office.db").stat().st_size
+    with Server(program, folder, "office.db", **limited(resource.RLIMIT_FSIZE, size)) as server:
+        told("one more", server.sent(put_file(works_file(401, 100), 2)), applied(2))
+        told("its end", server.ended(), Ended(b"listening\nconnection 1: 1 requests\n", b"society: log not copied\n", 0))
+    with Server(program, folder, "office.db", existing=True) as server:
+        told("opened again", server.sent(get(f"/v1/senders/{SENDER}")), answer(b"200 OK", b'{"front":2,"held":[]}'))
+
+
+@trial
+def memory_that_is_refused(program, folder):
+    """An opening for which there is no memory says so, and leaves the file."""
+    left = left_by(program, folder, "left.db", CLOSED_AT_A_CUT)
+    held, words = left.read_bytes(), ["audit", "--db", "left.db", *OFFICE]
+    seen = {run(program, folder, words, **limited(resource.RLIMIT_AS, it << 16)).err for it in range(40, 120)}
+    told("memory is refused", b"society: database memory\n" in seen, True)
+    told("its bytes", left.read_bytes() == held, True)

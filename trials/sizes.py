@@ -1,0 +1,114 @@
+"""The sizes that are promised: each is answered as a small one is."""
+from common import CSV_HEADER, FIRST, NO_WORKS, SENDER, changed, get, isrc, put_file, put_named, put_pool, put_return, state_end, works_file
+from program import Server, applied, replayed, slow, told, trial
+
+
+def key(number):
+    """The key of a sender."""
+    return "PB%09d" % number
+
+
+def file_of(sender, body=NO_WORKS):
+    """A file that names another sender."""
+    return changed(body, 1, 4, sender.encode())
+
+
+def last_of(answers):
+    """The body of the last answer."""
+    return answers.rpartition(b"\r\n\r\n")[2]
+
+
+def stream_of(program, folder, requests, restart):
+    """What is answered over a file, which is closed and opened again before the last requests."""
+    with Server(program, folder, "office.db") as server:
+        out = server.sent(b"".join(requests))
+        told("a normal end", server.ended().status, 0)
+    with Server(program, folder, "office.db", existing=True) as server:
+        again = server.sent(restart)
+        told("a normal end", server.ended().status, 0)
+    return out, again
+
+
+FRONT = get(f"/v1/senders/{SENDER}")
+
+
+@trial
+def a_gap_before_two_thousand_files(program, folder):
+    """All that waited is applied with the file that fills the gap, and is found again."""
+    waiting = [put_file(works_file(number, 1), number) for number in range(2, 2_002)]
+    out, again = stream_of(program, folder, [*waiting, put_file(works_file(1, 1), 1), FRONT], FRONT)
+    told("the front", last_of(out), b'{"front":2001,"held":[]}')
+    told("held before", out.count(b'{"front":0,"state":"held"}'), 2_000)
+    told("opened again", last_of(again), last_of(out))
+
+
+@slow
+@trial
+def a_gap_before_a_whole_year(program, folder):
+    """The last 9,998 numbers of a year wait for its first, which waits for the year before."""
+    waiting = [put_named(NO_WORKS, f"CW26{number:04d}EXA_900.V22") for number in range(1, 10_000)]
+    out, again = stream_of(program, folder, [put_file(FIRST, 1), *waiting, state_end("plain", 1, 26), FRONT], FRONT)
+    told("the front", last_of(out), b'{"front":"26-9999","held":[]}')
+    told("opened again", last_of(again), last_of(out))
+
+
+@trial
+def each_year_ended(program, folder):
+    """A sender that stated the end of each year goes on from the first to the last."""
+    ends = [state_end("plain", 1, 0), *(state_end(f"{year:02d}", 1, year + 1) for year in range(99))]
+    files = [put_named(NO_WORKS, f"CW{year:02d}0001EXA_900.V22") for year in range(100)]
+    out, again = stream_of(program, folder, [*ends, *reversed(files), put_file(FIRST, 1), FRONT], FRONT)
+    told("the front", last_of(out), b'{"front":"99-0001","held":[]}')
+    told("opened again", last_of(again), last_of(out))
+
+
+@trial
+def an_order_of_the_greatest_size(program, folder):
+    """A pool over 200 senders and 1,000 returns, of which each pays a recording of its own; one sender or return more is at fault."""
+    senders = [key(number) for number in range(1, 201)]
+    files = [put_file(works_file(number, 1, sender), 1, sender) for number, sender in enumerate(senders, 1)]
+    returns = [put_return(CSV_HEADER + b"%s,1,100\n" % isrc(number % 200 + 1), number) for number in range(1, 1_001)]
+    cut, paid = [[it, 1] for it in senders], [["RADIO1", number] for number in range(1, 1_001)]
+    table = get("/v1/pools/7")
+    out, again = stream_of(
+        program,
+        folder,
+        [*files, *returns, put_pool(7, 1_000_000, [*cut, [key(201), 1]], paid), put_pool(7, 1_000_000, cut, [*paid, ["RADIO2", 1]])]
+        + [put_pool(7, 1_000_000, cut, paid), table],
+        table,
+    )
+    told("one more", out.count(b'{"error":"order","fault":3}'), 2)
+    told("closed", out.count(b'{"pool":7,"state":"closed"}'), 1)
+    lines = last_of(out).splitlines()
+    told("its lines", (lines[0], len(lines)), (b"isrc,account,units", 601))
+    told("its units", sum(int(it.rpartition(b",")[2]) for it in lines[1:]), 1_000_000)
+    told("opened again", last_of(again), last_of(out))
+
+
+# Small rows: a name, the requests, and the bodies of the answers wanted.
+def verdict_of(body):
+    return put_file(body, 1) + get(f"/v1/senders/{SENDER}/verdicts/1")
+
+
+ISWC_WRONG = changed(FIRST, 3, 96, b"T0345246802")
+SMALL = [
+    ("a wrong ISWC", verdict_of(ISWC_WRONG), b'[{"fault":3}]'),
+    ("a wrong ISWC and a blank title", verdict_of(changed(ISWC_WRONG, 3, 20, b" " * 60)), b'[{"fault":1}]'),
+    ("a wrong ISWC and a blank work number", verdict_of(changed(ISWC_WRONG, 3, 82, b" " * 14)), b'[{"fault":2}]'),
+]
+
+
+@trial
+def the_least_fault_is_told(program, folder):
+    for row, requests, wanted in SMALL:
+        told(row, last_of(replayed(program, folder, requests)), wanted)
+
+
+@trial
+def two_hundred_and_one_senders(program, folder):
+    """Each has a front of its own, and its own file alone."""
+    senders = [key(number) for number in range(1, 202)]
+    files = b"".join(put_file(works_file(1, 1, it), 1, it) for it in senders)
+    out = replayed(program, folder, files + b"".join(get(f"/v1/senders/{it}/works/W1") for it in senders))
+    told("applied", out.count(applied(1)), 201)
+    told("works", out.count(b'"number":"W1","ordinal":1,"revision":0'), 201)
