@@ -1,0 +1,75 @@
+"""What faults and refusals mean and how they are cured, in the words of the office's own table."""
+
+import functools
+import json
+import pathlib
+from typing import TYPE_CHECKING, Any
+
+from society_office.errors import OfficeError
+
+if TYPE_CHECKING:
+    from society_office.program import Answer
+
+HERE = pathlib.Path(__file__).resolve().parent
+# The table of the page for staff: in a checkout, and as it is installed.
+PLACES = (HERE.parent.parent / "examples/desk/faults.json", pathlib.Path("/usr/share/society/faults.json"))
+NOT_TAKEN = {
+    401: "the proxy wants a user and a password",
+    403: "the proxy does not let this user do that",
+    404: "a number, the sender or the reporter is not one that the office takes",
+    413: "it is longer than 1,048,576 bytes: spread it over more numbers",
+    502: "the office does not run",
+    503: "the office had no memory or no disk for it; nothing changed",
+}
+
+
+@functools.cache
+def table() -> dict[str, dict[str, dict[str, str]]]:
+    """The faults by kind and number; an OfficeError where the table is not there."""
+    for place in PLACES:
+        if place.exists():
+            found: dict[str, dict[str, dict[str, str]]] = json.loads(place.read_text(encoding="utf-8"))
+            return found
+    raise OfficeError(f"the table of faults is in none of {', '.join(map(str, PLACES))}")
+
+
+def means(kind: str, number: int) -> str:
+    """What a fault means."""
+    return table()[kind].get(str(number), {}).get("means", f"fault {number}")
+
+
+def cure(kind: str, number: int) -> str:
+    """How a fault is cured."""
+    return table()[kind].get(str(number), {}).get("cure", "")
+
+
+def words(kind: str, number: int) -> str:
+    """A fault with its cure."""
+    return f"{means(kind, number)}; {cure(kind, number)}"
+
+
+def conflict_text(kind: str, body: dict[str, Any]) -> str:
+    """Why a request stands against what is there already (409)."""
+    error = body.get("error")
+    if error == "reused":
+        return f"another {kind} stands under this number, and stays: send this one under the next number"
+    if error == "ended":
+        return f"the sender stated that these numbers end with {body['last']}: send it under a number of a later year"
+    if error == "cut":
+        return f"{body['sender']} has all files up to {body['front']} only: wait for the missing ones, or cut it lower"
+    if error == "return":
+        return f"return {body['number']} of {body['reporter']} has not come: send it, or leave it out"
+    if error == "paid":
+        return f"return {body['number']} of {body['reporter']} is paid by pool {body['pool']}: leave it out"
+    return "it stands against what is there"
+
+
+def refusal_text(kind: str, answer: "Answer") -> str:
+    """Why a file, a return or an order was not taken."""
+    body = answer.json
+    if answer.status == 422:
+        at = f" at line {body['line']}" if "line" in body else f" in row {body['row']}" if "row" in body else ""
+        return f"{kind} fault {body['fault']}{at}: {words(kind, body['fault'])}"
+    if answer.status == 409:
+        return conflict_text(kind, body)
+    return NOT_TAKEN.get(answer.status, f"status {answer.status}")

@@ -1,0 +1,253 @@
+"""Whether the office is well: answers in time, fronts that do not fall, free disk, a sound backup, days of the certificate."""
+
+import contextlib
+import dataclasses
+import json
+import pathlib
+import shutil
+import socket
+import ssl
+import subprocess
+import tempfile
+import time
+import urllib.parse
+from collections.abc import Callable, Iterator
+from typing import Any
+
+from society_office.copy import open_copy
+from society_office.errors import OfficeError
+from society_office.numbering import as_sent, rank_of
+from society_office.program import Office, find_program
+
+GOOD, WARNING, WRONG = 0, 1, 2
+STATES = {GOOD: "good", WARNING: "look", WRONG: "WRONG"}
+HOUR, DAY = 3_600, 86_400
+# A sender of whom nothing has come, asked where none is known.
+NOBODY = "PB999999999"
+
+
+@dataclasses.dataclass(frozen=True)
+class Finding:
+    """What was looked at, how it is, in words, and as a number for a monitor."""
+
+    name: str
+    state: int
+    words: str
+    value: float | None = None
+    unit: str = ""
+
+
+@dataclasses.dataclass(frozen=True)
+class Limits:
+    """From where on something is to be looked at, and from where on it is wrong."""
+
+    seconds: float = 5
+    disk: float = 10
+    backup: float = 30
+    certificate: float = 14
+
+
+@dataclasses.dataclass(frozen=True)
+class Looked:
+    """What to look at: the office's address and access, the files and folders, and the program."""
+
+    address: str
+    user: str = ""
+    password: str = ""
+    authority: str | None = None
+    disk: pathlib.Path | None = None
+    backups: pathlib.Path | None = None
+    state: pathlib.Path | None = None
+    program: str | None = None
+    certificate: str | None = None
+
+
+def newest(folder: pathlib.Path) -> pathlib.Path:
+    """The newest backup of a folder; an OfficeError where it has none."""
+    found = [it for it in folder.glob("*.db") if it.is_file()]
+    if not found:
+        raise OfficeError(f"no backup (*.db) in {folder}")
+    return max(found, key=lambda it: it.stat().st_mtime)
+
+
+def judged(value: float, limit: float, worse_above: bool) -> int:
+    """How a number is: good on the right side of its limit, wrong at twice or half of it."""
+    if worse_above:
+        return GOOD if value <= limit else WARNING if value <= 2 * limit else WRONG
+    return GOOD if value >= limit else WARNING if value >= limit / 2 else WRONG
+
+
+def look_at_answer(it: Looked, limits: Limits, senders: dict[str, int]) -> Iterator[Finding]:
+    """Whether the office answers in time, and each front is at least what it was; `senders` has the fronts known."""
+    office = Office(it.address, it.user, it.password, it.authority, seconds=2 * limits.seconds)
+    begun = time.monotonic()
+    try:
+        fronts: dict[str, int] = {}
+        for sender in senders or {NOBODY: 0}:
+            answer = office.ask("GET", f"/v1/senders/{sender}")
+            if answer.status != 200:
+                yield Finding("answer", WRONG, f"{it.address} answered {answer.status} to a question on {sender}")
+                return
+            fronts[sender] = rank_of(answer.json["front"]) or 0
+            if len(fronts) == 1:
+                took = time.monotonic() - begun
+                yield Finding("answer", judged(took, limits.seconds, True), f"answered in {took:.3f} s", took, "seconds")
+    except OfficeError as error:
+        yield Finding("answer", WRONG, str(error))
+        return
+    finally:
+        office.close()
+    yield compared(senders, fronts)
+    senders.update(fronts)
+
+
+def compared(known: dict[str, int], fronts: dict[str, int]) -> Finding:
+    """Whether a front is lower than it was."""
+    lower = [
+        f"{sender} had {as_sent(known[sender])} and has {as_sent(front)}"
+        for sender, front in fronts.items()
+        if front < known.get(sender, 0)
+    ]
+    if lower:
+        return Finding("fronts", WRONG, f"an older file is served: {'; '.join(lower)}", len(lower), "senders")
+    return Finding("fronts", GOOD, f"no front of {len(known)} known senders is lower than it was", 0, "senders")
+
+
+def look_at_disk(it: Looked, limits: Limits) -> Finding:
+    """How much of the disk is free."""
+    assert it.disk is not None
+    used = shutil.disk_usage(it.disk)
+    part = 100 * used.free / used.total
+    words = f"{part:.0f} % of the disk of {it.disk} is free, {used.free / 1e9:.1f} GB"
+    return Finding("disk", judged(part, limits.disk, False), words, part, "percent")
+
+
+def look_at_backup(it: Looked, limits: Limits) -> Finding:
+    """How old the newest backup is."""
+    assert it.backups is not None
+    path = newest(it.backups)
+    hours = (time.time() - path.stat().st_mtime) / HOUR
+    return Finding(
+        "backup", judged(hours, limits.backup, True), f"the newest backup, {path.name}, is {hours:.1f} hours old", hours, "hours"
+    )
+
+
+def look_into_backup(it: Looked, kept: dict[str, Any]) -> Finding:
+    """Whether the program finds the newest backup sound. An audit takes as long as a start, so what was said of this very file is kept."""
+    assert it.backups is not None
+    path = newest(it.backups)
+    mark = [path.name, path.stat().st_mtime, path.stat().st_size]
+    if kept.get("mark") != mark:
+        kept.update(audited(it, path), mark=mark)
+    state, words = GOOD if kept["status"] == 0 else WRONG, f"`society audit` says of {path.name}: {kept['said']}"
+    return Finding("sound", state, words, kept["status"], "status")
+
+
+def audited(it: Looked, path: pathlib.Path) -> dict[str, Any]:
+    """What the program says of a backup, and its status; it reads a copy, so that nothing is left beside the backup."""
+    with open_copy(path) as copy, tempfile.TemporaryDirectory(prefix="society-office-") as folder:
+        place = pathlib.Path(folder) / path.name
+        copy.save(place)
+        words = [find_program(it.program), "audit", "--db", str(place), *copy.office_words]
+        done = subprocess.run(words, capture_output=True, check=False)
+    return {"status": done.returncode, "said": (done.stdout + done.stderr).decode(errors="replace").strip()}
+
+
+def look_at_certificate(it: Looked, limits: Limits) -> Finding:
+    """How many days the certificate has left, of a file or as a server shows it."""
+    assert it.certificate is not None
+    if pathlib.Path(it.certificate).exists():
+        words = ["openssl", "x509", "-noout", "-enddate", "-in", it.certificate]
+        ends = subprocess.run(words, capture_output=True, check=True, text=True).stdout.strip().partition("=")[2]
+    else:
+        parts = urllib.parse.urlsplit(f"//{it.certificate}")
+        context = ssl.create_default_context(cafile=it.authority)
+        host, port = parts.hostname or "", parts.port or 443
+        with socket.create_connection((host, port), timeout=10) as plain, context.wrap_socket(plain, server_hostname=host) as peer:
+            ends = str((peer.getpeercert() or {})["notAfter"])
+    days = (ssl.cert_time_to_seconds(ends) - time.time()) / DAY
+    return Finding("certificate", judged(days, limits.certificate, False), f"the certificate ends in {days:.0f} days", days, "days")
+
+
+def kept_state(it: Looked) -> dict[str, Any]:
+    """What was kept last time: the fronts, and what was said of the newest backup."""
+    if it.state is None or not it.state.exists():
+        return {"fronts": {}, "sound": {}}
+    found = json.loads(it.state.read_text())
+    if not isinstance(found, dict) or not {"fronts", "sound"} <= set(found):
+        raise OfficeError(f"{it.state} is not what this command keeps there: take it away")
+    return found
+
+
+def known_fronts(it: Looked, kept: dict[str, int]) -> dict[str, int]:
+    """The fronts known: those of the newest backup, and those seen last time, the greater of both."""
+    found: dict[str, int] = {}
+    if it.backups is not None:
+        with contextlib.suppress(OfficeError), open_copy(newest(it.backups)) as copy:
+            found = {line.sender: line.front for line in copy.lines()}
+    for sender, front in kept.items():
+        found[sender] = max(front, found.get(sender, 0))
+    return found
+
+
+def keep(it: Looked, state: dict[str, Any]) -> None:
+    """Keeps what was seen for next time."""
+    if it.state is not None:
+        draft = it.state.with_name(f".{it.state.name}.new")
+        draft.write_text(json.dumps(state))
+        draft.replace(it.state)
+
+
+def tried(name: str, look: Callable[[], list[Finding]]) -> list[Finding]:
+    """What a look finds; what can't be looked at is wrong."""
+    try:
+        return look()
+    except (OfficeError, OSError, ValueError, KeyError, subprocess.CalledProcessError) as error:
+        return [Finding(name, WRONG, f"could not be looked at: {error}")]
+
+
+def look(it: Looked, limits: Limits) -> list[Finding]:
+    """All that is found; fronts are kept for next time where none was lower."""
+    state = kept_state(it)
+    fronts = known_fronts(it, state["fronts"])
+    found = tried("answer", lambda: list(look_at_answer(it, limits, fronts)))
+    if any(it.name == "fronts" and it.state == GOOD for it in found):
+        state["fronts"] = fronts
+    if it.disk is not None:
+        found += tried("disk", lambda: [look_at_disk(it, limits)])
+    if it.backups is not None:
+        found += tried("backup", lambda: [look_at_backup(it, limits)])
+        found += tried("sound", lambda: [look_into_backup(it, state["sound"])])
+    if it.certificate is not None:
+        found += tried("certificate", lambda: [look_at_certificate(it, limits)])
+    keep(it, state)
+    return found
+
+
+def worst(findings: list[Finding]) -> int:
+    """The state of the worst of them, which is the exit status."""
+    return max((it.state for it in findings), default=GOOD)
+
+
+def as_json(findings: list[Finding]) -> str:
+    """The findings as JSON."""
+    return json.dumps(
+        {"state": STATES[worst(findings)], "findings": [dataclasses.asdict(it) | {"state": STATES[it.state]} for it in findings]}, indent=1
+    )
+
+
+def as_metrics(findings: list[Finding]) -> str:
+    """The findings as text for Prometheus: the state of each (0 good, 1 look, 2 wrong) and its number."""
+    lines = ["# HELP society_state How it is: 0 good, 1 to be looked at, 2 wrong.", "# TYPE society_state gauge"]
+    lines += [f'society_state{{of="{it.name}"}} {it.state}' for it in findings]
+    for it in findings:
+        if it.value is not None:
+            name = f"society_{it.name}_{it.unit}"
+            lines += [f"# TYPE {name} gauge", f"{name} {it.value:g}"]
+    return "\n".join(lines) + "\n"
+
+
+def as_lines(findings: list[Finding]) -> Iterator[str]:
+    """The findings for people."""
+    for it in findings:
+        yield f"{STATES[it.state]:5}  {it.name:11}  {it.words}"

@@ -1,0 +1,113 @@
+"""Pages and PDF files out of the templates. Everything that a sender wrote is escaped."""
+
+import contextlib
+import datetime
+import functools
+import pathlib
+from collections.abc import Iterable, Iterator
+from typing import Any, TextIO
+
+import jinja2
+
+from society_office.errors import OfficeError
+from society_office.numbering import as_sent, counted
+
+TEMPLATES = pathlib.Path(__file__).parent / "templates"
+# A unit in the last place of a percentage.
+TENTHS = 1_000
+
+
+def units(number: int) -> str:
+    """A whole number with commas between thousands."""
+    return f"{number:,}"
+
+
+def percent(part: int, whole: int) -> str:
+    """A part of a whole in percent, to one place."""
+    tenths = (part * TENTHS + whole // 2) // whole if whole else 0
+    return f"{tenths // 10}.{tenths % 10} %"
+
+
+def moment(seconds: float) -> str:
+    """A time of a file as people write it."""
+    return datetime.datetime.fromtimestamp(seconds).strftime("%Y-%m-%d %H:%M")
+
+
+def begun(words: str) -> str:
+    """Words as a sentence begins: the first letter as a capital, all others as they are."""
+    return words[:1].upper() + words[1:]
+
+
+@functools.cache
+def environment() -> jinja2.Environment:
+    """The templates with the filters that they use."""
+    found = jinja2.Environment(
+        loader=jinja2.FileSystemLoader(TEMPLATES),
+        autoescape=True,
+        undefined=jinja2.StrictUndefined,
+        trim_blocks=True,
+        lstrip_blocks=True,
+    )
+    found.filters.update(begun=begun, units=units, moment=moment, as_sent=as_sent)
+    found.globals.update(counted=counted, percent=percent, style=style)
+    return found
+
+
+@functools.cache
+def style() -> str:
+    """The style sheet, for a page that stands alone."""
+    return (TEMPLATES / "office.css").read_text()
+
+
+def page(template: str, /, **values: Any) -> str:
+    """A page by its template."""
+    return environment().get_template(template).render(**values)
+
+
+def write_pdf(html: str, target: pathlib.Path) -> None:
+    """Writes a page as a PDF file; an OfficeError where WeasyPrint is not installed."""
+    try:
+        import weasyprint
+    except ImportError as error:
+        raise OfficeError("a PDF needs WeasyPrint: `apt-get install weasyprint`") from error
+    write_bytes(target, weasyprint.HTML(string=html, base_url=str(TEMPLATES)).write_pdf())
+
+
+def write_text(target: pathlib.Path, text: str) -> None:
+    """Writes a text into a file, as write_bytes does."""
+    write_bytes(target, text.encode())
+
+
+@contextlib.contextmanager
+def new_file(target: pathlib.Path) -> Iterator[TextIO]:
+    """A file to write a text into, which takes its place in one step at the end; an OfficeError where it can't be written."""
+    draft = target.with_name(f".{target.name}.new")
+    try:
+        target.parent.mkdir(parents=True, exist_ok=True)
+        with draft.open("w", encoding="utf-8", newline="") as file:
+            yield file
+        draft.replace(target)
+    except OSError as error:
+        draft.unlink(missing_ok=True)
+        raise OfficeError(f"{target} could not be written: {error.strerror}") from error
+
+
+def write_bytes(target: pathlib.Path, content: bytes) -> None:
+    """Writes a file in one step, so that it is the old one or the new one; an OfficeError where it can't be written."""
+    draft = target.with_name(f".{target.name}.new")
+    try:
+        target.parent.mkdir(parents=True, exist_ok=True)
+        draft.write_bytes(content)
+        draft.replace(target)
+    except OSError as error:
+        draft.unlink(missing_ok=True)
+        raise OfficeError(f"{target} could not be written: {error.strerror}") from error
+
+
+def write_all(folder: pathlib.Path, files: Iterable[tuple[str, str]]) -> int:
+    """Writes texts under their names into a folder; answers how many."""
+    count = 0
+    for name, text in files:
+        write_text(folder / name, text)
+        count += 1
+    return count

@@ -1,0 +1,223 @@
+"""The office's program: runs of it over throw-away copies, and requests to an office."""
+
+import base64
+import contextlib
+import dataclasses
+import http.client
+import json
+import os
+import pathlib
+import shutil
+import socket
+import ssl
+import subprocess
+import tempfile
+import urllib.parse
+from collections.abc import Iterator
+from typing import Any
+
+from society_office.copy import Copy, open_copy
+from society_office.errors import OfficeError
+
+CHECKOUT = pathlib.Path(__file__).resolve().parent.parent.parent
+LARGEST_BODY = 1_048_576
+# Seconds that a throw-away office may take to listen, and to answer.
+START, ANSWER = 600, 600
+MANY = 1_000_000
+
+
+def program_of_the_checkout() -> str | None:
+    """The program that bin/society of the checkout runs; None where this is no checkout, or it would have to be built."""
+    asked = CHECKOUT / "bin/program"
+    if not os.access(asked, os.X_OK):
+        return None
+    done = subprocess.run([asked], stdin=subprocess.DEVNULL, stdout=subprocess.PIPE, text=True, check=False)
+    return done.stdout.strip() or None
+
+
+def find_program(named: str | None = None) -> str:
+    """The program: the one that is named, else `society` on the PATH, else the one that bin/society of the checkout runs.
+
+    An OfficeError where there is none."""
+    for candidate in (
+        named,
+        os.environ.get("SOCIETY_PROGRAM"),
+        shutil.which("society"),
+        program_of_the_checkout(),
+    ):
+        if candidate and os.access(candidate, os.X_OK) and not os.path.isdir(candidate):
+            return os.path.abspath(candidate)
+        if candidate and candidate == named:
+            raise OfficeError(f"there is no program at {named}")
+    raise OfficeError("the program `society` is not on the PATH: name it with --program")
+
+
+def free_port() -> int:
+    """A port of this machine that nobody listens on."""
+    with socket.socket() as it:
+        it.bind(("127.0.0.1", 0))
+        return int(it.getsockname()[1])
+
+
+@dataclasses.dataclass(frozen=True)
+class Answer:
+    """The status and the body of an answer."""
+
+    status: int
+    body: bytes
+
+    @property
+    def json(self) -> Any:
+        """What the body says, where it is JSON; an empty object where it is not."""
+        try:
+            return json.loads(self.body)
+        except ValueError:
+            return {}
+
+
+class Office:
+    """An office that is asked over HTTP, over one connection that is kept as long as the office keeps it."""
+
+    def __init__(self, address: str, user: str = "", password: str = "", authority: str | None = None, seconds: float = ANSWER) -> None:
+        """An office at http://host:port or https://host:port; an OfficeError where the address is none."""
+        parts = urllib.parse.urlsplit(address)
+        if parts.scheme not in ("http", "https") or not parts.hostname:
+            raise OfficeError(f"{address} is no address of an office: write http://127.0.0.1:8080 or https://office.example:8443")
+        self.address = address
+        self.headers = {"Authorization": "Basic " + base64.b64encode(f"{user}:{password}".encode()).decode()} if user else {}
+        if parts.scheme == "https":
+            context = ssl.create_default_context(cafile=authority)
+            self.connection: http.client.HTTPConnection = http.client.HTTPSConnection(
+                parts.hostname, parts.port or 443, timeout=seconds, context=context
+            )
+        else:
+            self.connection = http.client.HTTPConnection(parts.hostname, parts.port or 80, timeout=seconds)
+
+    def ask(self, method: str, path: str, body: bytes | None = None) -> Answer:
+        """The answer to a request; an OfficeError where none came."""
+        try:
+            self.connection.request(method, path, body=body, headers=self.headers)
+            answer = self.connection.getresponse()
+            return Answer(answer.status, answer.read())
+        except (OSError, http.client.HTTPException) as error:
+            self.connection.close()
+            raise OfficeError(f"no answer from {self.address}: {error}") from error
+
+    def close(self) -> None:
+        """Ends the connection, so that others are served."""
+        self.connection.close()
+
+
+@dataclasses.dataclass
+class Trial:
+    """A throw-away office and the file that it serves."""
+
+    office: Office
+    database: pathlib.Path
+    process: subprocess.Popen[bytes]
+
+    def end(self) -> None:
+        """Ends the office; its file can be read then."""
+        self.office.close()
+        self.process.terminate()
+        self.process.wait()
+
+
+@contextlib.contextmanager
+def trial_office(program: str, words: list[str], database: pathlib.Path | None = None) -> Iterator[Trial]:
+    """A throw-away office over a copy of a file, or over an empty one; it is gone when the `with` ends."""
+    with tempfile.TemporaryDirectory(prefix="society-office-") as folder:
+        place = pathlib.Path(folder) / "trial.db"
+        if database is not None:
+            shutil.copyfile(database, place)
+        port = free_port()
+        options = [
+            *(["--existing"] if database is not None else []),
+            "--db",
+            str(place),
+            "--port",
+            str(port),
+            "--connections",
+            str(MANY),
+        ]
+        with (pathlib.Path(folder) / "errors").open("wb+") as errors:
+            process = subprocess.Popen([program, "serve", *options, *words], stdout=subprocess.PIPE, stderr=errors)
+            try:
+                if process.stdout is None or process.stdout.readline() != b"listening\n":
+                    process.wait()
+                    errors.seek(0)
+                    raise OfficeError(f"the program did not start over the copy: {errors.read().decode(errors='replace').strip()}")
+                yield Trial(Office(f"http://127.0.0.1:{port}"), place, process)
+            finally:
+                process.kill()
+                process.wait()
+                if process.stdout:
+                    process.stdout.close()
+
+
+@contextlib.contextmanager
+def trial_of(program: str, copy: Copy) -> Iterator[Trial]:
+    """A throw-away office over what a copy holds, whatever stands beside it."""
+    with tempfile.TemporaryDirectory(prefix="society-office-") as folder:
+        whole = pathlib.Path(folder) / "whole.db"
+        copy.save(whole)
+        with trial_office(program, copy.office_words, whole) as trial:
+            yield trial
+
+
+@contextlib.contextmanager
+def open_whole(path: pathlib.Path) -> Iterator[Copy]:
+    """A copy with its credits; one of layout 1, which has none, is taken over first by the program, in a throw-away copy of it."""
+    with open_copy(path) as copy:
+        if copy.layout > 1 or not has_program():
+            copy.need_derived()
+            yield copy
+            return
+        with trial_of(find_program(), copy) as trial:
+            trial.end()
+            with open_copy(trial.database) as taken_over:
+                taken_over.path, taken_over.taken = path, copy.taken
+                taken_over.note = f"{path} is of layout 1: a throw-away copy of it was taken over by the program"
+                yield taken_over
+
+
+def has_program() -> bool:
+    """Whether there is a program to be found."""
+    try:
+        return bool(find_program())
+    except OfficeError:
+        return False
+
+
+class ReplayOffice:
+    """`society replay`, an empty office that saves nothing: it is asked request after request over its standard input."""
+
+    def __init__(self, program: str, words: list[str]) -> None:
+        """Starts the program; what it writes on standard error is the user's to see."""
+        self.process = subprocess.Popen([program, "replay", *words], stdin=subprocess.PIPE, stdout=subprocess.PIPE)
+
+    def ask(self, method: str, path: str, body: bytes | None = None) -> Answer:
+        """The answer to a request; an OfficeError where the program has ended."""
+        given = body or b""
+        into, out = self.process.stdin, self.process.stdout
+        assert into is not None and out is not None
+        try:
+            into.write(f"{method} {path} HTTP/1.1\r\nContent-Length: {len(given)}\r\n\r\n".encode() + given)
+            into.flush()
+        except BrokenPipeError:
+            pass
+        head = b""
+        while not head.endswith(b"\r\n\r\n"):
+            line = out.readline()
+            if not line:
+                raise OfficeError(f"`society replay` ended with status {self.process.wait()}")
+            head += line
+        length = next(int(it.split(b":")[1]) for it in head.lower().split(b"\r\n") if it.startswith(b"content-length:"))
+        return Answer(int(head.split(b" ", 2)[1]), out.read(length))
+
+    def close(self) -> None:
+        """Ends the program."""
+        for stream in (self.process.stdin, self.process.stdout):
+            if stream:
+                stream.close()
+        self.process.wait()

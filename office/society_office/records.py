@@ -1,0 +1,146 @@
+"""What stands in the bodies of files: works with their titles, parties with their names, recordings. Positions count bytes from 1."""
+
+import dataclasses
+import re
+from collections.abc import Iterable, Iterator, Sequence
+
+from society_office.copy import Copy
+
+GROUP = re.compile(rb"\nGRH(NWR|REV)[^\n]*")
+GROUP_END = b"\nGRT"
+STARTS = {b"NWR": re.compile(rb"\nNWR"), b"REV": re.compile(rb"\nREV")}
+PARTY = re.compile(rb"\n(SPU|OPU|SWR|OWR)([^\r\n]*)")
+RECORDING = re.compile(rb"\nREC[^\n]{246}([A-Z0-9]{12})")
+PUBLISHERS = (b"SPU", b"OPU")
+UNCLAIMED = "UNCLAIMED"
+IPI_DIGITS = 11
+
+
+def field(line: bytes, first: int, last: int) -> bytes:
+    """A field of a line, filled with blanks where the line ends early."""
+    return line[first - 1 : last].ljust(last - first + 1)
+
+
+def text(raw: bytes) -> str:
+    """A field as people read it: UTF-8 where it is that, else a letter a byte; no blanks at its ends, `?` for what has no form."""
+    try:
+        found = raw.decode("utf-8")
+    except UnicodeDecodeError:
+        found = raw.decode("latin-1")
+    return "".join(it if it.isprintable() else "?" for it in found.strip())
+
+
+@dataclasses.dataclass(frozen=True)
+class Party:
+    """A publisher or a writer of a work: the account that its credits go to, and its name as the sender wrote it."""
+
+    account: str
+    name: str
+    side: str
+    number: str
+
+
+@dataclasses.dataclass(frozen=True)
+class Transaction:
+    """A registration or a revision in a file: its bytes, without the line end of its last line, and how many bytes stand before it."""
+
+    kind: str
+    raw: bytes
+    start: int = 0
+
+    @property
+    def first(self) -> bytes:
+        """Its first line."""
+        return self.raw.partition(b"\n")[0]
+
+    @property
+    def title(self) -> str:
+        """The title, as people read it."""
+        return text(self.first.rstrip(b"\r")[19:79])
+
+    @property
+    def work(self) -> str:
+        """The submitter's work number."""
+        return text(self.first.rstrip(b"\r")[81:95])
+
+    @property
+    def isrcs(self) -> list[str]:
+        """The recordings that its REC records name, each once, in their order."""
+        return list(dict.fromkeys(it.decode() for it in RECORDING.findall(self.raw)))
+
+    def parties(self, sender: str) -> Iterator[Party]:
+        """The parties, in the order of their records."""
+        for kind, rest in PARTY.findall(self.raw):
+            yield party_of(kind, kind + rest, sender)
+
+
+def account_of(sender: str, ipi: bytes, number: bytes) -> str:
+    """The account of a party: by its IPI name number, else by the sender's own number of it, else nobody's."""
+    digits = ipi.strip(b" ")
+    if digits.isdigit() and digits.strip(b"0"):
+        return f"I{digits.decode().zfill(IPI_DIGITS)}"
+    own = number.strip(b" ").decode("latin-1")
+    return f"P{sender}{own}" if own else UNCLAIMED
+
+
+def party_of(kind: bytes, line: bytes, sender: str) -> Party:
+    """The party that a line of SPU, OPU, SWR or OWR is."""
+    if kind in PUBLISHERS:
+        number, ipi, name, side = line[21:30], line[87:98], text(line[30:75]), "publisher"
+    else:
+        number, ipi, side = line[19:28], line[115:126], "writer"
+        name = " ".join(filter(None, (text(line[73:103]), text(line[28:73]))))
+    return Party(account_of(sender, ipi, number), name, side, text(number))
+
+
+def transactions(body: bytes) -> list[Transaction]:
+    """The registrations and revisions of a file that was accepted, in the order of their places."""
+    found = []
+    for group in GROUP.finditer(body):
+        end = body.find(GROUP_END, group.end())
+        starts = [it.start() + 1 for it in STARTS[group[1]].finditer(body, group.end(), end)]
+        kind = group[1].decode()
+        found += [Transaction(kind, body[start : stop - 1], start) for start, stop in zip(starts, [*starts[1:], end + 1])]
+    return found
+
+
+class Works:
+    """Registrations and revisions in the files of a copy. Each file is read once for those that are loaded together."""
+
+    def __init__(self, copy: Copy) -> None:
+        """Nothing is read before it is asked for."""
+        self.copy = copy
+        self.titles: dict[tuple[str, int], Sequence[str]] = {}
+        self.loaded: dict[tuple[str, int, int], Transaction] = {}
+
+    def load(self, places: Iterable[tuple[str, int, int]]) -> None:
+        """Reads those at these places: of a sender, in a file, from 0."""
+        wanted: dict[tuple[str, int], set[int]] = {}
+        for sender, number, place in places:
+            wanted.setdefault((sender, number), set()).add(place)
+        for (sender, number), listed in sorted(wanted.items()):
+            found = transactions(self.copy.body(sender, number))
+            self.loaded.update({(sender, number, place): found[place] for place in listed})
+
+    def transaction(self, sender: str, number: int, place: int) -> Transaction:
+        """The registration or revision at a place of a file."""
+        key = (sender, number, place)
+        if key not in self.loaded:
+            self.load([key])
+        return self.loaded[key]
+
+    def title(self, sender: str, number: int, place: int) -> str:
+        """The title that it gives its work."""
+        if (found := self.loaded.get((sender, number, place))) is not None:
+            return found.title
+        key = (sender, number)
+        if key not in self.titles:
+            self.titles[key] = tuple(it.title for it in transactions(self.copy.body(sender, number)))
+        return self.titles[key][place]
+
+
+def sender_names(copy: Copy) -> dict[str, str]:
+    """The name that each sender gives itself in the header of its last file."""
+    question = """SELECT sender, CAST(substr(body, 1, 59) AS BLOB) FROM transmissions
+      JOIN (SELECT sender, max(number) AS number FROM transmissions GROUP BY sender) USING (sender, number)"""
+    return {sender: text(bytes(head).partition(b"\n")[0][14:59]) for sender, head in copy.rows(question)}

@@ -1,0 +1,143 @@
+"""Every fault of a return of plays, by a reading of our own, and what spreadsheets do to such a file."""
+
+import csv
+import io
+import re
+from collections.abc import Iterator
+
+from society_office.cwr_faults import Fault
+from society_office.plays import BOM
+from society_office.records import text
+
+HEADER = ["isrc", "plays", "seconds"]
+MOST_ROWS = 10_000
+ISRC = re.compile(r"[A-Z]{2}(-?)[A-Z0-9]{3}\1[0-9]{2}\1[0-9]{5}", re.IGNORECASE | re.ASCII)
+PLAYS, SECONDS = re.compile(r"[0-9]{1,7}", re.ASCII), re.compile(r"[0-9]{1,5}", re.ASCII)
+MOST_PLAYS, MOST_SECONDS = 1_000_000, 10_000
+# What a number looks like after a spreadsheet, and what to do.
+NUMBERS = (
+    (re.compile(r"\d+:\d\d(:\d\d)?"), "a time: write it in seconds, 3:00 as 180"),
+    (
+        re.compile(r"\d+[.,]\d+E[+-]?\d+", re.IGNORECASE),
+        "a number in powers of ten: format the column as a number without decimals",
+    ),
+    (re.compile(r"\d{1,3}(\.\d{3})+"), "points between thousands, or decimals: format the column as a number without either"),
+    (re.compile(r"\d+\.0+"), "decimals: format the column as a number without decimals"),
+    (re.compile(r"\d+[.,]\d{1,2}"), "a fraction: round it to whole numbers"),
+    (re.compile(r"\d{1,3}([.,' ]\d{3})+"), "separators between thousands: format the column without them"),
+    (re.compile(r"\d{4}-\d\d-\d\d|\d{1,2}[./]\d{1,2}[./]\d{2,4}"), "a date: format the column as text before you type"),
+    (re.compile(r"-\d+"), "a negative number"),
+    (re.compile(r"0+"), "leave out rows without plays"),
+    (re.compile(r"\s+.*|.*\s+"), "blanks around it"),
+)
+# What a file of works is named, and lines that only such a file has.
+WORKS_NAME, WORKS_LINE = re.compile(r"\.(cwr|v2[12])$", re.IGNORECASE), re.compile(rb"^(GRH[A-Z]{3}|TRL)[0-9]{5}", re.MULTILINE)
+CELL_ERRORS = ("#N/A", "#REF!", "#VALUE!", "#NAME?", "#DIV/0!")
+
+
+def records(body: bytes) -> Iterator[list[str]]:
+    """The records of a CSV; lines without a byte are none."""
+    yield from (it for it in csv.reader(io.StringIO(body.removeprefix(BOM).decode("latin-1"), newline="")) if it)
+
+
+def header_hint(body: bytes, first: list[str]) -> str:
+    """What was done to a header that is not the right one."""
+    line = body.removeprefix(BOM).partition(b"\n")[0].strip()
+    if body[:2] in (b"\xff\xfe", b"\xfe\xff"):
+        return "this is UTF-16 ('Unicode text'): save it as 'CSV UTF-8 (comma delimited)'"
+    if body[:2] == b"PK":
+        return "this is a workbook (.xlsx): save it as 'CSV UTF-8 (comma delimited)'"
+    if b";" in line:
+        return "semicolons stand between the fields: save it with commas, or replace them"
+    if b"\t" in line:
+        return "tabs stand between the fields: save it with commas"
+    if [it.strip().lower() for it in first] == HEADER:
+        return "the words are right: write them in small letters and without blanks"
+    if [it for it in first if it] == HEADER:
+        return "empty columns stand beside it: delete them in the spreadsheet"
+    if first and ISRC.fullmatch(first[0]):
+        return "the first row is data: put isrc,plays,seconds above it"
+    return ""
+
+
+def number_hint(cell: str) -> str:
+    """What was done to a number that is none."""
+    if cell in CELL_ERRORS:
+        return "an error of the spreadsheet's formula"
+    if not cell:
+        return "the cell is empty"
+    return next((hint for form, hint in NUMBERS if form.fullmatch(cell)), "")
+
+
+def isrc_hint(cell: str) -> str:
+    """What was done to an ISRC that is none."""
+    bare = re.sub(r"[\s.-]", "", cell)
+    if cell != bare and ISRC.fullmatch(bare):
+        return f"written {bare} it is right"
+    if not cell:
+        return "the cell is empty: delete the row"
+    if len(bare) != 12:
+        return f"it has {len(bare)} letters and digits, and needs 12"
+    return ""
+
+
+def row_hint(cells: list[str]) -> str:
+    """What was done to a row that has not three fields."""
+    if not any(cells):
+        return "an empty row of the spreadsheet: delete it"
+    if len(cells) > len(HEADER) and not any(cells[len(HEADER) :]):
+        return "empty columns stand beside it: delete them in the spreadsheet"
+    if len(cells) > len(HEADER):
+        return "a comma within a number or a name makes one field two"
+    return "the semicolons are no commas" if ";" in "".join(cells) else ""
+
+
+def row_faults(row: int, cells: list[str]) -> Iterator[Fault]:
+    """The faults of a row of data."""
+
+    def fault(number: int, field: str, found: str, hint: str) -> Fault:
+        return Fault("return", number, row, "row", field, text(found.encode("latin-1")), hint)
+
+    if len(cells) != len(HEADER):
+        yield fault(2, f"{len(cells)} fields", ",".join(cells)[:60], row_hint(cells))
+        return
+    isrc, plays, seconds = cells
+    if not any(cells):
+        yield fault(3, "isrc", "", "an empty row of the spreadsheet: delete it")
+        return
+    if not ISRC.fullmatch(isrc):
+        yield fault(3, "isrc", isrc, isrc_hint(isrc))
+    if not (PLAYS.fullmatch(plays) and 1 <= int(plays) <= MOST_PLAYS):
+        yield fault(4, "plays", plays, number_hint(plays))
+    if not (SECONDS.fullmatch(seconds) and 1 <= int(seconds) <= MOST_SECONDS):
+        yield fault(5, "seconds", seconds, number_hint(seconds))
+
+
+def return_faults(body: bytes) -> list[Fault]:
+    """Every fault of a return, by row; the header is row 1."""
+    listed = records(body)
+    header = next(listed, None)
+    if header != HEADER:
+        return [
+            Fault(
+                "return",
+                1,
+                1,
+                "row",
+                "header",
+                text(body.removeprefix(BOM).partition(b"\n")[0][:60]),
+                header_hint(body, header or []),
+            )
+        ]
+    found: list[Fault] = []
+    for row, cells in enumerate(listed, 2):
+        if row - 1 > MOST_ROWS:
+            found.append(Fault("return", 6, row, "row", "rows of data", "", f"more than {MOST_ROWS:,}"))
+            break
+        found += row_faults(row, cells)
+    return found
+
+
+def looks_like_return(name: str, body: bytes) -> bool:
+    """Whether a file is meant as a return and not as a file of works, by its name and by what stands in it."""
+    return not (body.startswith(b"HDR") or WORKS_NAME.search(name) or WORKS_LINE.search(body))

@@ -1,0 +1,126 @@
+"""A statement as a table, CSV, a page or a PDF, and a folder with those of all."""
+
+import pathlib
+import sys
+from collections.abc import Iterator
+
+from rich.console import Console
+from rich.table import Table
+
+from society_office import pages
+from society_office.copy import Copy
+from society_office.parties import names_of, parties
+from society_office.statements import Statement, Statements, as_csv, folder_of, write_csv
+from society_office.terminal import console, counting, say, table
+
+# A page of a statement that stands in a folder shows no more lines than this; its CSV has them all.
+MOST_LINES = 2_000
+
+
+def heading(found: Statement) -> str:
+    """Whose statement it is."""
+    return f"{found.key} {found.name}".rstrip()
+
+
+def verdict(found: Statement) -> str:
+    """What the statement comes to, beside the balance."""
+    part = "" if found.is_whole else f" by the pools from {found.since} on"
+    if not found.credits:
+        return f"no credit{part}: no pool has credited " + ("a work of this sender" if found.is_of_publisher else "this account")
+    if found.balance is None:
+        return f"{found.total:,} units in all{part}, over all accounts"
+    if not found.is_whole:
+        return f"{found.total:,} units in all{part}; the balance over all pools is {found.balance:,}"
+    return f"{found.total:,} units in all, " + (
+        "which is the balance" if found.agrees else f"BUT the balance is {found.balance:,}: they differ"
+    )
+
+
+def tables_of(found: Statement) -> Iterator[Table]:
+    """It as tables: every credit, then the sums."""
+    by_account = found.is_of_publisher
+    columns = ["pool", "right", "ISRC", "title", "work", "publisher", *(["account"] if by_account else []), "units"]
+    rows = ((str(it.pool), *it[1:6], *([it.account] if by_account else []), it.units) for it in found.credits)
+    yield table(columns, rows, ["pool", "units"])
+    yield table(["pool", "right", "units"], ((*it.words, it.units) for it in found.by_pool), ["pool", "units"], "By pool")
+    yield table(["title", "work", "publisher", "units"], ((*it.words, it.units) for it in found.by_work), ["units"], "By work")
+    if by_account:
+        named = ((it.words[0], found.accounts.get(it.words[0], ""), it.units) for it in found.by_account)
+        yield table(["account", "name", "units"], named, ["units"], "By account")
+
+
+def show(found: Statement, out: Console) -> None:
+    """Prints it."""
+    out.print(heading(found))
+    for listed in tables_of(found) if found.credits else ():
+        out.print()
+        out.print(listed)
+    if found.credits:
+        out.print()
+    out.print(verdict(found))
+
+
+def as_page(found: Statement, taken: float, most: int | None = None) -> str:
+    """It as a page; with no more than so many lines, where a number is given."""
+    lines = found.credits if most is None else found.credits[:most]
+    works = found.by_work if most is None else found.by_work[:most]
+    return pages.page(
+        "statement.html",
+        it=found,
+        lines=lines,
+        works=works,
+        verdict=verdict(found),
+        heading=heading(found),
+        taken=taken,
+    )
+
+
+def write(found: Statement, form: str, output: pathlib.Path | None, taken: float) -> None:
+    """Writes it in a form, to a file or to standard output."""
+    if form == "table" and output is None:
+        show(found, console())
+    elif form == "csv" and output is None:
+        write_csv(found.credits, sys.stdout)
+    elif output is None:
+        sys.stdout.write(as_page(found, taken))
+    elif form == "csv":
+        with pages.new_file(output) as file:
+            write_csv(found.credits, file)
+    elif form == "pdf":
+        pages.write_pdf(as_page(found, taken), output)
+    else:
+        pages.write_text(output, as_page(found, taken) if form == "html" else as_table(found))
+
+
+def as_table(found: Statement) -> str:
+    """It as the tables that are printed."""
+    out = console()
+    with out.capture() as captured:
+        show(found, out)
+    return captured.get()
+
+
+def files_of(found: Statement, taken: float) -> Iterator[tuple[str, str]]:
+    """The files of its folder."""
+    folder = folder_of(found.key)
+    yield f"{folder}/index.html", as_page(found, taken, MOST_LINES)
+    yield f"{folder}/statement.csv", as_csv(found.credits)
+
+
+def write_each(copy: Copy, since: int, into: pathlib.Path, pdf: bool) -> int:
+    """Writes the statements of all accounts and publishers; the status is 1 where one differs from its balance."""
+    statements = Statements(copy)
+    names = names_of(parties(copy))
+    count = differ = 0
+    with counting("statements", copy.row("SELECT count(*) FROM balances")[0]) as advance:
+        for found in statements.all(since, names):
+            pages.write_all(into, files_of(found, copy.taken))
+            if pdf:
+                pages.write_pdf(as_page(found, copy.taken, MOST_LINES), into / folder_of(found.key) / "statement.pdf")
+            if not found.agrees:
+                differ += 1
+                say(f"{found.key}: {verdict(found)}", error=True)
+            count += 1
+            advance()
+    say(f"{count:,} statements in {into}" + (f", {differ:,} of them differ from the balance" if differ else ", all equal to the balances"))
+    return 1 if differ else 0

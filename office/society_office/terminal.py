@@ -1,0 +1,66 @@
+"""Tables and lines in a terminal."""
+
+import contextlib
+import sys
+from collections.abc import Callable, Iterable, Iterator, Sequence
+
+import click
+from rich import box
+from rich.console import Console
+from rich.progress import Progress
+from rich.status import Status
+from rich.table import Table
+from rich.text import Text
+
+# The width where the output is no terminal, as in a pipe or a file.
+PLAIN_WIDTH = 140
+
+
+def console(error: bool = False) -> Console:
+    """Where a command writes; no mark-up, since texts of senders are shown."""
+    stream = sys.stderr if error else sys.stdout
+    width = None if stream.isatty() else PLAIN_WIDTH
+    return Console(file=stream, markup=False, highlight=False, emoji=False, width=width, soft_wrap=False)
+
+
+def table(columns: Sequence[str], rows: Iterable[Sequence[object]], numbers: Sequence[str] = (), title: str = "") -> Table:
+    """A table; the columns named as numbers stand at the right, with commas between thousands."""
+    found = Table(
+        box=box.SIMPLE_HEAD,
+        show_edge=False,
+        pad_edge=False,
+        title=title or None,
+        title_justify="left",
+        title_style="bold",
+    )
+    for column in columns:
+        found.add_column(column, justify="right" if column in numbers else "left", overflow="fold", no_wrap=column in numbers)
+    for row in rows:
+        found.add_row(*(Text(f"{it:,}" if isinstance(it, int) else str(it)) for it in row))
+    return found
+
+
+def say(line: str, error: bool = False) -> None:
+    """Writes a line, as it is and however long."""
+    click.echo(line, err=error)
+
+
+@contextlib.contextmanager
+def counting(words: str, total: int) -> Iterator[Callable[[], None]]:
+    """Shows in a terminal how many of some things are done; what it gives is called after each of them."""
+    if not sys.stderr.isatty():
+        yield lambda: None
+        return
+    with Progress(console=console(error=True), transient=True) as progress:
+        task = progress.add_task(words, total=total)
+        yield lambda: progress.advance(task)
+
+
+@contextlib.contextmanager
+def doing(words: str) -> Iterator[Callable[[str], None]]:
+    """Shows in a terminal what is done now; what it gives is called with the next words."""
+    if not sys.stderr.isatty():
+        yield lambda _: None
+        return
+    with Status(words, console=console(error=True)) as status:
+        yield status.update

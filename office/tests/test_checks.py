@@ -1,0 +1,230 @@
+"""Files that are checked before they are sent, and what became of those that were: our own reading beside the program."""
+
+import json
+import pathlib
+
+import quarter
+from conftest import ROOT
+from society_office import checking
+from society_office.copy import open_copy
+from society_office.program import ReplayOffice
+from society_office.why import story
+from test_statements import run
+
+FIRST = (ROOT / "examples/first.cwr").read_bytes()
+WORDS = ["--society", "900", "--territory", "40", "--name", "EXAMPLE SOCIETY"]
+# Fields that are written over: line, position from 1, what is put there.
+CHANGES = [
+    (1, 1, "HDX"),
+    (1, 65, "20260230"),
+    (1, 73, "246060"),
+    (1, 79, "00000101"),
+    (2, 1, "XXX"),
+    (2, 4, "NW_"),
+    (2, 4, "REV"),
+    (2, 4, "AGR"),
+    (2, 7, "00002"),
+    (3, 1, "REV"),
+    (3, 4, "00000001"),
+    (3, 12, "0000000A"),
+    (3, 20, " " * 60),
+    (3, 82, " " * 14),
+    (3, 82, "W\x01"),
+    (3, 96, "T0345246802"),
+    (3, 96, "T034524680"),
+    (3, 96, "           "),
+    (4, 1, "GRH"),
+    (4, 1, "S_U"),
+    (4, 22, "P2"),
+    (4, 88, "0000000019A"),
+    (4, 88, "           "),
+    (4, 116, "10001"),
+    (4, 116, "0500 "),
+    (4, 124, "10006"),
+    (4, 132, "10000"),
+    (5, 12, "00000003"),
+    (5, 20, "P2"),
+    (5, 35, "05007"),
+    (5, 35, "05006"),
+    (5, 35, "10001"),
+    (5, 40, "1000X"),
+    (5, 50, "X"),
+    (5, 51, "0040"),
+    (5, 51, "  40"),
+    (5, 51, "9999"),
+    (6, 20, "\x7f"),
+    (6, 116, "12X        "),
+    (6, 116, "199        "),
+    (6, 130, "05006"),
+    (6, 130, "05007"),
+    (7, 29, "05007"),
+    (7, 44, "E"),
+    (7, 20, "A2"),
+    (8, 20, "P9"),
+    (8, 20, "   "),
+    (8, 102, "\x01"),
+    (9, 250, "A1ABC2600001"),
+    (9, 250, "atabc2600001"),
+    (9, 250, " " * 12),
+    (9, 1, "HDR"),
+    (9, 1, "TRL"),
+    (10, 4, "00002"),
+    (10, 9, "00000002"),
+    (10, 17, "00000008"),
+    (10, 1, "XYZ"),
+    (11, 4, "00002"),
+    (11, 9, "00000002"),
+    (11, 17, "0000001X"),
+    (11, 1, "TRX"),
+]
+ROWS = [
+    "isrc,plays,seconds",
+    "ISRC,plays,seconds",
+    "isrc;plays;seconds",
+    "",
+    "isrc,plays,seconds\n",
+    "\ufeffisrc,plays,seconds\r\nATABC2600001,1,1\r\n\r\n",
+    *(
+        f"isrc,plays,seconds\n{row}\n"
+        for row in (
+            "ATABC2600001,1,1",
+            "ATABC2600001,0,1",
+            "ATABC2600001,1000000,10000",
+            "ATABC2600001,1000001,1",
+            "ATABC2600001,00000001,1",
+            "ATABC2600001,1,10001",
+            "AT,1,1",
+            "at-abc-26-00001,1,1",
+            "AT-ABC2600001,1,1",
+            "ATABC2600001,1,3:00",
+            "ATABC2600001,1,180.5",
+            ",,",
+            "ATABC2600001,1",
+            "ATABC2600001,1,1,",
+            '"ATABC2600001","1","1"',
+            "ATABC2600001,1.5,1",
+            "ATABC2600001, 1,1",
+            "ATABC2600001,1E+05,1",
+            "AT ABC 26 00001,1,1",
+            'ATABC2600001,"1,000",1',
+            "ATABC2600001,1,1\n\nATABC2600002,0,0",
+        )
+    ),
+]
+
+
+def changed(line: int, position: int, value: str) -> bytes:
+    lines = FIRST.split(b"\r\n")
+    raw = value.encode("latin-1")
+    lines[line - 1] = lines[line - 1][: position - 1].ljust(position - 1) + raw + lines[line - 1][position - 1 + len(raw) :]
+    return b"\r\n".join(lines)
+
+
+def bodies() -> list[bytes]:
+    lines = FIRST.split(b"\r\n")
+    others = [
+        b"",
+        b"\r\n",
+        FIRST[:-4],
+        FIRST[:40],
+        FIRST.replace(b"\r\n", b"\n")[:-1],
+        FIRST + b"  \r\n",
+        FIRST + b"X\r\n",
+        FIRST.replace(b"\r\n", b""),
+    ]
+    others += [b"\r\n".join(lines[:k] + lines[k + 1 :]) for k in range(1, 11)]
+    others += [b"\r\n".join(lines[:k] + [lines[k]] + lines[k:]) for k in range(11)]
+    others += [FIRST.replace(b"FIRST SONG", "FÜRST SONG".encode()), FIRST.replace(b"FIRST SONG", b"F" * 2_001)]
+    return [changed(*it) for it in CHANGES] + others
+
+
+def test_our_own_reading_is_the_programs(program: str) -> None:
+    office = ReplayOffice(program, WORDS)
+    number = 0
+    for body in bodies():
+        # A work number of its own for each file, so that no work is registered before.
+        file = checking.Sent(
+            f"{number}.cwr",
+            body.replace(b"W1      ", b"W%-7d" % number, 1),
+            number + 1,
+            "",
+            f"transmissions/{number + 1}",
+        )
+        file.own = checking.checked(file.body, "PB000000012", 40)
+        checking.take_answer(file, office.ask("PUT", f"/v1/senders/PB000000012/{file.path}", file.body))
+        if file.state == "applied":
+            number += 1
+            checking.ask_verdicts(office, "PB000000012", file)
+        assert not file.differs, (body, file)
+    for row, body in enumerate(ROWS):
+        played = checking.Sent("it.csv", body.encode())
+        checking.check_return(office, "/v1/returns/RADIO1", row + 1, played)
+        assert not played.differs, (body, played)
+    office.close()
+
+
+def test_every_fault_of_a_work_is_told(tmp_path: pathlib.Path, program: str) -> None:
+    paths = []
+    for sender, number, path, works in quarter.FILES[:3]:
+        paths.append(tmp_path / f"{number}.cwr")
+        paths[-1].write_bytes(quarter.body(sender, works))
+    said = run("check", *paths, "--program", program, status=1, out=True)
+    assert "1 of 3 works accepted" in said and "(the check digit of T034524680 is 1: T0345246801)" in said
+    assert "at line 6, SWR, PR ownership share 130-134: '10001'" in said
+    assert "also fault 9, line 6, SWR, IPI name number 116-126: '12X'" in said and "also fault 8, line 3, NWR, MR collection" in said
+    found = json.loads(run("check", *paths, "--program", program, "--json", status=1, out=True))
+    assert [it["number"] for it in found[1]["faults"]] == [4, 8, 9, 3] and found[1]["faults"][2]["cure"] == "write eleven digits"
+
+
+def test_names_by_year_and_ends(tmp_path: pathlib.Path, program: str) -> None:
+    paths = [tmp_path / it for it in ("plain.cwr", "CW260001BE_900.V22", "CW270001BE_900.V21")]
+    for path, (sender, _, _, works) in zip(paths, quarter.FILES[3:6]):
+        path.write_bytes(quarter.body(sender, works))
+    said = run("check", *paths, "--program", program)
+    assert 'segments/plain {"last":1,"next":26}' in said and 'segments/26 {"last":1,"next":27}' in said
+    assert f"27-0001 {paths[2]}: applied" in said
+    assert "26-0001" in run("check", paths[1], paths[2], "--program", program, "--brief", status=1, out=True)
+
+
+def test_a_file_of_works_without_its_header(tmp_path: pathlib.Path, program: str) -> None:
+    for body, said in (
+        (b"", "here is nothing"),
+        (b"\xef\xbb\xbf" + FIRST, "a byte order mark and 'HDRPB000000012'"),
+        (FIRST[3:], "here is 'PB000000012EXA'"),
+    ):
+        (tmp_path / "it.cwr").write_bytes(body)
+        assert said in run("check", tmp_path / "it.cwr", "--program", program, status=1)
+
+
+def test_spreadsheets(tmp_path: pathlib.Path, program: str) -> None:
+    (tmp_path / "it.csv").write_text("isrc,plays,seconds\nATABC2600001,3,3:00\nATABC2600001,1.000,5\n,,\n")
+    said = run("check", tmp_path / "it.csv", "--program", program, status=1, out=True)
+    assert "row 2, seconds: '3:00' (a time: write it in seconds, 3:00 as 180)" in said and "return fault 5 in row 2" in said
+    assert "row 3, plays: '1.000'" in said and "an empty row of the spreadsheet" in said
+    (tmp_path / "it.csv").write_text("isrc;plays;seconds\nATABC2600001;3;180\n")
+    assert "semicolons stand between" in run("check", tmp_path / "it.csv", "--program", program, status=1, out=True)
+
+
+def test_a_file_is_checked_against_a_copy(copy: pathlib.Path, tmp_path: pathlib.Path, program: str) -> None:
+    (tmp_path / "it.cwr").write_bytes(quarter.body(quarter.BETA, [quarter.rev("2", "AGAIN", "DEBET2600002", quarter.BETA_HOUSE)]))
+    assert f"26-0003 {tmp_path}/it.cwr: applied\n  1 of 1 works accepted" in run(
+        "check", tmp_path / "it.cwr", "--copy", copy, "--program", program
+    )
+
+
+def test_why(copy: pathlib.Path) -> None:
+    with open_copy(copy) as opened:
+        told = {it.sender: story(opened, it.sender) for it in opened.lines()}
+        for sender, number, _, works in quarter.FILES + quarter.LATER:
+            file = next(it for it in told[sender].files if it.number == number)
+            wanted = (
+                []
+                if (sender, number) in quarter.HELD
+                else [(it.number, it.fault) for it in sorted(works, key=lambda it: it.kind) if it.fault]
+            )
+            assert [(it.work, it.fault) for it in file.rejected] == wanted
+            assert all(it.fault in (20, 21) or it.own.faults[0].number == it.fault for it in file.rejected)
+    assert told[quarter.GAMMA].line.missing == [2] and told[quarter.BETA].line.skipped == [1_250_001]
+    said = run("why", copy, quarter.ALPHA)
+    assert "registered since: revision 0 with file 3" in said and "revision 1 of file 2 stands" in said
+    assert "nothing has come of PB000000099" in run("why", copy, "PB000000099", status=1)

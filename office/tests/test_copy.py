@@ -1,0 +1,168 @@
+"""Copies that are opened and refused: layouts, logs beside them, files in use, and files that are none."""
+
+import contextlib
+import pathlib
+import shutil
+import sqlite3
+import subprocess
+
+import pytest
+import quarter
+import reckoning
+from conftest import OFFICE, ROOT, served
+from society_office.copy import open_copy
+from society_office.errors import OfficeError
+from society_office.program import Office, free_port
+from society_office.statements import Statements
+from test_statements import run
+
+DERIVED = "".join(f"DROP TABLE {it};" for it in ("fronts", "verdicts", "versions", "recordings", "credits", "balances"))
+
+
+@contextlib.contextmanager
+def changed(path: pathlib.Path):  # type: ignore[no-untyped-def]
+    with contextlib.closing(sqlite3.connect(path)) as database:
+        yield database
+        database.commit()
+
+
+def refused(path: pathlib.Path) -> str:
+    with pytest.raises(OfficeError) as raised, open_copy(path):
+        pass
+    return str(raised.value)
+
+
+def in_log(path: pathlib.Path, statement: str, into: pathlib.Path) -> None:
+    """Copies a file and its log into a folder, while a change stands in the log alone."""
+    with contextlib.closing(sqlite3.connect(path)) as database:
+        database.execute("PRAGMA journal_mode = WAL")
+        database.execute("PRAGMA wal_autocheckpoint = 0")
+        database.execute(statement)
+        database.commit()
+        for end in ("", "-wal"):
+            shutil.copyfile(f"{path}{end}", into / f"pair.db{end}")
+
+
+def test_a_copy_is_never_written_to(copy: pathlib.Path) -> None:
+    before = copy.read_bytes()
+    for words in (
+        ["statement", copy, "UNCLAIMED"],
+        ["parties", copy],
+        ["unclaimed", copy],
+        ["propose", copy, "--amount", 1],
+        ["why", copy, quarter.ALPHA],
+    ):
+        run(*words)
+    run("site", copy, "--into", copy.parent / "site")
+    assert copy.read_bytes() == before
+    assert {it.name for it in copy.parent.iterdir()} == {"copy.db", "site"}
+
+
+def test_older_layouts(copy: pathlib.Path, monkeypatch: pytest.MonkeyPatch) -> None:
+    with changed(copy) as database:
+        database.executescript("DROP TABLE mechanical_pools; DROP TABLE segment_ends; UPDATE office SET layout = 2")
+    with open_copy(copy) as opened:
+        assert opened.layout == 2 and set(opened.rights().values()) == {"PR"}
+        assert Statements(opened).of("I00000000295").agrees
+    with changed(copy) as database:
+        database.executescript(DERIVED)
+        database.execute("UPDATE office SET layout = 1")
+    monkeypatch.setenv("PATH", "")
+    monkeypatch.setenv("SOCIETY_PROGRAM", "")
+    monkeypatch.setattr("society_office.program.CHECKOUT", copy.parent)
+    assert "is of layout 1" in run("statement", copy, "UNCLAIMED", status=1)
+    with changed(copy) as database:
+        database.execute("UPDATE office SET layout = 4")
+    assert "reads the layouts 1 to 3" in refused(copy)
+
+
+def test_layout_1_is_taken_over(tmp_path: pathlib.Path, program: str, monkeypatch: pytest.MonkeyPatch) -> None:
+    monkeypatch.setenv("SOCIETY_PROGRAM", program)
+    path = tmp_path / "old.db"
+    with served(program, path) as connection:
+        for where, name in (("senders/PB000000012/transmissions/1", "cwr"), ("returns/RADIO1/1", "csv"), ("pools/7", "json")):
+            connection.request("PUT", f"/v1/{where}", (ROOT / f"examples/first.{name}").read_bytes())
+            assert connection.getresponse().read().startswith(b'{"')
+    with changed(path) as database:
+        database.executescript(f"DROP TABLE mechanical_pools; DROP TABLE segment_ends; {DERIVED}")
+        database.execute("UPDATE office SET layout = 1")
+    before = path.read_bytes()
+    assert "50,000 units in all, which is the balance" in run("statement", path, "I00000000295")
+    assert path.read_bytes() == before
+
+
+def test_a_log_of_the_copy_is_read(copy: pathlib.Path, tmp_path: pathlib.Path) -> None:
+    folder = tmp_path / "pair"
+    folder.mkdir()
+    in_log(copy, "INSERT INTO returns VALUES ('TV9', 1, x'00')", folder)
+    with open_copy(folder / "pair.db") as opened:
+        assert opened.row("SELECT count(*) FROM returns WHERE reporter = 'TV9'") == (1,)
+        assert "were read as one" in opened.note
+    assert {it.name for it in folder.iterdir()} == {"pair.db", "pair.db-wal"}
+
+
+def test_a_log_of_another_file_is_refused(copy: pathlib.Path, tmp_path: pathlib.Path) -> None:
+    folder = tmp_path / "pair"
+    folder.mkdir()
+    other = pathlib.Path(shutil.copy(copy, tmp_path / "other.db"))
+    with changed(other) as database:
+        # The other office never had the last file of the first sender.
+        database.execute("DELETE FROM pool_cuts WHERE sender = ? AND number = 3", (quarter.ALPHA,))
+        database.execute("DELETE FROM transmissions WHERE sender = ? AND number = 3", (quarter.ALPHA,))
+    in_log(other, "UPDATE transmissions SET body = CAST(body || x'20' AS BLOB)", folder)
+    shutil.copyfile(copy, folder / "pair.db")
+    said = refused(folder / "pair.db")
+    assert "pair.db-wal is not of" in said and "no sound file" in said
+    # A log with all pages makes a sound file of any other one, but not with all that the file had.
+    in_log(other, "VACUUM", folder)
+    shutil.copyfile(copy, folder / "pair.db")
+    assert "pair.db alone has transmissions" in refused(folder / "pair.db")
+    small = tmp_path / "small.db"
+    with changed(small) as database:
+        database.executescript("PRAGMA page_size = 512; CREATE TABLE it (is_there)")
+    in_log(small, "INSERT INTO it VALUES (1)", folder)
+    shutil.copyfile(copy, folder / "pair.db")
+    assert "pages of 512 bytes" in refused(folder / "pair.db")
+
+
+def test_an_empty_log_is_passed_over(copy: pathlib.Path) -> None:
+    for content in (b"", b"\x37\x7f\x06\x82" + bytes(37)):
+        copy.with_name("copy.db-wal").write_bytes(content)
+        assert "which is the balance" in run("statement", copy, "UNCLAIMED")
+
+
+def test_what_is_no_copy(copy: pathlib.Path, tmp_path: pathlib.Path) -> None:
+    assert "there is no file" in refused(tmp_path / "nothing.db")
+    assert "is no file" in refused(tmp_path)
+    (tmp_path / "empty.db").touch()
+    assert "is empty" in refused(tmp_path / "empty.db")
+    (tmp_path / "text.db").write_text("an office")
+    assert "is no SQLite database" in refused(tmp_path / "text.db")
+    with changed(tmp_path / "other.db") as database:
+        database.execute("CREATE TABLE it (is_there)")
+    assert "not an office's file" in refused(tmp_path / "other.db")
+    copy.with_name("copy.db-journal").write_bytes(b"x")
+    assert "a change of it was not ended" in refused(copy)
+    cut = tmp_path / "cut.db"
+    cut.write_bytes(copy.read_bytes()[:9_000])
+    assert "cut.db" in refused(cut)
+
+
+def test_the_file_of_an_office_that_runs_is_refused(copy: pathlib.Path, program: str) -> None:
+    port = free_port()
+    words = [program, "serve", "--existing", "--db", str(copy), "--port", str(port), "--connections", "1", *OFFICE]
+    with subprocess.Popen(words, stdout=subprocess.PIPE) as process:
+        assert process.stdout and process.stdout.readline() == b"listening\n"
+        assert "is in use" in refused(copy)
+        # While it runs, both files copied at one moment are a copy: here nothing is written meanwhile.
+        folder = copy.parent / "moment"
+        folder.mkdir()
+        office = Office(f"http://127.0.0.1:{port}")
+        office.ask("PUT", "/v1/returns/TV9/1", b"isrc,plays,seconds\n")
+        for end in ("", "-wal"):
+            shutil.copyfile(f"{copy}{end}", folder / f"copy.db{end}")
+        with open_copy(folder / "copy.db") as opened:
+            assert opened.row("SELECT count(*) FROM returns WHERE reporter = 'TV9'") == (1,)
+            assert dict(opened.rows("SELECT account, units FROM balances")) == reckoning.balances()
+        office.close()
+        process.wait(60)

@@ -1,0 +1,79 @@
+"""Unclaimed money and its causes, orders proposed and rehearsed."""
+
+import json
+import pathlib
+
+import quarter
+import reckoning
+from society_office.copy import open_copy
+from society_office.orders import propose
+from society_office.unclaimed import Cause, Unclaimed, later
+from test_statements import run
+
+CAUSES = {"share": {Cause.SHARE}, "conflict": {Cause.CONFLICT}, "plays": {Cause.NO_PLAYS}}
+NONE = {Cause.LATE, Cause.REJECTED, Cause.WAITING, Cause.NOBODY}
+
+
+def test_unclaimed_money_has_its_cause(copy: pathlib.Path) -> None:
+    with open_copy(copy) as opened:
+        for pool in quarter.POOLS:
+            found = Unclaimed(opened).items(pool)
+            sums = {isrc: sum(it.units for it in found if it.isrc == isrc) for isrc in {it.isrc for it in found}}
+            assert sums == {isrc: units for isrc, (_, units) in reckoning.unclaimed(pool).items()}
+            for it in found:
+                assert it.cause in CAUSES.get(reckoning.unclaimed(pool)[it.isrc][0], NONE), it
+
+
+def test_why_nobody_is_paid(copy: pathlib.Path) -> None:
+    with open_copy(copy) as opened:
+        found = {(it.pool, it.isrc): it for it in Unclaimed(opened).items()}
+    conflict = found[1, "ATABC2600010"]
+    assert [(it.publisher, it.title) for it in conflict.claimants] == [
+        (quarter.ALPHA, "SHARED CLAIM"),
+        (quarter.DELTA, "CLAIMED TOO"),
+    ]
+    assert conflict.since == f"now only {quarter.ALPHA} A3 names it"
+    assert found[1, "ATABC2600020"].cause is Cause.LATE and found[1, "GBGAM2600003"].cause is Cause.WAITING
+    assert found[3, "ATABC2600022"].why == "rejected with fault 3" and found[1, "ZZZZZ2600001"].cause is Cause.NOBODY
+    assert found[1, "FREPS2600001"].part == 5_000
+    assert "NAMELESS 50 % (with neither an IPI name number nor an IP #)" in found[1, "FREPS2600005"].why
+
+
+def test_an_order_is_proposed(copy: pathlib.Path) -> None:
+    copy.with_name("void.txt").write_text(quarter.VOID)
+    assert json.loads(run("propose", copy, "--amount", 1000)) == {
+        "amount": 1000,
+        "cut": [
+            [quarter.ALPHA, 3],
+            [quarter.BETA, "26-0002"],
+            [quarter.GAMMA, 1],
+            [quarter.DELTA, 2],
+            [quarter.EPSILON, 2],
+        ],
+        "returns": [["TV1", 1]],
+    }
+    with open_copy(copy) as opened:
+        # The double was paid in the performing right only, so a pool of the mechanical right may pay it.
+        found = propose(opened, 7, "MR", [], [])
+    assert found.returns == [("RADIO1", 4), ("TV1", 1), ("TV1", 2)] and json.loads(found.json)["kind"] == "MR" and found.pool == 6
+
+
+def test_an_order_is_rehearsed(copy: pathlib.Path, tmp_path: pathlib.Path, program: str) -> None:
+    before = copy.read_bytes()
+    run("propose", copy, "--amount", 1000, "--returns", "TV1/1", "--output", tmp_path / "order.json")
+    said = run("rehearse", copy, tmp_path / "order.json", "--program", program)
+    assert "pool 6 would be closed with 1,000 units of the PR" in said and "BORIS COMPOSER" in said
+    (tmp_path / "order.json").write_bytes(quarter.order(1).replace(b"1000003", b"5"))
+    assert "is paid by pool 1: leave it out" in run("rehearse", copy, tmp_path / "order.json", "--program", program, status=1, out=True)
+    assert copy.read_bytes() == before and {it.name for it in copy.parent.iterdir()} == {"copy.db", "order.json"}
+
+
+def test_what_has_one_owner_now_can_be_paid(copy: pathlib.Path, tmp_path: pathlib.Path, program: str) -> None:
+    with open_copy(copy) as opened:
+        found = later(opened, Unclaimed(opened).items())
+    owned = {isrc: reckoning.unclaimed(pool)[isrc][1] for pool, isrc in ((1, "ATABC2600010"), (1, "ATABC2600020"), (3, "FREPS2600004"))}
+    assert [(it.right, it.by_isrc) for it in found] == [("PR", owned)]
+    run("unclaimed", copy, "--settle", tmp_path / "settle")
+    rows = [it.split(",") for it in (tmp_path / "settle/PR.csv").read_text().splitlines()[1:]]
+    assert sum(int(plays) * int(seconds) for _, plays, seconds in rows) == sum(owned.values())
+    assert json.loads((tmp_path / "settle/PR.json").read_text())["returns"] == [["SETTLED", 1]]
