@@ -3,8 +3,8 @@
 
 A block of commands is a fenced block with the word `sh`; what it prints is a fenced block with the word `text`, where that is the
 next fenced block under the same heading.
-Each document begins in a fresh copy of the checkout, in a folder of its own, with the program in its place there and on the PATH as
-`society`; its blocks go into one bash. Standard output and standard error are compared with the text block line by line, but for
+Each document begins in a fresh copy of the checkout, in a folder of its own, in which bin/society runs the program, and with the program on
+the PATH as `society`; its blocks go into one bash. Standard output and standard error are compared with the text block line by line, but for
 blanks at the ends of lines and the shell's own lines on jobs; a block without a text block has to end with status 0. What the blocks
 left running is reported and stopped. Ends with status 1 where anything differs.
 """
@@ -26,7 +26,7 @@ import time
 import common
 from common import ROOT
 
-DOCUMENTS = ["README.md", "docs/OPERATIONS.md", "docs/FAULTS.md"]
+DOCUMENTS = ["README.md", "docs/OPERATIONS.md", "docs/FAULTS.md", "docs/PUBLISHERS.md", "docs/STATIONS.md", "docs/OFFICE.md"]
 FENCE = re.compile(r"^( *)(```+|~~~+) *(\w*) *$")
 PORT = re.compile(r"--port[ =](\d+)|127\.0\.0\.1:(\d+)|localhost:(\d+)")
 # What bash says of its jobs: `[1] 4711`, `[1]+  Terminated  ..`, `bash: line 3:  4711 Terminated  ..`.
@@ -62,7 +62,7 @@ def fenced(text):
 
 
 def blocks(text):
-    """The blocks of commands of a document."""
+    """The blocks of commands of a document; one in a comment, which readers don't see, is pasted too."""
     found, last = [], None
     for line, word, inside, has_heading in fenced(text):
         if word == "sh":
@@ -76,15 +76,17 @@ def blocks(text):
 
 
 def fresh_copy(program, folder):
-    """Copies what git keeps or would keep into a folder, as it is now, and the program into its place there."""
+    """Copies what git keeps or would keep into a folder, as it is now, in which bin/society then runs the program."""
     names = subprocess.run(["git", "ls-files", "-co", "--exclude-standard", "-z"], cwd=ROOT, capture_output=True, check=True).stdout
     for name in filter(None, names.decode().split("\0")):
         if (ROOT / name).is_file():
             (folder / name).parent.mkdir(parents=True, exist_ok=True)
             shutil.copy(ROOT / name, folder / name)
+    if pathlib.Path(program) != ROOT / "release/society":
+        (folder / "release/society").unlink(missing_ok=True)
     place = folder / "crates/society/out/society"
     place.parent.mkdir(parents=True, exist_ok=True)
-    # Last, so that bin/society finds it newer than its sources.
+    # Last, so that bin/society finds it newer than its sources, where the release is not of these.
     shutil.copy(program, place)
 
 
@@ -185,10 +187,12 @@ def fault_of(block, printed, status):
 
 def pasted(name, checkout, path, seconds):
     """Pastes a document; answers how many faults there were."""
-    found, faults = blocks((checkout / name).read_text()), 0
+    found, faults, passed = blocks((checkout / name).read_text()), 0, []
     shell = Shell(checkout, path)
     for block in found:
+        begun = time.monotonic()
         printed, status = shell.paste(block.commands, seconds)
+        passed.append(time.monotonic() - begun)
         fault = fault_of(block, printed, status)
         if fault:
             faults += 1
@@ -207,7 +211,8 @@ def pasted(name, checkout, path, seconds):
         faults += 1
         print(f"{name}: left running: {command}", flush=True)
     compared = sum(it.wanted is not None for it in found)
-    print(f"{name}: {len(found)} blocks, {compared} with what they print, {faults} faults", flush=True)
+    first = f"the first in {passed[0]:.2f} s, " if passed else ""
+    print(f"{name}: {len(found)} blocks, {first}{compared} with what they print, {faults} faults", flush=True)
     return faults
 
 

@@ -1,8 +1,8 @@
 #!/usr/bin/env python3
 """Sends rows of requests, each to an empty book, through `society replay`, and compares the answers.
 
-The rows are those of the tests in crates/society/src by their names, so that each is seen over bytes and over the tables too. The
-files are made of examples/first.cwr. Ends with status 1 where an answer is another.
+`society replay` keeps its tables in memory, so that each row is seen over bytes and over tables. The files are made of
+examples/first.cwr. Ends with status 1 where an answer is another.
 """
 import functools
 import json

@@ -1,22 +1,27 @@
 // The page for staff: what the office answers, section by section. Data reaches the page as text only, never as markup.
+import { Looked } from "./files.js";
 import * as office from "./office.js";
-import { answerText, fileText, following, numberOf, partText, ranges, refusalText, units, whoText } from "./words.js";
+import { PAGE, Pages, addRow, clearRows, nameTables } from "./pages.js";
+import { answerText, fileText, following, numberOf, partText, rankOf, ranges, refusalText, standing, units, unnamedSenders, whoText } from "./words.js";
 
 /** Files of each sender that are looked through for rejected works at first, and further ones at each press of the button. */
 const NEWEST_FILES = 20;
 const OLDER_FILES = 200;
-/** Pool numbers in a row that are not closed, after which no higher one is asked for; and how many the button asks for. */
-const POOLS_AHEAD = 20;
-const HIGHER_POOLS = 200;
+/** How far below and above each closed pool other numbers are asked for at first, and how much further at each press of the button. */
+const POOLS_AROUND = 20;
+const MORE_POOLS = 200;
 /** Accounts whose balance is asked for at first, the greatest first. */
 const FIRST_ACCOUNTS = 100;
-/** Lines of a pool's credits that are shown. */
-const CREDIT_LINES = 200;
+/** Pools after which it is said how far the asking is. */
+const TOLD_EVERY = 10;
+/** Senders that are named one by one where the files of several were not looked through. */
+const NAMED_SENDERS = 5;
 
-/** What the page knows: senders with their names and standings, closed pools by number, and the words of faults. */
-const known = { senders: [], pools: new Map(), faults: {}, looked: 0, rejected: 0, poolsAsked: 0, asked: new Map() };
+/** What the page knows: senders with their names and standings, the words of faults, rejected works, and closed pools by number. */
+const known = { senders: null, faults: {}, rejected: [], pools: new Map(), poolsAsked: new Set(), poolsKept: [], around: POOLS_AROUND, asked: new Map() };
 
 const section = (id) => document.getElementById(id);
+const pages = {};
 
 /** Says how a section stands; `kind` is `good`, `wait` or `bad`, or nothing. */
 function say(place, text, kind = "") {
@@ -25,94 +30,158 @@ function say(place, text, kind = "") {
   state.className = `state ${kind}`;
 }
 
-/** Adds a row to a place's first table: texts, or elements; numbers stand to the right. */
-function addRow(place, cells, kind = "") {
-  const table = place.querySelector("table");
-  const heads = table.tHead.rows[0].cells;
-  const row = table.tBodies[0].insertRow();
-  row.className = kind;
-  cells.forEach((content, at) => {
-    const cell = row.insertCell();
-    cell.className = heads[at].className;
-    cell.dataset.label = heads[at].textContent;
-    cell.append(content);
-  });
-  table.hidden = false;
+/** What went wrong, in words. */
+function faultOf(error) {
+  if (error instanceof office.Refused) {
+    return refusalText(error.status);
+  }
+  return error instanceof office.Unreadable ? error.message : `The office could not be asked: ${error.message}`;
 }
 
-function clearRows(place) {
-  place.querySelector("tbody").replaceChildren();
-}
-
-/** Runs what fills a section; what the office refuses is said there. */
+/** Runs what fills a section; what the office refuses is said there. Whether it went well. */
 async function guarded(place, fill) {
   try {
     await fill(place);
+    return true;
   } catch (error) {
-    say(place, error instanceof office.Refused ? refusalText(error.status) : `The office could not be asked: ${error.message}`, "bad");
+    say(place, faultOf(error), "bad");
+    return false;
   }
 }
 
 // Senders.
-async function showSenders(place) {
-  say(place, "Asking ..");
-  const standings = await Promise.all(known.senders.map(({ key }) => office.sender(key)));
-  known.senders.forEach((it, at) => Object.assign(it, standings[at] ?? { front: null, held: [] }));
-  clearRows(place);
-  for (const { key, name, front, held } of known.senders) {
-    const missing = held.length ? fileText(following(front)) : "";
-    const kind = front === null ? "bad" : held.length ? "wait" : "";
-    addRow(place, [key, name, front === null ? "no such sender" : fileText(front), ranges(held), missing], kind);
-  }
-  const waiting = known.senders.filter((it) => it.held.length).length;
-  say(place, waiting ? `${waiting} of ${known.senders.length} senders wait for a missing file.` : "Nothing waits.", waiting ? "wait" : "good");
-}
+const isWaiting = (it) => it.front === null || it.waiting.length > 0;
 
-// Rejected works.
-/** The rejected works of a sender's file, each with its place in it. */
-async function rejectedIn(key, number) {
-  const verdicts = (await office.verdicts(key, number)) ?? [];
-  if (!verdicts.some((it) => it.fault)) {
-    return [];
-  }
-  const works = await office.acknowledged(key, number);
-  return verdicts.flatMap(({ fault }, at) => (fault ? [{ fault, ...works[at] }] : []));
-}
-
-/** Looks through a number of a sender's files, from the newest one that was not looked through yet: of a year's files those of this year. */
-async function lookThrough(place, sender, count) {
-  const [last, year] = String(sender.front).split("-").reverse();
-  const { key, lowest = Number(last) + 1 } = sender;
-  const named = (number) => (year === undefined ? number : `${year}-${String(number).padStart(4, "0")}`);
-  const numbers = Array.from({ length: Math.min(count, lowest - 1) }, (_, at) => named(lowest - 1 - at));
-  const found = await Promise.all(numbers.map((it) => rejectedIn(key, it)));
-  sender.lowest = lowest - numbers.length;
-  numbers.forEach((file, at) => {
-    for (const { number, title, fault } of found[at]) {
-      const { means, cure } = known.faults.transaction[fault] ?? { means: `fault ${fault}`, cure: "" };
-      addRow(place, [key, fileText(file), number, title, `${fault}: ${means}`, cure], "bad");
-      known.rejected += 1;
-    }
+async function askStandings() {
+  const found = await Promise.all(known.senders.map(({ key }) => office.sender(key)));
+  known.senders.forEach((it, at) => {
+    const { front, held } = found[at] ?? { front: null, held: [] };
+    Object.assign(it, { front, ...(front === null ? { waiting: [], never: [], missing: "" } : standing(front, held)) });
   });
 }
 
-async function showRejected(place, count) {
-  const more = place.querySelector(".more");
-  more.hidden = true;
-  say(place, "Looking ..");
-  if (known.senders.some((it) => it.front === undefined)) {
-    say(place, "Not looked for, since the senders could not be asked for.", "bad");
+function drawSenders(senders) {
+  const place = section("senders");
+  clearRows(place);
+  for (const { key, name, front, waiting, never, missing } of senders) {
+    const kind = front === null ? "bad" : waiting.length ? "wait" : "";
+    addRow(place, [key, name, front === null ? "no such sender" : fileText(front), ranges(waiting), missing, ranges(never)], kind);
+  }
+}
+
+async function showSenders(place) {
+  if (known.senders === null) {
     return;
   }
-  const applied = known.senders.filter((it) => it.front);
-  for (const it of applied) {
-    await lookThrough(place, it, count);
+  say(place, "Asking ..");
+  await askStandings();
+  // Those that somebody has to look after stand first.
+  pages.senders.show([...known.senders].sort((a, b) => isWaiting(b) - isWaiting(a)));
+  const [waiting, wrong] = [known.senders.filter((it) => it.waiting.length), known.senders.filter((it) => it.front === null)];
+  const words = [
+    waiting.length ? `${units(waiting.length)} of ${units(known.senders.length)} senders wait for a missing file or end.` : "",
+    wrong.length ? `${units(wrong.length)} of senders.json are none of the office.` : "",
+  ];
+  const none = known.senders.length ? "Nothing waits of these senders." : "senders.json names no sender.";
+  say(place, words.filter(Boolean).join(" ") || none, wrong.length ? "bad" : waiting.length ? "wait" : known.senders.length ? "good" : "");
+}
+
+/** Says which senders the pools' accounts name that the list lacks: the office has no list of its own. */
+function showUnnamed() {
+  const accounts = new Set([...known.pools.values()].flatMap((credits) => credits.map((it) => it.account)));
+  const keys = known.senders === null ? [] : unnamedSenders(accounts, known.senders);
+  const line = section("senders").querySelector(".unnamed");
+  line.textContent = keys.length ? `Not in senders.json, though pools credit their parties: ${keys.slice(0, NAMED_SENDERS).join(", ")}${keys.length > NAMED_SENDERS ? " .." : ""}.` : "";
+  line.className = `unnamed ${keys.length ? "wait" : ""}`;
+}
+
+// Rejected works.
+const faultWords = (fault) => known.faults.transaction?.[fault] ?? { means: `fault ${fault}`, cure: "" };
+
+/** The rejected works that a filter lets pass, by sender and fault. */
+function groupsOf(works, wanted) {
+  const found = new Map();
+  for (const it of works) {
+    const name = known.senders.find(({ key }) => key === it.key)?.name ?? "";
+    const title = `${it.key} ${name}, fault ${it.fault}: ${faultWords(it.fault).means}`;
+    const line = `${title} ${fileText(it.file)} ${it.file} ${it.number} ${it.title}`;
+    if (line.toUpperCase().includes(wanted)) {
+      found.set(title, [...(found.get(title) ?? []), it]);
+    }
   }
-  known.looked += count;
-  more.hidden = applied.every((it) => it.lowest === 1);
-  const all = applied.some((it) => typeof it.front === "string") ? "All files, of a year those of the present one," : "All files";
-  const range = more.hidden ? all : `The newest ${units(known.looked)} files of each sender`;
-  say(place, `${range} were looked through. Rejected works: ${known.rejected || "none"}.`, known.rejected ? "" : "good");
+  const newestFirst = (a, b) => rankOf(b.file) - rankOf(a.file);
+  return [...found].map(([title, lines]) => ({ title, lines: lines.sort(newestFirst) })).sort((a, b) => (a.title < b.title ? -1 : 1));
+}
+
+/** Adds a group, whose works are shown when it is opened. */
+function addGroup(place, { title, lines }, isOpen) {
+  const group = document.getElementById("group").content.cloneNode(true).querySelector("details");
+  const named = `${units(lines.length)} ${lines.length === 1 ? "work" : "works"} of ${title}`;
+  nameTables(group);
+  group.querySelector("summary").textContent = named;
+  group.querySelector("table").setAttribute("aria-label", named);
+  const { cure } = faultWords(lines[0].fault);
+  group.querySelector(".cure").textContent = cure ? `Cure: ${cure}.` : "";
+  const list = new Pages(group.querySelector(".pages"), `works of ${lines[0].key} with fault ${lines[0].fault}`, (part) => {
+    clearRows(group);
+    part.forEach(({ file, number, title: work }) => addRow(group, [fileText(file), number, work], "bad"));
+  });
+  group.addEventListener("toggle", () => group.open && list.show(lines), { once: true });
+  group.open = isOpen;
+  place.querySelector(".groups").append(group);
+}
+
+function drawGroups() {
+  const place = section("rejected");
+  const wanted = place.querySelector("input").value.trim().toUpperCase();
+  const groups = groupsOf(known.rejected, wanted);
+  const isShort = groups.reduce((total, it) => total + it.lines.length, 0) <= PAGE;
+  pages.groups.isShort = isShort;
+  pages.groups.show(groups);
+}
+
+/** Which files were not looked through, or nothing. */
+function leftText(senders) {
+  const left = senders.filter((it) => it.looked.lowest !== undefined);
+  const names = left.slice(0, NAMED_SENDERS).map((it) => `${it.key} before ${fileText(it.looked.lowest)}`);
+  const more = left.length > NAMED_SENDERS ? [`of ${units(left.length - NAMED_SENDERS)} other senders`] : [];
+  return left.length ? `Not looked through yet: the files of ${[...names, ...more].join(", ")}.` : "";
+}
+
+let looking = Promise.resolve();
+
+/** Looks through what has come since, and through this many older files of each sender, once earlier looks have ended. */
+function showRejected(place, count) {
+  const look = () => lookThrough(place, count);
+  looking = looking.then(look, look);
+  return looking;
+}
+
+async function lookThrough(place, count) {
+  const more = place.querySelector(".more");
+  more.hidden = true;
+  if (known.senders === null || known.senders.some((it) => it.front === undefined)) {
+    say(place, "Not looked for, since it is not known which senders there are or how they stand.", "bad");
+    return;
+  }
+  const senders = known.senders.filter((it) => it.front !== null);
+  try {
+    for (const [at, it] of senders.entries()) {
+      say(place, `Looking through the files of ${it.key}, sender ${units(at + 1)} of ${units(senders.length)} ..`);
+      known.rejected.push(...(await it.looked.look(it.front, count)));
+    }
+  } catch (error) {
+    more.hidden = false;
+    drawGroups();
+    throw error;
+  }
+  drawGroups();
+  const left = leftText(senders);
+  more.hidden = !left;
+  place.querySelector("label").hidden = !known.rejected.length;
+  const some = known.rejected.length ? units(known.rejected.length) : left ? "none so far" : "none";
+  const all = senders.length ? "All applied files of these senders were looked through. " : "No sender, so no file was looked through. ";
+  say(place, `${left ? `${left} ` : all}Rejected works${left ? " in the others" : ""}: ${some}.`, known.rejected.length || left || !senders.length ? "" : "good");
 }
 
 // A work.
@@ -148,15 +217,32 @@ async function lookUp(place, form) {
 // Pools.
 const sum = (credits) => credits.reduce((total, it) => total + it.units, 0n);
 
-/** Asks for pools by their numbers, until `ahead` in a row are not closed. */
-async function askForPools(ahead) {
-  let last = Math.max(known.poolsAsked, ...known.pools.keys());
-  while (known.poolsAsked < last + ahead) {
-    const numbers = Array.from({ length: last + ahead - known.poolsAsked }, (_, at) => known.poolsAsked + 1 + at);
-    const found = await Promise.all(numbers.map((it) => office.pool(it)));
-    numbers.forEach((number, at) => found[at] && known.pools.set(number, found[at]));
-    known.poolsAsked += numbers.length;
-    last = Math.max(last, ...known.pools.keys());
+/** The numbers that are to be asked for: those from 1 on, those that staff keep, and those around each closed pool. */
+function wantedPools() {
+  const wanted = new Set(known.poolsKept);
+  for (const it of [0, ...known.pools.keys()]) {
+    for (let number = Math.max(1, it - known.around); number <= Math.min(office.MOST_POOLS, it + known.around); number += 1) {
+      wanted.add(number);
+    }
+  }
+  return [...wanted].filter((it) => !known.poolsAsked.has(it)).sort((a, b) => a - b);
+}
+
+/** Asks for pools until those around each closed one are known; says how far it is. */
+async function askForPools(place) {
+  for (let numbers = wantedPools(); numbers.length; numbers = wantedPools()) {
+    let done = 0;
+    await Promise.all(numbers.map(async (number) => {
+      const found = await office.pool(number);
+      known.poolsAsked.add(number);
+      if (found) {
+        known.pools.set(number, found);
+      }
+      done += 1;
+      if (done % TOLD_EVERY === 0) {
+        say(place, `Asking for the pools ${ranges(numbers)}: ${units(done)} of ${units(numbers.length)} ..`);
+      }
+    }));
   }
 }
 
@@ -167,28 +253,34 @@ function showCredits(place, number) {
   part.hidden = false;
   part.dataset.pool = number;
   part.querySelector("h3").textContent = `Credits of pool ${number}`;
-  clearRows(part);
-  for (const { isrc, account, units: credited } of lines.slice(0, CREDIT_LINES)) {
-    addRow(part, [isrc === "-" ? "no recording" : isrc, account, units(credited)]);
-  }
-  const shown = Math.min(lines.length, CREDIT_LINES);
-  say(part, `${units(shown)} of ${units(lines.length)} lines, ${units(sum(lines))} units.`);
+  pages.credits.show(lines);
+  say(part, `${units(lines.length)} lines, ${units(sum(lines))} units.`);
 }
 
-async function showPools(place, ahead = POOLS_AHEAD) {
-  const more = place.querySelector(".more");
-  more.hidden = true;
-  say(place, "Asking ..");
-  await askForPools(ahead);
+function drawPools(pools) {
+  const place = section("pools");
   clearRows(place);
-  for (const [number, credits] of [...known.pools].sort(([a], [b]) => a - b)) {
-    const button = Object.assign(document.createElement("button"), { type: "button", textContent: "Credits" });
+  for (const [number, credits] of pools) {
+    const button = Object.assign(document.createElement("button"), { type: "button", textContent: "Credits", ariaLabel: `Credits of pool ${number}` });
     button.addEventListener("click", () => showCredits(place, number));
     const [amount, unclaimed] = [sum(credits), sum(credits.filter((it) => it.account === "UNCLAIMED"))];
     addRow(place, [String(number), units(amount), units(credits.length), partText(unclaimed, amount), button]);
   }
-  more.hidden = false;
-  say(place, `Numbers 1 to ${units(known.poolsAsked)} were asked for. Closed: ${known.pools.size || "none"}.`);
+}
+
+async function showPools(place) {
+  const more = place.querySelector(".more");
+  more.hidden = true;
+  say(place, "Asking ..");
+  try {
+    await askForPools(place);
+  } finally {
+    pages.pools.show([...known.pools].sort(([a], [b]) => b - a));
+    more.hidden = false;
+    showUnnamed();
+  }
+  const asked = [...known.poolsAsked].sort((a, b) => a - b);
+  say(place, `Asked for the numbers ${ranges(asked)}. Closed among them: ${units(known.pools.size) === "0" ? "none" : units(known.pools.size)}.`);
 }
 
 // Balances.
@@ -203,35 +295,54 @@ function credited() {
   return [...found].sort(([, a], [, b]) => (a < b ? 1 : a > b ? -1 : 0));
 }
 
+function drawBalances(accounts) {
+  const place = section("balances");
+  clearRows(place);
+  for (const [account, credits] of accounts) {
+    const balance = known.asked.get(account);
+    const kind = balance < credits ? "bad" : balance > credits ? "wait" : "";
+    addRow(place, [account, whoText(account, known.senders ?? []), units(balance), units(credits)], kind);
+  }
+}
+
 async function showBalances(place, count = FIRST_ACCOUNTS) {
   const more = place.querySelector(".more");
   more.hidden = true;
   say(place, "Asking ..");
+  place.querySelector(".sums").textContent = "";
   const accounts = credited();
   known.asked = new Map();
   await Promise.all(accounts.slice(0, count).map(async ([account]) => known.asked.set(account, (await office.balance(account)) ?? 0n)));
-  clearRows(place);
-  for (const [account, credits] of accounts.slice(0, count)) {
-    const balance = known.asked.get(account);
-    addRow(place, [account, whoText(account, known.senders), units(balance), units(credits)], balance === credits ? "" : "bad");
-  }
+  pages.balances.show(accounts.slice(0, count));
   const left = accounts.length - known.asked.size;
   more.hidden = left === 0;
-  say(place, left ? `The ${units(count)} greatest of ${units(accounts.length)} accounts.` : `${units(accounts.length)} accounts.`);
+  const these = left ? `The ${units(count)} greatest of ${units(accounts.length)}` : "All";
+  say(place, `${these} accounts that the pools above credit.`);
   showSums(place, accounts);
 }
 
 /** Sets the sum of the balances beside that of the pools. */
 function showSums(place, accounts) {
+  const line = place.querySelector(".sums");
   const balances = [...known.asked.values()].reduce((total, it) => total + it, 0n);
   const shown = accounts.slice(0, known.asked.size).reduce((total, [, it]) => total + it, 0n);
   const all = accounts.reduce((total, [, it]) => total + it, 0n);
-  const line = place.querySelector(".sums");
   const rest = known.asked.size < accounts.length ? `, of which these accounts have ${units(shown)}` : "";
-  const agree = balances === shown;
-  const verdict = agree ? "they agree" : "they differ: a pool was closed meanwhile, or one has a number that was not asked for";
-  line.textContent = accounts.length ? `Balances ${units(balances)}; pools ${units(all)}${rest}: ${verdict}.` : "No pool is closed.";
-  line.className = `sums ${accounts.length ? (agree ? "good" : "bad") : ""}`;
+  const [kind, verdict] = sumsVerdict(balances, shown);
+  line.textContent = accounts.length ? `Balances ${units(balances)}; pools ${units(all)}${rest}: ${verdict}.` : "No closed pool was found.";
+  line.className = `sums ${accounts.length ? kind : ""}`;
+}
+
+/** More in the accounts than in the pools that were found says that there is another pool; less would be wrong. */
+function sumsVerdict(balances, shown) {
+  if (balances === shown) {
+    return ["good", "they agree"];
+  }
+  if (balances < shown) {
+    return ["bad", "the accounts have less than their pools credited"];
+  }
+  const more = units(balances - shown);
+  return ["wait", `${more} come from a pool that was closed meanwhile, or whose number was not asked for; ask for more numbers, or name it in pools.json`];
 }
 
 // Sending.
@@ -239,7 +350,7 @@ const KINDS = ["file", "return", "order"];
 
 /** The number that comes next: a sender's first missing file if it is plain, or the pool after the last one; a return's is not known. */
 function nextNumber(form) {
-  const chosen = known.senders.find((it) => it.key === form.sender.value);
+  const chosen = known.senders?.find((it) => it.key === form.sender.value);
   const file = following(chosen?.front ?? 0);
   const next = { file: typeof file === "number" ? file : "", return: "", order: Math.max(0, ...known.pools.keys()) + 1 };
   return next[form.kind.value];
@@ -247,7 +358,7 @@ function nextNumber(form) {
 
 /** An order over all that has come, for staff to fill in. */
 function orderDraft() {
-  const cut = known.senders.filter((it) => it.front && !String(it.front).endsWith("-0000")).map((it) => [it.key, it.front]);
+  const cut = (known.senders ?? []).filter((it) => it.front && !String(it.front).endsWith("-0000")).map((it) => [it.key, it.front]);
   return `{"amount":0,\n "cut":${JSON.stringify(cut)},\n "returns":[["RADIO1",1]]}`;
 }
 
@@ -268,7 +379,7 @@ function showKind(form) {
 /** Chooses the sender that a file names in its first line, where it is one of ours, and takes the file's own name where that has a number by year. */
 async function chooseSender(form) {
   const head = form.body.files[0] ? await form.body.files[0].slice(3, 14).text() : "";
-  if (form.kind.value === "file" && known.senders.some((it) => it.key === head)) {
+  if (form.kind.value === "file" && known.senders?.some((it) => it.key === head)) {
     const { name } = form.body.files[0];
     form.sender.value = head;
     form.number.value = typeof numberOf(name) === "string" ? name : nextNumber(form);
@@ -296,7 +407,7 @@ async function worksOf(key, number) {
     if (!fault) {
       return `${name}: ${revision ? `revision ${revision}` : "registered"}`;
     }
-    const { means, cure } = known.faults.transaction[fault] ?? { means: `fault ${fault}`, cure: "" };
+    const { means, cure } = faultWords(fault);
     return `${name}: rejected, ${means}${cure ? `; ${cure}` : ""}`;
   });
 }
@@ -314,12 +425,13 @@ async function send(place, form) {
       list.append(Object.assign(document.createElement("li"), { textContent: line }));
     }
   }
-  if (taken && kind === "file") {
-    await guarded(section("senders"), showSenders);
+  if (taken && kind === "file" && (await guarded(section("senders"), showSenders))) {
+    await guarded(section("rejected"), (it) => showRejected(it, 0));
   }
   if (taken && kind === "order") {
     form.order.value = "";
     known.pools.set(number, await office.pool(number));
+    known.poolsAsked.add(number);
     await guarded(section("pools"), showPools);
     await guarded(section("balances"), showBalances);
   }
@@ -353,32 +465,64 @@ function listenForms() {
   });
   const credits = pools.querySelector(".credits");
   credits.querySelector("input").addEventListener("input", () => showCredits(pools, Number(credits.dataset.pool)));
-  section("rejected").querySelector(".more").addEventListener("click", () => guarded(section("rejected"), (it) => showRejected(it, OLDER_FILES)));
+  const rejected = section("rejected");
+  rejected.querySelector("input").addEventListener("input", drawGroups);
+  rejected.querySelector(".more").addEventListener("click", () => guarded(rejected, (it) => showRejected(it, OLDER_FILES)));
   pools.querySelector(".more").addEventListener("click", async () => {
-    await guarded(pools, (it) => showPools(it, HIGHER_POOLS));
+    known.around += MORE_POOLS;
+    await guarded(pools, showPools);
     await guarded(balances, showBalances);
   });
   balances.querySelector(".more").addEventListener("click", () => guarded(balances, (it) => showBalances(it, Infinity)));
 }
 
+/** The pages of the lists, each with the buttons of its place. */
+function makePages() {
+  nameTables(document);
+  const bar = (place) => section(place).querySelector(":scope > .pages");
+  const credits = section("pools").querySelector(".credits");
+  pages.senders = new Pages(bar("senders"), "senders", drawSenders);
+  pages.groups = new Pages(bar("rejected"), "faults of senders", (part) => {
+    section("rejected").querySelector(".groups").replaceChildren();
+    part.forEach((it) => addGroup(section("rejected"), it, pages.groups.isShort));
+  });
+  pages.pools = new Pages(bar("pools"), "pools", drawPools);
+  pages.balances = new Pages(bar("balances"), "accounts", drawBalances);
+  pages.credits = new Pages(credits.querySelector(".pages"), "credits", (part) => {
+    clearRows(credits);
+    part.forEach(({ isrc, account, units: credited }) => addRow(credits, [isrc === "-" ? "no recording" : isrc, account, units(credited)]));
+  });
+}
+
 function offerSenders() {
   for (const select of document.querySelectorAll("select[name=sender]")) {
-    select.replaceChildren(...known.senders.map(({ key, name }) => new Option(`${key} ${name}`, key)));
+    select.replaceChildren(...(known.senders ?? []).map(({ key, name }) => new Option(`${key} ${name}`, key)));
   }
 }
 
 /** Reads the senders that staff keep and the faults' words, then fills section after section. */
 async function start() {
+  makePages();
+  listenForms();
   await guarded(section("senders"), async (place) => {
-    const [senders, faults] = await Promise.all([office.own("senders.json"), office.own("faults.json")]);
-    known.senders = senders.map(([key, name]) => ({ key, name, held: [] }));
-    known.faults = faults;
+    known.faults = (await office.own("faults.json")) ?? {};
+    known.senders = (await office.senders()).map((it) => ({ ...it, waiting: [], never: [], looked: new Looked(it.key) }));
     offerSenders();
-    listenForms();
     await showSenders(place);
   });
   await guarded(section("rejected"), (it) => showRejected(it, NEWEST_FILES));
-  await guarded(section("pools"), showPools);
+  await guarded(section("pools"), async (place) => {
+    let kept = null;
+    try {
+      known.poolsKept = await office.poolNumbers();
+    } catch (error) {
+      kept = error;
+    }
+    await showPools(place);
+    if (kept) {
+      throw kept;
+    }
+  });
   await guarded(section("balances"), showBalances);
   showKind(section("send").querySelector("form"));
   document.documentElement.dataset.state = "ready";

@@ -8,6 +8,9 @@ const ACK_LINE = 161;
 const TITLE = [49, 109];
 const WORK_NUMBER = [109, 129];
 
+/** The greatest pool number. */
+export const MOST_POOLS = 99_999;
+
 let underWay = 0;
 const waiting = [];
 
@@ -172,11 +175,47 @@ export function closePool(number, order) {
   return put(order, "pools", number);
 }
 
-/** A file of the page's own folder, as JSON. */
+/** A file of the page's own folder that does not say what it should. */
+export class Unreadable extends Error {}
+
+/** A file of the page's own folder, as JSON; `null` where there is none. */
 export async function own(name) {
   const { status, bytes } = await request(new URL(name, location.origin + location.pathname).pathname);
+  if (status === 404) {
+    return null;
+  }
   if (status !== 200) {
     throw new Refused(status, bytes);
   }
-  return JSON.parse(text(bytes));
+  try {
+    return JSON.parse(text(bytes));
+  } catch (error) {
+    throw new Unreadable(`${name} can't be read: it is no JSON (${error.message}).`);
+  }
+}
+
+/** The senders that staff keep in senders.json, each `key` and `name`. */
+export async function senders() {
+  const found = await own("senders.json");
+  const isSender = (it) => Array.isArray(it) && it.length === 2 && /^[0-9A-Z]{11}$/.test(it[0]) && typeof it[1] === "string";
+  if (!Array.isArray(found) || !found.every(isSender)) {
+    const wrong = Array.isArray(found) ? `; this one is none: ${JSON.stringify(found.find((it) => !isSender(it)))}` : "";
+    throw new Unreadable(`senders.json has to be a list of pairs, each of a sender's eleven characters and its name${wrong}.`);
+  }
+  const twice = found.find(([key], at) => found.findIndex((it) => it[0] === key) !== at);
+  if (twice) {
+    throw new Unreadable(`senders.json has ${twice[0]} twice.`);
+  }
+  return found.map(([key, name]) => ({ key, name }));
+}
+
+/** The pool numbers that staff keep in pools.json, single ones and pairs of the first and the last; none where there is no such file. */
+export async function poolNumbers() {
+  const found = (await own("pools.json")) ?? [];
+  const isNumber = (it) => Number.isInteger(it) && it >= 1 && it <= MOST_POOLS;
+  const isKept = (it) => isNumber(it) || (Array.isArray(it) && it.length === 2 && it.every(isNumber) && it[0] <= it[1]);
+  if (!Array.isArray(found) || !found.every(isKept)) {
+    throw new Unreadable(`pools.json has to be a list of pool numbers, or pairs of the first and the last one.`);
+  }
+  return found.flatMap((it) => (isNumber(it) ? [it] : Array.from({ length: it[1] - it[0] + 1 }, (_, at) => it[0] + at)));
 }

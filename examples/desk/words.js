@@ -6,7 +6,7 @@ export function units(number) {
 }
 
 /** The rank of a file's number: a plain one is its own, "26-0001" has 1260001. Within a year ranks follow one another as numbers do. */
-function rankOf(number) {
+export function rankOf(number) {
   const [year, sequence] = String(number).split("-").map(Number);
   return sequence === undefined ? year : 1_000_000 + 10_000 * year + sequence;
 }
@@ -39,6 +39,27 @@ export function partText(part, amount) {
   return `${units(part)} (${tenths / 10n}.${tenths % 10n} %)`;
 }
 
+/** The year of a file's number; a plain one has none, and comes before all years. */
+function yearOf(number) {
+  return typeof number === "number" ? -1 : Number(number.split("-")[0]);
+}
+
+/**
+ * How a sender's held files stand by its front: `waiting` for what is `missing`, and those that are `never` applied, since the stated ends
+ * lead past their year. Where all that waits is of a later year, an end may be what is missing: the office tells no ends.
+ */
+export function standing(front, held) {
+  const waiting = held.filter((it) => yearOf(it) >= yearOf(front));
+  const never = held.filter((it) => yearOf(it) < yearOf(front));
+  if (!waiting.length) {
+    return { waiting, never, missing: "" };
+  }
+  const next = fileText(following(front));
+  const segment = yearOf(front) < 0 ? "its plain numbers" : `its year ${front.split("-")[0]}`;
+  const isOwn = waiting.some((it) => yearOf(it) === yearOf(front));
+  return { waiting, never, missing: isOwn ? next : `${next}, or the end of ${segment} has to be stated` };
+}
+
 /** Ascending numbers of files as ranges; after ten of them, how many more there are. */
 export function ranges(numbers) {
   const found = [];
@@ -67,6 +88,12 @@ export function whoText(account, senders) {
   const key = account.slice(1, 12);
   const name = senders.find((it) => it.key === key)?.name ?? key;
   return `party ${account.slice(12)} of ${name}`;
+}
+
+/** Keys of senders that accounts name and the list of senders lacks. */
+export function unnamedSenders(accounts, senders) {
+  const keys = new Set([...accounts].filter((it) => it.startsWith("P")).map((it) => it.slice(1, 12)));
+  return [...keys].filter((key) => !senders.some((it) => it.key === key)).sort();
 }
 
 /** What a status means that is no answer to a question or a sending. */

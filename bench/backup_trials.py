@@ -1,0 +1,425 @@
+#!/usr/bin/env python3
+"""Tries examples/backup and examples/restore on a running office: what they leave, and that the office is never left halted.
+
+A backup is made under load, over an office that is down, into a full disk (a small tmpfs; as root), killed in the middle, by signals
+too, beside a second one, with a copying that hangs, beside a strange process, with old copies. Then restores: over the running office,
+of a damaged file, with another front than the one that is given, and stopped in the middle. `systemctl` and, where a moment has to
+be met, `cp` and `df` are stand-ins that this script makes. Ends with status 1 where anything differs.
+"""
+import contextlib
+import os
+import pathlib
+import shutil
+import signal
+import sqlite3
+import stat
+import subprocess
+import sys
+import tempfile
+import threading
+import time
+
+import common
+from common import NO_WORKS, OFFICE, ROOT, SENDER
+
+BACKUP, RESTORE = ROOT / "examples/backup", ROOT / "examples/restore"
+PATH = f"/v1/senders/{SENDER}/transmissions"
+# Most seconds until something that has to happen at once has happened.
+SOON = 3
+WRONG, TRIALS = [], []
+
+# A service manager of one service: its command and its process stand in files beside it.
+SYSTEMCTL = """#!/bin/bash
+here=$(dirname "$0")
+echo "$*" >> "$here/asked"
+case $1 in
+  stop) kill "$(cat "$here/pid")"; while kill -0 "$(cat "$here/pid")" 2> /dev/null; do sleep 0.05; done ;;
+  start) setsid bash "$here/start" > /dev/null 2>&1 & echo $! > "$here/pid" ;;
+esac
+"""
+# A copying that waits until a file is gone.
+SLOW_CP = """#!/bin/bash
+here=$(dirname "$0")
+touch "$here/copying"
+while [ -e "$here/hold" ]; do sleep 0.05; done
+exec /bin/cp "$@"
+"""
+ENDLESS_DF = "#!/bin/sh\necho Avail\necho 999999999999\n"
+
+
+def trial(function):
+    TRIALS.append(function)
+    return function
+
+
+def check(what, found, wanted=True):
+    print(f"  {what}: " + ("ok" if found == wanted else f"WRONG, {found!r} and not {wanted!r}"), flush=True)
+    if found != wanted:
+        WRONG.append(what)
+
+
+class Office:
+    """An office in a folder of its own, with folders for backups and for stand-ins of programs."""
+
+    def __init__(self, program, folder):
+        self.program, self.folder, self.port = program, folder, common.free_port()
+        self.home, self.copies, self.tools = folder / "home", folder / "copies", folder / "tools"
+        for it in self.home, self.tools:
+            it.mkdir()
+        (self.tools / "society").symlink_to(program)
+        self.database, self.process, self.sent = self.home / "office.db", None, 0
+        self.start()
+
+    def command(self):
+        return ["society", "serve", "--db", str(self.database), "--port", str(self.port), "--connections", "1000000", *OFFICE]
+
+    def start(self):
+        self.process = subprocess.Popen(self.command(), executable=self.program, stdout=subprocess.DEVNULL)
+        self.wait()
+
+    def wait(self, seconds=120):
+        """Waits until it answers."""
+        end = time.monotonic() + seconds
+        while time.monotonic() < end:
+            with contextlib.suppress(OSError):
+                return self.front()
+            time.sleep(0.1)
+        raise AssertionError("the office does not answer")
+
+    def stop(self):
+        self.process.kill()
+        self.process.wait()
+
+    def asked(self, method, path, body=None, timeout=120):
+        with contextlib.closing(common.http.client.HTTPConnection("127.0.0.1", self.port, timeout=timeout)) as connection:
+            return common.ask(connection, method, path, body)
+
+    def front(self):
+        return common.json.loads(self.asked("GET", f"/v1/senders/{SENDER}", timeout=10)[1])["front"]
+
+    def send(self, count=1):
+        for _ in range(count):
+            status, text = self.asked("PUT", f"{PATH}/{self.sent + 1}", NO_WORKS)
+            assert status == 201, text
+            self.sent += 1
+
+    def state(self):
+        return pathlib.Path(f"/proc/{self.process.pid}/stat").read_text().rpartition(")")[2].split()[0]
+
+    def goes_on(self, seconds=SOON):
+        """Whether it runs, now or soon."""
+        end = time.monotonic() + seconds
+        while self.state() == "T" and time.monotonic() < end:
+            time.sleep(0.02)
+        return self.state() != "T"
+
+    def tool(self, name, text):
+        path = self.tools / name
+        path.write_text(text)
+        path.chmod(0o755)
+        return path
+
+    def environment(self):
+        return {**os.environ, "PATH": f"{self.tools}:{os.environ['PATH']}"}
+
+    def backup(self, *words, script=BACKUP, **how):
+        """A backup that is started."""
+        command = [script, "--db", self.database, "--to", self.copies, "--program", self.program, *words]
+        return subprocess.Popen(command, env=self.environment(), stdout=subprocess.PIPE, stderr=subprocess.PIPE, text=True, **how)
+
+    def backed_up(self, *words, **how):
+        return ended(self.backup(*words, **how))
+
+    def held(self):
+        """A backup that stands in the middle, with the office halted."""
+        (self.tools / "hold").touch()
+        self.tool("cp", SLOW_CP)
+        running = self.backup(start_new_session=True)
+        wait_for(lambda: (self.tools / "copying").exists())
+        check("the office is halted", self.state(), "T")
+        return running
+
+    def let_go(self):
+        for name in "hold", "copying":
+            (self.tools / name).unlink(missing_ok=True)
+
+    def newest(self):
+        return max(self.copies.glob("office-*.db"), key=lambda it: it.stat().st_mtime_ns)
+
+    def restored(self, *words):
+        command = [RESTORE, "--db", self.database, "--port", str(self.port), "--program", self.program, *words]
+        return ended(subprocess.Popen(command, env=self.environment(), stdout=subprocess.PIPE, stderr=subprocess.PIPE, text=True))
+
+    def as_service(self):
+        """Makes systemctl the one that starts and stops this office."""
+        self.tool("systemctl", SYSTEMCTL)
+        words = " ".join(f"'{it}'" for it in self.command()[1:])
+        (self.tools / "start").write_text(f"exec -a society '{self.program}' {words}\n")
+        (self.tools / "pid").write_text(str(self.process.pid))
+        # Whoever was started by this script is a zombie until it is waited for.
+        threading.Thread(target=self.process.wait, daemon=True).start()
+
+    def end_service(self):
+        with contextlib.suppress(OSError, ValueError):
+            os.kill(int((self.tools / "pid").read_text()), signal.SIGKILL)
+
+
+def ended(running):
+    out, err = running.communicate(timeout=300)
+    return running.returncode, out, err
+
+
+def wait_for(condition, seconds=60):
+    end = time.monotonic() + seconds
+    while not condition():
+        assert time.monotonic() < end, "it does not happen"
+        time.sleep(0.02)
+
+
+def front_of(copy):
+    """The front that stands in a copy, which has to be one file."""
+    with contextlib.closing(sqlite3.connect(f"file:{copy}?mode=ro&immutable=1", uri=True)) as it:
+        return it.execute("SELECT front FROM fronts WHERE sender = ?", (SENDER,)).fetchone()[0]
+
+
+def left_over(office):
+    return [it.name for it in office.copies.glob(".unfinished.*")]
+
+
+def failed(what, outcome, word):
+    status, out, err = outcome
+    told = err.splitlines()[-1] if err else ""
+    check(f"{what}: {told}", (status, out, told.startswith(("backup: FAILED", "restore: FAILED")) and word in told), (1, "", True))
+
+
+@trial
+def under_load(office):
+    """Ten backups while files are sent: each has what was answered before it began, and nothing that was not sent when it ended."""
+    stops, end = [], threading.Event()
+    loader = threading.Thread(target=lambda: [office.send() for _ in iter(end.is_set, True)])
+    loader.start()
+    for _ in range(10):
+        before = office.sent
+        status, out, err = office.backed_up()
+        after = office.sent
+        check("a backup under load", (status, err, " sound; halted for " in out), (0, "", True))
+        check("what it has", before <= front_of(office.newest()) <= after + 1)
+        stops.append(int(out.split(" halted for ")[1].split(" ")[0]))
+        time.sleep(1)
+    end.set()
+    loader.join()
+    check("the office goes on", office.front(), office.sent)
+    check("ten copies", len(list(office.copies.glob("office-*.db"))), 10)
+    check("nothing unfinished", left_over(office), [])
+    modes = {oct(stat.S_IMODE(it.stat().st_mode)) for it in office.copies.iterdir()}
+    check("who may read them", (modes, oct(stat.S_IMODE(office.copies.stat().st_mode))), ({"0o600"}, "0o700"))
+    check("nothing in the office's folder", sorted(it.name for it in office.home.iterdir()), ["office.db", "office.db-wal"])
+    print(f"  halted for {min(stops)} to {max(stops)} ms, {office.sent} files sent", flush=True)
+
+
+@trial
+def office_down(office):
+    office.send(3)
+    office.stop()
+    before = {it.name: it.read_bytes() for it in office.home.iterdir()}
+    check("a backup while the office is down", office.backed_up()[0], 0)
+    check("what it has", front_of(office.newest()), 3)
+    check("the files are as they were", {it.name: it.read_bytes() for it in office.home.iterdir()}, before)
+
+
+@trial
+def disk_full(office):
+    if os.geteuid() != 0:
+        print("  passed over: no root to mount a small disk", flush=True)
+        return
+    office.send(3)
+    office.copies.mkdir()
+    subprocess.run(["mount", "-t", "tmpfs", "-o", "size=300k,mode=700", "tmpfs", office.copies], check=True)
+    try:
+        failed("no room", office.backed_up(), "has room for")
+        office.tool("df", ENDLESS_DF)
+        with open(office.copies / "filler", "wb", buffering=0) as filler, contextlib.suppress(OSError):
+            while True:
+                filler.write(bytes(4_096))
+        failed("the disk is full in the middle", office.backed_up(), "could not be copied")
+        check("the office goes on", office.goes_on())
+        check("nothing unfinished", left_over(office), [])
+        check("the office answers", office.front(), 3)
+    finally:
+        subprocess.run(["umount", office.copies], check=True)
+
+
+@trial
+def ended_in_the_middle(office):
+    office.send(2)
+    for how in signal.SIGTERM, signal.SIGINT, signal.SIGHUP, signal.SIGKILL:
+        running = office.held()
+        running.send_signal(how)
+        # A shell runs its trap once what it waits for has ended.
+        if how != signal.SIGKILL:
+            (office.tools / "hold").unlink()
+        check(f"{how.name}: the office goes on", office.goes_on())
+        (office.tools / "hold").unlink(missing_ok=True)
+        status = ended(running)[0]
+        check(f"{how.name}: status", status, -9 if how == signal.SIGKILL else 128 + how)
+        office.let_go()
+    running = office.held()
+    os.killpg(running.pid, signal.SIGKILL)
+    check("all its processes killed: the office goes on", office.goes_on())
+    ended(running)
+    office.let_go()
+    check("the next one", office.backed_up()[0], 0)
+    check("nothing unfinished", left_over(office), [])
+
+
+@trial
+def two_at_once(office):
+    office.send(2)
+    running = office.held()
+    failed("a second one", office.backed_up(), "another backup")
+    check("the first one's office is still halted", office.state(), "T")
+    office.let_go()
+    check("the first one", ended(running)[0], 0)
+    check("the office goes on", office.goes_on())
+
+
+@trial
+def a_copying_that_hangs(office):
+    office.send(2)
+    script = office.tools / "backup"
+    script.write_text(BACKUP.read_text().replace("LONGEST=60", "LONGEST=2"))
+    script.chmod(0o755)
+    (office.tools / "hold").touch()
+    office.tool("cp", SLOW_CP)
+    running = office.backup(script=script)
+    wait_for(lambda: (office.tools / "copying").exists())
+    check("the office goes on by itself", office.goes_on(5))
+    office.let_go()
+    failed("its copy counts for nothing", ended(running), "went on before all was copied")
+    check("no copy", list(office.copies.glob("office-*")), [])
+
+
+@trial
+def strangers_and_wrong_places(office):
+    office.send(2)
+    with open(office.database, "rb"):
+        failed("another process has the file", office.backed_up(), "several processes")
+    check("the office is not halted", office.state() != "T")
+    failed("into its own folder", office.backed_up("--to", office.home), "own folder")
+    failed("no file", office.backed_up("--db", office.home / "none.db"), "no file")
+    (office.folder / "file").touch()
+    failed("no folder", office.backed_up("--to", office.folder / "file"), "could not be made")
+    failed("a folder that can't be written", office.backed_up("--to", "/proc/self"), "can't be written")
+    failed("no program", office.backed_up("--program", "/none"), "not sound")
+    office.stop()
+    with open(office.database, "rb"):
+        failed("a process that is no office", office.backed_up(), "is no office")
+    check("wrong words", [office.backed_up(*it)[0] for it in (["--days", "0"], ["--what", "1"], ["--days"])], [2, 2, 2])
+
+
+@trial
+def old_ones(office):
+    office.send(1)
+    office.copies.mkdir()
+    for age in 1, 6, 7, 40:
+        path = office.copies / f"office-{age}.db"
+        path.touch()
+        os.utime(path, (time.time() - age * 86_400 - 600,) * 2)
+    (office.copies / "mine.db").touch()
+    os.utime(office.copies / "mine.db", (0, 0))
+    check("a backup", office.backed_up("--days", "7")[0], 0)
+    made = office.newest().name
+    check("what is kept", sorted(it.name for it in office.copies.glob("*.db")), sorted([made, "office-1.db", "office-6.db", "mine.db"]))
+
+
+@trial
+def damage_is_told(office):
+    office.send(2)
+    office.stop()
+    with contextlib.closing(sqlite3.connect(office.database)) as it, it:
+        it.execute("UPDATE fronts SET front = 1")
+    failed("a damaged file", office.backed_up(), "damaged")
+    check("no copy of it", list(office.copies.glob("office-*")), [])
+
+
+@trial
+def restores(office):
+    office.send(3)
+    assert office.backed_up()[0] == 0
+    copy = office.newest()
+    office.send(2)
+    office.as_service()
+    broken = office.folder / "broken.db"
+    shutil.copy(copy, broken)
+    with contextlib.closing(sqlite3.connect(broken)) as it, it:
+        it.execute("UPDATE fronts SET front = 1")
+    known = "--sender", SENDER, "--front"
+    try:
+        failed("a damaged backup", office.restored("--from", broken, *known, "1"), "nothing was changed")
+        check("the office was not stopped", office.front(), 5)
+        if os.geteuid() == 0:
+            os.chown(office.home, 33, 33)
+        status, out, err = office.restored("--from", copy, *known, "3")
+        check("a backup is restored", (status, err, "the front of PB000000012 is 3" in out), (0, "", True))
+        check("the office answers", office.front(), 3)
+        found = office.database.stat()
+        check("owner and mode", (found.st_uid, oct(stat.S_IMODE(found.st_mode))), (office.home.stat().st_uid, "0o600"))
+        aside = next(office.home.glob("aside-*"))
+        check("what was there", sorted(it.name for it in aside.iterdir()), ["office.db", "office.db-wal"])
+        subprocess.run(["sqlite3", aside / "office.db", ".backup " + str(office.folder / "old.db")], check=True)
+        check("is whole", front_of(office.folder / "old.db"), 5)
+        time.sleep(1.1)
+        failed("another front", office.restored("--from", copy, *known, "4"), "is 3, not 4")
+        with contextlib.suppress(OSError):
+            check("the office is stopped then", office.front(), None)
+        time.sleep(1.1)
+        check("by hand", office.restored("--from", copy, "--service", "none")[0], 0)
+    finally:
+        office.end_service()
+
+
+@trial
+def restores_that_end_early(office):
+    office.send(3)
+    assert office.backed_up()[0] == 0
+    copy = office.newest()
+    office.send(1)
+    office.as_service()
+    try:
+        # The file can't be put in place: what was there comes back.
+        office.tool("mv", '#!/bin/sh\ncase "$1" in *.new) exit 1 ;; esac\nexec /bin/mv "$@"\n')
+        status, _, err = office.restored("--from", copy, "--sender", SENDER, "--front", "3")
+        check("it could not be put in place", (status != 0, "is there again" in err), (True, True))
+        check("the office as it was", office.wait(), 4)
+        check("nothing beside", sorted(it.name for it in office.home.iterdir()), ["office.db", "office.db-wal"])
+        # Killed when the old files are away and the copy is not in place yet: another run ends it.
+        office.tool("mv", '#!/bin/sh\ncase "$1" in *.new) kill -9 "$PPID" ;; *) exec /bin/mv "$@" ;; esac\n')
+        check("killed in the middle", office.restored("--from", copy, "--sender", SENDER, "--front", "3")[0], -9)
+        (office.tools / "mv").unlink()
+        time.sleep(1.1)
+        check("run again", office.restored("--from", copy, "--sender", SENDER, "--front", "3")[0], 0)
+        check("the office over the copy", office.wait(), 3)
+        check("what was there", sorted(it.name for path in office.home.glob("aside-*") for it in path.iterdir()), ["office.db", "office.db-wal"])
+    finally:
+        office.end_service()
+
+
+def main():
+    options = common.parser(__doc__)
+    common.add_cases(options, [it.__name__ for it in TRIALS])
+    options = options.parse_args()
+    for it in TRIALS:
+        if options.case in it.__name__:
+            print(it.__name__, flush=True)
+            with tempfile.TemporaryDirectory(ignore_cleanup_errors=True) as folder:
+                office = Office(options.program, pathlib.Path(folder))
+                try:
+                    it(office)
+                finally:
+                    office.stop()
+    print("wrong: " + (", ".join(WRONG) or "nothing"))
+    sys.exit(1 if WRONG else 0)
+
+
+if __name__ == "__main__":
+    main()

@@ -1,0 +1,228 @@
+#!/usr/bin/env python3
+"""Tries what examples/nginx.conf lets through: who may ask for which path, however it is written, and a long answer to a slow reader.
+
+nginx runs with the example, only its ports changed, before the program over a new database; where this is root, nginx runs as the
+user www-data. Each path is asked for by nobody, a sender, a station, the user `reader` and the user `office`, with its target byte
+for byte as it stands here: with `..`, `%2e%2e`, `//`, `%2F`, as an absolute target and in other disguises. Then a pool of 4 MB is
+read slowly, and has to come whole while others are answered. Ends with status 1 where anything differs.
+"""
+import base64
+import http.client
+import json
+import os
+import pathlib
+import socket
+import ssl
+import sys
+import tempfile
+import time
+
+import common
+from common import CSV_HEADER, FIRST, MAX_BODY, Server, changed, isrc, order_body
+from proxy import SECRET, Proxy
+
+OWN, OTHER = "PB000000012", "PB000000034"
+OFFICE, READER, STATION, NOBODY = "office", "reader", "station-RADIO1", None
+# A reporter whose code has the form of a sender's, and the other way round.
+LIKE_A_SENDER = "station-RADIOSENDER"
+USERS = [OWN, OTHER, OFFICE, READER, STATION, LIKE_A_SENDER]
+HIDDEN = "Beta Verlag, whom no other publisher may see"
+RETURN = CSV_HEADER + b"ATABC2600001,10,180\n"
+WRONG = []
+
+# Who asks, how, for what, and the status. Those of the office itself are 200, 201, 404 for no such path, and 422.
+ROWS = [
+    (OWN, "GET", f"/v1/senders/{OWN}", 200),
+    (OWN, "GET", f"/v1/senders/{OWN}/acks/1", 200),
+    (OWN, "GET", f"/v1/senders/{OWN}/verdicts/1", 200),
+    (OWN, "GET", f"/v1/senders/{OWN}/works/W1", 200),
+    (OWN, "GET", f"/v1/senders/{OWN}/works/W%2F1", 404),
+    (OWN, "PUT", f"/v1/senders/{OWN}/transmissions/2", 422),
+    (OWN, "PUT", f"/v1/senders/{OWN}/files/CW260001EXA_900.V22", 422),
+    (OWN, "PUT", f"/v1/senders/{OWN}/segments/plain", 422),
+    (OWN, "GET", f"/v1/senders/{OWN[:-1]}", 403),
+    (OWN, "GET", f"/v1/senders/{OWN}1", 403),
+    (OWN, "GET", f"/v1/senders/%50B{OWN[2:]}", 403),
+    (OWN, "GET", f"/v1/senders/{OTHER}", 403),
+    (OWN, "GET", f"/v1/senders/{OTHER}/acks/1", 403),
+    (OWN, "PUT", f"/v1/senders/{OTHER}/transmissions/1", 403),
+    (OWN, "PUT", "/v1/returns/RADIO1/1", 403),
+    (OWN, "PUT", f"/v1/returns/{OWN}/1", 403),
+    (OWN, "GET", "/v1/pools/1", 403),
+    (OWN, "PUT", "/v1/pools/2", 403),
+    (OWN, "GET", "/v1/accounts/I00000000199", 403),
+    (OWN, "GET", "/desk/", 403),
+    (OWN, "GET", "/desk/senders.json", 403),
+    (OWN, "GET", "/", 403),
+    (STATION, "PUT", "/v1/returns/RADIO1/1", 201),
+    (STATION, "PUT", "/v1/returns/RADIO1/1", 200),
+    (STATION, "PUT", "/v1/returns/RADIO2/1", 403),
+    (STATION, "PUT", "/v1/returns/RADIO1/1/../../RADIO2/1", 403),
+    (STATION, "PUT", "/v1/returns/RADIO11/1", 403),
+    (STATION, "GET", f"/v1/senders/{OWN}", 403),
+    (STATION, "GET", "/v1/pools/1", 403),
+    (STATION, "GET", "/desk/senders.json", 403),
+    (LIKE_A_SENDER, "PUT", "/v1/returns/RADIOSENDER/1", 201),
+    (LIKE_A_SENDER, "GET", "/v1/senders/RADIOSENDER", 403),
+    (LIKE_A_SENDER, "PUT", "/v1/senders/RADIOSENDER/transmissions/1", 403),
+    (READER, "GET", f"/v1/senders/{OWN}", 200),
+    (READER, "GET", "/v1/accounts/I00000000199", 200),
+    (READER, "GET", "/v1/pools/1", 404),
+    (READER, "GET", "/desk/senders.json", 200),
+    (READER, "GET", "/desk/index.html", 200),
+    (READER, "PUT", f"/v1/senders/{OWN}/transmissions/2", 403),
+    (READER, "PUT", "/v1/returns/RADIO1/2", 403),
+    (READER, "PUT", "/v1/pools/1", 403),
+    (READER, "POST", "/v1/pools/1", 403),
+    (OFFICE, "GET", f"/v1/senders/{OTHER}", 200),
+    (OFFICE, "PUT", "/v1/returns/RADIO2/1", 201),
+    (OFFICE, "GET", "/v1/accounts/I00000000199", 200),
+    (OFFICE, "PUT", "/v1/pools/1", 422),
+    (OFFICE, "GET", "/desk/", 200),
+    (OFFICE, "GET", "/desk/senders.json", 200),
+    (OFFICE, "GET", "/desk/none", 404),
+    (OFFICE, "GET", "/", 404),
+    (NOBODY, "GET", f"/v1/senders/{OWN}", 401),
+    (NOBODY, "PUT", f"/v1/senders/{OWN}/transmissions/2", 401),
+    (NOBODY, "PUT", "/v1/returns/RADIO1/1", 401),
+    (NOBODY, "GET", "/v1/pools/1", 401),
+    (NOBODY, "GET", "/desk/senders.json", 401),
+]
+
+
+def disguises(path):
+    """A path that is not one's own, written as if it were, or as if it were none."""
+    own = f"/v1/senders/{OWN}"
+    letter = f"/%{ord(path[1]):02x}{path[2:]}"
+    yield from (own + "/.." * 3 + path, own + "/%2e%2e" * 3 + path, own + "/%2E%2E" * 3 + path, own + "/.%2e" * 3 + path)
+    yield from (own + "/..%2F..%2F..%2f" + path[1:], f"{own}/works/" + "..%2F" * 4 + path[1:], own + "/works/../../../.." + path)
+    yield from (own + "//../..//.." + path, own + "/./../../.." + path, f"{own}%2F..%2F..%2F..{path}", own + "\\..\\..\\.." + path)
+    yield from ("/" + path, path.replace("/", "//"), "/" + path[1:].replace("/", "%2F"), letter, "/." + path, path + "/.", path + "//")
+    yield from (f"{path}?{own}", f"{path}#{own}", f"{own}?/../../..{path}", f"{own}#/../../..{path}", f"{path};{own}")
+    yield from (f"https://localhost{path}", f"http://127.0.0.1:8080{path}", f"https://localhost{own}/../../..{path}", f"//localhost{path}")
+    yield from (f"{own} {path}", f"{path} {own}", f"{own}\t{path}", f"{own}/%0a/../../../..{path}", f"{own}/%20/../../../..{path}")
+    yield from (path.upper(), path[1:], "*", f"{own}/..;/..;/..{path}", f"{own}/%252e%252e/%252e%252e/%252e%252e{path}", f"{own}/%00/../../../..{path}")
+
+
+def asked(proxy, user, method, target, body=b"", password=SECRET, port=None):
+    """The status and the body of the answer to a request whose target is sent as it is; 0 where there is no answer."""
+    name = "" if user is None else "Authorization: Basic " + base64.b64encode(f"{user}:{password}".encode()).decode() + "\r\n"
+    length = f"Content-Length: {len(body)}\r\n" if method == "PUT" else ""
+    head = f"{method} {target} HTTP/1.1\r\nHost: localhost\r\nConnection: close\r\n{name}{length}\r\n"
+    with connected(port or proxy.port, proxy) as peer:
+        peer.sendall(head.encode() + body)
+        answer = http.client.HTTPResponse(peer, method=method)
+        try:
+            answer.begin()
+        except http.client.BadStatusLine:
+            return 0, b""
+        return answer.status, answer.read()
+
+
+def connected(port, proxy, buffer=None):
+    """A connection with TLS; `buffer` bounds what the system takes of an answer before it is read."""
+    plain = socket.socket()
+    if buffer:
+        plain.setsockopt(socket.SOL_SOCKET, socket.SO_RCVBUF, buffer)
+    plain.settimeout(60)
+    plain.connect(("127.0.0.1", port))
+    context = ssl.create_default_context(cafile=proxy.home / "office.crt")
+    context.check_hostname = False
+    return context.wrap_socket(plain)
+
+
+def check(what, found, wanted):
+    if found != wanted:
+        WRONG.append(what)
+        print(f"{what}: WRONG\n  found  {found}\n  wanted {wanted}", flush=True)
+
+
+def try_rows(proxy):
+    for user, method, target, status in ROWS:
+        body = RETURN if method == "PUT" and "/returns/" in target else b"none"
+        check(f"{user} {method} {target}", asked(proxy, user, method, target, body)[0], status)
+    check("a wrong password", asked(proxy, OFFICE, "GET", "/desk/senders.json", password="guess")[0], 401)
+    check("a name in capitals", asked(proxy, "OFFICE", "GET", "/desk/senders.json")[0], 403)
+    check("a body that is too long", asked(proxy, OWN, "PUT", f"/v1/senders/{OWN}/transmissions/2", bytes(MAX_BODY + 1))[0], 413)
+    check("no trial office", asked(proxy, OWN, "GET", f"/v1/senders/{OWN}", port=proxy.trial_port)[0], 502)
+    check("another's path at the trial office", asked(proxy, OWN, "GET", f"/v1/senders/{OTHER}", port=proxy.trial_port)[0], 403)
+    print(f"{len(ROWS) + 5} requests by name", flush=True)
+
+
+def try_disguises(proxy):
+    """No user gets what only others may have; nobody gets the passwords or the key."""
+    count = 0
+    wanted = {path: asked(proxy, OFFICE, "GET", path)[1] for path in ("/desk/senders.json", f"/v1/senders/{OTHER}/works/W1", "/v1/accounts/I00000000199")}
+    for path, secret in wanted.items():
+        assert secret, path
+        for target in disguises(path):
+            for user in NOBODY, OWN, STATION:
+                status, body = asked(proxy, user, "GET", target)
+                check(f"{user} GET {target}: {status}", secret in body or HIDDEN.encode() in body, False)
+                count += 1
+    for name in "passwords", "office.key", "nginx.conf", "access.log":
+        content = (proxy.home / name).read_bytes()[:60]
+        for way in "/desk/../", "/desk../", "/desk/%2e%2e/", "/desk/..%2F", "/desk//../", "/", "/desk/x/../../", f"/v1/senders/{OWN}/../../../":
+            for user in NOBODY, OWN, STATION, READER, OFFICE:
+                check(f"{user} GET {way}{name}", content in asked(proxy, user, "GET", way + name)[1], False)
+                count += 1
+    print(f"{count} requests in disguise", flush=True)
+
+
+def close_long_pool(server):
+    """Closes a pool of 160,000 recordings that nobody has, over 16 returns."""
+    connection = server.connection()
+    for number in range(1, 17):
+        rows = b"".join(b"%s,1,%d\n" % (isrc(k), k % 300 + 1) for k in range(10_000 * number, 10_000 * (number + 1)))
+        status, text = common.ask(connection, "PUT", f"/v1/returns/RADIO9/{number}", CSV_HEADER + rows)
+        assert status == 201, text
+    order = order_body(10**11, [], [["RADIO9", it] for it in range(1, 17)])
+    status, text = common.ask(connection, "PUT", "/v1/pools/9", order)
+    assert status == 201, text
+    table = common.ask(connection, "GET", "/v1/pools/9")[1]
+    connection.close()
+    return table
+
+
+def try_slow_reader(proxy, server):
+    table = close_long_pool(server)
+    name = base64.b64encode(f"{OFFICE}:{SECRET}".encode()).decode()
+    with connected(proxy.port, proxy, buffer=1 << 14) as peer:
+        peer.sendall(f"GET /v1/pools/9 HTTP/1.1\r\nHost: localhost\r\nConnection: close\r\nAuthorization: Basic {name}\r\n\r\n".encode())
+        begun, text = time.monotonic(), peer.recv(1 << 14)
+        others = []
+        while part := peer.recv(1 << 14):
+            text += part
+            time.sleep(0.02)
+            if len(text) // 500_000 > len(others):
+                asked_at = time.monotonic()
+                check("another is answered meanwhile", asked(proxy, OWN, "GET", f"/v1/senders/{OWN}")[0], 200)
+                others.append(time.monotonic() - asked_at)
+    body = text.partition(b"\r\n\r\n")[2]
+    check("a long pool to a slow reader", (len(body), body == table), (len(table), True))
+    print(f"a pool of {len(body):,} bytes read in {time.monotonic() - begun:.1f} s; {len(others)} others answered meanwhile, "
+          f"the slowest after {max(others):.2f} s", flush=True)
+
+
+def main():
+    options = common.parser(__doc__).parse_args()
+    account = "www-data" if os.geteuid() == 0 else None
+    with tempfile.TemporaryDirectory(ignore_cleanup_errors=True) as folder, Server(options.program, f"{folder}/office.db") as server:
+        connection = server.connection()
+        for sender in OWN, OTHER:
+            status, text = common.ask(connection, "PUT", f"/v1/senders/{sender}/transmissions/1", changed(FIRST, 1, 4, sender.encode()))
+            assert status == 201, text
+        connection.close()
+        proxy = Proxy(pathlib.Path(folder), server.port, USERS, [[OTHER, HIDDEN]], account)
+        try:
+            try_rows(proxy)
+            try_disguises(proxy)
+            try_slow_reader(proxy, server)
+        finally:
+            proxy.close()
+    print(json.dumps({"wrong": WRONG}) if WRONG else "all as wanted")
+    sys.exit(1 if WRONG else 0)
+
+
+if __name__ == "__main__":
+    main()

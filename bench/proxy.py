@@ -1,0 +1,72 @@
+"""nginx before an office, with examples/nginx.conf, of which only the ports are changed."""
+import json
+import os
+import pathlib
+import pwd
+import shutil
+import socket
+import subprocess
+import sys
+import time
+
+import common
+from common import ROOT
+
+PAGE = ROOT / "examples/desk"
+SECRET = "secret"
+
+
+class Proxy:
+    """nginx in a folder of its own, with a certificate, users who all have the password SECRET, and a copy of the page for staff.
+
+    `senders` are the pairs of senders.json. `account` is the user of the system as whom all of nginx runs; without it nginx runs as
+    who started it, and its worker as the one that its packager chose where that is root.
+    """
+
+    def __init__(self, folder, office_port, users, senders, account=None, trial_office_port=None):
+        self.port, self.trial_port, self.home = common.free_port(), common.free_port(), folder / "proxy"
+        self.home.mkdir()
+        self.configure(office_port, trial_office_port)
+        shutil.copytree(PAGE, self.home / "desk")
+        (self.home / "desk/senders.json").write_text(json.dumps(senders))
+        key = ["openssl", "req", "-x509", "-newkey", "rsa:2048", "-nodes", "-keyout", self.home / "office.key", "-out", self.home / "office.crt"]
+        subprocess.run([*key, "-days", "2", "-subj", "/CN=localhost"], check=True, capture_output=True)
+        password = subprocess.run(["openssl", "passwd", "-6", SECRET], check=True, capture_output=True, text=True).stdout
+        (self.home / "passwords").write_text("".join(f"{user}:{password}" for user in users))
+        # Where nginx is started as root, its worker is another user, who has to read all this.
+        folder.chmod(0o755)
+        command = ["nginx", "-p", self.home, "-c", self.home / "nginx.conf", "-g", "daemon off;"]
+        if account and os.geteuid() == 0:
+            self.hand_over(account)
+            command = ["setpriv", f"--reuid={account}", f"--regid={account}", "--clear-groups", *command]
+        self.process = subprocess.Popen(command, stderr=subprocess.DEVNULL)
+        self.wait()
+
+    def configure(self, office_port, trial_office_port):
+        """The example with other ports; without a trial office its port leads to one that nobody listens on."""
+        text = (ROOT / "examples/nginx.conf").read_text()
+        ports = {"8443": self.port, "8444": self.trial_port, "8080": office_port, "8081": trial_office_port or common.free_port()}
+        for old, new in ports.items():
+            assert old in text, f"examples/nginx.conf names no port {old}"
+            text = text.replace(old, str(new))
+        (self.home / "nginx.conf").write_text(text)
+
+    def hand_over(self, account):
+        """Gives the folder and all in it to a user of the system."""
+        known = pwd.getpwnam(account)
+        for path in [self.home, *self.home.rglob("*")]:
+            os.chown(path, known.pw_uid, known.pw_gid)
+        self.home.chmod(0o700)
+
+    def wait(self):
+        end = time.monotonic() + 10
+        while time.monotonic() < end:
+            with socket.socket() as it:
+                if it.connect_ex(("127.0.0.1", self.port)) == 0:
+                    return
+            time.sleep(0.05)
+        sys.exit("nginx does not listen: " + pathlib.Path(self.home / "error.log").read_text())
+
+    def close(self):
+        self.process.terminate()
+        self.process.wait()
