@@ -198,6 +198,6 @@ def memory_that_is_refused(program, folder):
     """An opening for which there is no memory says so, and leaves the file."""
     left = left_by(program, folder, "left.db", CLOSED_AT_A_CUT)
     held, words = left.read_bytes(), ["audit", "--db", "left.db", *OFFICE]
-    seen = {run(program, folder, words, **limited(resource.RLIMIT_AS, it << 16)).err for it in range(40, 120)}
+    seen = {run(program, folder, words, **limited(resource.RLIMIT_AS, it << 16)).err for it in range(40, 300, 8)}
     told("memory is refused", b"society: database memory\n" in seen, True)
     told("its bytes", left.read_bytes() == held, True)
