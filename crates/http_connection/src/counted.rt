@@ -2,6 +2,7 @@
 ghost use Rattle.std.specs.Prelude.{◌<◌, ◌^◌};
 
 use std::io::{self, Read, Write};
+use thiserror::Error;
 
 /// A reader or a writer whose failures are counted, its reads that gave bytes, and those that gave none, each up to the greatest
 /// `u64`.
@@ -15,7 +16,8 @@ pub struct Counted<T> {
 }
 
 /// The writer failed, or took no byte.
-#[derive(Clone, Copy, Debug, PartialEq, Eq)]
+#[derive(Clone, Copy, Debug, PartialEq, Eq, Error)]
+#[error("not written")]
 pub struct NotWritten;
 
 impl<T> Counted<T> {

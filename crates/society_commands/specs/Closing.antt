@@ -37,9 +37,9 @@ Closes state conn_of store (Unclosed error last) = IsClosed (conn_of store) last
 Closes state conn_of store _ = ⊥
 
 -- what is left where a database was opened as an office's or was not: its store, closed, or the connection as it was left
-abbrev pub IsLeft : {D S : Type 0} {g : Ghosts D} → (S → State) → (S → Held (FileStore D g)) → Result S (Held (FileStore D g)) → Left D g → Type 0
-IsLeft state conn_of (Ok store) left = Closes state conn_of store left
-IsLeft state conn_of (Err conn) left = left ≡ Connection conn
+abbrev pub HandsBack : {D S : Type 0} {g : Ghosts D} → (S → State) → (S → Held (FileStore D g)) → Result S (Held (FileStore D g)) → Left D g → Type 0
+HandsBack state conn_of (Ok store) left = Closes state conn_of store left
+HandsBack state conn_of (Err conn) left = left ≡ Connection conn
 
 -- what is left where no database was opened: its files, where they were
 abbrev pub IsRest : {D : Type 0} {g : Ghosts D} → Option (Leftover D g) → Left D g → Type 0

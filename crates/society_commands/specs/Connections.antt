@@ -33,7 +33,7 @@ use Rattle.society_opening.specs.Opening.{HasAnyLayout, IsOpenable, ShowsAs, Sur
 use Rattle.society_opening.specs.declared.open_fault.OpenFault.{OpenFault}
 use Rattle.society_opening.specs.declared.open_fault.OpenFault.TheVariants.{Empty, Store}
 use Rattle.society_words.specs.declared.words.Place.{Place}
-use Rattle.society_commands.specs.Closing.{IsLeft, IsRest}
+use Rattle.society_commands.specs.Closing.{HandsBack, IsRest}
 use Rattle.society_commands.specs.Doors.{CameIn, HasAdmitted, IsLoopback}
 use Rattle.society_commands.specs.Replays.{fault_name}
 use Rattle.society_commands.specs.declared.door.Door.{Door}
@@ -232,7 +232,7 @@ abbrev pub ServesOpened : {F N O S W : Type 0} {g : disk.Ghosts F} → (S → St
 ServesOpened {F = F} {S = S} {g = g} state conn_of net opener s contents out new_out left =
     (conn : Held (FileStore F g)) × IsOpenedAt opener s.path s.existing (file_state conn)
     × ((ended : Result S (Held (FileStore F g))) × LeavesServed net state s.office s.existing (file_state conn) ended contents out new_out s.place
-    × IsLeft state conn_of ended left)
+    × HandsBack state conn_of ended left)
 
 -- serving so ended early: no database could be opened, and nothing was printed; or this was left of it, and closed where it is a store
 abbrev pub StopsServingOpened : {F N O S W : Type 0} {g : disk.Ghosts F} → (S → State) → (S → Held (FileStore F g)) → Listens N → Opens O F → Serving → (W → Option (List ℕ)) → Counted W → Counted W → Left F g → Type 0
@@ -240,4 +240,4 @@ StopsServingOpened {F = F} {S = S} {g = g} state conn_of net opener s contents o
     (LeavesRefused opener s.path s.existing left × (new_out ≡ out))
     ⊎ ((conn : Held (FileStore F g)) × IsOpenedAt opener s.path s.existing (file_state conn)
     × ((ended : Result S (Held (FileStore F g))) × LeavesBroken file_state net state s.office s.existing (file_state conn) ended contents out new_out s.place
-    × IsLeft state conn_of ended left))
+    × HandsBack state conn_of ended left))

@@ -1,5 +1,5 @@
 //! The end of an office's database.
-ghost use Rattle.society_commands.specs.Closing.{Closes, IsLeft};
+ghost use Rattle.society_commands.specs.Closing.{Closes, HandsBack};
 
 use crate::left::Left;
 use crate::replaying::SERVED;
@@ -36,7 +36,7 @@ pub(crate) fn close_left<D: Disk + Drop, E: Write>(
     status: u8,
     err: &mut E,
 ) -> Left<D>
-    ensures { IsLeft ⟦<Tables<FileStore<D>> as Store>⟧.state (λ t. t.conn) left result }
+    ensures { HandsBack ⟦<Tables<FileStore<D>> as Store>⟧.state (λ t. t.conn) left result }
 {
     match left {
         Ok(tables) => close_tables(tables, status, err),

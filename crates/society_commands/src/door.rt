@@ -3,9 +3,11 @@ ghost use Rattle.std.specs.Prelude.{◌<◌, ◌+◌, ◌^◌, OnErr, OnOk, fals
 ghost use Rattle.society_commands.specs.Doors.{HasAdmitted, accepted_of, has_failed, listener_of};
 
 use std::net::{TcpListener, TcpStream};
+use thiserror::Error;
 
 /// A connection could not be accepted.
-#[derive(Clone, Copy, Debug, PartialEq, Eq)]
+#[derive(Clone, Copy, Debug, PartialEq, Eq, Error)]
+#[error("cannot accept")]
 pub struct AcceptFault;
 
 /// A listener that knows how many connections it accepted, and whether it ever failed to.

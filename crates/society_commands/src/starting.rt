@@ -29,11 +29,13 @@ use std::time::Clock;
 const WRONG_WORDS: u8 = 2;
 
 /// Why the program's words could not be had.
-#[derive(Clone, Copy, Debug, PartialEq, Eq)]
+#[derive(Clone, Copy, Debug, PartialEq, Eq, thiserror::Error)]
 pub enum NoWords {
     /// A word is no text.
+    #[error("a word is no text")]
     NoText,
     /// Memory was refused for them.
+    #[error("out of memory")]
     Memory,
 }
 

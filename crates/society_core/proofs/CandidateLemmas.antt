@@ -1,5 +1,5 @@
 -- What candidates stand for: one recording more, one transaction more, one transmission more.
-use Rattle.std.proofs.Common.{◌≡◌, ◌≢◌, ◌==◌, ⊎_elim, ℕ, zero, suc, ◌+◌, ◌<◌, Bool, true, false, ◌||◌, ◌&&◌, cond, not, List, [], ◌∷◌, ◌++◌, length, map, flat_map, None, Result, Ok, Err, OnOk, slice_get, refl, ap, sym, subst, ◌∙◌, arith, append_assoc, append-nil, get_or, unwrap_or}
+use Rattle.std.proofs.Common.{◌≡◌, ◌≢◌, ◌==◌, ⊎_elim, ℕ, zero, suc, ◌+◌, ◌<◌, Bool, true, false, ◌||◌, ◌&&◌, cond, not, List, [], ◌∷◌, ◌++◌, length, map, flat_map, Option, Some, None, Result, Ok, Err, OnOk, slice_get, refl, ap, sym, subst, ◌∙◌, arith, append_assoc, append-nil, get_or, unwrap_or}
 use Rattle.std.proofs.lemmas.List.{map-append, map_push, length-map}
 use Rattle.std.specs.Ordering.{eq_by_cmp}
 use Rattle.std.proofs.lemmas.Bool.{false≢true}
@@ -11,6 +11,7 @@ use Rattle.works_core.specs.declared.judged.Judged.{Judged}
 use Rattle.society_core.specs.Keys.{bytes_cmp}
 use Rattle.std.specs.List.{AllByRecursion, enumerate_from, filter, list_all, list_any}
 use Rattle.std.proofs.lemmas.Bool.Decides.{eqb_tells}
+use Rattle.std.specs.Result.{result_ok}
 use Rattle.std.specs.Str.{bytes_eq}
 use Rattle.std.proofs.lemmas.List.Elements.{filter-append}
 use Rattle.std.proofs.lemmas.List.Folds.{list_any-append}
@@ -23,7 +24,7 @@ use Rattle.cwr_files.specs.declared.transmission.Transmission.{Transmission}
 use Rattle.share_rules.specs.declared.holder.Holder.{Holder}
 use Rattle.share_rules.specs.declared.office.Office.{Office}
 use Rattle.society_core.specs.Book.{Book, body_at, is_applied, is_one_of, numbers_to, sent_under, transmissions_to}
-use Rattle.society_core.specs.Candidates.{AddsCandidates, ListsOnce, ReachesCut, StandFor, candidate_with, holders_among, holders_naming, is_version_by, transactions_sent, work_where}
+use Rattle.society_core.specs.Candidates.{AddsCandidates, Claimant, ListsOnce, ReachesCut, StandFor, candidate_with, claimant_by, claimant_of, claimants_among, claimants_naming, is_version_by, transactions_sent, work_where}
 use Rattle.society_core.specs.Claims.{is_candidate_for}
 use Rattle.society_core.proofs.Lines.{line_has_one, line_over, line_to}
 use Rattle.society_core.specs.Orders.{Order}
@@ -40,13 +41,13 @@ both true false e = absurd (false≢true e)
 both false b e = absurd (false≢true e)
 
 module _ (weigh : CutWork → List Holder) (of_these : List ℕ → Bool) where
-  -- candidates that have the holders of more works stand for these too
-  pub adds_by : (more : List CutWork) (old new : List Candidate) → ((isrc : List ℕ) → of_these isrc ≡ true → holders_among new isrc ≡ holders_among old isrc ++ holders_naming weigh more isrc) → AddsCandidates weigh of_these more old new
+  -- candidates that are more works besides stand for these too
+  pub adds_by : (more : List CutWork) (old new : List Candidate) → ((isrc : List ℕ) → of_these isrc ≡ true → claimants_among new isrc ≡ claimants_among old isrc ++ claimants_naming weigh more isrc) → AddsCandidates weigh of_these more old new
   adds_by more old new e = λ works stand. record {
     same = λ isrc is.
         e isrc is
-        ∙ ap (λ (hs : List (List Holder)). hs ++ holders_naming weigh more isrc) (stand.same isrc is)
-        ∙ sym (ap (map weigh) (filter-append (names_recording isrc) works more) ∙ map-append (weigh) (filter (names_recording isrc) works) (filter (names_recording isrc) more));
+        ∙ ap (λ (cs : List Claimant). cs ++ claimants_naming weigh more isrc) (stand.same isrc is)
+        ∙ sym (ap (map (claimant_by weigh)) (filter-append (names_recording isrc) works more) ∙ map-append (claimant_by weigh) (filter (names_recording isrc) works) (filter (names_recording isrc) more));
   }
 
   -- nothing more
@@ -72,48 +73,74 @@ turned a b = by_case (bytes_eq a b) (bytes_eq b a) refl refl
     by_case true false e f = let s : a ≡ b = same_bytes a b e in sym (itself a) ∙ ap (λ (x : List ℕ). bytes_eq x a) s ∙ f
     by_case false true e f = let s : b ≡ a = same_bytes b a f in sym e ∙ ap (λ (x : List ℕ). bytes_eq a x) s ∙ itself a
 
--- the holders of candidates that one work makes for some recordings more
-pub holders_more : (cs : List Candidate) (sender work : List ℕ) (holders : List Holder) (isrcs : List (List ℕ)) (x : List ℕ) →
-    holders_among (cs ++ map (candidate_with sender work holders) isrcs) x ≡ holders_among cs x ++ map (λ one. holders) (filter (λ one. bytes_eq one x) isrcs)
-holders_more cs sender work holders isrcs x =
-    ap (map (λ (c : Candidate). c.holders)) (filter-append (is_candidate_for x) cs (map (candidate_with sender work holders) isrcs))
-    ∙ map-append (λ (c : Candidate). c.holders) (filter (is_candidate_for x) cs) (filter (is_candidate_for x) (map (candidate_with sender work holders) isrcs))
-    ∙ ap (λ (hs : List (List Holder)). holders_among cs x ++ hs) (each isrcs)
+-- a work with its number and these holders
+abbrev pub claimant : List ℕ → List ℕ → List Holder → Claimant
+claimant sender work holders = record { sender = sender; work = Ok work; holders = holders }
+
+-- the works for which candidates stand that one work makes for some recordings more
+pub claimants_more : (cs : List Candidate) (sender work : List ℕ) (holders : List Holder) (isrcs : List (List ℕ)) (x : List ℕ) →
+    claimants_among (cs ++ map (candidate_with sender work holders) isrcs) x ≡ claimants_among cs x ++ map (λ one. claimant sender work holders) (filter (λ one. bytes_eq one x) isrcs)
+claimants_more cs sender work holders isrcs x =
+    ap (map claimant_of) (filter-append (is_candidate_for x) cs (map (candidate_with sender work holders) isrcs))
+    ∙ map-append claimant_of (filter (is_candidate_for x) cs) (filter (is_candidate_for x) (map (candidate_with sender work holders) isrcs))
+    ∙ ap (λ (ws : List Claimant). claimants_among cs x ++ ws) (each isrcs)
   where
-    each : (is : List (List ℕ)) → map (λ (c : Candidate). c.holders) (filter (is_candidate_for x) (map (candidate_with sender work holders) is)) ≡ map (λ one. holders) (filter (λ one. bytes_eq one x) is)
+    each : (is : List (List ℕ)) → map claimant_of (filter (is_candidate_for x) (map (candidate_with sender work holders) is)) ≡ map (λ one. claimant sender work holders) (filter (λ one. bytes_eq one x) is)
     each [] = refl
     each (i ∷ is) = by_case (bytes_eq i x) (each is)
       where
-        by_case : (b : Bool) → map (λ (c : Candidate). c.holders) (filter (is_candidate_for x) (map (candidate_with sender work holders) is)) ≡ map (λ one. holders) (filter (λ one. bytes_eq one x) is) →
-            map (λ (c : Candidate). c.holders) (cond b (candidate_with sender work holders i ∷ filter (is_candidate_for x) (map (candidate_with sender work holders) is)) (filter (is_candidate_for x) (map (candidate_with sender work holders) is))) ≡ map (λ one. holders) (cond b (i ∷ filter (λ one. bytes_eq one x) is) (filter (λ one. bytes_eq one x) is))
-        by_case true e = ap (λ (hs : List (List Holder)). holders ∷ hs) e
+        by_case : (b : Bool) → map claimant_of (filter (is_candidate_for x) (map (candidate_with sender work holders) is)) ≡ map (λ one. claimant sender work holders) (filter (λ one. bytes_eq one x) is) →
+            map claimant_of (cond b (candidate_with sender work holders i ∷ filter (is_candidate_for x) (map (candidate_with sender work holders) is)) (filter (is_candidate_for x) (map (candidate_with sender work holders) is))) ≡ map (λ one. claimant sender work holders) (cond b (i ∷ filter (λ one. bytes_eq one x) is) (filter (λ one. bytes_eq one x) is))
+        by_case true e = ap (λ (ws : List Claimant). claimant sender work holders ∷ ws) e
         by_case false e = e
 
 -- a work adds one candidate for each of these recordings that it names
-pub work_adds : (weigh : CutWork → List Holder) (of_these : List ℕ → Bool) (sender work : List ℕ) (t : Transaction) (listed : List (List ℕ)) (old : List Candidate) → ListsOnce of_these (isrcs_of t) listed →
+pub work_adds : (weigh : CutWork → List Holder) (of_these : List ℕ → Bool) (sender work : List ℕ) (t : Transaction) (listed : List (List ℕ)) (old : List Candidate) → number_of_work t ≡ Ok work → ListsOnce of_these (isrcs_of t) listed →
     AddsCandidates weigh of_these (cut_work sender t ∷ []) old (old ++ map (candidate_with sender work (weigh (cut_work sender t))) listed)
-work_adds weigh of_these sender work t listed old once_each =
+work_adds weigh of_these sender work t listed old numbered once_each =
     adds_by weigh of_these (cut_work sender t ∷ []) old (old ++ map (candidate_with sender work (weigh (cut_work sender t))) listed)
-    (λ x is. holders_more old sender work (weigh (cut_work sender t)) listed x
-    ∙ ap (λ (hs : List (List Holder)). holders_among old x ++ hs) (ap (map (λ one. weigh (cut_work sender t))) (once_each x is) ∙ by_case x (list_any (bytes_eq x) (isrcs_of t))))
+    (λ x is. claimants_more old sender work (weigh (cut_work sender t)) listed x
+    ∙ ap (λ (ws : List Claimant). claimants_among old x ++ ws) (ap (map (λ one. claimant sender work (weigh (cut_work sender t)))) (once_each x is) ∙ by_case x (list_any (bytes_eq x) (isrcs_of t))))
   where
-    by_case : (x : List ℕ) (b : Bool) → map (λ one. weigh (cut_work sender t)) (cond b (x ∷ []) []) ≡ map weigh (cond b (cut_work sender t ∷ []) [])
-    by_case x true = refl
+    same : claimant sender work (weigh (cut_work sender t)) ≡ claimant_by weigh (cut_work sender t)
+    same = ap (λ (n : Result (List ℕ) IdFault). let c : Claimant = record { sender = sender; work = n; holders = weigh (cut_work sender t) } in c) (sym numbered)
+
+    by_case : (x : List ℕ) (b : Bool) → map (λ one. claimant sender work (weigh (cut_work sender t))) (cond b (x ∷ []) []) ≡ map (claimant_by weigh) (cond b (cut_work sender t ∷ []) [])
+    by_case x true = ap (λ (c : Claimant). c ∷ []) same
     by_case x false = refl
 
 -- once these candidates are appended
-pub added_by : {X E : Type 0} (weigh : CutWork → List Holder) (of_these : List ℕ → Bool) (sender work : List ℕ) (t : Transaction) (listed : List (List ℕ)) (holders : List Holder) (isrcs : List (List ℕ)) (old new : List Candidate) (result : Result X E) → ListsOnce of_these (isrcs_of t) listed → holders ≡ weigh (cut_work sender t) → isrcs ≡ listed →
+pub added_by : {X E : Type 0} (weigh : CutWork → List Holder) (of_these : List ℕ → Bool) (sender work : List ℕ) (t : Transaction) (listed : List (List ℕ)) (holders : List Holder) (isrcs : List (List ℕ)) (old new : List Candidate) (result : Result X E) → number_of_work t ≡ Ok work → ListsOnce of_these (isrcs_of t) listed → holders ≡ weigh (cut_work sender t) → isrcs ≡ listed →
     OnOk result (new ≡ old ++ map (candidate_with sender work holders) isrcs) → OnOk result (AddsCandidates weigh of_these (cut_work sender t ∷ []) old new)
-added_by weigh of_these sender work t listed holders isrcs old new (Err e) once_each same these appended = tt
-added_by weigh of_these sender work t listed holders isrcs old new (Ok x) once_each same these appended =
+added_by weigh of_these sender work t listed holders isrcs old new (Err e) numbered once_each same these appended = tt
+added_by weigh of_these sender work t listed holders isrcs old new (Ok x) numbered once_each same these appended =
     subst (AddsCandidates weigh of_these (cut_work sender t ∷ []) old)
     (sym (appended ∙ ap (λ (hs : List Holder). old ++ map (candidate_with sender work hs) isrcs) same ∙ ap (λ (is : List (List ℕ)). old ++ map (candidate_with sender work (weigh (cut_work sender t))) is) these))
-    (work_adds weigh of_these sender work t listed old once_each)
+    (work_adds weigh of_these sender work t listed old numbered once_each)
 
--- so it does where it names none of them
+-- it adds none where it names none of them
 pub work_adds_none : (weigh : CutWork → List Holder) (of_these : List ℕ → Bool) (sender : List ℕ) (t : Transaction) (old : List Candidate) → ListsOnce of_these (isrcs_of t) [] → AddsCandidates weigh of_these (cut_work sender t ∷ []) old old
 work_adds_none weigh of_these sender t old once_each =
-    subst (λ (cs : List Candidate). AddsCandidates weigh of_these (cut_work sender t ∷ []) old cs) (append-nil old) (work_adds weigh of_these sender [] t [] old once_each)
+    adds_by weigh of_these (cut_work sender t ∷ []) old old
+    (λ x is. sym (append-nil (claimants_among old x)) ∙ ap (λ (ws : List Claimant). claimants_among old x ++ ws) (by_case x (list_any (bytes_eq x) (isrcs_of t)) (once_each x is)))
+  where
+    by_case : (x : List ℕ) (b : Bool) → ◌≡◌ {A = List (List ℕ)} [] (cond b (x ∷ []) []) → [] ≡ map (claimant_by weigh) (cond b (cut_work sender t ∷ []) [])
+    by_case x true none = absurd (not_listed none)
+      where
+        not_listed : ◌≡◌ {A = List (List ℕ)} [] (x ∷ []) → ⊥
+        not_listed h = cc
+    by_case x false none = refl
+
+-- the number that a transaction has, where one was read
+pub number_read : (n : Result (List ℕ) IdFault) (work : List ℕ) → Some work ≡ result_ok n → n ≡ Ok work
+number_read (Ok m) work h = ap (λ (w : List ℕ). let r : Result (List ℕ) IdFault = Ok w in r) (sym (same h))
+  where
+    same : ◌≡◌ {A = Option (List ℕ)} (Some work) (Some m) → work ≡ m
+    same e = cc
+number_read (Err fault) work h = absurd (none h)
+  where
+    none : ◌≡◌ {A = Option (List ℕ)} (Some work) None → ⊥
+    none e = cc
 
 -- whether a recording is among some
 abbrev pub is_among : List ℕ → List (List ℕ) → Bool

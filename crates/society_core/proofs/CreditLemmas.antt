@@ -4,6 +4,7 @@ use Rattle.std.proofs.Common.{◌==◌, All, is_some, Result, Ok, Err, is_none, 
 use Rattle.std.specs.Cmp.{unsigned_Decides}
 use Rattle.std.specs.List.{AllByRecursion, enumerate_from, filter, list_all}
 use Rattle.std.proofs.lemmas.List.Elements.{All-map}
+use Rattle.std.proofs.lemmas.Simd.{map-map}
 use Rattle.cwr_files.specs.Contents.{transactions_of, transmission_in}
 use Rattle.cwr_files.specs.Transaction.{number_of_work}
 use Rattle.cwr_files.specs.declared.transmission.Transaction.{Transaction}
@@ -21,7 +22,7 @@ use Rattle.work_ids.specs.declared.fault.IdFault.{IdFault}
 use Rattle.works_core.specs.Line.{filled_number, judged, judged_by, judged_in}
 use Rattle.works_core.specs.Numbered.{JudgedTransmission}
 use Rattle.society_core.specs.Book.{Book, IsSound, body_at, is_applied, is_reporter, numbers_to, order_at, return_at}
-use Rattle.society_core.specs.Candidates.{HasReturns, ReachesCut, StandFor, transactions_sent}
+use Rattle.society_core.specs.Candidates.{Claimant, HasReturns, ReachesCut, StandFor, claimant_by, claimant_of, transactions_sent}
 use Rattle.society_core.specs.Claims.{claims_among, is_candidate_for}
 use Rattle.society_core.specs.Orders.{Order}
 use Rattle.society_core.specs.Owners.{CutWork, cut_work, is_at, is_version_at, names_recording, owner, sole, versions_at_cut, versions_of_transmission, works_of_cut}
@@ -214,7 +215,9 @@ claims_are office book order right is candidates of_these [] these stand = refl
 claims_are office book order right is candidates of_these (p ∷ ps) these stand =
     let same : option_map (λ (c : Candidate). c.holders) (sole (filter (is_candidate_for p.0) candidates)) ≡ option_map (holders_of order.kind office) (owner office book order p.0) =
     sole_map (λ (c : Candidate). c.holders) (filter (is_candidate_for p.0) candidates)
-    ∙ ap sole (stand.same p.0 these.0)
+    ∙ ap sole (sym (map-map (λ (c : Claimant). c.holders) claimant_of (filter (is_candidate_for p.0) candidates)))
+    ∙ ap (λ (cs : List Claimant). sole (map (λ (c : Claimant). c.holders) cs)) (stand.same p.0 these.0)
+    ∙ ap sole (map-map (λ (c : Claimant). c.holders) (claimant_by (holders_of right office)) (filter (names_recording p.0) (works_of_cut office book order)))
     ∙ sym (sole_map (holders_of right office) (filter (names_recording p.0) (works_of_cut office book order)))
     ∙ ap (λ (k : Kind). option_map (holders_of k office) (owner office book order p.0)) is in
     ap (λ (hs : Option (List Holder)). claim_with p hs ∷ claims_among ps candidates) same

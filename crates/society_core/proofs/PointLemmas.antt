@@ -156,6 +156,15 @@ tallied_entries tally rows h ordered =
     alike_entries tally.totals.entries (points_by_recording rows) ordered (recordings_ascend rows)
     (λ q. h.points q ∙ sym (lookup_paired (points_in rows) (recordings_in rows) q ∙ ap (λ (b : Bool). cond b (Some (points_in rows q)) None) (has_recording rows q)))
 
+first_of_pairs : (f : List ℕ → ℕ) (ks : List (List ℕ)) → map (λ (e : List ℕ × ℕ). e.0) (map (λ k. (k, f k)) ks) ≡ ks
+first_of_pairs f [] = refl
+first_of_pairs f (k ∷ ks) = ap (λ (rest : List (List ℕ)). k ∷ rest) (first_of_pairs f ks)
+
+-- the keys of a tally are the recordings of what was tallied, ascending, each once
+pub tallied_recordings : (tally : Tally) (rows : List Performance) → Tallies tally rows → tree.IsOrdered bytes_cmp tally.totals → map (λ (e : List ℕ × ℕ). e.0) tally.totals.entries ≡ recordings_in rows
+tallied_recordings tally rows h ordered =
+    ap (map (λ (e : List ℕ × ℕ). e.0)) (tallied_entries tally rows h ordered) ∙ first_of_pairs (points_in rows) (recordings_in rows)
+
 any_alike : (q : List ℕ) (ks : List (List ℕ)) → list_any (tree.is_at (bytes_cmp q)) ks ≡ list_any (bytes_eq q) ks
 any_alike q [] = refl
 any_alike q (k ∷ ks) = ap (λ (b : Bool). b || list_any (tree.is_at (bytes_cmp q)) ks) (is_eq-slice_cmp q k) ∙ ap (λ (b : Bool). bytes_eq q k || b) (any_alike q ks)

@@ -1,5 +1,5 @@
 -- What a statement lets go on, and what holds of a sender that stated nothing.
-use Rattle.std.proofs.Common.{◌≡◌, ℕ, ◌+◌, ◌<◌, ◌≤◌, true, false, List, Option, Some, None, length, ap, sym, ◌∙◌, arith, ⊎_elim}
+use Rattle.std.proofs.Common.{◌≡◌, ℕ, ◌+◌, ◌<◌, ◌≤◌, Bool, true, false, cond, List, Option, Some, None, length, ap, refl, sym, ◌∙◌, arith, ⊎_elim}
 use Rattle.std.proofs.lemmas.Bool.{cases_Bool, cases_lt}
 use Rattle.std.proofs.lemmas.List.FromFn.{length-range_with_len}
 use Rattle.sender_segments.specs.Ways.{AreRight, End, IsGap}
@@ -7,10 +7,15 @@ use Rattle.sender_segments.proofs.Ranks.{made_plain, number_is}
 use Rattle.sender_segments.proofs.Reached.{leads_is, next_reached}
 use Rattle.work_ids.specs.Segments.{base_of, most_in, segment_of}
 use Rattle.society_core.specs.Book.{Book, IsSound, ends_of, front, is_there}
-use Rattle.society_core.specs.Ends.{place_stated}
-use Rattle.society_core.specs.Laws.{NumbersOfPlainLines, PlainLinesAreAlike, PlainLinesCountFromOne, PlainLinesEndAtGaps, StatementsLeadOn, StatesNothing}
+use Rattle.society_core.specs.Answers.{end_answer, stating_answer}
+use Rattle.society_core.specs.Ends.{end_known_by, place_stated, same_end}
+use Rattle.society_core.specs.Laws.{NumbersOfPlainLines, OtherEndsAreReused, PlainLinesAreAlike, PlainLinesCountFromOne, PlainLinesEndAtGaps, StatementsLeadOn, StatesNothing}
 use Rattle.sender_segments.specs.Ways.{end_stated}
+use Rattle.society_core.specs.Requests.{Refused}
+use Rattle.society_core.specs.declared.refusal.Refusal.TheVariants.{Reused}
+use Rattle.society_core.specs.declared.store.Known.TheVariants.{Other, Same}
 use Rattle.society_core.proofs.Books.{sound_order}
+use Rattle.society_core.proofs.Changes.{same_end_is}
 use Rattle.society_core.proofs.Fronts.{all_there, front_gap, front_led, front_reaches, led_there}
 use Rattle.society_core.proofs.GrowthLemmas.{is_stated}
 use Rattle.society_core.proofs.HeadlineLemmas.{past_is_none}
@@ -84,3 +89,14 @@ plain_alike a b s first second same bodies = record {
   same_line = same;
   same_bodies = bodies;
 }
+
+-- another end of a segment that has one is answered as reused
+pub other_end_reused : OtherEndsAreReused
+other_end_reused office b s stated kept right there other =
+    ap (stating_answer b s stated) right
+    ∙ ap (λ (o : Option End). end_answer b s (place_stated stated) (end_stated stated) (end_known_by (end_stated stated) o)) there
+    ∙ by_case (same_end kept (end_stated stated)) refl
+  where
+    by_case : (t : Bool) → same_end kept (end_stated stated) ≡ t → end_answer b s (place_stated stated) (end_stated stated) (cond t Same Other) ≡ Refused Reused
+    by_case true is = absurd (other (sym (same_end_is kept (end_stated stated) is)))
+    by_case false is = refl

@@ -23,17 +23,31 @@ use Rattle.work_ids.specs.declared.fault.IdFault.{IdFault}
 use Rattle.works_core.specs.Versions.{work_at}
 use Rattle.works_core.specs.Numbered.{JudgedTransmission}
 
--- the holders of each candidate for a recording, in order
-abbrev pub holders_among : List Candidate → List ℕ → List (List Holder)
-holders_among candidates isrc = map (λ candidate. candidate.holders) (filter (is_candidate_for isrc) candidates)
+-- which work may own a recording: its sender's key, its number, and the holders of its version
+pub record Claimant : Type 0 where
+  pub sender : List ℕ
+  pub work : Result (List ℕ) IdFault
+  pub holders : List Holder
 
--- the holders of each work that names a recording, by what weighs a work, in order
-abbrev pub holders_naming : (CutWork → List Holder) → List CutWork → List ℕ → List (List Holder)
-holders_naming weigh works isrc = map weigh (filter (names_recording isrc) works)
+-- which work a candidate stands for
+abbrev pub claimant_of : Candidate → Claimant
+claimant_of candidate = record { sender = candidate.sender; work = Ok candidate.work; holders = candidate.holders }
 
--- candidates stand for works, by what weighs a work: of each of these recordings they have the holders of the works that name it, in the same order
+-- a work of a cut, by what weighs it
+abbrev pub claimant_by : (CutWork → List Holder) → CutWork → Claimant
+claimant_by weigh work = record { sender = work.sender; work = number_of_work work.transaction; holders = weigh work }
+
+-- the works for which the candidates for a recording stand, in order
+abbrev pub claimants_among : List Candidate → List ℕ → List Claimant
+claimants_among candidates isrc = map claimant_of (filter (is_candidate_for isrc) candidates)
+
+-- the works that name a recording, by what weighs a work, in order
+abbrev pub claimants_naming : (CutWork → List Holder) → List CutWork → List ℕ → List Claimant
+claimants_naming weigh works isrc = map (claimant_by weigh) (filter (names_recording isrc) works)
+
+-- candidates stand for works, by what weighs a work: for each of these recordings they are the works that name it, in the same order
 pub record StandFor (weigh : CutWork → List Holder) (of_these : List ℕ → Bool) (works : List CutWork) (candidates : List Candidate) : Type 0 where
-  pub same : (isrc : List ℕ) → of_these isrc ≡ true → holders_among candidates isrc ≡ holders_naming weigh works isrc
+  pub same : (isrc : List ℕ) → of_these isrc ≡ true → claimants_among candidates isrc ≡ claimants_naming weigh works isrc
 
 -- candidates for these recordings are added that stand for some works more
 abbrev pub AddsCandidates : (CutWork → List Holder) → (List ℕ → Bool) → List CutWork → List Candidate → List Candidate → Type 0

@@ -5,7 +5,7 @@ use Rattle.std.specs.FinMap.{values}
 use Rattle.share_rules.specs.declared.office.Office.{Office}
 use Rattle.work_ids.specs.declared.account.Account.{Account}
 use Rattle.society_core.specs.Answers.{AnswersAlike, answer}
-use Rattle.society_core.specs.Book.{Book, IsSound, body_at, end_at, front, held, is_in_line, is_one_of, is_there, line, order_at, with_end}
+use Rattle.society_core.specs.Book.{Book, IsSound, body_at, end_at, front, held, is_in_line, is_one_of, is_there, line, order_at, return_at, with_end}
 use Rattle.society_core.specs.Ends.{fault_stated, number_past, place_stated}
 use Rattle.society_core.specs.Growth.{GoesOn}
 use Rattle.sender_segments.specs.Ways.{end_stated}
@@ -18,7 +18,7 @@ use Rattle.society_core.specs.Keys.{ascending, return_cmp}
 use Rattle.society_core.specs.Orders.{IsOrder, Order, names_return}
 use Rattle.society_core.specs.Owners.{NamesAlone, Owns}
 use Rattle.society_core.specs.Pools.{AreAllAccounts, balance}
-use Rattle.society_core.specs.Requests.{Inquires, Puts, Query, Refused, Reply}
+use Rattle.society_core.specs.Requests.{Inquires, Puts, PutsReturn, Query, Refused, Reply, States}
 use Rattle.society_core.specs.Runs.{Run}
 use Rattle.society_core.specs.declared.inquiry.Inquiry.{Inquiry}
 use Rattle.society_core.specs.declared.inquiry.Inquiry.TheVariants.{Credits}
@@ -64,6 +64,17 @@ EntriesCame = OfEachRun (λ office before queries replies after. (entry : Entry)
 abbrev pub OtherBytesAreReused : Type 0
 OtherBytesAreReused =
     (office : Office) (book : Book) (sender : List ℕ) (n : ℕ) (body other : List ℕ) → body_at book sender n ≡ Some body → other ≢ body → answer office book (Puts sender n other) ≡ Refused Reused
+
+-- so is a put of another return under a key that has one
+abbrev pub OtherReturnsAreReused : Type 0
+OtherReturnsAreReused =
+    (office : Office) (book : Book) (key : ReturnKey) (body other : List ℕ) → return_at book key ≡ Some body → other ≢ body → answer office book (PutsReturn key other) ≡ Refused Reused
+
+-- and a statement of another end of a segment that has one, where the statement has no fault
+abbrev pub OtherEndsAreReused : Type 0
+OtherEndsAreReused =
+    (office : Office) (book : Book) (sender : List ℕ) (stated : StatedEnd) (kept : ways.End) → fault_stated stated ≡ None → end_at book sender (place_stated stated) ≡ Some kept
+    → end_stated stated ≢ kept → answer office book (States sender stated) ≡ Refused Reused
 
 -- two runs that were accepted with the same entries leave one book
 abbrev pub AcceptedAlikeIsOneBook : Type 0

@@ -2,14 +2,17 @@
 ghost use Rattle.std.specs.Prelude.{◌≡◌};
 ghost use Rattle.society_core.specs.Ends.{end_fault_number};
 
+use thiserror::Error;
 use work_ids::SegmentFault;
 
 /// Why what was sent is no end of a segment (profile). Of several faults the one with the least number is told.
-#[derive(Clone, Copy, Debug, PartialEq, Eq)]
+#[derive(Clone, Copy, Debug, PartialEq, Eq, Error)]
 pub enum EndFault {
     /// 1 It has another shape than an end.
+    #[error("no end")]
     Shape,
     /// 2 or 3 Its numbers end no segment.
+    #[error("numbers that end no segment")]
     Numbers(SegmentFault),
 }
 

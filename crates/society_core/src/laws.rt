@@ -5,9 +5,9 @@ ghost use Rattle.std.specs.List.Sorted.{IsStrictlySortedBy};
 ghost use Rattle.std.specs.Ordering.{nat_cmp};
 ghost use Rattle.pool_split.specs.Credits.{units_of};
 ghost use Rattle.share_rules.specs.declared.office.Office.{Office};
-ghost use Rattle.society_core.specs.Book.{Book, IsSound, ends_of, front, held, is_in_line, is_there};
+ghost use Rattle.society_core.specs.Book.{Book, IsSound, ends_of, front, held, is_in_line, is_one_of, is_there, line, numbers_led_through};
 ghost use Rattle.sender_segments.specs.Ways.{IsGap};
-ghost use Rattle.society_core.specs.Laws.{AcceptedAlikeAnswersAlike, AcceptedAlikeIsOneBook, AnswersToTheGap, AnswersToTheGaps, BalancesAddUp, BookHoldsWhatCame, BookIsWhatWasAccepted, BroughtAlikeIsOneBook, ClosedPoolsStay, EntriesCame, EntriesStay, HeldNumbersWait, NumbersOfPlainLines, OtherBytesAreReused, OwnersAreAlone, PlainLinesAreAlike, PlainLinesCountFromOne, PlainLinesEndAtGaps, ReturnsAreNamedOnce, ReturnsArePaidOnce, RunsKeepBooksSound, StatementsLeadOn, UnstatedIsOneContent};
+ghost use Rattle.society_core.specs.Laws.{AcceptedAlikeAnswersAlike, AcceptedAlikeIsOneBook, AnswersToTheGap, AnswersToTheGaps, BalancesAddUp, BookHoldsWhatCame, BookIsWhatWasAccepted, BroughtAlikeIsOneBook, ClosedPoolsStay, EntriesCame, EntriesStay, HeldNumbersWait, NumbersOfPlainLines, OtherBytesAreReused, OtherEndsAreReused, OtherReturnsAreReused, OwnersAreAlone, PlainLinesAreAlike, PlainLinesCountFromOne, PlainLinesEndAtGaps, ReturnsAreNamedOnce, ReturnsArePaidOnce, RunsKeepBooksSound, StatementsLeadOn, UnstatedIsOneContent};
 ghost use Rattle.society_core.specs.Orders.{Order};
 ghost use Rattle.society_core.specs.Pools.{credits_of};
 ghost use Rattle.society_core.specs.declared.inquiry.Inquiry.TheVariants.{Acknowledgement, Balance, Credits, Verdicts, Work};
@@ -25,17 +25,22 @@ pub fn book_holds_what_came()
 {}
 
 /// What was accepted stays, whatever contents came: a run keeps each entry of its opening book, so the first content of a
-/// number stands, and other contents of a number are answered as reused.
+/// number stands, and other contents of a number are answered as reused: of a transmission's, of a return's and of a segment's end.
 pub fn what_is_accepted_stays()
     ensures stays { EntriesStay }
     ensures came { EntriesCame }
     ensures reused { OtherBytesAreReused }
+    ensures returns { OtherReturnsAreReused }
+    ensures ends { OtherEndsAreReused }
 {}
 
-/// A sender's front is where its first gap begins: what is in its line is there, and behind the front of a sound book the next
-/// number is not there, and no stated end is reached. A sender that stated nothing counts from 1: its line is 1 to the front.
+/// A sender's front is where its first gap begins: its line is all numbers that its ends lead through up to there, each of them is
+/// there, and behind the front of a sound book the next number is not there, and no stated end is reached. A sender that stated
+/// nothing counts from 1: its line is 1 to the front.
 pub fn front_is_the_first_gap()
     ensures reached { (book : Book) (sender : List ℕ) (n : ℕ) → is_in_line book sender n ≡ true → is_there book sender n ≡ true }
+    ensures led { (book : Book) (sender : List ℕ) (n : ℕ) → is_in_line book sender n ≡ is_one_of (numbers_led_through book sender) n }
+    ensures whole { (book : Book) (sender : List ℕ) → IsSound book → line book sender ≡ numbers_led_through book sender }
     ensures gap { (book : Book) (sender : List ℕ) → IsSound book → IsGap (is_there book sender) (ends_of book sender) (front book sender) }
     ensures line { PlainLinesCountFromOne }
     ensures numbers { NumbersOfPlainLines }

@@ -2,7 +2,7 @@
 ghost use Rattle.std.specs.Prelude.{◌≡◌, ◌+◌, ◌<◌, ◌≤◌, ◌∷◌, [], List, ℕ, IfOk, bytes_eq, length};
 ghost use Rattle.std.specs.List.{list_any};
 ghost use Rattle.perf_returns.specs.declared.performance.Performance.{Performance as Row};
-ghost use Rattle.society_core.specs.Points.{HasPoints, Tallies, TalliesOn, is_tallied, points_by_recording, points_of};
+ghost use Rattle.society_core.specs.Points.{HasPoints, Tallies, TalliesOn, is_tallied, points_by_recording, points_of, recordings_in};
 
 use perf_returns::Performance;
 use std::alloc::{AllocError, Global};
@@ -62,9 +62,10 @@ impl Tally {
         self.totals.contains_key(isrc)
     }
 
-    /// The recordings that it has points for, ascending.
+    /// The recordings that it has points for, ascending, each once.
     pub fn recordings(&self, alloc: Global) -> Result<Vec<Isrc>, AllocError>
-        ensures { IfOk result (λ list. (isrc : List ℕ) → is_tallied self.now isrc ≡ list_any (bytes_eq isrc) list.items) }
+        ensures tallied { IfOk result (λ list. (isrc : List ℕ) → is_tallied self.now isrc ≡ list_any (bytes_eq isrc) list.items) }
+        ensures once { (rows : List Row) → Tallies self.now rows → IfOk result (λ list. list.items ≡ recordings_in rows) }
     {
         self.totals.keys().copied().collect(alloc)
     }

@@ -1,5 +1,6 @@
 //! Runs: what is answered to a list of requests, one after another.
 ghost use Rattle.std.specs.Prelude.{◌≡◌, IsTrue, OnOk, OnErr};
+ghost use Rattle.society_core.specs.Book.{IsSound};
 ghost use Rattle.society_core.specs.Requests.{query_of, reply_of};
 ghost use Rattle.society_core.specs.Runs.{AppendsAnswers, Calls, TellsWhatStoreHolds};
 ghost use Rattle.society_core.specs.State.{StaysClean};
@@ -58,6 +59,8 @@ pub fn run<S: Store>(
     ensures ran { OnOk result (AppendsAnswers (S.state desk.old) (S.state desk.new) requests.now answers.old.items answers.new.items) }
     // Whatever was lost, repeated or reordered, the book holds exactly what came, each content once.
     ensures headline { OnOk result (TellsWhatStoreHolds (S.state desk.old) (S.state desk.new) requests.now answers.old.items answers.new.items) }
+    // The books before and after are sound, whatever was asked.
+    ensures sound { IsTrue (S.state desk.new).is_clean → IsSound (S.state desk.old).book × IsSound (S.state desk.new).book }
     ensures office { (S.state desk.new).office ≡ (S.state desk.old).office }
     ensures clean { IsTrue (S.state desk.new).is_clean → IsTrue (S.state desk.old).is_clean }
     ensures stays { StaysClean (S.state desk.old) (S.state desk.new) }

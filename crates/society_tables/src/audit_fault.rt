@@ -5,15 +5,19 @@ ghost use Rattle.society_tables.specs.declared.audit_fault.AuditFault.TheVariant
 
 use society_rows::RowFault;
 use std::alloc::{AllocError, AllocFailed};
+use thiserror::Error;
 
 /// Why the rows of an office's tables do not pass an audit.
-#[derive(Debug, Drop)]
+#[derive(Debug, Drop, Error)]
 pub enum AuditFault {
     /// Memory was refused.
+    #[error("out of memory")]
     Memory,
     /// The database could not be read.
+    #[error("the database could not be read")]
     Store,
     /// The rows are not what the requests that they keep make of an empty book.
+    #[error("damaged")]
     Damaged,
 }
 

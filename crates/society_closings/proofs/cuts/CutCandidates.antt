@@ -12,7 +12,7 @@ use Rattle.cwr_files.specs.declared.transmission.Transaction.{Transaction}
 use Rattle.share_rules.specs.declared.office.Office.{Office}
 use Rattle.society_core.proofs.CandidateLemmas.{both}
 use Rattle.society_core.specs.Book.{Book, is_one_of, numbers_to}
-use Rattle.society_core.specs.Candidates.{AddsCandidates, transactions_sent, work_where}
+use Rattle.society_core.specs.Candidates.{AddsCandidates, claimant_by, transactions_sent, work_where}
 use Rattle.society_core.specs.Owners.{CutWork, cut_work, is_at, is_version_at, names_recording, versions_of_transmission}
 use Rattle.society_core.specs.declared.claim_list.Candidate.{Candidate}
 use Rattle.society_core.specs.declared.transmission_key.TransmissionKey.{TransmissionKey}
@@ -30,7 +30,7 @@ pub adds_alike : (weigh : CutWork → List Holder) (of_these : List ℕ → Bool
 adds_alike weigh of_these more others old new same adds = λ works stand. record {
   same = λ isrc is.
       (adds works stand).same isrc is
-      ∙ ap (map weigh) (filter-append (names_recording isrc) works more ∙ ap (λ (ws : List CutWork). filter (names_recording isrc) works ++ ws) (same isrc is) ∙ sym (filter-append (names_recording isrc) works others));
+      ∙ ap (map (claimant_by weigh)) (filter-append (names_recording isrc) works more ∙ ap (λ (ws : List CutWork). filter (names_recording isrc) works ++ ws) (same isrc is) ∙ sym (filter-append (names_recording isrc) works others));
 }
 
 -- transactions of a sender that pass by their places, as works

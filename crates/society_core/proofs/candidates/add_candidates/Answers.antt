@@ -5,6 +5,6 @@ use Rattle.society_core.proofs.candidates.add_candidates.Goals as goal
 use Rattle.society_core.specs.Pools.{holders_of}
 
 pub returns : goal.returns
-returns c =
+returns c numbered =
     added_by (holders_of c.args.kind c.args.office.now) (is_tallied c.args.tally.now) c.args.sender.now c.args.work.now c.args.transaction.now c.in_ok-named.named.items c.deref.result.now c.deref-2.result.now c.args.candidates.now.items c.append_candidates.new.candidates.items c.append_candidates.result
-    (c.in_ok-named.ensures) (c.deref.ensures.value ∙ c.in_ok-holders.ensures.weights) c.deref-2.ensures.value c.append_candidates.ensures
+    numbered (c.in_ok-named.ensures) (c.deref.ensures.value ∙ c.in_ok-holders.ensures.weights) c.deref-2.ensures.value c.append_candidates.ensures

@@ -57,3 +57,9 @@ returns-clause-headline g c = λ still.
     subst
     (λ (xs : List Answer). AppendsRun (state first).office (state first).book (state last).book (state last).is_clean requests xs c.loop-request.answers.items) c.reserve.ensures.items ran in
     tells_what_came (state first).office (state first).book (state last).book (state last).is_clean requests c.args.answers.now.items c.loop-request.answers.items from_old still
+
+pub returns-clause-sound : goal.returns-clause-sound
+returns-clause-sound g c = λ clean.
+    let first = c.args.desk.now in
+    let last = c.loop-request.desk in
+    ((g.met.S.Store.laws first).sound (c.loop-request.invariant.clean clean), (g.met.S.Store.laws last).sound clean)

@@ -1,0 +1,17 @@
+use Rattle.std.proofs.Common.{◌≡◌, ◌∙◌, Bool, true, OnOk, ap, subst, sym}
+use Rattle.cwr_files.specs.Transaction.{number_of_work}
+use Rattle.society_core.specs.Candidates.{AddsWorks, work_where}
+use Rattle.society_core.proofs.CandidateLemmas.{number_read}
+use Rattle.society_closings.specs.CutWorks.{is_chosen}
+use Rattle.society_closings.proofs.cut_works.add_transaction.Goals as goal
+
+pub returns : goal.returns
+returns c =
+    let t = c.args.transaction.now in
+    let numbered = number_read (number_of_work t) c.in-Some.work (sym c.in-Some.is ∙ c.work_number.ensures) in
+    let chosen : is_chosen c.args.chosen.now c.args.number c.args.place (number_of_work t) ≡ true =
+    ap (is_chosen c.args.chosen.now c.args.number c.args.place) numbered ∙ sym c.is_at.ensures ∙ c.if-not-is_at.false in
+    subst
+    (λ (b : Bool). OnOk c.add_candidates.result (AddsWorks c.args.kind c.args.office.now c.args.tally.now (work_where b c.args.sender.now t) c.args.candidates.now.items c.add_candidates.new.candidates.items))
+    (sym chosen)
+    (c.add_candidates.ensures numbered)
