@@ -129,4 +129,5 @@ def main():
     sys.exit(words.samples is not None and try_samples(words.program, words.samples))
 
 
-main()
+if __name__ == "__main__":
+    main()
