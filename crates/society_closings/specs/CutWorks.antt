@@ -55,6 +55,11 @@ pub record NotesMore (old new : NamedWorks) : Type 0 where
 abbrev pub NotesWanted : BTreeSet (List ℕ) → NamedWorks → Row → Type 0
 NotesWanted wanted named row = (isrc : List ℕ) → contains bytes_cmp wanted isrc ≡ true → has_at 3 (Text isrc) row ≡ true → IsNoted named row
 
+-- so of each row of the tables whose sender is one of these
+abbrev pub NotesSenders : (List ℕ → Bool) → BTreeSet (List ℕ) → NamedWorks → Trees → Type 0
+NotesSenders of_these wanted named db =
+    AllByRecursion (λ row. of_these (text_at 0 row) ≡ true → NotesWanted wanted named row) (rows_in layout.recordings db)
+
 -- each work is noted that names a recording in the tables, in whichever of its versions
 abbrev pub NotesRecording : Trees → List ℕ → NamedWorks → Type 0
 NotesRecording db isrc named = AllByRecursion (λ row. has_at 3 (Text isrc) row ≡ true → IsNoted named row) (rows_in layout.recordings db)

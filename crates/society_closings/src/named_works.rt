@@ -4,14 +4,14 @@ ghost use Rattle.std.specs.BTreeSet.{IsFromIterResult, contains};
 ghost use Rattle.std.specs.List.{AllByRecursion, list_any};
 ghost use Rattle.society_core.specs.Keys.{bytes_cmp};
 ghost use Rattle.society_rows.specs.Rows.{recording_values};
-ghost use Rattle.society_closings.specs.CutWorks.{IsNoted, NotesMore, NotesWanted, is_noted, notes_of_sender};
+ghost use Rattle.society_closings.specs.CutWorks.{IsNoted, NotesMore, NotesSenders, NotesWanted, is_noted, notes_of_sender};
 ghost use Rattle.society_book.specs.Steps.{Looks};
 ghost use Rattle.society_rows.specs.Between.{within};
 ghost use Rattle.society_closings.specs.Choosing.{NotesCut};
 
 use society_book::distinct_isrcs;
 use society_core::TransmissionKey;
-use society_rows::{RecordingRow, RowFault, TableName, all_rows};
+use society_rows::{RecordingRow, RowFault, sender_recordings};
 use sqlite::{Alter, Row, Transaction};
 use std::alloc::{AllocError, Global};
 use std::collections::{BTreeMap, BTreeSet};
@@ -117,6 +117,40 @@ fn may_be(wanted: &BTreeSet<Isrc>, text: &[u8]) -> bool
     }
 }
 
+// Notes the works of a sender that name a wanted recording, by the sender's rows alone.
+fn note_sender<S: Alter>(
+    tx: &mut Transaction<'_, S>,
+    sender: &SenderKey,
+    wanted: &BTreeSet<Isrc>,
+    named: &mut NamedWorks,
+) -> Result<(), RowFault>
+    ensures same_reference { tx.new.conn.ghost_name ≡ tx.old.conn.ghost_name }
+    ensures more { OnOk result (NotesMore named.old named.new) }
+    ensures looks { within S.Store tx.old tx.new Looks result (λ db _. NotesSenders (bytes_eq sender.now) wanted.now named.new db) }
+{
+    let rows = sender_recordings(tx, sender.as_bytes())?;
+    named.note_rows(rows.as_slice(), wanted)?;
+    Ok(())
+}
+
+// Notes the works of the senders of a cut that name a wanted recording.
+fn note_senders<S: Alter>(
+    tx: &mut Transaction<'_, S>,
+    cut: &[TransmissionKey],
+    wanted: &BTreeSet<Isrc>,
+    named: &mut NamedWorks,
+) -> Result<(), RowFault>
+    ensures same_reference { tx.new.conn.ghost_name ≡ tx.old.conn.ghost_name }
+    ensures more { OnOk result (NotesMore named.old named.new) }
+    ensures looks { within S.Store tx.old tx.new Looks result
+        (λ db _. NotesSenders (λ sender. list_any (λ key. bytes_eq key.sender sender) cut.now) wanted.now named.new db) }
+{
+    for key in cut {
+        note_sender(tx, &key.sender, wanted, named)?;
+    }
+    Ok(())
+}
+
 /// The works of the senders of a cut that name one of these recordings, in whichever of their versions.
 pub(crate) fn named_works<S: Alter>(
     alloc: Global,
@@ -128,9 +162,11 @@ pub(crate) fn named_works<S: Alter>(
     ensures looks { within S.Store tx.old tx.new Looks result (NotesCut cut.now recordings.now) }
 {
     let mut named = NamedWorks::of_cut(alloc, cut)?;
+    if recordings.is_empty() {
+        // Where nothing was played no work is looked for.
+        return Ok(named);
+    }
     let wanted = set_of(alloc, recordings)?;
-    // The key of this table does not begin with the recording, so one pass over it serves them all.
-    let rows = all_rows(tx, TableName::Recordings)?;
-    named.note_rows(rows.as_slice(), &wanted)?;
+    note_senders(tx, cut, &wanted, &mut named)?;
     Ok(named)
 }

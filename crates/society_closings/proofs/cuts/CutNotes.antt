@@ -1,6 +1,8 @@
 -- Works that are noted: by a row, by a list of rows, and by the rows of a recording.
-use Rattle.std.proofs.Common.{◌≡◌, ◌∙◌, ◌||◌, Bool, true, false, cond, ℕ, List, [], ◌∷◌, Option, Some, is_some, refl, ap, ap₂, ◌&&◌, sym, subst, filter, bytes_eq}
+use Rattle.std.proofs.Common.{◌≡◌, ◌∙◌, ◌||◌, Bool, true, false, cond, ℕ, List, [], ◌∷◌, Option, Some, is_some, refl, ap, ap₂, ◌&&◌, ◌==◌, length, sym, subst, filter, bytes_eq}
 use Rattle.std.proofs.lemmas.Bool.{false≢true}
+use Rattle.std.proofs.lemmas.Bool.Decides.{Decides-eqb}
+use Rattle.std.proofs.lemmas.List.{nil_from_length}
 use Rattle.std.proofs.lemmas.List.Sorted.{IsPermutation-sym}
 use Rattle.std.proofs.lemmas.Slice.Eq.{bytes_eq-Decides}
 use Rattle.std.specs.BTreeMap as tree
@@ -11,15 +13,21 @@ use Rattle.std.proofs.lemmas.Map.Text.{is_eq-slice_cmp}
 use Rattle.society_core.specs.Keys.{bytes_cmp}
 use Rattle.society_core.specs.declared.transmission_key.TransmissionKey.{TransmissionKey}
 use Rattle.society_rows.specs.Layout as layout
-use Rattle.society_rows.specs.Reads.{Lists, has_at}
+use Rattle.society_rows.specs.Reads.{Lists, has_at, has_key}
 use Rattle.society_rows.specs.Stored.{rows_in}
-use Rattle.society_closings.specs.CutWorks.{IsNoted, NotesMore, NotesRecording, NotesRecordings, NotesWanted, has_work, is_noted, notes_of_sender}
-use Rattle.society_book.specs.Columns.{text_at}
+use Rattle.society_rows.proofs.readings.KeyEquality.{text_decides}
+use Rattle.society_closings.specs.CutWorks.{IsNoted, NotesMore, NotesRecording, NotesRecordings, NotesSenders, NotesWanted, has_work, is_noted, notes_of_sender}
+use Rattle.society_book.specs.Columns.{text_at, text_of}
 use Rattle.society_closings.specs.declared.named_works.NamedWorks.{NamedWorks}
-use Rattle.sqlite_trees.proofs.ListLemmas.{all-permutation, all_weaker}
+use Rattle.sqlite_rules.proofs.ListLemmas.{all_from}
+use Rattle.sqlite_schema.specs.Rules.{equal}
+use Rattle.sqlite_trees.proofs.ListLemmas.{all-permutation, all_both, all_weaker}
 use Rattle.sqlite_trees.specs.Tree.{Trees}
-use Rattle.sqlite_value.specs.Order.{Row}
-use Rattle.sqlite_value.specs.declared.value.Value.TheVariants.{Text}
+use Rattle.sqlite_value.specs.Order.{Row, column}
+use Rattle.sqlite_value.specs.declared.keys.Collation.TheVariants.{Binary}
+use Rattle.sqlite_value.specs.declared.value.Value.{Value}
+use Rattle.sqlite_value.specs.declared.value.Value.TheVariants.{Blob, Int, Null, Real, Text}
+use Rattle.work_ids.specs.SenderKey.{is_sender_key}
 
 -- notes that stay as they are
 pub notes_still : (named : NamedWorks) → NotesMore named named
@@ -70,12 +78,53 @@ any_bytes x (y ∷ ys) = ap₂ (λ (a b : Bool). a || b) (sym (is_eq-slice_cmp x
 in_set : (recordings : List (List ℕ)) (wanted : BTreeSet (List ℕ)) → IsFromIterResult bytes_cmp recordings wanted → (isrc : List ℕ) → list_any (bytes_eq isrc) recordings ≡ true → contains bytes_cmp wanted isrc ≡ true
 in_set recordings wanted made isrc is = made.0 isrc ∙ sym (any_bytes isrc recordings) ∙ is
 
--- once the rows of all recordings were gone over, the works of those that are wanted are noted
-pub wanted_noted : (db : Trees) (recordings : List (List ℕ)) (wanted : BTreeSet (List ℕ)) (named : NamedWorks) (found shown : List Row) → IsFromIterResult bytes_cmp recordings wanted → Lists layout.recordings (λ _. true) 4 db found → shown ≡ found → AllByRecursion (NotesWanted wanted named) shown → NotesRecordings db (λ isrc. list_any (bytes_eq isrc) recordings) named
-wanted_noted db recordings wanted named found shown made lists same all isrc is =
+-- a row that begins with the text of a sender is one of the sender's, as SQL finds them
+key_of_sender : (s : List ℕ) (row : Row) → is_sender_key s ≡ true → bytes_eq s (text_at 0 row) ≡ true → has_key (Text s ∷ []) row ≡ true
+key_of_sender s row key = by_value (column row 0)
+  where
+    none_such : bytes_eq s [] ≡ true → ⊥
+    none_such same = false≢true (subst (λ (x : List ℕ). is_sender_key x ≡ true) ((bytes_eq-Decides s []).0 same) key)
+
+    by_value : (v : Value) → bytes_eq s (text_of v) ≡ true → (equal Binary v (Text s) && true) ≡ true
+    by_value (Text t) same = ap (λ (b : Bool). b && true) ((text_decides t s).1 (sym ((bytes_eq-Decides s t).0 same)))
+    by_value (Int n) same = absurd (none_such same)
+    by_value (Real x) same = absurd (none_such same)
+    by_value (Blob bytes) same = absurd (none_such same)
+    by_value Null same = absurd (none_such same)
+
+-- once the rows of a sender were gone over, the works of its recordings that are wanted are noted
+pub sender_noted : (wanted : BTreeSet (List ℕ)) (named : NamedWorks) (s : List ℕ) (db : Trees) (found shown : List Row) → is_sender_key s ≡ true → Lists layout.recordings (has_key (Text s ∷ [])) 4 db found → shown ≡ found → AllByRecursion (NotesWanted wanted named) shown → NotesSenders (bytes_eq s) wanted named db
+sender_noted wanted named s db found shown key lists same all =
     let rows = rows_in layout.recordings db in
-    let each = all_passing (λ _. true) (NotesWanted wanted named) rows (all-permutation (NotesWanted wanted named) found (filter (λ _. true) rows) (IsPermutation-sym (filter (λ _. true) rows) found lists.rows) (subst (AllByRecursion (NotesWanted wanted named)) same all)) in
-    all_weaker (λ row. true ≡ true → NotesWanted wanted named row) (λ row. has_at 3 (Text isrc) row ≡ true → IsNoted named row) (λ row notes at. notes refl isrc (in_set recordings wanted made isrc is) at) rows each
+    let passes = has_key (Text s ∷ []) in
+    let each = all_passing passes (NotesWanted wanted named) rows (all-permutation (NotesWanted wanted named) found (filter passes rows) (IsPermutation-sym (filter passes rows) found lists.rows) (subst (AllByRecursion (NotesWanted wanted named)) same all)) in
+    all_weaker (λ row. passes row ≡ true → NotesWanted wanted named row) (λ row. bytes_eq s (text_at 0 row) ≡ true → NotesWanted wanted named row) (λ row notes is. notes (key_of_sender s row key is)) rows each
+
+-- of no sender
+pub no_senders : (wanted : BTreeSet (List ℕ)) (named : NamedWorks) (db : Trees) → NotesSenders (λ _. false) wanted named db
+no_senders wanted named db = all_from (λ row. false ≡ true → NotesWanted wanted named row) (rows_in layout.recordings db) (λ row has never. absurd (false≢true never))
+
+-- of one sender more
+pub one_sender_more : (wanted : BTreeSet (List ℕ)) (old new : NamedWorks) (s : List ℕ) (before after : List ℕ → Bool) (db : Trees) → ((q : List ℕ) → after q ≡ (before q || bytes_eq s q)) → NotesMore old new → NotesSenders before wanted old db → NotesSenders (bytes_eq s) wanted new db → NotesSenders after wanted new db
+one_sender_more wanted old new s before after db next more =
+    all_both (λ row. before (text_at 0 row) ≡ true → NotesWanted wanted old row) (λ row. bytes_eq s (text_at 0 row) ≡ true → NotesWanted wanted new row) (λ row. after (text_at 0 row) ≡ true → NotesWanted wanted new row)
+    (λ row was is asked. by_case row was is (before (text_at 0 row)) refl (sym (next (text_at 0 row)) ∙ asked)) (rows_in layout.recordings db)
+  where
+    by_case : (row : Row) → (before (text_at 0 row) ≡ true → NotesWanted wanted old row) → (bytes_eq s (text_at 0 row) ≡ true → NotesWanted wanted new row) → (b : Bool) → before (text_at 0 row) ≡ b → (b || bytes_eq s (text_at 0 row)) ≡ true → NotesWanted wanted new row
+    by_case row was is true here asked = wanted_still wanted old new more row (was here)
+    by_case row was is false here asked = is asked
+
+-- once the rows of the senders were gone over of which works are noted, the works of the recordings that are wanted are noted
+pub wanted_noted : (db : Trees) (recordings : List (List ℕ)) (wanted : BTreeSet (List ℕ)) (named : NamedWorks) (of_these : List ℕ → Bool) → IsFromIterResult bytes_cmp recordings wanted → ((s : List ℕ) → notes_of_sender named s ≡ of_these s) → NotesSenders of_these wanted named db → NotesRecordings db (λ isrc. list_any (bytes_eq isrc) recordings) named
+wanted_noted db recordings wanted named of_these made senders notes isrc is =
+    all_weaker (λ row. of_these (text_at 0 row) ≡ true → NotesWanted wanted named row) (λ row. has_at 3 (Text isrc) row ≡ true → IsNoted named row)
+    (λ row noted at asked. noted (sym (senders (text_at 0 row)) ∙ asked) isrc (in_set recordings wanted made isrc is) at asked) (rows_in layout.recordings db) notes
+
+-- of no recording
+pub none_wanted : (db : Trees) (recordings : List (List ℕ)) (named : NamedWorks) → (length recordings == 0) ≡ true → NotesRecordings db (λ isrc. list_any (bytes_eq isrc) recordings) named
+none_wanted db recordings named empty isrc is =
+    let none : recordings ≡ [] = nil_from_length recordings ((Decides-eqb (length recordings) 0).0 empty) in
+    absurd (false≢true (sym (ap (list_any (bytes_eq isrc)) none) ∙ is))
 
 or_later : (b c : Bool) → c ≡ true → (b || c) ≡ true
 or_later true c e = refl

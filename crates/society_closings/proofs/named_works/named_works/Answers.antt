@@ -1,20 +1,18 @@
-use Rattle.std.proofs.Common.{Ok, ◌∙◌}
+use Rattle.std.proofs.Common.{List, Ok, sym, ℕ, ◌∙◌}
 use Rattle.sqlite.specs.Held.{state}
-use Rattle.society_rows.specs.declared.tables.TableName.TheVariants as name
-use Rattle.society_rows.specs.Layouts.{HasTable}
-use Rattle.society_rows.specs.Stored.{HasLayout}
-use Rattle.society_rows.proofs.definitions.FirstTables.{has_table}
-use Rattle.society_rows.proofs.readings.Queries.{reads_where}
-use Rattle.society_closings.proofs.cuts.CutNotes.{wanted_noted}
-use Rattle.society_book.proofs.together.StepLemmas.{looks_as, looks_of}
+use Rattle.society_closings.proofs.cuts.CutNotes.{none_wanted, wanted_noted}
+use Rattle.society_book.proofs.together.StepLemmas.{looks_as, nothing}
 use Rattle.society_closings.proofs.named_works.named_works.Goals as goal
+
+pub returns-then-is_empty-clause-looks : goal.returns-then-is_empty-clause-looks
+returns-then-is_empty-clause-looks g c =
+    let old = state g.S.Store c.args.tx.now.conn.now in
+    nothing old (Ok c.in_ok-named.named) _ (c.in_ok-named.ensures, none_wanted old.now.trees c.args.recordings.now c.in_ok-named.named (sym c.is_empty.ensures ∙ c.if-is_empty.true))
 
 pub returns-clause-looks : goal.returns-clause-looks
 returns-clause-looks g c =
     let old = state g.S.Store c.args.tx.now.conn.now in
-    let new = state g.S.Store c.all_rows.new.tx.conn.now in
-    looks_as old new _ (Ok c.note_rows.new.self) _ _ (looks_of old new (Ok c.in_ok-rows.rows) _ (reads_where (HasTable name.Recordings) HasLayout old new (Ok c.in_ok-rows.rows) _ (has_table name.Recordings old.now) c.in_ok-rows.ensures.read))
-    (λ lists. (
-      (λ s. c.in_ok-note_rows.ensures.more.senders s ∙ c.in_ok-named.ensures s),
-      wanted_noted old.now.trees c.args.recordings.now c.in_ok-wanted.wanted c.note_rows.new.self _ _ c.in_ok-wanted.ensures lists c.as_slice.ensures.value c.in_ok-note_rows.ensures.noted,
-    ))
+    let new = state g.S.Store c.note_senders.new.tx.conn.now in
+    let senders = λ (s : List ℕ). c.in_ok-note_senders.ensures.more.senders s ∙ c.in_ok-named.ensures s in
+    looks_as old new tt (Ok c.note_senders.new.named) _ _ c.in_ok-note_senders.ensures.looks
+    (λ notes. (senders, wanted_noted old.now.trees c.args.recordings.now c.in_ok-wanted.wanted c.note_senders.new.named _ c.in_ok-wanted.ensures senders notes))
