@@ -1,5 +1,5 @@
 #!/usr/bin/env python3
-"""Tries examples/backup and examples/restore on a running office: what they leave, and that the office is never left halted.
+"""Tries society-backup and society-restore on a running office: what they leave, and that the office is never left halted.
 
 A backup is made under load, over an office that is down, into a full disk (a small tmpfs; as root), killed in the middle, by signals
 too, beside a second one, with a copying that hangs, beside a strange process, with old copies. Then restores: over the running office,
@@ -22,7 +22,7 @@ import time
 import common
 from common import NO_WORKS, OFFICE, ROOT, SENDER
 
-BACKUP, RESTORE = ROOT / "examples/backup", ROOT / "examples/restore"
+BACKUP, RESTORE = ROOT / "office/packaging/society-backup", ROOT / "office/packaging/society-restore"
 PATH = f"/v1/senders/{SENDER}/transmissions"
 # Most seconds until something that has to happen at once has happened.
 SOON = 3

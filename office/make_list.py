@@ -8,11 +8,15 @@ MODULES = "usr/lib/python3/dist-packages/society_office"
 OTHERS = [
     ("office/society-office", "usr/bin/society-office", "755"),
     ("examples/desk/faults.json", "usr/share/society/faults.json", "644"),
+    ("office/packaging/society-backup", "usr/sbin/society-backup", "755"),
+    ("office/packaging/society-restore", "usr/sbin/society-restore", "755"),
     ("office/packaging/society-office.1", "usr/share/man/man1/society-office.1", "644"),
+    *((f"office/packaging/{it}.8", f"usr/share/man/man8/{it}.8", "644") for it in ("society-backup", "society-restore")),
     ("office/packaging/society-office.default", "etc/default/society-office", "644"),
     *(
         (f"office/packaging/society-{it}", f"usr/lib/systemd/system/society-{it}", "644")
-        for it in ("site.service", "site.timer", "health.service", "health.timer")
+        for name in ("backup", "site", "health")
+        for it in (f"{name}.service", f"{name}.timer")
     ),
 ]
 
