@@ -40,7 +40,11 @@ class Claims:
         else:
             found = copy.rows(f"{self.QUESTION} WHERE r.isrc IN (SELECT value FROM json_each(?))", json.dumps(sorted(set(isrcs))))
         for isrc, *rest in found:
-            self.by_isrc.setdefault(isrc, []).append(Claim(*rest))
+            claim = Claim._make(rest)
+            if isrc in self.by_isrc:
+                self.by_isrc[isrc].append(claim)
+            else:
+                self.by_isrc[isrc] = [claim]
 
     def ever(self, isrc: str) -> list[Claim]:
         """All versions that name it."""

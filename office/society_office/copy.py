@@ -46,7 +46,18 @@ class Copy:
         try:
             yield from self.database.execute(question, values)
         except sqlite3.DatabaseError as error:
-            raise OfficeError(f"{self.path}: {error}: restore another copy, and ask `society audit` about this one") from error
+            raise self.damaged(error) from error
+
+    def listed(self, question: str, *values: Any) -> list[Any]:
+        """The rows that answer a question, all at once, which is faster than one after another."""
+        try:
+            return self.database.execute(question, values).fetchall()
+        except sqlite3.DatabaseError as error:
+            raise self.damaged(error) from error
+
+    def damaged(self, error: sqlite3.DatabaseError) -> OfficeError:
+        """What is said where a question can't be answered."""
+        return OfficeError(f"{self.path}: {error}: restore another copy, and ask `society audit` about this one")
 
     def row(self, question: str, *values: Any) -> Any:
         """The first row that answers a question, or None."""

@@ -1,5 +1,6 @@
 """What is proposed, rehearsed and unclaimed, as it is printed."""
 
+import heapq
 import pathlib
 
 from rich.console import Console
@@ -14,6 +15,8 @@ from society_office.unclaimed import BOOKING, CURES, SETTLED, Cause, Item, Uncla
 
 # Accounts and recordings that a rehearsal lists.
 MOST_LISTED = 40
+# Rows of a table of unclaimed money; of more of them the greatest are printed.
+MOST_ROWS = 1_000
 
 
 def tell_proposal(it: Proposal) -> None:
@@ -30,14 +33,22 @@ def claimants_text(it: Item) -> str:
     return "; ".join(f"{who.publisher} {who.work} {who.title}" for who in it.claimants)
 
 
-def show_unclaimed(out: Console, items: list[Item], amounts: dict[int, int]) -> None:
-    """Prints unclaimed money by cause, and its sums by pool."""
+def printed(listed: list[Item]) -> list[Item]:
+    """The items that are printed: all, or of very many those with the most units."""
+    return listed if len(listed) <= MOST_ROWS else heapq.nlargest(MOST_ROWS, listed, key=lambda it: it.units)
+
+
+def show_unclaimed(out: Console, items: list[Item], amounts: dict[int, int], rest: str) -> None:
+    """Prints unclaimed money by cause, and its sums by pool; `rest` says where the items are that are too many to be printed."""
     for cause, listed in by_cause(items).items():
         units = sum(it.units for it in listed)
         out.print(f"{cause.value}: {units:,} units, {counted(len(listed), 'recording')}")
         out.print(CURES[cause])
+        if len(listed) > MOST_ROWS:
+            out.print(f"the greatest {MOST_ROWS:,} of {len(listed):,} stand here: {rest}")
         rows = [
-            (str(it.pool), it.right, it.isrc, it.units, claimants_text(it), "; ".join(filter(None, (it.why, it.since)))) for it in listed
+            (str(it.pool), it.right, it.isrc, it.units, claimants_text(it), "; ".join(filter(None, (it.why, it.since))))
+            for it in printed(listed)
         ]
         out.print(table(["pool", "right", "ISRC", "units", "works that name it", "why"], rows, ["pool", "units"]))
         out.print()
@@ -56,7 +67,10 @@ def show_later(out: Console, copy: Copy, items: list[Item], folder: pathlib.Path
     for found in later(copy, items):
         out.print()
         out.print(f"{found.units:,} units of the {found.right} pools have one owner now:")
-        out.print(table(["ISRC", "units"], list(found.by_isrc.items()), ["units"]))
+        rows = list(found.by_isrc.items())
+        if len(rows) > MOST_ROWS:
+            out.print(f"the first {MOST_ROWS:,} of {len(rows):,} stand here: `--settle` writes every one of them")
+        out.print(table(["ISRC", "units"], rows[:MOST_ROWS], ["units"]))
         if folder is not None:
             settle(copy, folder, found.right, found.units, found.returned)
     if any(it.cause in (Cause.CONFLICT, Cause.LATE) for it in items):
@@ -94,6 +108,6 @@ def show_rehearsal(out: Console, it: Rehearsal) -> None:
         out.print(f"and {len(listed) - MOST_LISTED:,} more accounts with {sum(units for _, units in listed[MOST_LISTED:]):,} units")
     out.print()
     out.print("What would stay unclaimed:")
-    show_unclaimed(out, Unclaimed(it.copy).items(it.pool), it.copy.pools())
+    show_unclaimed(out, Unclaimed(it.copy).items(it.pool), it.copy.pools(), "each of the others has no more units")
     out.print()
     out.print("Nothing was sent to the office. A closed pool stays closed.")

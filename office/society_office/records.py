@@ -27,7 +27,8 @@ def text(raw: bytes) -> str:
         found = raw.decode("utf-8")
     except UnicodeDecodeError:
         found = raw.decode("latin-1")
-    return "".join(it if it.isprintable() else "?" for it in found.strip())
+    found = found.strip()
+    return found if found.isprintable() else "".join(it if it.isprintable() else "?" for it in found)
 
 
 @dataclasses.dataclass(frozen=True)
@@ -56,7 +57,7 @@ class Transaction:
     @property
     def title(self) -> str:
         """The title, as people read it."""
-        return text(self.first.rstrip(b"\r")[19:79])
+        return title_of(self.first)
 
     @property
     def work(self) -> str:
@@ -93,15 +94,30 @@ def party_of(kind: bytes, line: bytes, sender: str) -> Party:
     return Party(account_of(sender, ipi, number), name, side, text(number))
 
 
+def groups(body: bytes) -> Iterator[tuple[str, list[int], int]]:
+    """The groups of works of a file: the kind, where each registration or revision starts, and where the group ends."""
+    for group in GROUP.finditer(body):
+        end = body.find(GROUP_END, group.end())
+        yield group[1].decode(), [it.start() + 1 for it in STARTS[group[1]].finditer(body, group.end(), end)], end
+
+
 def transactions(body: bytes) -> list[Transaction]:
     """The registrations and revisions of a file that was accepted, in the order of their places."""
     found = []
-    for group in GROUP.finditer(body):
-        end = body.find(GROUP_END, group.end())
-        starts = [it.start() + 1 for it in STARTS[group[1]].finditer(body, group.end(), end)]
-        kind = group[1].decode()
+    for kind, starts, end in groups(body):
         found += [Transaction(kind, body[start : stop - 1], start) for start, stop in zip(starts, [*starts[1:], end + 1])]
     return found
+
+
+def titles(body: bytes) -> list[str]:
+    """The titles of all registrations and revisions of a file, by their places."""
+    starts = [start for _, listed, _ in groups(body) for start in listed]
+    return [title_of(body[start : body.index(b"\n", start)]) for start in starts]
+
+
+def title_of(first: bytes) -> str:
+    """The title in the first line of a registration or revision, as people read it."""
+    return text(first.rstrip(b"\r")[19:79])
 
 
 class Works:
@@ -135,7 +151,7 @@ class Works:
             return found.title
         key = (sender, number)
         if key not in self.titles:
-            self.titles[key] = tuple(it.title for it in transactions(self.copy.body(sender, number)))
+            self.titles[key] = titles(self.copy.body(sender, number))
         return self.titles[key][place]
 
 

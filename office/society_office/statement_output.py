@@ -10,11 +10,14 @@ from rich.table import Table
 from society_office import pages
 from society_office.copy import Copy
 from society_office.parties import names_of, parties
-from society_office.statements import Statement, Statements, as_csv, folder_of, write_csv
+from society_office.statements import Statement, Statements, Sum, as_csv, folder_of
 from society_office.terminal import console, counting, say, table
 
-# A page of a statement that stands in a folder shows no more lines than this; its CSV has them all.
+# A page of a statement shows no more lines and works than this; its CSV has them all.
 MOST_LINES = 2_000
+CSV_NAME = "statement.csv"
+# Where lines are too many to be printed, so many of the greatest works and accounts are.
+MOST_SUMS = 100
 
 
 def heading(found: Statement) -> str:
@@ -25,7 +28,7 @@ def heading(found: Statement) -> str:
 def verdict(found: Statement) -> str:
     """What the statement comes to, beside the balance."""
     part = "" if found.is_whole else f" by the pools from {found.since} on"
-    if not found.credits:
+    if not found.sums.count:
         return f"no credit{part}: no pool has credited " + ("a work of this sender" if found.is_of_publisher else "this account")
     if found.balance is None:
         return f"{found.total:,} units in all{part}, over all accounts"
@@ -37,38 +40,52 @@ def verdict(found: Statement) -> str:
 
 
 def tables_of(found: Statement) -> Iterator[Table]:
-    """It as tables: every credit, then the sums."""
+    """It as tables: every credit, then the sums; of more credits than are held, the greatest sums alone."""
     by_account = found.is_of_publisher
     columns = ["pool", "right", "ISRC", "title", "work", "publisher", *(["account"] if by_account else []), "units"]
     rows = ((str(it.pool), *it[1:6], *([it.account] if by_account else []), it.units) for it in found.credits)
-    yield table(columns, rows, ["pool", "units"])
+    if found.is_held:
+        yield table(columns, rows, ["pool", "units"])
     yield table(["pool", "right", "units"], ((*it.words, it.units) for it in found.by_pool), ["pool", "units"], "By pool")
-    yield table(["title", "work", "publisher", "units"], ((*it.words, it.units) for it in found.by_work), ["units"], "By work")
+    works = ((*it.words, it.units) for it in shown(found, found.by_work))
+    yield table(["title", "work", "publisher", "units"], works, ["units"], f"By work{of_all(found, found.by_work)}")
     if by_account:
-        named = ((it.words[0], found.accounts.get(it.words[0], ""), it.units) for it in found.by_account)
-        yield table(["account", "name", "units"], named, ["units"], "By account")
+        named = ((it.words[0], found.accounts.get(it.words[0], ""), it.units) for it in shown(found, found.by_account))
+        yield table(["account", "name", "units"], named, ["units"], f"By account{of_all(found, found.by_account)}")
+
+
+def shown(found: Statement, sums: list[Sum]) -> list[Sum]:
+    """The sums that are printed."""
+    return sums if found.is_held else sums[:MOST_SUMS]
+
+
+def of_all(found: Statement, sums: list[Sum]) -> str:
+    """What a title says where not all sums are printed."""
+    left = len(sums) - len(shown(found, sums))
+    return f", the greatest {MOST_SUMS:,} of {len(sums):,}" if left else ""
 
 
 def show(found: Statement, out: Console) -> None:
     """Prints it."""
     out.print(heading(found))
-    for listed in tables_of(found) if found.credits else ():
+    if not found.is_held:
+        out.print(f"\n{found.sums.count:,} credits, too many for a table: `--format csv` has every one of them")
+    for listed in tables_of(found) if found.sums.count else ():
         out.print()
         out.print(listed)
-    if found.credits:
+    if found.sums.count:
         out.print()
     out.print(verdict(found))
 
 
-def as_page(found: Statement, taken: float, most: int | None = None) -> str:
-    """It as a page; with no more than so many lines, where a number is given."""
-    lines = found.credits if most is None else found.credits[:most]
-    works = found.by_work if most is None else found.by_work[:most]
+def as_page(found: Statement, taken: float, beside: str = "") -> str:
+    """It as a page, with no more than so many lines; `beside` is the name of the CSV file that stands beside it."""
     return pages.page(
         "statement.html",
         it=found,
-        lines=lines,
-        works=works,
+        lines=found.credits[:MOST_LINES],
+        works=found.by_work[:MOST_LINES],
+        beside=beside,
         verdict=verdict(found),
         heading=heading(found),
         taken=taken,
@@ -79,17 +96,20 @@ def write(found: Statement, form: str, output: pathlib.Path | None, taken: float
     """Writes it in a form, to a file or to standard output."""
     if form == "table" and output is None:
         show(found, console())
-    elif form == "csv" and output is None:
-        write_csv(found.credits, sys.stdout)
     elif output is None:
         sys.stdout.write(as_page(found, taken))
-    elif form == "csv":
-        with pages.new_file(output) as file:
-            write_csv(found.credits, file)
     elif form == "pdf":
         pages.write_pdf(as_page(found, taken), output)
     else:
         pages.write_text(output, as_page(found, taken) if form == "html" else as_table(found))
+
+
+def write_csv(statements: Statements, key: str, since: int, output: pathlib.Path | None) -> Statement:
+    """Writes every line as CSV, to a file or to standard output; answers the statement without its lines."""
+    if output is None:
+        return statements.write_csv(key, since, sys.stdout)
+    with pages.new_file(output) as file:
+        return statements.write_csv(key, since, file)
 
 
 def as_table(found: Statement) -> str:
@@ -103,8 +123,8 @@ def as_table(found: Statement) -> str:
 def files_of(found: Statement, taken: float) -> Iterator[tuple[str, str]]:
     """The files of its folder."""
     folder = folder_of(found.key)
-    yield f"{folder}/index.html", as_page(found, taken, MOST_LINES)
-    yield f"{folder}/statement.csv", as_csv(found.credits)
+    yield f"{folder}/index.html", as_page(found, taken, CSV_NAME)
+    yield f"{folder}/{CSV_NAME}", as_csv(found.credits)
 
 
 def write_each(copy: Copy, since: int, into: pathlib.Path, pdf: bool) -> int:
@@ -116,7 +136,7 @@ def write_each(copy: Copy, since: int, into: pathlib.Path, pdf: bool) -> int:
         for found in statements.all(since, names):
             pages.write_all(into, files_of(found, copy.taken))
             if pdf:
-                pages.write_pdf(as_page(found, copy.taken, MOST_LINES), into / folder_of(found.key) / "statement.pdf")
+                pages.write_pdf(as_page(found, copy.taken, CSV_NAME), into / folder_of(found.key) / "statement.pdf")
             if not found.agrees:
                 differ += 1
                 say(f"{found.key}: {verdict(found)}", error=True)

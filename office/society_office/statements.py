@@ -2,9 +2,9 @@
 
 import csv
 import dataclasses
+import functools
 import io
 import itertools
-import json
 import operator
 import re
 from collections.abc import Iterable, Iterator
@@ -13,31 +13,20 @@ from typing import NamedTuple, TextIO
 from society_office.claims import Claim, Claims
 from society_office.copy import Copy
 from society_office.errors import OfficeError
+from society_office.lines import COLUMNS, NO_RECORDING, Credit, Lines, Pools, Sums, sums_of
 from society_office.parties import names_of, parties
 from society_office.plain_text import plain
 from society_office.records import UNCLAIMED, Works, sender_names
 
 SENDER = re.compile(r"[0-9A-Z]{11}", re.ASCII)
 ACCOUNT = re.compile(r"UNCLAIMED|I[0-9]{11}|P[0-9A-Z]{11}[!-~]([ -~]{0,7}[!-~])?", re.ASCII)
-NO_RECORDING = "-"
 # How many lines are noted at once.
 AT_ONCE = 10_000
+# Rows of an account that are read at once and put in order; more of them are read pool by pool.
+MOST_SORTED = 50_000
+MOST_NAMING = 2_000
 # Works that are held whole; of more of them the titles of their files are.
 MOST_LOADED = 5_000
-COLUMNS = ["pool", "right", "isrc", "title", "work", "publisher", "account", "units"]
-
-
-class Credit(NamedTuple):
-    """One line of a statement."""
-
-    pool: int
-    right: str
-    isrc: str
-    title: str
-    work: str
-    publisher: str
-    account: str
-    units: int
 
 
 class Sum(NamedTuple):
@@ -49,13 +38,14 @@ class Sum(NamedTuple):
 
 @dataclasses.dataclass(frozen=True)
 class Statement:
-    """What an account was credited, or what a publisher's works earned."""
+    """What an account was credited, or what a publisher's works earned: its first lines, no more than are held, and the sums of all."""
 
     key: str
     name: str
     office: str
     since: int
     credits: list[Credit]
+    sums: Sums
     balance: int | None
     publishers: dict[str, str]
     accounts: dict[str, str]
@@ -68,7 +58,12 @@ class Statement:
     @property
     def total(self) -> int:
         """All its units."""
-        return sum(it.units for it in self.credits)
+        return self.sums.total
+
+    @property
+    def is_held(self) -> bool:
+        """Whether all its lines are held."""
+        return len(self.credits) == self.sums.count
 
     @property
     def is_whole(self) -> bool:
@@ -83,26 +78,22 @@ class Statement:
     @property
     def by_pool(self) -> list[Sum]:
         """The units by pool and right."""
-        return summed((((str(it.pool), it.right), it.units) for it in self.credits))
+        return [Sum((str(pool), right), units) for (pool, right), units in self.sums.by_pool.items()]
 
-    @property
+    @functools.cached_property
     def by_work(self) -> list[Sum]:
         """The units by work, the greatest first."""
-        found = summed((((it.title, it.work, it.publisher), it.units) for it in self.credits))
-        return sorted(found, key=lambda it: (-it.units, it.words))
+        return greatest_first(self.sums.by_work.items())
 
     @property
     def by_account(self) -> list[Sum]:
         """The units by account, the greatest first."""
-        return sorted(summed((((it.account,), it.units) for it in self.credits)), key=lambda it: (-it.units, it.words))
+        return greatest_first(((account,), units) for account, units in self.sums.by_account.items())
 
 
-def summed(parts: Iterable[tuple[tuple[str, ...], int]]) -> list[Sum]:
-    """The sums of parts with the same words, in the order in which these come first."""
-    sums: dict[tuple[str, ...], int] = {}
-    for words, units in parts:
-        sums[words] = sums.get(words, 0) + units
-    return [Sum(*it) for it in sums.items()]
+def greatest_first(sums: Iterable[tuple[tuple[str, ...], int]]) -> list[Sum]:
+    """Sums, the greatest first."""
+    return sorted((Sum(*it) for it in sums), key=lambda it: (-it.units, it.words))
 
 
 class Statements:
@@ -115,50 +106,72 @@ class Statements:
         self.cuts, self.rights = copy.cuts(), copy.rights()
         self.names = sender_names(copy)
 
-    def credit(self, claims: Claims, pool: int, isrc: str, account: str, units: int) -> tuple[Credit, Claim | None]:
-        """A row of the credits with the title and the work that it comes from, and that work's version."""
+    def credit(self, claims: Claims, pool: int, isrc: str, account: str, units: int) -> Credit:
+        """A row of the credits with the title and the work that it comes from."""
         owner = None if isrc == NO_RECORDING else claims.owner(isrc, self.cuts[pool])
         if owner is None:
-            return Credit(pool, self.rights[pool], isrc, "", "", "", account, units), None
+            return Credit(pool, self.rights[pool], isrc, "", "", "", account, units)
         title = self.works.title(owner.sender, owner.number, owner.place)
-        return Credit(pool, self.rights[pool], isrc, title, owner.work, owner.sender, account, units), owner
+        return Credit(pool, self.rights[pool], isrc, title, owner.work, owner.sender, account, units)
 
     def of(self, key: str, since: int = 1) -> Statement:
         """The statement of an account or of a sender of files; an OfficeError where the key is neither."""
-        if SENDER.fullmatch(key):
-            return self.of_publisher(key, since)
-        if ACCOUNT.fullmatch(key):
-            return self.of_account(key, since)
-        raise OfficeError(f"{key} is no account (I00000000199, PPB000000012A1, UNCLAIMED) and no sender of files (PB000000012)")
+        if is_sender(key):
+            credits, sums = self.lines_of_publisher(key, since).read()
+            accounts = names_of(parties(self.copy, key))
+            return Statement(key, self.names.get(key, ""), self.copy.name, since, credits, sums, None, self.names, accounts)
+        lines, name = self.lines_of_account(key, since)
+        credits, sums = lines.read()
+        return Statement(key, name, self.copy.name, since, credits, sums, self.balance(key), self.names, {key: name})
 
-    def of_account(self, account: str, since: int = 1) -> Statement:
-        """What an account was credited by the pools from this number on."""
+    def write_csv(self, key: str, since: int, out: TextIO) -> Statement:
+        """Writes every line as CSV while it is read; answers the statement without lines and names, to be compared with the balance."""
+        if is_sender(key):
+            sums, balance = self.lines_of_publisher(key, since).write(out), None
+        else:
+            sums, balance = self.lines_of_account(key, since)[0].write(out), self.balance(key)
+        return Statement(key, "", self.copy.name, since, [], sums, balance, {}, {})
+
+    def balance(self, account: str) -> int:
+        """An account's balance."""
+        found = self.copy.row("SELECT units FROM balances WHERE account = ?", account)
+        return int(found[0]) if found else 0
+
+    def lines_of_account(self, account: str, since: int) -> tuple[Lines, str]:
+        """What an account was credited by the pools from this number on, and the account's name."""
         # All rows are looked at in any case; by the key's index they would be looked up one by one.
-        question = "SELECT pool, isrc, units FROM credits NOT INDEXED WHERE account = ? AND pool >= ? ORDER BY pool, line"
-        shared: dict[str, str] = {}
-        rows = [(pool, shared.setdefault(isrc, isrc), units) for pool, isrc, units in self.copy.rows(question, account, since)]
-        claims = Claims(self.copy, shared)
-        owners = {owner for pool, isrc, _ in rows if (owner := claims.owner(isrc, self.cuts[pool]))}
+        question = "SELECT pool, line, isrc, units FROM credits NOT INDEXED WHERE account = ? AND pool >= ? LIMIT ?"
+        rows = sorted(self.copy.listed(question, account, since, MOST_SORTED + 1))
+        if len(rows) > MOST_SORTED:
+            claims, pools = Claims(self.copy), self.pools_of(account, since)
+            # (what stands on UNCLAIMED is of no party; of another account the last rows that were read have works with its name)
+            rows = [] if account == UNCLAIMED else rows[-MOST_NAMING:]
+        else:
+            claims = Claims(self.copy, {it[2] for it in rows})
+            pools = by_pool((pool, isrc, None, units) for pool, _, isrc, units in rows)
+        owners = {owner for pool, _, isrc, _ in rows if (owner := claims.owner(isrc, self.cuts[pool]))}
         if len(owners) <= MOST_LOADED:
             self.works.load((it.sender, it.number, it.place) for it in owners)
-        found = [self.credit(claims, pool, isrc, account, units)[0] for pool, isrc, units in rows]
-        balance = self.copy.row("SELECT units FROM balances WHERE account = ?", account)
         name = self.name_of(account, sorted(owners, key=lambda it: (-it.number, it.sender, it.place)))
-        return Statement(account, name, self.copy.name, since, found, balance[0] if balance else 0, self.names, {account: name})
+        return Lines(claims, self.works, self.cuts, self.rights, pools, account=account), name
 
-    def of_publisher(self, sender: str, since: int = 1) -> Statement:
+    def pools_of(self, account: str, since: int) -> Pools:
+        """The rows of an account, pool by pool."""
+        question = "SELECT isrc, NULL, units FROM credits WHERE pool = ? AND +account = ? ORDER BY line"
+        for pool in self.cuts:
+            if pool >= since:
+                yield pool, self.copy.listed(question, pool, account)
+
+    def lines_of_publisher(self, sender: str, since: int) -> Lines:
         """What the works of a sender earned by the pools from this number on, for whatever account."""
-        own = {it[0] for it in self.copy.rows("SELECT DISTINCT isrc FROM recordings WHERE sender = ?", sender)}
-        claims = Claims(self.copy, own)
+        own = [it[0] for it in self.copy.rows("SELECT DISTINCT isrc FROM recordings WHERE sender = ?", sender)]
+        # Looking 3,000,000 rows up in a table of its own takes two thirds of the time that a list takes.
+        self.copy.database.execute("CREATE TEMP TABLE own (isrc TEXT PRIMARY KEY) WITHOUT ROWID")
+        self.copy.database.executemany("INSERT INTO own VALUES (?)", ((it,) for it in own))
         question = """SELECT pool, isrc, account, units FROM credits NOT INDEXED
-          WHERE pool >= ? AND isrc IN (SELECT value FROM json_each(?)) ORDER BY pool, line"""
-        lines = []
-        for pool, isrc, account, units in self.copy.rows(question, since, json.dumps(sorted(own))):
-            line, owner = self.credit(claims, pool, isrc, account, units)
-            if owner and owner.sender == sender:
-                lines.append(line)
-        accounts = names_of(parties(self.copy, sender))
-        return Statement(sender, self.names.get(sender, ""), self.copy.name, since, lines, None, self.names, accounts)
+          WHERE pool >= ? AND isrc IN (SELECT isrc FROM own) ORDER BY pool, line"""
+        pools = by_pool(self.copy.rows(question, since))
+        return Lines(Claims(self.copy, own), self.works, self.cuts, self.rights, pools, only=sender)
 
     def name_of(self, account: str, owners: Iterable[Claim]) -> str:
         """The name that the first of these versions gives the account's party."""
@@ -183,7 +196,8 @@ class Statements:
         for account, rows in itertools.groupby(self.copy.rows(question, since), key=operator.itemgetter(0)):
             lines = list(self.noted_lines(claims, account, rows))
             if account != UNCLAIMED:
-                yield Statement(account, names.get(account, ""), self.copy.name, since, lines, balances.get(account, 0), self.names, names)
+                name, balance = names.get(account, ""), balances.get(account, 0)
+                yield Statement(account, name, self.copy.name, since, lines, sums_of(lines), balance, self.names, names)
 
     def noted_lines(self, claims: Claims, account: str, rows: Iterable[tuple[str, int, int, str, int]]) -> Iterator[Credit]:
         """The lines of an account; whose work each comes from is noted in the table `earned`. What nobody was paid is noted only."""
@@ -193,7 +207,7 @@ class Statements:
             if owner:
                 earned.append((owner.sender, pool, line))
             if account != UNCLAIMED:
-                yield self.credit(claims, pool, isrc, account, units)[0]
+                yield self.credit(claims, pool, isrc, account, units)
             elif len(earned) == AT_ONCE:
                 self.note_earned(earned)
         self.note_earned(earned)
@@ -208,11 +222,24 @@ class Statements:
         others = {it.sender for it in self.copy.lines() if it.works}
         question = "SELECT sender, pool, isrc, account, units FROM earned JOIN credits USING (pool, line) ORDER BY sender, pool, line"
         for sender, rows in itertools.groupby(self.copy.rows(question), key=operator.itemgetter(0)):
-            lines = [self.credit(claims, pool, isrc, account, units)[0] for _, pool, isrc, account, units in rows]
+            lines = [self.credit(claims, pool, isrc, account, units) for _, pool, isrc, account, units in rows]
             others.discard(sender)
-            yield Statement(sender, self.names.get(sender, ""), self.copy.name, since, lines, None, self.names, names)
+            yield Statement(sender, self.names.get(sender, ""), self.copy.name, since, lines, sums_of(lines), None, self.names, names)
         for sender in sorted(others):
-            yield Statement(sender, self.names.get(sender, ""), self.copy.name, since, [], None, self.names, names)
+            yield Statement(sender, self.names.get(sender, ""), self.copy.name, since, [], Sums(), None, self.names, names)
+
+
+def is_sender(key: str) -> bool:
+    """Whether a key is a sender of files, not an account; an OfficeError where it is neither."""
+    if not SENDER.fullmatch(key) and not ACCOUNT.fullmatch(key):
+        raise OfficeError(f"{key} is no account (I00000000199, PPB000000012A1, UNCLAIMED) and no sender of files (PB000000012)")
+    return SENDER.fullmatch(key) is not None
+
+
+def by_pool(rows: Iterable[tuple[int, str, str | None, int]]) -> Pools:
+    """Rows in the order of their pools, pool by pool."""
+    for pool, listed in itertools.groupby(rows, key=operator.itemgetter(0)):
+        yield pool, ((isrc, account, units) for _, isrc, account, units in listed)
 
 
 def as_csv(credits: Iterable[Credit]) -> str:

@@ -1,5 +1,6 @@
 """Statements and parties, beside a reckoning of their own."""
 
+import collections
 import csv
 import io
 import json
@@ -9,7 +10,7 @@ import pytest
 import quarter
 import reckoning
 from click.testing import CliRunner
-from society_office import parties
+from society_office import lines, order_output, parties, statement_output, statements
 from society_office.cli import main
 from society_office.copy import open_copy
 from society_office.statements import Statements, folder_of
@@ -47,6 +48,61 @@ def test_a_publishers_statement_has_what_its_works_earned(copy: pathlib.Path, se
     wanted = sorted((*it[:6], account, it[6]) for account in reckoning.balances() for it in reckoning.lines_of(account) if it[5] == sender)
     assert sorted(found.credits) == wanted
     assert found.name == quarter.NAMES[sender]
+
+
+@pytest.fixture
+def every_statement_is_large(monkeypatch: pytest.MonkeyPatch) -> None:
+    """The limits of large statements, so low that those of the quarter are large."""
+    monkeypatch.setattr(lines, "MOST_HELD", 1)
+    monkeypatch.setattr(statements, "MOST_SORTED", 1)
+    monkeypatch.setattr(statement_output, "MOST_SUMS", 1)
+
+
+def earned_by(sender: str) -> list[tuple[int, str, str, str, str, str, str, int]]:
+    """What a sender's works earned, with the account of each line."""
+    return [(*it[:6], account, it[6]) for account in reckoning.balances() for it in reckoning.lines_of(account) if it[5] == sender]
+
+
+@pytest.mark.usefixtures("every_statement_is_large")
+@pytest.mark.parametrize("key", sorted([*reckoning.balances(), *quarter.NAMES]))
+def test_a_large_statement_has_every_sum(copy: pathlib.Path, key: str) -> None:
+    wanted = earned_by(key) if key in quarter.NAMES else [(*it[:6], key, it[6]) for it in reckoning.lines_of(key)]
+    by_pool, by_work, by_account = collections.Counter(), collections.Counter(), collections.Counter()
+    for pool, right, _, title, work, sender, account, units in wanted:
+        by_pool[str(pool), right] += units
+        by_work[title, work, sender] += units
+        by_account[account,] += units
+    with open_copy(copy) as opened:
+        found = Statements(opened).of(key)
+    assert found.sums.count == len(wanted) and len(found.credits) == min(1, len(wanted)) and found.agrees
+    assert {it.words: it.units for it in found.by_pool} == by_pool
+    assert {it.words: it.units for it in found.by_work} == by_work
+    assert {it.words: it.units for it in found.by_account} == (by_account if key in quarter.NAMES else {})
+    if len(wanted) > 1:
+        assert f"{len(wanted)} credits, too many for a table: `--format csv` has every one" in run("statement", copy, key)
+        assert f"{len(wanted) - 1} more lines: society-office statement COPY {key}" in run("statement", copy, key, "--format", "html")
+
+
+@pytest.mark.parametrize("key", sorted([*reckoning.balances(), *quarter.NAMES]))
+def test_a_csv_is_what_a_writer_of_csv_makes(copy: pathlib.Path, key: str, request: pytest.FixtureRequest) -> None:
+    with open_copy(copy) as opened:
+        wanted = statements.as_csv(Statements(opened).of(key).credits)
+    assert run("statement", copy, key, "--format", "csv") == wanted
+    request.getfixturevalue("every_statement_is_large")
+    assert run("statement", copy, key, "--format", "csv") == wanted
+
+
+@pytest.mark.parametrize("text", ["=A", "A, B", 'A "B"', '-1,"', "@", "A B", ""])
+def test_a_cell_of_a_csv(text: str) -> None:
+    out = io.StringIO()
+    csv.writer(out, lineterminator="\n").writerow(["1", lines.plain(text)])
+    assert f"1,{lines.cell(text)}\n" == out.getvalue()
+
+
+def test_unclaimed_money_of_very_many_recordings(copy: pathlib.Path, monkeypatch: pytest.MonkeyPatch) -> None:
+    monkeypatch.setattr(order_output, "MOST_ROWS", 1)
+    said = run("unclaimed", copy)
+    assert "the greatest 1 of 2 stand here: `--format json` has every one of them" in said
 
 
 def test_since_a_pool(copy: pathlib.Path) -> None:
