@@ -2,6 +2,7 @@
 import contextlib
 import errno
 import http.client
+import re
 import resource
 import socket
 import struct
@@ -99,6 +100,22 @@ def a_peer_that_resets(program, folder):
         is_next_served(server, "the one after it")
         lines = b"listening\nconnection 1: read fault after 0 requests\nconnection 2: 1 requests\n"
         told("the lines", server.ended(), Ended(lines, b"", 0))
+
+
+@trial
+def a_peer_that_does_not_read(program, folder):
+    """Where the system takes no more of what is written, its line tells so, with the requests before; the next one is served."""
+    with Server(program, folder, "office.db", connections=2) as server:
+        with connected(server) as peer:
+            peer.sendall(put_file(works_file(1, 900), 1))
+            told("its first answer", peer.recv(len(applied(1)), socket.MSG_WAITALL), applied(1))
+            # (each acknowledgement is longer than this takes)
+            peer.setsockopt(socket.SOL_SOCKET, socket.SO_RCVBUF, 4_096)
+            peer.sendall(50 * acknowledgement(1))
+            time.sleep(0.5)
+            peer.setsockopt(socket.SOL_SOCKET, socket.SO_LINGER, struct.pack("ii", 1, 0))
+        is_next_served(server, "the one after it", 2)
+        told("its line", re.sub(rb"after \d+", b"after N", server.ended().out.splitlines()[1]), b"connection 1: write fault after N requests")
 
 
 @slow

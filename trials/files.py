@@ -1,9 +1,9 @@
 """An office in a file: where there is none, where it is opened again, and where it is audited."""
 import socket
 
-from common import OFFICE
+from common import FIRST, OFFICE, SENDER, get, put_file
 from program import ANOTHER_OFFICE, DAY, DAY_ANSWERS, EMPTY_DATABASE, ROW_NAMES, ROWS, SERVED_ONE, Ended, Server
-from program import answered, held_by, office_of, run, run_row, served_one, told, trial
+from program import answer, answered, applied, held_by, office_of, run, run_row, served_one, told, trial
 
 WANTS_A_FILE = [
     "serve|--existing|--db|office.db|--port|1|--connections|1|--society|900|--territory|40|--name|X",
@@ -37,9 +37,13 @@ def a_path_that_cannot_be_looked_at(program, folder):
 @trial
 def a_file_that_has_all_in_its_log(program, folder):
     """An office that was killed before its first copy has its book in the log: with it the file is an office's, and without it empty."""
-    told("what came", DAY_ANSWERS.startswith(answered(program, folder, "office.db", DAY[:DAY_CUT])), True)
+    came = answered(program, folder, "office.db", put_file(FIRST, 1))
+    # (the file itself has its first page alone, and no table)
+    told("what came", (came, (folder / "office.db").stat().st_size), (applied(1), 4_096))
     words = ["audit", "--db", "office.db", *OFFICE]
     told("with its log", run(program, folder, words), Ended(b"sound\n", b"", 0))
+    asked = get(f"/v1/senders/{SENDER}")
+    told("begun again", answered(program, folder, "office.db", asked), answer(b"200 OK", b'{"front":1,"held":[]}'))
     (folder / "office.db-wal").unlink()
     told("without it", run(program, folder, words), EMPTY_DATABASE)
 

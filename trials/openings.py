@@ -304,6 +304,8 @@ def rows_that_lost_what_they_refer_to(program, folder):
 # What makes each older layout of layout 3.
 LAYOUT_2 = SECOND_LAYOUT
 LAYOUT_1 = f"{SECOND_LAYOUT}; {FIRST_LAYOUT}"
+# The pool that is closed at a cut, as who asks for it gets it.
+POOL_TABLE = b"isrc,account,units\nATABC2600001,I00000000199,501\nATABC2600001,I00000000295,500\nATABC2600001,UNCLAIMED,0\n"
 
 
 @trial
@@ -320,6 +322,17 @@ def older_databases_are_taken_over(program, folder):
             told("an older one", served_one(program, folder, left.name, False, 900), SERVED_ONE)
             told("an older one, taken over", (names_in(left), rows_of(left)), wanted)
             left.unlink()
+
+
+@trial
+def pools_of_older_databases_are_shown(program, folder):
+    """Who asks for a pool after an older database was taken over is answered as before."""
+    left, asked = left_by(program, folder, "left.db", CLOSED_AT_A_CUT), get("/v1/pools/7")
+    wanted = answer(b"200 OK", POOL_TABLE).replace(b"application/json", b"text/csv")
+    for row, layout in (("layout 3", ""), ("layout 1", LAYOUT_1), ("layout 2", LAYOUT_2)):
+        change(shutil.copy(left, folder / "older.db"), layout)
+        with Server(program, folder, "older.db") as server:
+            told(row, (server.sent(asked), server.ended().status), (wanted, 0))
 
 
 # Older databases, changes of each by itself, the society that opens it, and what is written then.

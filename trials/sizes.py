@@ -1,6 +1,6 @@
 """The sizes that are promised: each is answered as a small one is."""
-from common import CSV_HEADER, FIRST, NO_WORKS, SENDER, changed, get, isrc, put_file, put_named, put_pool, put_return, state_end, works_file
-from program import Server, applied, replayed, slow, told, trial
+from common import CSV_HEADER, FIRST, MAX_BODY, NO_WORKS, SENDER, changed, get, isrc, put_file, put_named, put_pool, put_return, state_end, works_file
+from program import Server, answer, applied, replayed, slow, told, trial
 
 
 def key(number):
@@ -83,6 +83,21 @@ def an_order_of_the_greatest_size(program, folder):
     told("its lines", (lines[0], len(lines)), (b"isrc,account,units", 601))
     told("its units", sum(int(it.rpartition(b",")[2]) for it in lines[1:]), 1_000_000)
     told("opened again", last_of(again), last_of(out))
+
+
+@trial
+def the_longest_bodies(program, folder):
+    """A transmission of 1,048,576 bytes and a return of 10,000 rows come over a connection, and are there when the file is opened again."""
+    body = FIRST.ljust(MAX_BODY, b"\n")
+    requests = [put_file(body, 1), put_return(CSV_HEADER + 10_000 * b"ATABC2600001,1,1\n", 1), put_pool(1, 1_000, [[SENDER, 1]], [["RADIO1", 1]])]
+    asked = get(f"/v1/senders/{SENDER}/works/W1", "/v1/pools/1")
+    out, again = stream_of(program, folder, [*requests, asked], put_file(body, 1) + asked)
+    taken = applied(1) + answer(b"201 Created", b'{"state":"stored"}') + answer(b"201 Created", b'{"pool":1,"state":"closed"}')
+    told("taken", out[: len(taken)], taken)
+    table = b"isrc,account,units\nATABC2600001,I00000000199,500\nATABC2600001,I00000000295,500\nATABC2600001,UNCLAIMED,0\n"
+    told("the pool", last_of(out), table)
+    known = answer(b"200 OK", b'{"front":1,"state":"applied"}')
+    told("opened again", again, known + out[len(taken) :])
 
 
 # Small rows: a name, the requests, and the bodies of the answers wanted.
