@@ -19,7 +19,7 @@ ROW_NAMES = (ROWS / "args").read_text().split()
 # The most seconds that one run may take.
 LIMIT = 60
 TRIALS = []
-# Those that take half a minute: of several programs the first one is tried so.
+# Those that take half a minute or more: of several programs the first one is tried so.
 SLOW = []
 
 
@@ -34,7 +34,7 @@ def trial(function):
 
 
 def slow(function):
-    """Says of a trial that it takes half a minute."""
+    """Says of a trial that it takes half a minute or more."""
     SLOW.append(function)
     return function
 

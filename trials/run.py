@@ -1,5 +1,5 @@
 #!/usr/bin/env python3
-"""Runs the program and compares what it writes with what is wanted. It takes two minutes.
+"""Runs the program and compares what it writes with what is wanted. It takes three minutes.
 
     trials/run.py               the program that bin/society runs; where it would have to be built, release/society as it is
     trials/run.py PROGRAM..     the programs that are named
@@ -21,6 +21,7 @@ import endings
 import files
 import leaving
 import openings
+import refused_memory
 import sizes
 import streams
 
