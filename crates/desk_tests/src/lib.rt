@@ -11,6 +11,8 @@ mod desk_rows;
 #[cfg(test)]
 mod hostile_tests;
 #[cfg(test)]
+mod order_tests;
+#[cfg(test)]
 mod peer_tests;
 #[cfg(test)]
 mod request_tests;
