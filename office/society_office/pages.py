@@ -88,8 +88,10 @@ def new_file(target: pathlib.Path) -> Iterator[TextIO]:
             yield file
         draft.replace(target)
     except OSError as error:
-        draft.unlink(missing_ok=True)
         raise OfficeError(f"{target} could not be written: {error.strerror}") from error
+    finally:
+        # (nothing is left of what ended early, for whatever cause)
+        draft.unlink(missing_ok=True)
 
 
 def write_bytes(target: pathlib.Path, content: bytes) -> None:

@@ -142,6 +142,9 @@ def test_all_statements(copy: pathlib.Path, tmp_path: pathlib.Path) -> None:
 
 def test_a_key_that_is_none(copy: pathlib.Path) -> None:
     assert "is no account" in run("statement", copy, "I199", status=1)
+    folder = copy.parent / "empty"
+    assert "is no account" in run("statement", copy, "I199", "--format", "csv", "--output", folder / "it.csv", status=1)
+    assert list(folder.iterdir()) == []
     assert "no pool has credited this account" in run("statement", copy, "I00000009999")
 
 
