@@ -8,3 +8,4 @@ pub mod PoolsAgain
 pub mod OrdersAgain
 pub mod PoolsWhole
 pub mod OwnLemmas
+pub mod PartsAgain

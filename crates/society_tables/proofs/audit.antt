@@ -7,3 +7,4 @@ pub mod AloneReads
 pub mod LineAudits
 pub mod Mixed
 pub mod NobodyLines
+pub mod Reaches

@@ -1,3 +1,4 @@
 -- Questions that open a database, and why one is told as a failure of the store.
 pub mod OpenLemmas
+pub mod Passing
 pub mod Failing

@@ -6,6 +6,8 @@ pub mod Laws
 pub mod LineSteps
 pub mod Older
 pub mod Opening
+pub mod OrderParts
 pub mod OwnRows
+pub mod Reached
 pub mod Rebuilding
 pub mod TakingOver

@@ -1,40 +1,34 @@
 //! What pools pay by a database, worked out anew and put into tables in memory that have what is derived of its transmissions.
-ghost use Rattle.std.specs.Prelude.{◌≡◌, None, true, false, IfOk};
-ghost use Rattle.std.specs.List.{AllByRecursion, list_all};
+ghost use Rattle.std.specs.Prelude.{◌≡◌, None, IfOk};
+ghost use Rattle.std.specs.List.{AllByRecursion};
 ghost use Rattle.society_core.specs.Answers.{payer};
-ghost use Rattle.society_core.specs.Book.{front, is_applied, order_at};
+ghost use Rattle.society_core.specs.Book.{order_at};
 ghost use Rattle.society_core.specs.Orders.{IsOrder};
 ghost use Rattle.society_rows.specs.Questions.{RowsAnswer, Asks};
 ghost use Rattle.society_rows.specs.Stored.{HasLayout};
 ghost use Rattle.society_tables.specs.Auditing.{IsClosable, IsOpenReturn, StaysAside, WritesAlone};
 ghost use Rattle.society_closings.specs.Closings.{ClosesWith, PaysBy};
 ghost use Rattle.society_tables.specs.Opening.{Inspects};
+ghost use Rattle.society_tables.specs.Reached.{ClosesReached, KnowsReach};
 ghost use Rattle.society_book.specs.Steps.{LooksOpen};
 ghost use Rattle.society_rows.specs.Between.{between, within};
-ghost use Rattle.society_tables.specs.InMemory.{OfBeside, SaysBeside, SaysMixed, TellsMixed, in_memory};
+ghost use Rattle.society_tables.specs.InMemory.{SaysMixed, TellsMixed, in_memory};
 
 use crate::audit_fault::AuditFault;
 use crate::comparing::rows_of_table;
+use crate::order_parts::OrderParts;
+use crate::reached::Reached;
 use crate::rebuilding::pool_of_row;
 use crate::references::put_references;
 use memory_store::MemoryStore;
 use pool_split::Credit;
 use share_rules::Office;
-use society_book::{ends_of, shown_front};
 use society_closings::{credits_in, write_pool};
-use society_core::{PoolOrder, ReturnKey, TransmissionKey};
+use society_core::{PoolOrder, ReturnKey};
 use society_rows::{Idle, Question, RowFault, TableName, answer, ask};
 use sqlite::{Alter, Row, Transaction};
 use std::alloc::Global;
-use work_ids::{PoolNumber, SenderKey};
-
-/// The rows of all cuts, of all returns that are paid, and of all marks.
-#[derive(Drop)]
-struct PaidRows<'a> {
-    cuts: &'a [Row],
-    paid: &'a [Row],
-    marks: &'a [Row],
-}
+use work_ids::PoolNumber;
 
 // The rows that answer a question over tables in memory, which stay as they are.
 fn answered(memory: &mut Idle<MemoryStore>, question: Question<'_>) -> Result<Vec<Row>, RowFault>
@@ -51,37 +45,6 @@ fn is_open_pool(memory: &mut Idle<MemoryStore>, pool: PoolNumber) -> Result<bool
 {
     let rows = answered(memory, Question::Pool(pool.value()))?;
     Ok(rows.as_slice().is_empty())
-}
-
-// A sender's front by the rows of a database.
-fn front_in<S: Alter>(conn: &mut Idle<S>, sender: &SenderKey) -> Result<u32, RowFault>
-    ensures asked { between S.Store conn.old conn.new Asks result (λ db n. OfBeside db (λ book. n ≡ front book sender.now)) }
-{
-    let rows = ask(conn, Question::Front(sender.as_bytes()))?;
-    shown_front(rows.as_slice())
-}
-
-// Whether a number of a cut is in its sender's line.
-fn is_reached<S: Alter>(conn: &mut Idle<S>, key: &TransmissionKey) -> Result<bool, RowFault>
-    ensures reached { between S.Store conn.old conn.new Asks result (SaysBeside (λ book. is_applied book key.now ≡ true)) }
-{
-    let ends = ends_of(conn, key.sender.as_bytes())?;
-    let front = front_in(conn, &key.sender)?;
-    Ok(ends.is_in_line(front, key.number))
-}
-
-// Whether each number of a cut is in its sender's line; asked of tables that are this office's.
-fn are_reached<S: Alter>(conn: &mut Idle<S>, cut: &[TransmissionKey]) -> Result<bool, AuditFault>
-    ensures reached { between S.Store conn.old conn.new Inspects result (SaysBeside (λ book. list_all (is_applied book) cut.now ≡ true)) }
-{
-    // An answer comes from an open connection alone.
-    ask(conn, Question::Office)?;
-    for key in cut {
-        if !is_reached(conn, key)? {
-            return Ok(false);
-        }
-    }
-    Ok(true)
 }
 
 // Whether no pool pays a return in tables in memory.
@@ -186,10 +149,12 @@ fn write_closed<S: Alter>(
 fn is_closable<S: Alter>(
     conn: &mut Idle<S>,
     memory: &mut Idle<MemoryStore>,
+    reached: &Reached,
     pool: PoolNumber,
     order: &PoolOrder,
 ) -> Result<bool, AuditFault>
-    ensures closable { between S.Store conn.old conn.new Inspects result (SaysMixed (in_memory memory.old) (λ book. IsClosable book pool order.now)) }
+    ensures closable { between S.Store conn.old conn.new Inspects result
+        (λ db told. KnowsReach db reached.now → SaysMixed (in_memory memory.old) (λ book. IsClosable book pool order.now) db told) }
     ensures kept { IsOrder order.now }
     ensures same { in_memory memory.new ≡ in_memory memory.old }
 {
@@ -199,7 +164,7 @@ fn is_closable<S: Alter>(
     if !is_open_pool(memory, pool)? {
         return Ok(false);
     }
-    are_reached(conn, order.cut())
+    Ok(reached.are_reached(order.cut()))
 }
 
 // Closes a pool by an order in tables in memory, with what it pays by the tables; `Damaged` where it cannot be closed.
@@ -208,12 +173,13 @@ fn close_aside<S: Alter>(
     conn: &mut Idle<S>,
     memory: &mut Idle<MemoryStore>,
     office: &Office,
+    reached: &Reached,
     pool: PoolNumber,
     order: &PoolOrder,
 ) -> Result<(), AuditFault>
-    ensures closed { between S.Store conn.old conn.new Inspects result (StaysAside office.now (in_memory memory.old) (in_memory memory.new)) }
+    ensures closed { between S.Store conn.old conn.new Inspects result (ClosesReached reached.now office.now (in_memory memory.old) (in_memory memory.new)) }
 {
-    if !is_closable(conn, memory, pool, order)? {
+    if !is_closable(conn, memory, reached, pool, order)? {
         return Err(AuditFault::Damaged);
     }
     let credits = credits_for(alloc, conn, office, order)?;
@@ -221,37 +187,39 @@ fn close_aside<S: Alter>(
     Ok(())
 }
 
-// Closes the pool of a row in tables in memory, with the rows of all cuts, of all returns that are paid and of all marks.
+// Closes the pool of a row in tables in memory, by what the orders of pools say.
 fn close_row<S: Alter>(
     alloc: Global,
     conn: &mut Idle<S>,
     memory: &mut Idle<MemoryStore>,
     office: &Office,
     row: &Row,
-    orders: &PaidRows<'_>,
+    parts: &OrderParts,
+    reached: &Reached,
 ) -> Result<(), AuditFault>
-    ensures closed { between S.Store conn.old conn.new Inspects result (StaysAside office.now (in_memory memory.old) (in_memory memory.new)) }
+    ensures closed { between S.Store conn.old conn.new Inspects result (ClosesReached reached.now office.now (in_memory memory.old) (in_memory memory.new)) }
 {
     conn.see_last_commit();
-    let (pool, order) = pool_of_row(alloc, row, orders.cuts, orders.paid, orders.marks)?;
-    close_aside(alloc, conn, memory, office, pool, &order)
+    let (pool, order) = pool_of_row(alloc, row, parts)?;
+    close_aside(alloc, conn, memory, office, reached, pool, &order)
 }
 
-// Closes the pools of rows in tables in memory, with the rows of all cuts, of all returns that are paid and of all marks.
+// Closes the pools of rows in tables in memory, by what the orders of pools say.
 fn close_rows<S: Alter>(
     alloc: Global,
     conn: &mut Idle<S>,
     memory: &mut Idle<MemoryStore>,
     office: &Office,
     rows: &[Row],
-    orders: &PaidRows<'_>,
+    parts: &OrderParts,
+    reached: &Reached,
 ) -> Result<(), AuditFault>
-    ensures closed { between S.Store conn.old conn.new Inspects result (StaysAside office.now (in_memory memory.old) (in_memory memory.new)) }
+    ensures closed { between S.Store conn.old conn.new Inspects result (ClosesReached reached.now office.now (in_memory memory.old) (in_memory memory.new)) }
 {
     // An answer comes from an open connection alone.
     ask(conn, Question::Office)?;
     for row in rows {
-        close_row(alloc, conn, memory, office, row, orders)?;
+        close_row(alloc, conn, memory, office, row, parts, reached)?;
     }
     Ok(())
 }
@@ -269,11 +237,16 @@ pub(crate) fn close_all<S: Alter>(
     let cuts = rows_of_table(conn, TableName::PoolCuts)?;
     let paid = rows_of_table(conn, TableName::PoolReturns)?;
     let marks = rows_of_table(conn, TableName::MechanicalPools)?;
+    let parts = OrderParts::of_rows(alloc, cuts.as_slice(), paid.as_slice(), marks.as_slice())?;
+    let reached = Reached::of_cuts(alloc, conn, cuts.as_slice())?;
     put_references(alloc, memory, cuts.as_slice(), paid.as_slice())?;
-    let orders = PaidRows {
-        cuts: cuts.as_slice(),
-        paid: paid.as_slice(),
-        marks: marks.as_slice(),
-    };
-    close_rows(alloc, conn, memory, office, pools.as_slice(), &orders)
+    close_rows(
+        alloc,
+        conn,
+        memory,
+        office,
+        pools.as_slice(),
+        &parts,
+        &reached,
+    )
 }

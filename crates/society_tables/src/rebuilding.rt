@@ -1,27 +1,24 @@
 //! The book of own rows, built anew in memory.
-ghost use Rattle.std.specs.Prelude.{◌≡◌, ◌≢◌, ℕ, pos, Some, None, if◌then◌else◌, map, filter, IfErr, IfOk};
-ghost use Rattle.std.specs.List.{AllByRecursion};
-ghost use Rattle.share_rules.specs.declared.kind.Kind.TheVariants.{Mechanical};
+ghost use Rattle.std.specs.Prelude.{◌≡◌, ◌≢◌, ℕ, pos, List, None, IfErr, IfOk};
+ghost use Rattle.sqlite_value.specs.Order.{Row as SqlRow};
 ghost use Rattle.society_core.specs.Book.{Book, IsSound};
 ghost use Rattle.society_core.specs.Orders.{order_fault, order_of};
 ghost use Rattle.society_core.specs.declared.refusal.Refusal.TheVariants.{Unavailable};
-ghost use Rattle.society_book.specs.BookRows.{is_of_pool, kind_marked};
 ghost use Rattle.society_tables.specs.declared.audit_fault.AuditFault.TheVariants.{Store};
 ghost use Rattle.society_tables.specs.OwnRows.{AreOwn};
-ghost use Rattle.society_tables.specs.Rebuilding.{IsAside, IsCut, IsMark, IsPaid, Passes, cut_pair, paid_pair};
+ghost use Rattle.society_tables.specs.OrderParts.{ArePartsOf};
+ghost use Rattle.society_tables.specs.Rebuilding.{IsAside, Passes};
 ghost use Rattle.society_tables.specs.InMemory.{memory_book};
 ghost use Rattle.society_tables.specs.Again.{PassesSent, PassesStated, PassesReported, PassesClosed, PassesOrder, PassesPool, PassesAllSent, PassesAllStated, PassesAllReported, PassesPools, PassesLines, PassesOwn, PassesOwnPools};
 
 use crate::Tables;
 use crate::audit_fault::AuditFault;
+use crate::order_parts::OrderParts;
 use crate::own_rows::{LineRows, OwnRows, PoolRows};
 use memory_store::MemoryStore;
 use share_rules::{Kind, Office};
 use society_core::{Desk, OrderError, PoolOrder, Refusal, ReturnKey, Store};
-use society_rows::{
-    MechanicalPoolRow, PoolCutRow, PoolReturnRow, PoolRow, ReturnRow, SegmentEndRow,
-    TransmissionRow,
-};
+use society_rows::{PoolRow, ReturnRow, SegmentEndRow, TransmissionRow};
 use sqlite::Row;
 use std::alloc::Global;
 use work_ids::{PoolNumber, Reporter, ReturnNumber, SegmentEnd, SenderKey, TransmissionNumber};
@@ -104,74 +101,6 @@ fn put_return(alloc: Global, desk: &mut Anew, row: &Row) -> Result<(), AuditFaul
     }
 }
 
-// The senders and the numbers of a pool's cut, out of the rows of all cuts.
-fn cut_among(alloc: Global, rows: &[Row], pool: u32) -> Result<Vec<(SenderKey, u64)>, AuditFault>
-    ensures passes { AllByRecursion IsCut rows.now → Passes result (λ cut. cut.items ≡ map cut_pair (filter (is_of_pool 0 pool) rows.now)) }
-    ensures judged { IfErr result (λ e. e ≢ Store) }
-{
-    let mut cut = Vec::new(alloc);
-    for row in rows {
-        let Ok(row) = PoolCutRow::from_row(row) else {
-            return Err(AuditFault::Damaged);
-        };
-        if row.pool == pool {
-            let Ok(sender) = SenderKey::from_bytes(row.sender) else {
-                return Err(AuditFault::Damaged);
-            };
-            cut.push((sender, u64::from(row.number)))?;
-        }
-    }
-    Ok(cut)
-}
-
-// The reporters and the numbers of the returns that a pool pays, out of the rows of all that are paid.
-fn returns_among(alloc: Global, rows: &[Row], pool: u32) -> Result<Vec<(Reporter, u64)>, AuditFault>
-    ensures passes { AllByRecursion IsPaid rows.now → Passes result (λ returns. returns.items ≡ map paid_pair (filter (is_of_pool 2 pool) rows.now)) }
-    ensures judged { IfErr result (λ e. e ≢ Store) }
-{
-    let mut returns = Vec::new(alloc);
-    for row in rows {
-        let Ok(row) = PoolReturnRow::from_row(row) else {
-            return Err(AuditFault::Damaged);
-        };
-        if row.pool == pool {
-            let Ok(reporter) = Reporter::from_bytes(row.reporter) else {
-                return Err(AuditFault::Damaged);
-            };
-            returns.push((reporter, u64::from(row.number)))?;
-        }
-    }
-    Ok(returns)
-}
-
-// A right, or that of a mark where the row is one of this pool.
-fn kind_with(kind: Kind, row: &Row, pool: u32) -> Kind
-    ensures { IsMark row.now → result ≡ (if is_of_pool 0 pool row.now then Mechanical else kind) }
-{
-    match MechanicalPoolRow::from_row(row) {
-        Ok(mark) => {
-            if mark.pool == pool {
-                Kind::Mechanical
-            } else {
-                kind
-            }
-        }
-        // No mark: the comparison of the tables tells it.
-        Err(_) => kind,
-    }
-}
-
-// The right that a pool pays, out of the rows of all marks.
-fn kind_among(rows: &[Row], pool: u32) -> Kind
-    ensures { AllByRecursion IsMark rows.now → result ≡ kind_marked (filter (is_of_pool 0 pool) rows.now) }
-{
-    let mut kind = Kind::Performing;
-    for row in rows {
-        kind = kind_with(kind, row, pool);
-    }
-    kind
-}
-
 // The order of a kind, an amount, a cut and returns.
 fn order_with(
     alloc: Global,
@@ -210,15 +139,13 @@ fn close_with(
     }
 }
 
-/// The number of a pool and its order, out of its row and of the rows of all cuts, of all returns that are paid and of all marks.
+/// The number of a pool and its order, out of its row and of what the orders of pools say.
 pub(crate) fn pool_of_row(
     alloc: Global,
     row: &Row,
-    cuts: &[Row],
-    paid: &[Row],
-    marks: &[Row],
+    parts: &OrderParts,
 ) -> Result<(PoolNumber, PoolOrder), AuditFault>
-    ensures passes { PassesOrder row.now cuts.now paid.now marks.now result }
+    ensures passes { (cuts paid marks : List SqlRow) → ArePartsOf cuts paid marks parts.now → PassesOrder row.now cuts paid marks result }
     ensures judged { IfErr result (λ e. e ≢ Store) }
 {
     let Ok(row) = PoolRow::from_row(row) else {
@@ -227,27 +154,26 @@ pub(crate) fn pool_of_row(
     let Some(pool) = PoolNumber::from_u32(row.pool) else {
         return Err(AuditFault::Damaged);
     };
-    let cut = cut_among(alloc, cuts, row.pool)?;
-    let returns = returns_among(alloc, paid, row.pool)?;
-    let kind = kind_among(marks, row.pool);
-    let order = order_with(alloc, kind, row.amount, cut.as_slice(), returns.as_slice())?;
+    let cut = parts.cut_of(row.pool);
+    let returns = parts.returns_of(row.pool);
+    let kind = parts.kind_of(row.pool);
+    let order = order_with(alloc, kind, row.amount, cut, returns)?;
     Ok((pool, order))
 }
 
-// Closes the pool of a row, with the rows of all cuts, of all returns that are paid and of all marks.
+// Closes the pool of a row, by what the orders of pools say.
 fn close_pool(
     alloc: Global,
     desk: &mut Anew,
     row: &Row,
-    cuts: &[Row],
-    paid: &[Row],
-    marks: &[Row],
+    parts: &OrderParts,
 ) -> Result<(), AuditFault>
     ensures office { desk.new.office ≡ desk.old.office }
-    ensures passes { PassesPool row.now cuts.now paid.now marks.now (memory_book desk.old.conn) (memory_book desk.new.conn) result }
+    ensures passes { (cuts paid marks : List SqlRow) → ArePartsOf cuts paid marks parts.now
+        → PassesPool row.now cuts paid marks (memory_book desk.old.conn) (memory_book desk.new.conn) result }
     ensures judged { IfErr result (λ e. e ≢ Store) }
 {
-    let (pool, order) = pool_of_row(alloc, row, cuts, paid, marks)?;
+    let (pool, order) = pool_of_row(alloc, row, parts)?;
     close_with(alloc, desk, pool, &order)
 }
 
@@ -300,8 +226,9 @@ fn close_pools(
     ensures passes { PassesPools rows.now cuts.now paid.now marks.now (memory_book desk.old.conn) (memory_book desk.new.conn) result }
     ensures judged { IfErr result (λ e. e ≢ Store) }
 {
+    let parts = OrderParts::of_rows(alloc, cuts, paid, marks)?;
     for row in rows {
-        close_pool(alloc, desk, row, cuts, paid, marks)?;
+        close_pool(alloc, desk, row, &parts)?;
     }
     Ok(())
 }

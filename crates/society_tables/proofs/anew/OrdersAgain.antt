@@ -1,10 +1,8 @@
 -- The rows of a pool give its order again.
-use Rattle.std.proofs.Common.{◌≡◌, ◌∙◌, ◌<◌, ◌≤◌, ◌^◌, ◌&&◌, ◌+◌, ◌++◌, ℕ, ℤ, pos, Bool, true, false, cond, List, [], ◌∷◌, get_or, take, Option, Some, None, is_none, is_some, nat_le, Result, Ok, Err, FitsSigned, of_z, to_z, w64, map, filter, length, if◌then◌else◌, ap, ap₂, refl, sym, subst, arith, IsPermutation}
+use Rattle.std.proofs.Common.{◌≡◌, ◌∙◌, ◌<◌, ◌≤◌, ◌^◌, ◌&&◌, ℕ, ℤ, pos, Bool, true, false, List, [], ◌∷◌, Option, Some, None, is_none, is_some, nat_le, Result, Ok, Err, FitsSigned, of_z, to_z, w64, map, filter, length, if◌then◌else◌, ap, ap₂, refl, sym, subst, arith, IsPermutation}
 use Rattle.std.proofs.lemmas.Bool.{false≢true}
 use Rattle.std.proofs.lemmas.Bool.Decides.{nat_tests}
 use Rattle.std.proofs.lemmas.Int.{to_z-of_z}
-use Rattle.std.proofs.lemmas.List.{append-nil, take_more}
-use Rattle.std.proofs.lemmas.List.Elements.{filter-append}
 use Rattle.std.proofs.lemmas.List.Sorted.{IsPermutation-map}
 use Rattle.std.specs.List.{AllByRecursion, list_all}
 use Rattle.std.specs.Result.{IsErrAnd}
@@ -266,19 +264,3 @@ module _ (b : Book) (sound : IsSound b) where
       of_pool : (q : ℕ) (x : Option Order) → order_at b q ≡ x → AllByRecursion IsMark (marks_by q x)
       of_pool q None is = tt
       of_pool q (Some order) is = mark_forms q order is order.kind
-
--- one row more is a mark of the pool, or changes nothing
-pub kind_next : (pool : ℕ) (rows : List Row) (i : ℕ) (row : Row) → i < length rows → row ≡ get_or rows i row
-    → kind_marked (filter (is_of_pool 0 pool) (take (i + 1) rows)) ≡ (if is_of_pool 0 pool row then Mechanical else kind_marked (filter (is_of_pool 0 pool) (take i rows)))
-kind_next pool rows i row within is =
-    ap (λ (l : List Row). kind_marked (filter (is_of_pool 0 pool) l)) (take_more rows i row within ∙ ap (λ (r : Row). take i rows ++ r ∷ []) (sym is))
-    ∙ ap kind_marked (filter-append (is_of_pool 0 pool) (take i rows) (row ∷ []))
-    ∙ by_case (is_of_pool 0 pool row)
-  where
-    marked_by : (xs : List Row) → kind_marked (xs ++ row ∷ []) ≡ Mechanical
-    marked_by [] = refl
-    marked_by (x ∷ xs) = refl
-
-    by_case : (t : Bool) → kind_marked (filter (is_of_pool 0 pool) (take i rows) ++ cond t (row ∷ []) []) ≡ (if t then Mechanical else kind_marked (filter (is_of_pool 0 pool) (take i rows)))
-    by_case true = marked_by (filter (is_of_pool 0 pool) (take i rows))
-    by_case false = ap kind_marked (append-nil (filter (is_of_pool 0 pool) (take i rows)))

@@ -1,4 +1,4 @@
-use Rattle.std.proofs.Common.{[], arith, ext_get_or, length, map}
+use Rattle.std.proofs.Common.{[], arith, ext_get_or, map}
 use Rattle.std.proofs.lemmas.List.{length-map}
 use Rattle.society_tables.proofs.line_rows.are_rows.Goals as goal
 

@@ -27,10 +27,10 @@ returns g c =
           inspected_then _ _ _ _ (Ok tt) _ _ _
           c.in_ok-is_closable.ensures.closable
           (then_inspected {D = AuditFault} _ _ credits (Ok tt) _ (λ db _. PaysBy office order db credits.items) (inspects_of _ _ _ _ c.in_ok-credits.ensures.asked) (λ pays. pays))
-          (λ y can pays aside.
+          (λ y can pays knows aside.
           let wrote = c.in_ok-write_closed.ensures.written.written (clean_is _ refl) (subst HasLayout (sym same) aside.layout) in
           closed_aside office db c.args.pool order credits.items before after
           (from_one 99999 c.args.pool c.value.ensures.limits.0 c.value.ensures.limits.1) c.is_closable.ensures.kept wrote.0
-          (can aside.layout c.if-not-branch.false office (book_of (mixed db before.trees)) aside.holds) pays
+          (can knows aside.layout c.if-not-branch.false office (book_of (mixed db before.trees)) aside.holds) pays
           (subst (λ (m : Database). ClosesWith c.args.pool order credits.items m after) same (rw (c.value.ensures.value, c.as_slice.ensures.value) at wrote.1)) aside);
     }

@@ -1,8 +1,8 @@
 use Rattle.std.proofs.Common.{Ok}
 use Rattle.sqlite.specs.Held.{state}
 use Rattle.memory_store.specs.Memory.{over_memory}
-use Rattle.society_tables.specs.Auditing.{ClosesAside}
 use Rattle.society_tables.specs.Opening.{Inspects}
+use Rattle.society_tables.specs.Reached.{ClosesReached}
 use Rattle.society_tables.specs.declared.audit_fault.AuditFault.{AuditFault}
 use Rattle.society_tables.proofs.money.close_rows.Given as goal
 
@@ -10,5 +10,5 @@ use Rattle.society_tables.proofs.money.close_rows.Given as goal
 abbrev pub invariant-loop-row : goal.invariant-loop-row
 invariant-loop-row g l = record {
   closed : Inspects {X = Unit {0}} {E = AuditFault} (state g.S.Store l.fn.conn) (state g.S.Store l.conn) (Ok tt)
-      (λ db _. ClosesAside l.office db (state over_memory l.fn.memory).now (state over_memory l.memory).now);
+      (ClosesReached l.reached l.office (state over_memory l.fn.memory).now (state over_memory l.memory).now);
 }

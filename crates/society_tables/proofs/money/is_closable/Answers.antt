@@ -1,4 +1,4 @@
-use Rattle.std.proofs.Common.{◌≡◌, ◌∙◌, List, true, subst, sym}
+use Rattle.std.proofs.Common.{◌≡◌, ◌∙◌, List, Ok, true, subst, sym}
 use Rattle.std.specs.List.{AllByRecursion, list_all}
 use Rattle.society_core.specs.Book.{is_applied}
 use Rattle.society_core.specs.declared.return_key.ReturnKey.{ReturnKey}
@@ -10,17 +10,17 @@ use Rattle.society_rows.specs.Stored.{HasLayout}
 use Rattle.society_tables.specs.Auditing.{mixed}
 use Rattle.society_book.specs.Kept.{HoldsBook}
 use Rattle.society_tables.specs.declared.audit_fault.AuditFault.{AuditFault}
-use Rattle.society_tables.proofs.opened.OpenLemmas.{inspected_then}
+use Rattle.society_tables.proofs.opened.OpenLemmas.{then_inspected}
 use Rattle.society_tables.proofs.money.is_closable.Goals as goal
 
 pub returns-clause-closable : goal.returns-clause-closable
 returns-clause-closable g c =
-    inspected_then {E = AuditFault} _ _ _ _ c.are_reached.result _ _ _ c.in_ok-are_open_returns.ensures.free c.are_reached.ensures.reached
-    (λ yes returns reached laid told o b holds.
+    then_inspected {D = AuditFault} _ _ _ (Ok c.are_reached.result) _ _ c.in_ok-are_open_returns.ensures.free
+    (λ returns knows laid told o b holds.
     let db = (state g.S.Store c.args.conn.now).now.trees in
     let one = c.are_open_returns.ensures.same in record {
       is_free = c.in_ok-is_open_pool.ensures.free (subst HasLayout (sym one) laid) c.if-not-branch-2.false o b db (subst (λ (m : Database). HoldsBook o b (mixed db m.trees)) (sym one) holds);
-      reached = subst (λ (cut : List TransmissionKey). list_all (is_applied b) cut ≡ true) c.cut.ensures.value (reached told _ o b holds);
+      reached = subst (λ (cut : List TransmissionKey). list_all (is_applied b) cut ≡ true) c.cut.ensures.value (c.are_reached.ensures db knows told _ o b holds);
       returns = subst (λ (keys : List ReturnKey). AllByRecursion (IsOpenReturn b) keys) c.returns.ensures.value (returns laid c.if-not-branch.false o b holds);
     })
 

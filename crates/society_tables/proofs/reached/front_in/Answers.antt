@@ -9,7 +9,7 @@ use Rattle.society_book.proofs.shown.QuestionLemmas.{then_asked}
 use Rattle.society_tables.specs.Auditing.{mixed}
 use Rattle.society_tables.specs.InMemory.{OfBeside}
 use Rattle.society_tables.proofs.audit.Mixed.{front_shown}
-use Rattle.society_tables.proofs.money.front_in.Goals as goal
+use Rattle.society_tables.proofs.reached.front_in.Goals as goal
 
 -- an answer that is the front of each book is that of all
 of_all : (r : Result ℕ RowFault) (db : Trees) (s : List ℕ) → ((others : Trees) (o : Office) (b : Book) → HoldsBook o b (mixed db others) → IfOk r (λ n. n ≡ front b s))
