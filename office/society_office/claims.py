@@ -1,5 +1,6 @@
 """Which works name a recording, at a pool's cut and now."""
 
+import functools
 import json
 from collections.abc import Iterable, Mapping
 from typing import NamedTuple
@@ -33,18 +34,25 @@ class Claims:
       LEFT JOIN versions n ON n.sender = r.sender AND n.work = r.work AND n.revision = r.revision + 1"""
 
     def __init__(self, copy: Copy, isrcs: Iterable[str] | None = None) -> None:
-        """Reads what names these recordings, or all where none are given."""
-        self.by_isrc: dict[str, list[Claim]] = {}
-        if isrcs is None:
-            found = copy.rows(self.QUESTION)
+        """What names these recordings, or all where none are given; it is read when it is asked for first."""
+        self.copy, self.isrcs = copy, isrcs
+
+    @functools.cached_property
+    def by_isrc(self) -> dict[str, list[Claim]]:
+        """The versions that name each recording."""
+        made: dict[str, list[Claim]] = {}
+        if self.isrcs is None:
+            found = self.copy.rows(self.QUESTION)
         else:
-            found = copy.rows(f"{self.QUESTION} WHERE r.isrc IN (SELECT value FROM json_each(?))", json.dumps(sorted(set(isrcs))))
+            wanted = json.dumps(sorted(set(self.isrcs)))
+            found = self.copy.rows(f"{self.QUESTION} WHERE r.isrc IN (SELECT value FROM json_each(?))", wanted)
         for isrc, *rest in found:
             claim = Claim._make(rest)
-            if isrc in self.by_isrc:
-                self.by_isrc[isrc].append(claim)
+            if isrc in made:
+                made[isrc].append(claim)
             else:
-                self.by_isrc[isrc] = [claim]
+                made[isrc] = [claim]
+        return made
 
     def ever(self, isrc: str) -> list[Claim]:
         """All versions that name it."""

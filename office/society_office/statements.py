@@ -14,6 +14,7 @@ from society_office.claims import Claim, Claims
 from society_office.copy import Copy
 from society_office.errors import OfficeError
 from society_office.lines import COLUMNS, NO_RECORDING, Credit, Lines, Pools, Sums, sums_of
+from society_office.many_lines import ManyLines
 from society_office.parties import names_of, parties
 from society_office.plain_text import plain
 from society_office.records import UNCLAIMED, Works, sender_names
@@ -142,17 +143,19 @@ class Statements:
         # All rows are looked at in any case; by the key's index they would be looked up one by one.
         question = "SELECT pool, line, isrc, units FROM credits NOT INDEXED WHERE account = ? AND pool >= ? LIMIT ?"
         rows = sorted(self.copy.listed(question, account, since, MOST_SORTED + 1))
-        if len(rows) > MOST_SORTED:
-            claims, pools = Claims(self.copy), self.pools_of(account, since)
+        are_many = len(rows) > MOST_SORTED
+        claims = Claims(self.copy, None if are_many else {it[2] for it in rows})
+        pools = by_pool((pool, isrc, None, units) for pool, _, isrc, units in rows)
+        if are_many:
             # (what stands on UNCLAIMED is of no party; of another account the last rows that were read have works with its name)
             rows = [] if account == UNCLAIMED else rows[-MOST_NAMING:]
-        else:
-            claims = Claims(self.copy, {it[2] for it in rows})
-            pools = by_pool((pool, isrc, None, units) for pool, _, isrc, units in rows)
         owners = {owner for pool, _, isrc, _ in rows if (owner := claims.owner(isrc, self.cuts[pool]))}
         if len(owners) <= MOST_LOADED:
             self.works.load((it.sender, it.number, it.place) for it in owners)
         name = self.name_of(account, sorted(owners, key=lambda it: (-it.number, it.sender, it.place)))
+        if are_many:
+            pools, copy = self.pools_of(account, since), self.copy
+            return ManyLines(claims, self.works, self.cuts, self.rights, pools, account=account, copy=copy, since=since), name
         return Lines(claims, self.works, self.cuts, self.rights, pools, account=account), name
 
     def pools_of(self, account: str, since: int) -> Pools:
