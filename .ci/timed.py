@@ -4,12 +4,13 @@ counts all, it tells the processor minutes of each crate and part, and whether r
 
 A part is what a process of the prover works on: a proof, a crate's tests, its first edit (the seed, a whole proof from nothing), or one of
 the further edits, which go over what the seed kept. Processes are looked at twice a second, so what a process did in its last half second
-counts under 'other', as do rt itself, linking, and the tests and programs that are run.
+counts under 'other', as do rt itself, linking, and the tests and programs that are run. A run that is ended (SIGTERM) tells what it had done.
 """
 import collections
 import os
 import re
 import resource
+import signal
 import subprocess
 import sys
 import threading
@@ -49,6 +50,15 @@ def folder_of(process):
         return os.path.basename(os.readlink(f"/proc/{process}/cwd"))
     except OSError:
         return ""
+
+
+class Stopped(Exception):
+    """The run was asked to end (SIGTERM)."""
+
+
+def stop(_signal, _frame):
+    """Ends the run by an exception, so that what was measured is still told."""
+    raise Stopped
 
 
 class Meter:
@@ -112,12 +122,16 @@ def passed_on(words):
     where there was none."""
     counts = []
     with subprocess.Popen(words, stdin=subprocess.DEVNULL, stdout=subprocess.PIPE, text=True, errors="replace") as ran:
-        for line in ran.stdout:
-            last = LAST_LINE.fullmatch(line)
-            if last:
-                counts = [int(it) for it in last.groups()]
-            else:
-                print(line, end="", flush=True)
+        try:
+            for line in ran.stdout:
+                last = LAST_LINE.fullmatch(line)
+                if last:
+                    counts = [int(it) for it in last.groups()]
+                else:
+                    print(line, end="", flush=True)
+        except Stopped:
+            ran.terminate()
+            raise
     return ran.returncode, counts
 
 
@@ -140,10 +154,15 @@ def added(counts, others):
 
 def main():
     release.unmark()
+    signal.signal(signal.SIGTERM, stop)
     meter, begun, begun_with = Meter(), time.monotonic(), release.made_from()
     threading.Thread(target=meter.run, daemon=True).start()
-    status, counts = passed_on(sys.argv[1:])
     told = []
+    try:
+        status, counts = passed_on(sys.argv[1:])
+    except Stopped:
+        print(*meter.table((time.monotonic() - begun) / 60), "stopped before its end: what it had done up to there", sep="\n", flush=True)
+        return 1
     # A program that was not proved, or is not built, is neither tried nor compared.
     if status == 0:
         counts = added(counts, trials.check(trials.builds()))
