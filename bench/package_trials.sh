@@ -1,5 +1,6 @@
 #!/usr/bin/env bash
-# Tries the package in a container of Debian 12 with systemd: installed, begun, served, stopped, upgraded over itself, removed, purged.
+# Tries the packages in a container of Debian 12 with systemd: society installed, begun, served, stopped, upgraded over itself, removed, purged,
+# installed again; society-office installed, with a backup and pages made by their units.
 #
 #     bench/package_trials.sh [FOLDER]
 #
@@ -32,6 +33,7 @@ fill_in() { printf 'SOCIETY=900\nTERRITORY=40\nNAME="EXAMPLE SOCIETY"\nPORT=2308
 book() { cat $file $file-wal | sha256sum; }
 is_same_book() { [ "$(book)" = "$kept" ] && echo same; }
 seconds() { sleep "$1"; shift; "$@"; }
+ended() { systemctl start "$1"; systemctl show "$1" -p Result; }
 
 has "installed" "Setting up society" install
 has "not enabled" "disabled" systemctl is-enabled society
@@ -83,6 +85,17 @@ has "the book is the same" same is_same_book
 has "installed again" "Setting up society" install
 fill_in
 systemctl start society
+has "the tools are installed" "Setting up society-office" apt-get install -y --no-install-recommends "/srv/$tools"
+has "no timer is enabled by that" "disabled" systemctl is-enabled society-backup.timer society-site.timer society-health.timer
+has "the units" "status 0" sh -c 'systemd-analyze verify --man=no society-backup.timer society-site.timer society-health.timer; echo status $?'
+has "a backup by its unit, while the office runs" "Result=success" ended society-backup
+has "it is root's, and sound" "sound" sh -c 'society audit --db /var/backups/society/*.db --society 900 --territory 40 --name "EXAMPLE SOCIETY"'
+has "pages by their unit, out of it" "Result=success" ended society-site
+has "they are there" "index.html" ls /var/lib/society-site/site
+has "the copy is gone" "No such file" ls /var/lib/society-site/copy.db
+has "a backup with the office down" "Result=success" sh -c 'systemctl stop society; systemctl start society-backup; systemctl show society-backup -p Result'
+systemctl start society
+has "the tools are removed" "Removing society-office" apt-get remove -y society-office
 has "the book is served" '{"front":1,"held":[]}' front
 INSIDE
 }
@@ -92,14 +105,17 @@ folder=${1:-$(mktemp -d)}
 root=$folder/root
 if [ ! -d "$root" ]; then
   mkdir -p "$folder"
-  debootstrap --variant=minbase --include=adduser,curl,python3,systemd,systemd-sysv bookworm "$folder/making" > "$folder/making.log"
+  debootstrap --variant=minbase --include=adduser,curl,openssl,python3,python3-click,python3-jinja2,python3-rich,sqlite3,systemd,systemd-sysv bookworm "$folder/making" > "$folder/making.log"
   mv "$folder/making" "$root"
 fi
 # (an earlier time may have left an office)
-chroot "$root" dpkg --purge society > /dev/null 2>&1 || true
-rm -rf "$root/var/lib/society" "$root"/srv/*
-package=$(basename "$("$here/bin/package" "$root/srv" | head -n 1)")
-{ echo "package=$package"; inside; } > "$root/srv/trials"
+chroot "$root" dpkg --purge society-office society > /dev/null 2>&1 || true
+rm -rf "$root"/var/lib/society* "$root/var/backups/society" "$root"/srv/*
+"$here/bin/package" "$root/srv" > "$folder/packages"
+{
+  sed -n '1s|.*/|package=|p; 2s|.*/|tools=|p' "$folder/packages"
+  inside
+} > "$root/srv/trials"
 cat > "$root/etc/systemd/system/trials.service" <<'UNIT'
 [Unit]
 After=multi-user.target
