@@ -22,6 +22,8 @@ import run as trials
 
 PARTS = ("proofs", "tests", "seeds", "edits")
 LAST_LINE = re.compile(r"(\d+) passed, (\d+) failed\s*")
+# `rt ci` tells of edits that it can't read or try, and passes; an edit that says nothing fails here.
+BAD_EDITS = re.compile(r"rt: note: bad must-fail edits, as told above: (\d+)\b")
 TICKS = os.sysconf("SC_CLK_TCK")
 
 
@@ -119,8 +121,8 @@ class Meter:
 
 def passed_on(words):
     """Runs a command and passes on what it prints but its last line; gives its status, and how many passed and failed by that line, none
-    where there was none."""
-    counts = []
+    where there was none. Bad edits count as failed."""
+    counts, bad = [], 0
     with subprocess.Popen(words, stdin=subprocess.DEVNULL, stdout=subprocess.PIPE, text=True, errors="replace") as ran:
         try:
             for line in ran.stdout:
@@ -128,11 +130,12 @@ def passed_on(words):
                 if last:
                     counts = [int(it) for it in last.groups()]
                 else:
+                    bad += sum(int(it) for it in BAD_EDITS.findall(line))
                     print(line, end="", flush=True)
         except Stopped:
             ran.terminate()
             raise
-    return ran.returncode, counts
+    return ran.returncode, added(counts, (0, bad))
 
 
 def tools_checked(program):
