@@ -19,7 +19,7 @@ import subprocess
 import sys
 
 LIBRARY_OF_BODIES = "test_bodies"
-PROGRAM_OF_ROWS = "office_rows"
+PROGRAM_OF_ROWS = "test_rows"
 TRIALS = "trials"
 TOKEN = re.compile(
     r"""(?P<comment>//[^\n]*)

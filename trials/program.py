@@ -14,7 +14,7 @@ import common
 from common import OFFICE, get
 
 # The rows over bytes: requests, and the answers that an office to which nothing has come gives to them.
-ROWS = ROOT / "crates/office_rows"
+ROWS = ROOT / "crates/test_rows"
 ROW_NAMES = (ROWS / "args").read_text().split()
 # The most seconds that one run may take.
 LIMIT = 60

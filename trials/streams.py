@@ -8,7 +8,7 @@ from program import BAD, ROW_NAMES, ROWS, Ended, acknowledgement, answer, applie
 
 @trial
 def rows_over_bytes(program, folder):
-    """The rows of crates/office_rows, which are served over the plain store there."""
+    """The rows of crates/test_rows, which are served over the plain store there."""
     for row in ROW_NAMES:
         ended = run(program, folder, ["replay", *OFFICE], (ROWS / f"data/{row}.http").read_bytes())
         told(row, ended.out + ended.err, (ROWS / f"data/{row}.answers").read_bytes())

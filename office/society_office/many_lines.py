@@ -1,14 +1,19 @@
 """Statements of accounts with very many credits: their sums are worked out by SQLite, wherever a recording's work is one at all cuts."""
 
+import collections
 import concurrent.futures
 import dataclasses
+import operator
 from collections.abc import Iterator, Mapping
-from typing import Any
+from typing import Any, TextIO
 
 from society_office import lines
 from society_office.claims import NEVER, Claim
 from society_office.copy import Copy
-from society_office.lines import NO_WORK, Credit, Lines, Sums, Words
+from society_office.lines import COLUMNS, NO_WORK, Credit, Heads, Lines, Sums, Words
+
+# Pools whose rows are read beside, at once and ahead of what is written.
+AT_ONCE, AHEAD = 2, 64
 
 
 @dataclasses.dataclass(kw_only=True)
@@ -17,6 +22,35 @@ class ManyLines(Lines):
 
     copy: Copy
     since: int
+
+    def write(self, out: TextIO) -> Sums:
+        """Writes them as CSV with a header; answers their number and the sums by pool. The rows are read beside what looks the works up."""
+        sums, heads = Sums(), Heads(self.claims, self.works, account=self.account)
+        out.write(",".join(COLUMNS) + "\n")
+        with concurrent.futures.ThreadPoolExecutor(AT_ONCE) as threads:
+            for pool, isrcs, units in self.columns(threads):
+                heads.move(self.cuts[pool])
+                sums.count += len(units)
+                sums.by_pool[pool, self.rights[pool]] = sum(map(int, units))
+                start = f"{pool},{self.rights[pool]},"
+                out.write(start + f"\n{start}".join(map(operator.add, map(heads.__getitem__, isrcs), units)) + "\n")
+        return sums
+
+    def columns(self, threads: concurrent.futures.Executor) -> Iterator[tuple[int, list[str], list[str]]]:
+        """Each pool that credited the account, with the recordings and the units of its lines, which SQLite joins: faster than rows."""
+        question = """SELECT group_concat(isrc), group_concat(units) FROM
+          (SELECT isrc, units FROM credits WHERE pool = ? AND +account = ? ORDER BY line)"""
+        asked = collections.deque[tuple[int, concurrent.futures.Future[list[Any]]]]()
+        waiting = iter([it for it in self.cuts if it >= self.since])
+        while True:
+            while len(asked) < AHEAD and (pool := next(waiting, None)) is not None:
+                asked.append((pool, self.copy.asked_beside(threads, question, pool, self.account)))
+            if not asked:
+                return
+            pool, answer = asked.popleft()
+            [(isrcs, units)] = answer.result()
+            if units is not None:
+                yield pool, isrcs.split(","), units.split(",")
 
     def read(self) -> tuple[list[Credit], Sums]:
         """The first of them, no more than are held, and the sums of all. What is summed up is asked for beside what is read meanwhile."""

@@ -1,3 +1,2 @@
-pub mod Fields
-pub mod AckLemmas
+pub mod lemmas
 mod Worked

@@ -1,6 +1,2 @@
-pub mod Lines
-pub mod Fields
-pub mod Layouts
-pub mod Rows
-pub mod RecordTypes
+pub mod lemmas
 mod Worked

@@ -1,13 +1,2 @@
-pub mod CuttingLemmas
-pub mod HeadLemmas
-pub mod JsonBodyLemmas
-pub mod JsonLemmas
-pub mod EndLemmas
-pub mod NumberTextLemmas
-pub mod OrderLemmas
-pub mod PathLemmas
-pub mod StepLemmas
-pub mod TableLemmas
-pub mod TextLemmas
+pub mod lemmas
 mod Worked
-mod WorkedBodies

@@ -1,34 +1,21 @@
-//! The requests of the office's desk and their answers as bytes: what a method, a target and a body ask, and what is told.
+//! A connection to the office's desk: requests are read from any reader, and their answers written to any writer.
 #![tactic(auto)]
 
-mod asked;
+mod answering;
 mod body_length;
-mod connection_end;
-mod end_text;
-mod fed_put;
-mod json;
-mod json_body;
-mod limits;
-mod number_text;
-mod order_text;
-mod parameters;
-mod requests;
-mod routes;
-mod short_body;
-mod status;
-mod table;
-mod text;
-mod told;
+mod connection;
+mod counted;
+mod fault;
+mod feeding;
+mod head;
+mod input;
+mod laws;
+mod outbox;
+mod reply;
+mod room;
+mod upcoming;
 
-pub use asked::{Asked, ask};
-pub use body_length::BodyLength;
-pub use connection_end::End;
-pub use fed_put::FedPut;
-pub use limits::MAX_HEAD;
-pub use parameters::Scratch;
-pub use requests::{Wanted, WithBody, request_with, wanted_for};
-pub use routes::{Route, office_router};
-pub use short_body::ShortBody;
-pub use status::{ContentType, Status};
-pub use text::{put, put_head};
-pub use told::{Told, tell};
+pub use connection::{Served, serve};
+pub use counted::{Counted, NotWritten};
+pub use fault::{DeskFault, FaultKind};
+pub use laws::{one_cutting, what_was_answered_stays};

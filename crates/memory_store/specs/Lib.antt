@@ -1,4 +1,7 @@
+pub mod Joined
 pub mod Laws
 pub mod Log
 pub mod Memory
+pub mod Pieces
+pub mod Search
 pub mod Shown

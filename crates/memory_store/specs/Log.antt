@@ -3,8 +3,8 @@ use Rattle.std.specs.Prelude.{ℕ, List, [], map, fold, take, slice_index_or, sl
 use Rattle.std.specs.declared.alloc.Global.{Global}
 use Rattle.sqlite_value.specs.Order.{Row}
 use Rattle.sqlite_trees.specs.Tree.{Trees, with_tree}
-use Rattle.sorted_rows.specs.declared.rows.SortedRows.{SortedRows}
-use Rattle.sorted_rows.specs.Pieces.{tree_rows, left_from, changed}
+use Rattle.memory_store.specs.declared.rows.SortedRows.{SortedRows}
+use Rattle.memory_store.specs.Pieces.{tree_rows, left_from, changed}
 use Rattle.memory_store.specs.declared.logged.Logged.{Logged}
 use Rattle.memory_store.specs.declared.cursor.Cursor.{Cursor}
 

@@ -7,9 +7,9 @@ use Rattle.sqlite_trees.specs.declared.store.Store.{Ghosts}
 use Rattle.sqlite_trees.specs.Tree.{Trees, rowid}
 use Rattle.sqlite_trees.specs.View.{View, is_int}
 use Rattle.sqlite_trees.specs.Memory.{memory_view}
-use Rattle.sorted_rows.specs.declared.rows.SortedRows.{SortedRows}
-use Rattle.sorted_rows.specs.declared.change.Change.{Change}
-use Rattle.sorted_rows.specs.declared.change.Change.TheVariants.{Put, Delete, Insert, Remove, Clear}
+use Rattle.memory_store.specs.declared.rows.SortedRows.{SortedRows}
+use Rattle.memory_store.specs.declared.change.Change.{Change}
+use Rattle.memory_store.specs.declared.change.Change.TheVariants.{Put, Delete, Insert, Remove, Clear}
 use Rattle.memory_store.specs.declared.cursor.Cursor.{Cursor}
 use Rattle.memory_store.specs.Log.{rows_at, rows_after, changed_or, left_of}
 use Rattle.memory_store.specs.Shown.{shown_over}

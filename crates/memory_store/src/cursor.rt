@@ -1,5 +1,5 @@
 //! Cursors over the trees.
-use sorted_rows::Place;
+use crate::rows::Place;
 use sqlite_trees::store::Direction;
 
 /// Where a cursor over a tree is; nowhere over a tree without rows.

@@ -2,10 +2,11 @@
 ghost use Rattle.std.specs.Prelude.{◌≡◌, ◌<◌, [], length, IfOk, IfSome, OnOk, OnErr};
 ghost use Rattle.std.specs.Option.{ForSome};
 ghost use Rattle.sqlite_trees.specs.Tree.{with_tree};
-ghost use Rattle.sorted_rows.specs.Pieces.{changed};
+ghost use Rattle.memory_store.specs.Pieces.{changed};
 ghost use Rattle.memory_store.specs.Log.{rows_at, replayed, changed_or};
 
-use sorted_rows::{Change, Place, SortedRows};
+use crate::change::Change;
+use crate::rows::{Place, SortedRows};
 use std::alloc::{AllocError, Global};
 use std::mem;
 

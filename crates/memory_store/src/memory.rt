@@ -7,9 +7,10 @@ ghost use Rattle.sqlite_trees.specs.Memory.{memory_view};
 ghost use Rattle.memory_store.specs.Log.{rows_at, rows_after, replayed, changed_or};
 ghost use Rattle.memory_store.specs.Shown.{AreAllShaped};
 
+use crate::change::Change;
 use crate::cursor::Cursor;
 use crate::logged::{self, Logged};
-use sorted_rows::{Change, Place, SortedRows};
+use crate::rows::{Place, SortedRows};
 use sqlite_trees::error::StoreError;
 use sqlite_trees::memory::MemStore;
 use sqlite_trees::schema::Object;
@@ -51,7 +52,7 @@ impl MemoryStore {
     ghost use Rattle.sqlite_trees.specs.Tree.{order_of, sought};
     ghost use Rattle.sqlite_trees.specs.Objects.{version_tree};
     ghost use Rattle.sqlite_trees.specs.View.{SetsTree, IsFailure, HasCause};
-    ghost use Rattle.sorted_rows.specs.Pieces.{changed};
+    ghost use Rattle.memory_store.specs.Pieces.{changed};
     ghost use Rattle.memory_store.specs.Log.{left_of};
     ghost use Rattle.memory_store.specs.Memory.{current, store_view, SetsCursor, StepsOn, KeepsRows, Fits};
 

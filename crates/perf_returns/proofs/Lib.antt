@@ -1,4 +1,2 @@
-pub mod Three
-pub mod Records
-pub mod Taken
+pub mod lemmas
 mod Worked

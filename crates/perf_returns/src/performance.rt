@@ -49,7 +49,7 @@ fn are_header_words(first: &[u8], second: &[u8], third: &[u8]) -> bool
 }
 
 /// The fault of the first record of a return: it has to be the header.
-#[tactic(auto, using(crate::proofs::Three::header_of_three))]
+#[tactic(auto, using(crate::proofs::lemmas::Three::header_of_three))]
 pub fn header_fault(fields: &ByteRecord) -> Option<u8>
     ensures { result ≡ header_row_fault (fields_of fields.now) }
 {
@@ -64,7 +64,7 @@ pub fn header_fault(fields: &ByteRecord) -> Option<u8>
 }
 
 /// What a row of data says, or the first of its faults.
-#[tactic(auto, using(crate::proofs::Three::row_of_three))]
+#[tactic(auto, using(crate::proofs::lemmas::Three::row_of_three))]
 pub fn read_row(fields: &ByteRecord) -> Result<Performance, u8>
     ensures { result ≡ row_of (fields_of fields.now) }
 {

@@ -1,7 +1,2 @@
-pub mod Counts
-pub mod Thresholds
-pub mod Parts
-pub mod Units
-pub mod Whole
-pub mod Neighbours
+pub mod lemmas
 mod Worked

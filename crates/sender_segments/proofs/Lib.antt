@@ -1,8 +1,2 @@
-pub mod Grows
-pub mod LedTo
-pub mod Members
-pub mod Ranks
-pub mod Reached
-pub mod Rising
-pub mod Ways
+pub mod lemmas
 mod Worked

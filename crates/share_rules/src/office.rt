@@ -31,7 +31,7 @@ impl Office {
     ghost use Rattle.share_rules.specs.Office.{IsOfficeOf, name_of};
 
     /// The office with these numbers and this name; none where one of them is out of its limits.
-    #[tactic(auto, using(crate::proofs::Names::take_front))]
+    #[tactic(auto, using(crate::proofs::lemmas::Names::take_front))]
     pub fn new(society: u16, territory: u16, name: &[u8]) -> Option<Office>
         ensures given { IsSome result ↔ IsTrue (is_office society territory name.now) }
         ensures office { IfSome result (λ o. IsOfficeOf society territory name.now o) }

@@ -31,7 +31,7 @@ fn unclaimed_beside(holders: &[Holder]) -> Holder
 /// The holders of a transaction in record order, each with the weight of its collection share of a right at the office,
 /// and behind them what nobody claims (profile); an error where memory runs out. Without a fault the weights of either right
 /// are the whole or, for what is let pass, up to 10,006 hundredths of a percent.
-#[tactic(auto, using(crate::proofs::Whole::clean_is_whole), unfolding(crate::specs::Weights::weights_of))]
+#[tactic(auto, using(crate::proofs::lemmas::Whole::clean_is_whole), unfolding(crate::specs::Weights::weights_of))]
 pub fn weights(
     alloc: Global,
     kind: Kind,

@@ -3,7 +3,7 @@
 //! at a path; `society audit --db PATH` and the same tells whether that database is sound; `--help` tells of these.
 #![tactic(auto)]
 
-use http_connection::Counted;
+use http_desk::Counted;
 use society_commands::{
     Host, HostFiles, NoWords, StandardStreams, ended, start, why_no_words, without_streams,
 };

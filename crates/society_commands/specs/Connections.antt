@@ -4,12 +4,12 @@ use Rattle.std.specs.Io.KnownBytes.{Appends}
 use Rattle.std.specs.List.{flat_map, AllByRecursion}
 use Rattle.std.specs.declared.net.socket_addr.SocketAddrV4.{SocketAddrV4}
 use Rattle.std.specs.declared.net.tcp.TcpListener.{TcpListener}
-use Rattle.http_connection.specs.Counted.{failures_of, inner_of}
-use Rattle.http_desk.specs.Part.{Part}
-use Rattle.http_connection.specs.Serves.{AreAnswered}
-use Rattle.http_connection.specs.declared.connection.Served.{Served}
-use Rattle.http_connection.specs.declared.counted.Counted.{Counted}
-use Rattle.http_connection.specs.declared.fault.DeskFault.{DeskFault}
+use Rattle.http_desk.specs.Counted.{failures_of, inner_of}
+use Rattle.http_text.specs.Part.{Part}
+use Rattle.http_desk.specs.Serves.{AreAnswered}
+use Rattle.http_desk.specs.declared.connection.Served.{Served}
+use Rattle.http_desk.specs.declared.counted.Counted.{Counted}
+use Rattle.http_desk.specs.declared.fault.DeskFault.{DeskFault}
 use Rattle.share_rules.specs.declared.office.Office.{Office}
 use Rattle.sqlite.specs.Files.{file_state}
 use Rattle.sqlite.specs.Held.{Held}
@@ -28,11 +28,11 @@ use Rattle.society_rows.specs.Stored.{HasLayout}
 use Rattle.society_rows.specs.declared.older.OlderLayout.{OlderLayout}
 use Rattle.society_book.specs.BookRows.{book_of}
 use Rattle.society_opening.specs.Existing.{FindsSoundly, SurvivesTaking, WhenOpen}
-use Rattle.society_tables.specs.Older.{HoldsOne, Takes}
+use Rattle.society_audit.specs.Older.{HoldsOne, Takes}
 use Rattle.society_opening.specs.Opening.{HasAnyLayout, IsOpenable, ShowsAs, SurvivesOpening, TellsDatabase}
 use Rattle.society_opening.specs.declared.open_fault.OpenFault.{OpenFault}
 use Rattle.society_opening.specs.declared.open_fault.OpenFault.TheVariants.{Empty, Store}
-use Rattle.society_words.specs.declared.words.Place.{Place}
+use Rattle.society_arguments.specs.declared.words.Place.{Place}
 use Rattle.society_commands.specs.Closing.{HandsBack, IsRest}
 use Rattle.society_commands.specs.Doors.{CameIn, HasAdmitted, IsLoopback}
 use Rattle.society_commands.specs.Replays.{fault_name}
@@ -41,7 +41,7 @@ use Rattle.society_commands.specs.declared.host.Listen.{Ghosts as Listens}
 use Rattle.society_commands.specs.declared.host.OpenDatabase.{Ghosts as Opens}
 use Rattle.society_commands.specs.declared.left.Left.{Left}
 use Rattle.society_commands.specs.declared.left.Left.TheVariants as left
-use Rattle.society_words.specs.Words.{Serving}
+use Rattle.society_arguments.specs.Words.{Serving}
 
 -- how many requests a connection brought, by what it came to
 abbrev pub requests_of : Result Served DeskFault → ℕ

@@ -1,16 +1,16 @@
 -- What is written where a stream of bytes is served at an office to which nothing has come, and why a stream breaks off.
 use Rattle.std.specs.Prelude.{◌≡◌, ℕ, IfSome, List, ◌++◌, codes, length, Option}
 use Rattle.std.specs.Io.KnownBytes.{Appends}
-use Rattle.http_connection.specs.Counted.{inner_of}
-use Rattle.http_desk.specs.Part.{Part}
-use Rattle.http_desk.specs.Reads.{ReadsAsRequests}
-use Rattle.http_connection.specs.Serves.{CausedBy, Written, queries_of}
-use Rattle.http_desk.specs.Text.{texts, ending}
-use Rattle.http_desk.specs.declared.connection_end.End.{End}
-use Rattle.http_connection.specs.declared.counted.Counted.{Counted}
-use Rattle.http_connection.specs.declared.fault.DeskFault.{DeskFault}
-use Rattle.http_connection.specs.declared.fault.FaultKind.{FaultKind}
-use Rattle.http_connection.specs.declared.fault.FaultKind.TheVariants.{Memory, Read, Turns, Write}
+use Rattle.http_desk.specs.Counted.{inner_of}
+use Rattle.http_text.specs.Part.{Part}
+use Rattle.http_text.specs.Reads.{ReadsAsRequests}
+use Rattle.http_desk.specs.Serves.{CausedBy, Written, queries_of}
+use Rattle.http_text.specs.Text.{texts, ending}
+use Rattle.http_text.specs.declared.connection_end.End.{End}
+use Rattle.http_desk.specs.declared.counted.Counted.{Counted}
+use Rattle.http_desk.specs.declared.fault.DeskFault.{DeskFault}
+use Rattle.http_desk.specs.declared.fault.FaultKind.{FaultKind}
+use Rattle.http_desk.specs.declared.fault.FaultKind.TheVariants.{Memory, Read, Turns, Write}
 use Rattle.share_rules.specs.declared.office.Office.{Office}
 use Rattle.society_core.specs.Book.{Book, empty_book}
 use Rattle.society_core.specs.Headline.{OneContent, HoldsWhatCame}

@@ -1,6 +1,6 @@
 //! Connections are served one after another, and a line is printed for each.
 ghost use Rattle.std.specs.Prelude.{decimal, false, IfErr, IfOk, OnOk, OnErr};
-ghost use Rattle.http_connection.specs.Serves.{IsGivenUp, IsServed, KeepsTurns, NeitherFails};
+ghost use Rattle.http_desk.specs.Serves.{IsGivenUp, IsServed, KeepsTurns, NeitherFails};
 ghost use Rattle.society_commands.specs.Connections.{ServesOne, Prints, ServesConnections, StopsEarly, connection_line, outcome_text};
 ghost use Rattle.society_commands.specs.Doors.{HasAdmitted, listener_of};
 ghost use Rattle.society_commands.specs.Replays.{most_turns};
@@ -8,7 +8,7 @@ ghost use Rattle.society_commands.specs.Replays.{most_turns};
 use crate::door::{AcceptFault, Door};
 use crate::parting::part;
 use crate::replaying::{TURNS, fault_name};
-use http_connection::{Counted, DeskFault, FaultKind, Served, serve};
+use http_desk::{Counted, DeskFault, FaultKind, Served, serve};
 use itoa::Buffer;
 use society_core::{Desk, Store};
 use std::alloc::Global;

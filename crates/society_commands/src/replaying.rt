@@ -1,8 +1,8 @@
 ghost use Rattle.std.specs.Prelude.{◌≡◌, ◌⊎◌};
-ghost use Rattle.http_connection.specs.Serves.{KeepsTurns, NeitherFails};
+ghost use Rattle.http_desk.specs.Serves.{KeepsTurns, NeitherFails};
 ghost use Rattle.society_commands.specs.Replays.{Replays, BreaksOff, fault_name, most_turns};
 
-use http_connection::{Counted, DeskFault, FaultKind, serve};
+use http_desk::{Counted, DeskFault, FaultKind, serve};
 use share_rules::Office;
 use society_core::Desk;
 use society_tables::Tables;

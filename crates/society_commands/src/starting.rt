@@ -6,7 +6,7 @@ ghost use Rattle.clap.specs.declared.error.kind.ErrorKind.TheVariants.{DisplayHe
 ghost use Rattle.society_commands.specs.Connections.{FindsSound, FindsUnsound, ServesOpened, StopsServingOpened};
 ghost use Rattle.society_commands.specs.Replays.{Replays, BreaksOff};
 ghost use Rattle.society_commands.specs.Refusals.{status_after, no_words_by, status_without};
-ghost use Rattle.society_words.specs.Words.{AsksHelp, EndsAudit, EndsReplay, EndsServing, IsWrong, asks};
+ghost use Rattle.society_arguments.specs.Words.{AsksHelp, EndsAudit, EndsReplay, EndsServing, IsWrong, asks};
 
 use crate::auditing::audit_file;
 use crate::connections::print;
@@ -16,10 +16,10 @@ use crate::opening::serve_file;
 use crate::replaying::{SERVED, broken_off, replay};
 use clap::Error;
 use clap::error::ErrorKind as ClapKind;
-use http_connection::{Counted, DeskFault, FaultKind};
+use http_desk::{Counted, DeskFault, FaultKind};
+use society_arguments::{Words, words_in};
 use society_core::Store;
 use society_tables::Tables;
-use society_words::{Words, words_in};
 use sqlite::FileStore;
 use std::alloc::Global;
 use std::io::{self, ErrorKind, Read, Write};

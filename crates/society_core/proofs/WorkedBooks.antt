@@ -16,10 +16,10 @@ use Rattle.society_core.specs.Keys.{segment_cmp, segment_key, transmission_cmp, 
 use Rattle.society_core.specs.declared.segment_key.SegmentKey.{SegmentKey}
 use Rattle.society_core.specs.declared.store.Known.TheVariants.{Other, Same}
 use Rattle.society_core.specs.declared.transmission_key.TransmissionKey.{TransmissionKey}
-use Rattle.society_core.proofs.Fronts.{front_only}
-use Rattle.society_core.proofs.KeyOrders.{exact_transmissions, segments_total, transmissions_total}
-use Rattle.society_core.proofs.KeysOfMaps.{entries_in_order}
-use Rattle.society_core.proofs.LineKeys.{held_by_keys, in_line_by, past_by_keys}
+use Rattle.society_core.proofs.lemmas.Fronts.{front_only}
+use Rattle.society_core.proofs.lemmas.KeyOrders.{exact_transmissions, segments_total, transmissions_total}
+use Rattle.society_core.proofs.lemmas.KeysOfMaps.{entries_in_order}
+use Rattle.society_core.proofs.lemmas.LineKeys.{held_by_keys, in_line_by, past_by_keys}
 
 abbrev sender : List ℕ
 sender = codes "PB000000012"

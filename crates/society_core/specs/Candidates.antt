@@ -22,6 +22,7 @@ use Rattle.society_core.specs.declared.transmission_key.TransmissionKey.{Transmi
 use Rattle.work_ids.specs.declared.fault.IdFault.{IdFault}
 use Rattle.works_core.specs.Versions.{work_at}
 use Rattle.works_core.specs.Numbered.{JudgedTransmission}
+use Rattle.works_core.specs.Recordings.{isrcs_of}
 
 -- which work may own a recording: its sender's key, its number, and the holders of its version
 pub record Claimant : Type 0 where
@@ -90,9 +91,18 @@ is_version_by line cut number place (Err fault) = false
 abbrev pub work_where : Bool → List ℕ → Transaction → List CutWork
 work_where is_version sender transaction = if is_version then cut_work sender transaction ∷ [] else []
 
--- the candidates of a work of the cut are added: of this transaction of a sender
-abbrev pub AddsWork : Kind → Office → Tally → List ℕ → Transaction → List Candidate → List Candidate → Type 0
-AddsWork kind office tally sender transaction old new = AddsWorks kind office tally (cut_work sender transaction ∷ []) old new
+-- for each of these recordings that is named, one candidate more stands for this work, behind those that there were
+abbrev pub AddsClaimant : Claimant → (List ℕ → Bool) → List (List ℕ) → List Candidate → List Candidate → Type 0
+AddsClaimant claimant of_these named old new =
+    (isrc : List ℕ) → of_these isrc ≡ true → claimants_among new isrc ≡ claimants_among old isrc ++ (if list_any (bytes_eq isrc) named then claimant ∷ [] else [])
+
+-- a sender's work of this number, with the holders that a transaction of it gives in this right
+abbrev pub claimant_for : Kind → Office → List ℕ → List ℕ → Transaction → Claimant
+claimant_for kind office sender work transaction = record { sender = sender; work = Ok work; holders = holders_of kind office (cut_work sender transaction) }
+
+-- the candidates of a sender's work are added: one for each recording of a tally that its transaction names
+abbrev pub AddsWork : Kind → Office → Tally → List ℕ → List ℕ → Transaction → List Candidate → List Candidate → Type 0
+AddsWork kind office tally sender work transaction old new = AddsClaimant (claimant_for kind office sender work transaction) (is_tallied tally) (isrcs_of transaction) old new
 
 -- the candidates of a transaction are added where it is the version that its work has at a cut of a line
 abbrev pub AddsVersion : Kind → Office → Tally → List JudgedTransmission → TransmissionKey → ℕ → ℕ → Transaction → List Candidate → List Candidate → Type 0

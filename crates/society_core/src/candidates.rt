@@ -1,7 +1,6 @@
 //! The candidates for the recordings of a pool: the works of its cut, each by the version that it has there.
-ghost use Rattle.std.specs.Prelude.{◌≡◌, ◌&&◌, IfOk, Ok, OnOk, not, true};
+ghost use Rattle.std.specs.Prelude.{◌≡◌, ◌&&◌, IfOk, OnOk, not, true};
 ghost use Rattle.std.specs.BTreeSet.{contains};
-ghost use Rattle.cwr_files.specs.Transaction.{number_of_work};
 ghost use Rattle.society_core.specs.Book.{IsSound, is_applied, is_one_of, is_there, numbers_to, transmissions_to};
 ghost use Rattle.society_core.specs.Candidates.{AddsSender, AddsWork, AddsSent, AddsVersion, AppendsCandidates, AreFor, ListsOnce, ReachesCut};
 ghost use Rattle.society_core.specs.Keys.{bytes_cmp};
@@ -75,8 +74,8 @@ fn append_candidates(
     Ok(())
 }
 
-/// Adds the candidates that a work's version makes: one for each recording of a tally that it names, with the work's sender and
-/// number. Its weights are worked out once, and only where it names one.
+/// Adds the candidates that a work's version makes: one for each recording of a tally that it names, with this sender, this number
+/// of a work, and the holders of the transaction. Its weights are worked out once, and only where it names one.
 pub fn add_candidates(
     alloc: Global,
     kind: Kind,
@@ -87,8 +86,7 @@ pub fn add_candidates(
     transaction: &Transaction<'_>,
     candidates: &mut Vec<Candidate>,
 ) -> Result<(), AllocError>
-    ensures { number_of_work transaction.now ≡ Ok work.now
-        → OnOk result (AddsWork kind office.now tally.now sender.now transaction.now candidates.old.items candidates.new.items) }
+    ensures { OnOk result (AddsWork kind office.now tally.now sender.now work.now transaction.now candidates.old.items candidates.new.items) }
 {
     let named = tallied_isrcs(alloc, tally, transaction)?;
     if named.is_empty() {

@@ -9,7 +9,7 @@ use Rattle.society_rows.specs.NewBook.{IsBare}
 use Rattle.society_rows.specs.Stored.{HasLayout}
 use Rattle.society_rows.specs.declared.older.OlderLayout.{OlderLayout}
 use Rattle.society_opening.specs.Existing.{IsSoundIn}
-use Rattle.society_tables.specs.Older.{HoldsOlder}
+use Rattle.society_audit.specs.Older.{HoldsOlder}
 use Rattle.society_opening.specs.Opening.{ShowsAs, TellsDatabase, TellsOfficeIn}
 use Rattle.society_opening.specs.declared.open_fault.OpenFault.{OpenFault}
 use Rattle.society_opening.specs.declared.open_fault.OpenFault.TheVariants as fault

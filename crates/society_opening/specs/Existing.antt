@@ -9,7 +9,7 @@ use Rattle.society_rows.specs.Layouts.{HasOlder}
 use Rattle.society_rows.specs.Stored.{HasLayout}
 use Rattle.society_rows.specs.declared.older.OlderLayout.{OlderLayout}
 use Rattle.society_tables.specs.Laws.{IsLeftBy}
-use Rattle.society_tables.specs.Older.{HoldsOlder, HoldsOne, IsTakenOver}
+use Rattle.society_audit.specs.Older.{HoldsOlder, HoldsOne, IsTakenOver}
 use Rattle.society_opening.specs.Opening.{IsLeftTaken, IsOutside, ShowsAs}
 use Rattle.society_opening.specs.declared.open_fault.OpenFault.{OpenFault}
 use Rattle.society_opening.specs.declared.open_fault.OpenFault.TheVariants as open_fault

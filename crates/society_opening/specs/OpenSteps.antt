@@ -7,13 +7,13 @@ use Rattle.society_core.specs.Book.{Book, IsSound}
 use Rattle.society_rows.specs.Layouts.{HasOlder, number_of}
 use Rattle.society_rows.specs.Stored.{AreNumbered, HasLayout}
 use Rattle.society_rows.specs.declared.older.OlderLayout.{OlderLayout}
-use Rattle.society_tables.specs.Older.{HoldsOne, IsTakenOver, HoldsOlder, Takes}
+use Rattle.society_audit.specs.Older.{HoldsOne, IsTakenOver, HoldsOlder, Takes}
 use Rattle.society_opening.specs.Opening.{IsOpenable, ShowsAs, TellsDatabase, TellsOfficeIn}
-use Rattle.society_tables.specs.Rebuilding.{Passes, ShowsBook}
-use Rattle.society_tables.specs.declared.audit_fault.AuditFault.{AuditFault}
+use Rattle.society_audit.specs.Rebuilding.{Passes, ShowsBook}
+use Rattle.society_audit.specs.declared.audit_fault.AuditFault.{AuditFault}
 use Rattle.society_opening.specs.declared.open_fault.OpenFault.{OpenFault}
 use Rattle.society_opening.specs.declared.open_fault.OpenFault.TheVariants as fault
-use Rattle.society_tables.specs.TakingOver.{TakesOffice}
+use Rattle.society_audit.specs.TakingOver.{TakesOffice}
 
 -- over layout 3 a fault says this of the rows of the office
 abbrev pub TellsOfOffice : {X : Type 0} → Office → Result X OpenFault → State → State → Type 0

@@ -1,11 +1,11 @@
 //! Why a database is not opened.
 ghost use Rattle.std.specs.Prelude.{◌≡◌};
 ghost use Rattle.society_rows.specs.Faults.{fault_of_error};
-ghost use Rattle.society_tables.specs.Opening.{audit_fault_by};
+ghost use Rattle.society_audit.specs.Opening.{audit_fault_by};
 ghost use Rattle.society_opening.specs.Opening.{open_fault_by};
 
+use society_audit::AuditFault;
 use society_rows::RowFault;
-use society_tables::AuditFault;
 use sqlite::Error;
 
 /// Why a database is not opened as an office's tables.

@@ -13,26 +13,27 @@ ghost use Rattle.society_rows.specs.Stored.{AreNumbered, HasLayout, rows_in};
 ghost use Rattle.society_rows.specs.TableNames.{table_called};
 ghost use Rattle.society_book.specs.Kept.{HoldsOwnBook, office_row};
 ghost use Rattle.society_opening.specs.Existing.{FailsByStore, FindsOffice, SparesCommitted, SparesOlder, SurvivesTaking, WhenOpen};
-ghost use Rattle.society_tables.specs.Older.{HoldsOne, office_row_under};
-ghost use Rattle.society_tables.specs.Opening.{Inspects, TellsFailure, IsNumbered, HoldsNumbered};
+ghost use Rattle.society_audit.specs.Older.{HoldsOne, office_row_under};
+ghost use Rattle.society_audit.specs.Opening.{Inspects, TellsFailure, IsNumbered, HoldsNumbered};
 ghost use Rattle.society_opening.specs.Opening.{IsOutside, Opens, ShowsAs, SurvivesOpening, TellsOffice};
-ghost use Rattle.society_tables.specs.declared.audit_fault.AuditFault.TheVariants as audit;
+ghost use Rattle.society_audit.specs.declared.audit_fault.AuditFault.TheVariants as audit;
 ghost use Rattle.society_opening.specs.declared.open_fault.OpenFault.TheVariants as fault;
 ghost use Rattle.society_opening.specs.declared.open_fault.OpenFault.TheVariants.{Damaged, Empty};
 ghost use Rattle.society_rows.specs.Between.{between};
-ghost use Rattle.society_tables.specs.InMemory.{memory_book};
+ghost use Rattle.society_audit.specs.InMemory.{memory_book};
 ghost use Rattle.society_opening.specs.OpenSteps.{TellsOfOffice, PassesNumbered, PassesBook, PassesOffice, AuditsOffice, TakesCommitted, WasOpenable, TellsCommitted, ShowsCommitted};
 
 use crate::OpenFault;
 use crate::taking_over::take_over;
 use memory_store::MemoryStore;
 use share_rules::Office;
+use society_audit::own_rows::listed_own;
+use society_audit::{AuditFault, confirm, listed, rebuild, tables_agree};
 use society_core::Store;
 use society_rows::{
     Found, Idle, LAYOUT, OfficeRow, RowFault, TableName, are_numbered, create, layout_found,
 };
-use society_tables::own_rows::listed_own;
-use society_tables::{AuditFault, Tables, confirm, listed, rebuild, tables_agree};
+use society_tables::Tables;
 use sqlite::{Alter, Connection, Row};
 use std::alloc::Global;
 

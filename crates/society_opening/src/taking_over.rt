@@ -5,11 +5,11 @@ ghost use Rattle.society_rows.specs.Between.{between, within};
 ghost use Rattle.society_rows.specs.Layouts.{HasOlder};
 ghost use Rattle.society_rows.specs.Stored.{AreNumbered, HasLayout};
 ghost use Rattle.society_rows.specs.TableNames.{table_called};
-ghost use Rattle.society_tables.specs.InMemory.{FromMemory, in_memory, memory_book};
-ghost use Rattle.society_tables.specs.Older.{HoldsOlder};
-ghost use Rattle.society_tables.specs.Opening.{Agree, AgreesAt, IsNumbered, every_name};
-ghost use Rattle.society_tables.specs.Rebuilding.{IsAside};
-ghost use Rattle.society_tables.specs.TakingOver.{AreFilledFrom, AreSame, CanComplete, Completes, DoesOver, Fills, IsFilledFrom, PassesAnew, PassesIn, PassesLike, Sees, IsOffice, TakesIn, TakesOffice, derived_names, filled_names};
+ghost use Rattle.society_audit.specs.InMemory.{FromMemory, in_memory, memory_book};
+ghost use Rattle.society_audit.specs.Older.{HoldsOlder};
+ghost use Rattle.society_audit.specs.Opening.{Agree, AgreesAt, IsNumbered, every_name};
+ghost use Rattle.society_audit.specs.Rebuilding.{IsAside};
+ghost use Rattle.society_audit.specs.TakingOver.{AreFilledFrom, AreSame, CanComplete, Completes, DoesOver, Fills, IsFilledFrom, PassesAnew, PassesIn, PassesLike, Sees, IsOffice, TakesIn, TakesOffice, derived_names, filled_names};
 ghost use Rattle.society_opening.specs.OpenSteps.{IsDamagedIn, TakesOver, TellsOfOlder};
 ghost use Rattle.society_opening.specs.declared.open_fault.OpenFault.TheVariants.{Damaged, Empty};
 
@@ -17,11 +17,12 @@ use crate::OpenFault;
 use crate::opening::check_office;
 use memory_store::MemoryStore;
 use share_rules::Office;
+use society_audit::own_rows::own_rows;
+use society_audit::{AuditFault, OTHER_TABLES, are_same_rows, rebuild, rows_in_memory};
 use society_rows::{
     Idle, OlderLayout, TableName, add_derived_rows, all_rows, are_numbered, raise_inside,
 };
-use society_tables::own_rows::own_rows;
-use society_tables::{AuditFault, OTHER_TABLES, Tables, are_same_rows, rebuild, rows_in_memory};
+use society_tables::Tables;
 use sqlite::{Alter, Transaction};
 use std::alloc::Global;
 

@@ -1,6 +1,2 @@
-pub mod changes
-pub mod readings
-pub mod each_table
-pub mod definitions
-pub mod errors
+pub mod lemmas
 pub mod Worked

@@ -47,7 +47,7 @@ impl<'a> BalanceRow<'a> {
 }
 
 /// Adds a balance, whose key has to be free.
-pub fn add_balance<S: Alter>(
+pub(crate) fn add_balance<S: Alter>(
     tx: &mut Transaction<'_, S>,
     row: &BalanceRow<'_>,
 ) -> Result<(), RowFault>
@@ -83,7 +83,7 @@ pub fn put_balance<S: Alter>(
 }
 
 /// The balance of an account, if it has one.
-pub fn balance_at<S: Alter>(
+pub(crate) fn balance_at<S: Alter>(
     tx: &mut Transaction<'_, S>,
     account: &[u8],
 ) -> Result<Vec<Row>, RowFault>
@@ -100,7 +100,10 @@ pub fn balance_at<S: Alter>(
 }
 
 /// The units of an account, 0 where it has no balance; `Unread` where it has two.
-pub fn units_of<S: Alter>(tx: &mut Transaction<'_, S>, account: &[u8]) -> Result<i64, RowFault>
+pub(crate) fn units_of<S: Alter>(
+    tx: &mut Transaction<'_, S>,
+    account: &[u8],
+) -> Result<i64, RowFault>
     ensures same_reference { tx.new.conn.ghost_name ≡ tx.old.conn.ghost_name }
     ensures read { within S.Store tx.old tx.new ReadsInside result
         (HasUnits account.now) }

@@ -5,9 +5,14 @@ ghost use Rattle.society_rows.specs.Effects.{Writes};
 ghost use Rattle.society_rows.specs.Stored.{Adds};
 ghost use Rattle.society_rows.specs.TableNames.{table_called};
 
+use crate::balances::add_balance;
+use crate::credits::add_credit;
+use crate::fronts::add_front;
+use crate::recordings::add_recording;
+use crate::verdicts::add_verdict;
+use crate::versions::add_version;
 use crate::{
     BalanceRow, CreditRow, FrontRow, RecordingRow, RowFault, TableName, VerdictRow, VersionRow,
-    add_balance, add_credit, add_front, add_recording, add_verdict, add_version,
 };
 use sqlite::{Alter, Row, Transaction};
 

@@ -49,7 +49,7 @@ impl<'a> CreditRow<'a> {
 }
 
 /// Adds a credit, whose key has to be free.
-pub fn add_credit<S: Alter>(
+pub(crate) fn add_credit<S: Alter>(
     tx: &mut Transaction<'_, S>,
     row: &CreditRow<'_>,
 ) -> Result<(), RowFault>
@@ -136,7 +136,10 @@ pub fn add_credits<S: Alter>(
 }
 
 /// The credits of a pool, by line.
-pub fn credits_of<S: Alter>(tx: &mut Transaction<'_, S>, pool: u32) -> Result<Vec<Row>, RowFault>
+pub(crate) fn credits_of<S: Alter>(
+    tx: &mut Transaction<'_, S>,
+    pool: u32,
+) -> Result<Vec<Row>, RowFault>
     ensures same_reference { tx.new.conn.ghost_name ≡ tx.old.conn.ghost_name }
     ensures read { within S.Store tx.old tx.new Reads result
         (λ db rows. Lists credits_table (has_key (Int (pos pool) ∷ [])) 2 db rows.items) }

@@ -6,7 +6,8 @@ ghost use Rattle.sqlite.specs.Values.{bound};
 ghost use Rattle.society_rows.specs.Folds.{HasTaken, IsRun, ReadsInside, ReadsShown, StopsRun, StopsShowing};
 ghost use Rattle.society_rows.specs.Between.{between, within};
 
-use crate::{RowFault, transmission_at};
+use crate::RowFault;
+use crate::transmissions::transmission_at;
 use sqlite::{Alter, Connection, Row, Transaction};
 use sqlite_value::value::ValueRef;
 

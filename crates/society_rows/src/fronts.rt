@@ -45,7 +45,10 @@ impl<'a> FrontRow<'a> {
 }
 
 /// Adds a front, whose key has to be free.
-pub fn add_front<S: Alter>(tx: &mut Transaction<'_, S>, row: &FrontRow<'_>) -> Result<(), RowFault>
+pub(crate) fn add_front<S: Alter>(
+    tx: &mut Transaction<'_, S>,
+    row: &FrontRow<'_>,
+) -> Result<(), RowFault>
     ensures same_reference { tx.new.conn.ghost_name ≡ tx.old.conn.ghost_name }
     ensures written { within S.Store tx.old tx.new Writes result
         (Adds fronts (front_values row.now ∷ [])) }
@@ -83,7 +86,10 @@ pub fn put_front<S: Alter>(tx: &mut Transaction<'_, S>, row: &FrontRow<'_>) -> R
 }
 
 /// The front of a sender, if it has one.
-pub fn front_at<S: Alter>(tx: &mut Transaction<'_, S>, sender: &[u8]) -> Result<Vec<Row>, RowFault>
+pub(crate) fn front_at<S: Alter>(
+    tx: &mut Transaction<'_, S>,
+    sender: &[u8],
+) -> Result<Vec<Row>, RowFault>
     ensures same_reference { tx.new.conn.ghost_name ≡ tx.old.conn.ghost_name }
     ensures read { within S.Store tx.old tx.new Reads result
         (λ db rows. Lists fronts (has_key (Text sender.now ∷ [])) 1 db rows.items) }

@@ -39,38 +39,31 @@ mod transmissions;
 mod verdicts;
 mod versions;
 
-pub use balances::{BalanceRow, add_balance, add_units, balance_at, put_balance, units_of};
+pub use balances::{BalanceRow, add_units, put_balance};
 pub use copying::add_derived_rows;
-pub use credits::{CreditRow, add_credit, add_credits, credits_of};
+pub use credits::{CreditRow, add_credits};
 pub use entries::{EntryTable, fold_entries};
 pub use fault::RowFault;
 pub use finding::{Found, layout_found};
 pub use folding::{RowFold, fold_run};
-pub use fronts::{FrontRow, add_front, front_at, put_front};
+pub use fronts::{FrontRow, put_front};
 pub use idle::Idle;
 pub use keys::keys_are_values;
 pub use layout::create;
 pub use line_senders::{LineTable, fold_senders};
-pub use mechanical_pools::{MechanicalPoolRow, add_mechanical_pool, mechanical_at};
+pub use mechanical_pools::{MechanicalPoolRow, add_mechanical_pool};
 pub use numbering::are_numbered;
-pub use office::{LAYOUT, OfficeRow, all_offices};
+pub use office::{LAYOUT, OfficeRow};
 pub use older::OlderLayout;
-pub use pool_cuts::{PoolCutRow, add_pool_cut, add_pool_cuts, cuts_of};
-pub use pool_returns::{
-    PoolReturnRow, add_pool_return, add_pool_returns, pool_return_at, returns_of_pool,
-};
-pub use pools::{PoolRow, add_pool, pool_at};
+pub use pool_cuts::{PoolCutRow, add_pool_cuts};
+pub use pool_returns::{PoolReturnRow, add_pool_returns};
+pub use pools::{PoolRow, add_pool};
 pub use questions::{Question, answer, ask};
 pub use raising::raise_inside;
-pub use recordings::{RecordingRow, add_recording, add_recordings, sender_recordings};
-pub use returns::{ReturnRow, add_return, add_returns, return_at, return_known};
-pub use segment_ends::{SegmentEndRow, add_segment_end, ends_of};
+pub use recordings::{RecordingRow, add_recordings, sender_recordings};
+pub use returns::{ReturnRow, add_return, add_returns};
+pub use segment_ends::{SegmentEndRow, add_segment_end};
 pub use tables::{TableName, all_rows};
-pub use transmissions::{
-    TransmissionKeyRow, TransmissionRow, add_transmission, add_transmissions, numbers_above,
-    numbers_between, transmission_at,
-};
-pub use verdicts::{VerdictRow, add_verdict, add_verdicts, sender_verdicts, verdicts_of};
-pub use versions::{
-    VersionRow, add_version, add_versions, last_version_of, sender_versions, versions_of,
-};
+pub use transmissions::{TransmissionKeyRow, TransmissionRow, add_transmission, add_transmissions};
+pub use verdicts::{VerdictRow, add_verdicts};
+pub use versions::{VersionRow, add_versions};

@@ -57,7 +57,10 @@ pub fn add_mechanical_pool<S: Alter>(
 }
 
 /// The row of a pool, if it is one of mechanical rights.
-pub fn mechanical_at<S: Alter>(tx: &mut Transaction<'_, S>, pool: u32) -> Result<Vec<Row>, RowFault>
+pub(crate) fn mechanical_at<S: Alter>(
+    tx: &mut Transaction<'_, S>,
+    pool: u32,
+) -> Result<Vec<Row>, RowFault>
     ensures same_reference { tx.new.conn.ghost_name ≡ tx.old.conn.ghost_name }
     ensures read { within S.Store tx.old tx.new Reads result
         (λ db rows. Lists mechanical_pools (has_key (Int (pos pool) ∷ [])) 1 db rows.items) }

@@ -81,7 +81,7 @@ pub(crate) fn add_office<S: Alter>(
 }
 
 /// The rows of the office: one, unless the table is empty.
-pub fn all_offices<S: Alter>(tx: &mut Transaction<'_, S>) -> Result<Vec<Row>, RowFault>
+pub(crate) fn all_offices<S: Alter>(tx: &mut Transaction<'_, S>) -> Result<Vec<Row>, RowFault>
     ensures same_reference { tx.new.conn.ghost_name ≡ tx.old.conn.ghost_name }
     ensures read { within S.Store tx.old tx.new Reads result
         (λ db rows. Lists office (λ _. true) 1 db rows.items) }

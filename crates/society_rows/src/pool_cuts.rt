@@ -44,7 +44,7 @@ impl<'a> PoolCutRow<'a> {
 }
 
 /// Adds a pool cut, whose key has to be free.
-pub fn add_pool_cut<S: Alter>(
+pub(crate) fn add_pool_cut<S: Alter>(
     tx: &mut Transaction<'_, S>,
     row: &PoolCutRow<'_>,
 ) -> Result<(), RowFault>
@@ -84,7 +84,10 @@ pub fn add_pool_cuts<S: Alter>(
 }
 
 /// The cuts of a pool, by sender.
-pub fn cuts_of<S: Alter>(tx: &mut Transaction<'_, S>, pool: u32) -> Result<Vec<Row>, RowFault>
+pub(crate) fn cuts_of<S: Alter>(
+    tx: &mut Transaction<'_, S>,
+    pool: u32,
+) -> Result<Vec<Row>, RowFault>
     ensures same_reference { tx.new.conn.ghost_name ≡ tx.old.conn.ghost_name }
     ensures read { within S.Store tx.old tx.new Reads result
         (λ db rows. Lists pool_cuts (has_key (Int (pos pool) ∷ [])) 2 db rows.items) }

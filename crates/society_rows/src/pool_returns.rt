@@ -44,7 +44,7 @@ impl<'a> PoolReturnRow<'a> {
 }
 
 /// Adds a pool return, whose key has to be free.
-pub fn add_pool_return<S: Alter>(
+pub(crate) fn add_pool_return<S: Alter>(
     tx: &mut Transaction<'_, S>,
     row: &PoolReturnRow<'_>,
 ) -> Result<(), RowFault>
@@ -84,7 +84,7 @@ pub fn add_pool_returns<S: Alter>(
 }
 
 /// The pool that pays a return, if there is one.
-pub fn pool_return_at<S: Alter>(
+pub(crate) fn pool_return_at<S: Alter>(
     tx: &mut Transaction<'_, S>,
     reporter: &[u8],
     number: u32,
@@ -102,7 +102,7 @@ pub fn pool_return_at<S: Alter>(
 }
 
 /// The returns that a pool pays, by reporter and number.
-pub fn returns_of_pool<S: Alter>(
+pub(crate) fn returns_of_pool<S: Alter>(
     tx: &mut Transaction<'_, S>,
     pool: u32,
 ) -> Result<Vec<Row>, RowFault>

@@ -56,7 +56,10 @@ pub fn add_pool<S: Alter>(tx: &mut Transaction<'_, S>, row: &PoolRow) -> Result<
 }
 
 /// The pool of a number, if there is one.
-pub fn pool_at<S: Alter>(tx: &mut Transaction<'_, S>, pool: u32) -> Result<Vec<Row>, RowFault>
+pub(crate) fn pool_at<S: Alter>(
+    tx: &mut Transaction<'_, S>,
+    pool: u32,
+) -> Result<Vec<Row>, RowFault>
     ensures same_reference { tx.new.conn.ghost_name ≡ tx.old.conn.ghost_name }
     ensures read { within S.Store tx.old tx.new Reads result
         (λ db rows. Lists pools (has_key (Int (pos pool) ∷ [])) 1 db rows.items) }

@@ -5,12 +5,20 @@ ghost use Rattle.society_rows.specs.Questions.{RowsAnswer, Asks};
 ghost use Rattle.society_rows.specs.Reads.{Reads};
 ghost use Rattle.society_rows.specs.Between.{between, within};
 
-use crate::{
-    Idle, RowFault, all_offices, balance_at, credits_of, cuts_of, ends_of, front_at,
-    last_version_of, mechanical_at, numbers_above, numbers_between, pool_at, pool_return_at,
-    return_at, return_known, returns_of_pool, sender_recordings, sender_verdicts, sender_versions,
-    transmission_at, verdicts_of, versions_of,
-};
+use crate::balances::balance_at;
+use crate::credits::credits_of;
+use crate::fronts::front_at;
+use crate::mechanical_pools::mechanical_at;
+use crate::office::all_offices;
+use crate::pool_cuts::cuts_of;
+use crate::pool_returns::{pool_return_at, returns_of_pool};
+use crate::pools::pool_at;
+use crate::returns::{return_at, return_known};
+use crate::segment_ends::ends_of;
+use crate::transmissions::{numbers_above, numbers_between, transmission_at};
+use crate::verdicts::{sender_verdicts, verdicts_of};
+use crate::versions::{last_version_of, sender_versions, versions_of};
+use crate::{Idle, RowFault, sender_recordings};
 use sqlite::{Alter, Row, Transaction};
 
 /// What is asked of the tables, by a key.

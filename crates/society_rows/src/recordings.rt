@@ -47,7 +47,7 @@ impl<'a> RecordingRow<'a> {
 }
 
 /// Adds a recording, whose key has to be free.
-pub fn add_recording<S: Alter>(
+pub(crate) fn add_recording<S: Alter>(
     tx: &mut Transaction<'_, S>,
     row: &RecordingRow<'_>,
 ) -> Result<(), RowFault>

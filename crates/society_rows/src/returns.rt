@@ -84,7 +84,7 @@ pub fn add_returns<S: Alter>(
 }
 
 /// The return of a reporter under a number, if there is one.
-pub fn return_at<S: Alter>(
+pub(crate) fn return_at<S: Alter>(
     tx: &mut Transaction<'_, S>,
     reporter: &[u8],
     number: u32,
@@ -102,7 +102,7 @@ pub fn return_at<S: Alter>(
 }
 
 /// The key of the return of a reporter under a number, if there is one; its body is not read.
-pub fn return_known<S: Alter>(
+pub(crate) fn return_known<S: Alter>(
     tx: &mut Transaction<'_, S>,
     reporter: &[u8],
     number: u32,

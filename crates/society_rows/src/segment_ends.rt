@@ -87,7 +87,10 @@ pub fn add_segment_end<S: Alter>(
 }
 
 /// The ends of the segments of a sender, by segment: the plain one first, then the years.
-pub fn ends_of<S: Alter>(tx: &mut Transaction<'_, S>, sender: &[u8]) -> Result<Vec<Row>, RowFault>
+pub(crate) fn ends_of<S: Alter>(
+    tx: &mut Transaction<'_, S>,
+    sender: &[u8],
+) -> Result<Vec<Row>, RowFault>
     ensures same_reference { tx.new.conn.ghost_name ≡ tx.old.conn.ghost_name }
     ensures read { within S.Store tx.old tx.new Reads result
         (λ db rows. Lists segment_ends (has_key (Text sender.now ∷ [])) 2 db rows.items) }

@@ -108,7 +108,7 @@ pub fn add_transmissions<S: Alter>(
 }
 
 /// The transmission of a sender under a number, if there is one.
-pub fn transmission_at<S: Alter>(
+pub(crate) fn transmission_at<S: Alter>(
     tx: &mut Transaction<'_, S>,
     sender: &[u8],
     number: u32,
@@ -126,7 +126,7 @@ pub fn transmission_at<S: Alter>(
 }
 
 /// The keys of the transmissions of a sender above a number, by number; their bodies are not read.
-pub fn numbers_above<S: Alter>(
+pub(crate) fn numbers_above<S: Alter>(
     tx: &mut Transaction<'_, S>,
     sender: &[u8],
     number: u32,
@@ -144,7 +144,7 @@ pub fn numbers_above<S: Alter>(
 }
 
 /// The keys of the transmissions of a sender above one number and below another, by number; their bodies are not read.
-pub fn numbers_between<S: Alter>(
+pub(crate) fn numbers_between<S: Alter>(
     tx: &mut Transaction<'_, S>,
     sender: &[u8],
     above: u32,

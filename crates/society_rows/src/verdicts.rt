@@ -51,7 +51,7 @@ impl<'a> VerdictRow<'a> {
 }
 
 /// Adds a verdict, whose key has to be free.
-pub fn add_verdict<S: Alter>(
+pub(crate) fn add_verdict<S: Alter>(
     tx: &mut Transaction<'_, S>,
     row: &VerdictRow<'_>,
 ) -> Result<(), RowFault>
@@ -141,7 +141,7 @@ pub fn add_verdicts<S: Alter>(
 }
 
 /// The verdicts of a transmission, by place.
-pub fn verdicts_of<S: Alter>(
+pub(crate) fn verdicts_of<S: Alter>(
     tx: &mut Transaction<'_, S>,
     sender: &[u8],
     number: u32,
@@ -159,7 +159,7 @@ pub fn verdicts_of<S: Alter>(
 }
 
 /// The verdicts of a sender, by number and place.
-pub fn sender_verdicts<S: Alter>(
+pub(crate) fn sender_verdicts<S: Alter>(
     tx: &mut Transaction<'_, S>,
     sender: &[u8],
 ) -> Result<Vec<Row>, RowFault>

@@ -51,7 +51,7 @@ impl<'a> VersionRow<'a> {
 }
 
 /// Adds a version, whose key has to be free.
-pub fn add_version<S: Alter>(
+pub(crate) fn add_version<S: Alter>(
     tx: &mut Transaction<'_, S>,
     row: &VersionRow<'_>,
 ) -> Result<(), RowFault>
@@ -141,7 +141,7 @@ pub fn add_versions<S: Alter>(
 }
 
 /// The versions of a work, by revision.
-pub fn versions_of<S: Alter>(
+pub(crate) fn versions_of<S: Alter>(
     tx: &mut Transaction<'_, S>,
     sender: &[u8],
     work: &[u8],
@@ -159,7 +159,7 @@ pub fn versions_of<S: Alter>(
 }
 
 /// The last version of a work, if there is one: that of the greatest revision.
-pub fn last_version_of<S: Alter>(
+pub(crate) fn last_version_of<S: Alter>(
     tx: &mut Transaction<'_, S>,
     sender: &[u8],
     work: &[u8],
@@ -177,7 +177,7 @@ pub fn last_version_of<S: Alter>(
 }
 
 /// The versions of the works of a sender, by work and revision.
-pub fn sender_versions<S: Alter>(
+pub(crate) fn sender_versions<S: Alter>(
     tx: &mut Transaction<'_, S>,
     sender: &[u8],
 ) -> Result<Vec<Row>, RowFault>

@@ -1,7 +1,2 @@
-pub mod store
-pub mod audit
-pub mod anew
-pub mod alike
-pub mod opened
-pub mod taking
+pub mod lemmas
 mod Worked

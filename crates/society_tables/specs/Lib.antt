@@ -1,13 +1,2 @@
-pub mod Again
-pub mod Auditing
 pub mod Faults
-pub mod InMemory
 pub mod Laws
-pub mod LineSteps
-pub mod Older
-pub mod Opening
-pub mod OrderParts
-pub mod OwnRows
-pub mod Reached
-pub mod Rebuilding
-pub mod TakingOver

@@ -50,7 +50,7 @@ impl Account {
     }
 
     // The account of a sender key and a party number behind it.
-    #[tactic(auto, using(crate::proofs::PartyNumbers::printable_of, crate::proofs::PartyNumbers::front_of), unfolding(crate::specs::Account::party_account_of))]
+    #[tactic(auto, using(crate::proofs::lemmas::PartyNumbers::printable_of, crate::proofs::lemmas::PartyNumbers::front_of), unfolding(crate::specs::Account::party_account_of))]
     fn from_party(bytes: &[u8]) -> Result<Account, IdFault>
         ensures { result ≡ party_account_of bytes.now }
     {

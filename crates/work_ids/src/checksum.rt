@@ -18,7 +18,7 @@ fn digit_value(byte: u8) -> usize
 }
 
 // 1 for the letter T, and each digit times its place from 1.
-#[tactic(auto, using(crate::proofs::Sums::product_bound, crate::proofs::Sums::weighted_more), unfolding(crate::specs::CheckDigit::weighted_sum))]
+#[tactic(auto, using(crate::proofs::lemmas::Sums::product_bound, crate::proofs::lemmas::Sums::weighted_more), unfolding(crate::specs::CheckDigit::weighted_sum))]
 fn weighted_sum(digits: &[u8; 9]) -> usize
     ensures value { result ≡ weighted_sum digits.now }
     ensures bound { result ≤ 16768 }

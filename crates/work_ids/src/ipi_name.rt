@@ -56,7 +56,7 @@ fn zero_filled(digits: &[u8]) -> [u8; 11]
 
 impl IpiName {
     /// The number of at most eleven digits, not all zeros, filled with zeros on the left.
-    #[tactic(auto, using(crate::proofs::IpiNames::ipi_filled))]
+    #[tactic(auto, using(crate::proofs::lemmas::IpiNames::ipi_filled))]
     pub(crate) fn from_digits(digits: &[u8]) -> IpiName
         requires room { length digits.now ≤ 11 }
         requires digits { is_ipi_name digits.now ≡ true }

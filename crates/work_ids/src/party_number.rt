@@ -35,7 +35,7 @@ impl Model for PartyNumber {
 
 impl PartyNumber {
     /// The number of at most nine printable bytes with no blank in front.
-    #[tactic(auto, using(crate::proofs::PartyNumbers::number_filled))]
+    #[tactic(auto, using(crate::proofs::lemmas::PartyNumbers::number_filled))]
     pub(crate) fn from_trimmed(number: &[u8]) -> PartyNumber
         requires room { length number.now ≤ 9 }
         requires printable { list_all is_printable number.now ≡ true }
@@ -49,7 +49,7 @@ impl PartyNumber {
 
     /// The number that a field has, blanks at both ends aside, a blank one too; else the least of `Length` (over nine
     /// bytes) and `Character` that holds (profile).
-    #[tactic(auto, using(crate::proofs::PartyNumbers::begins_printed_of_trimmed))]
+    #[tactic(auto, using(crate::proofs::lemmas::PartyNumbers::begins_printed_of_trimmed))]
     pub fn from_field(field: &[u8]) -> Result<PartyNumber, IdFault>
         ensures { result ≡ party_number_of field.now }
     {

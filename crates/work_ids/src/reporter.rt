@@ -36,7 +36,7 @@ impl Model for Reporter {
 impl Reporter {
     /// The reporter that the bytes spell; else the least of `Length` (no byte, or over 20) and `Character` that holds
     /// (profile).
-    #[tactic(auto, using(crate::proofs::Refilled::reporter_back))]
+    #[tactic(auto, using(crate::proofs::lemmas::Refilled::reporter_back))]
     pub fn from_bytes(bytes: &[u8]) -> Result<Reporter, IdFault>
         ensures { result ≡ reporter_of bytes.now }
     {

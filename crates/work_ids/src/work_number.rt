@@ -36,7 +36,7 @@ impl Model for WorkNumber {
 impl WorkNumber {
     /// The number that the bytes spell, blanks at their end aside; else the least of `Length` (nothing left, or over 14
     /// bytes) and `Character` that holds (profile).
-    #[tactic(auto, using(crate::proofs::Refilled::work_number_back))]
+    #[tactic(auto, using(crate::proofs::lemmas::Refilled::work_number_back))]
     pub fn from_bytes(bytes: &[u8]) -> Result<WorkNumber, IdFault>
         ensures { result ≡ work_number_of bytes.now }
     {

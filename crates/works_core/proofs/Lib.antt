@@ -1,8 +1,2 @@
-pub mod TrackLemmas
-pub mod KeptLemmas
-pub mod NumberLemmas
-pub mod CutLemmas
-pub mod CleanLemmas
+pub mod lemmas
 mod Worked
-pub mod NextLemmas
-pub mod EndLemmas

@@ -4,7 +4,7 @@ use Rattle.std.specs.List.{zip}
 use Rattle.cwr_files.specs.declared.transmission.Group.{Group}
 use Rattle.cwr_files.specs.declared.transmission.Transaction.{Transaction}
 use Rattle.ack_files.specs.Acknowledgement.{ack_lines}
-use Rattle.ack_files.proofs.AckLemmas.{lines_appended, counted_appended}
+use Rattle.ack_files.proofs.lemmas.AckLemmas.{lines_appended, counted_appended}
 use Rattle.ack_files.proofs.acknowledgement.append_groups.Goals as goal
 
 pub loop-group-preserved : goal.loop-group-preserved

@@ -4,7 +4,7 @@ use Rattle.std.specs.List.{zip}
 use Rattle.cwr_files.specs.declared.transmission.Transaction.{Transaction}
 use Rattle.works_core.specs.declared.verdict.Verdict.TheVariants.{Rejected}
 use Rattle.ack_files.specs.Acknowledgement.{ack_lines}
-use Rattle.ack_files.proofs.AckLemmas.{line_written, one_counted}
+use Rattle.ack_files.proofs.lemmas.AckLemmas.{line_written, one_counted}
 use Rattle.ack_files.proofs.acknowledgement.append_transactions.Goals as goal
 
 pub loop-transaction-preserved : goal.loop-transaction-preserved

@@ -1,6 +1,6 @@
 use Rattle.std.proofs.Common.{List, ℕ, ◌++◌, ap, ◌∙◌, refl, replicate}
 use borrow.Rule.Slice.PartMut.{put_mid}
-use Rattle.ack_files.proofs.Fields.{put_behind}
+use Rattle.ack_files.proofs.lemmas.Fields.{put_behind}
 use Rattle.ack_files.proofs.acknowledgement.joined.Goals as goal
 
 pub returns : goal.returns

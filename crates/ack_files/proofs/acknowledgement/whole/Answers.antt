@@ -1,5 +1,5 @@
 use Rattle.std.proofs.Common.{◌∙◌}
-use Rattle.ack_files.proofs.Fields.{fill-whole}
+use Rattle.ack_files.proofs.lemmas.Fields.{fill-whole}
 use Rattle.ack_files.proofs.acknowledgement.whole.Goals as goal
 
 pub returns : goal.returns

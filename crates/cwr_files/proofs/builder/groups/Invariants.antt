@@ -1,5 +1,5 @@
 use Rattle.std.proofs.Common.{length}
-use Rattle.cwr_files.proofs.Listing.{AreGroupsIn}
+use Rattle.cwr_files.proofs.lemmas.Listing.{AreGroupsIn}
 use Rattle.cwr_files.proofs.builder.groups.Given as goal
 
 abbrev pub invariant-loop-rest : goal.invariant-loop-rest

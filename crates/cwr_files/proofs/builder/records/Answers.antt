@@ -1,5 +1,5 @@
 use Rattle.std.proofs.Common.{◌∷◌, ◌++◌, [], sym, ap, ◌∙◌}
-use Rattle.cwr_files.proofs.Listing.{records-next, records-step}
+use Rattle.cwr_files.proofs.lemmas.Listing.{records-next, records-step}
 use Rattle.cwr_files.proofs.builder.records.Goals as goal
 
 pub returns-then-has_type-2 : goal.returns-then-has_type-2

@@ -1,5 +1,5 @@
 use Rattle.std.proofs.Common.{length}
-use Rattle.cwr_files.proofs.Listing.{AreRecords}
+use Rattle.cwr_files.proofs.lemmas.Listing.{AreRecords}
 use Rattle.cwr_files.proofs.builder.records.Given as goal
 
 abbrev pub invariant-further : goal.invariant-further

@@ -1,6 +1,6 @@
 use Rattle.cwr_records.specs.Lines.{lines}
 use Rattle.std.proofs.Common.{◌∷◌, sym, ◌∙◌}
-use Rattle.cwr_files.proofs.Listing.{transactions-step, transactions-behind, transactions-pass, transaction-made, further_part}
+use Rattle.cwr_files.proofs.lemmas.Listing.{transactions-step, transactions-behind, transactions-pass, transaction-made, further_part}
 use Rattle.cwr_files.proofs.builder.transactions.Goals as goal
 
 pub openings-preserved-then-has_type-2 : goal.openings-preserved-then-has_type-2

@@ -1,5 +1,5 @@
 use Rattle.std.proofs.Common.{length}
-use Rattle.cwr_files.proofs.Listing.{AreTransactions}
+use Rattle.cwr_files.proofs.lemmas.Listing.{AreTransactions}
 use Rattle.cwr_files.proofs.builder.transactions.Given as goal
 
 abbrev pub invariant-openings : goal.invariant-openings

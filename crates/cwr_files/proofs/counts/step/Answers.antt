@@ -1,5 +1,5 @@
 use Rattle.std.proofs.Common.{sym, ◌∙◌}
-use Rattle.cwr_files.proofs.Behind.{fault-behind, step-behind}
+use Rattle.cwr_files.proofs.lemmas.Behind.{fault-behind, step-behind}
 use Rattle.cwr_files.proofs.counts.step.Goals as goal
 
 pub returns-in-Some-clause-behind : goal.returns-in-Some-clause-behind

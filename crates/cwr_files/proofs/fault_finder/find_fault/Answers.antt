@@ -1,4 +1,4 @@
-use Rattle.cwr_files.proofs.Settled.{settled-now}
+use Rattle.cwr_files.proofs.lemmas.Settled.{settled-now}
 use Rattle.cwr_files.proofs.fault_finder.find_fault.Goals as goal
 
 pub returns-in-Err : goal.returns-in-Err

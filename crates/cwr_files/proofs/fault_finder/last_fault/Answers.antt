@@ -1,7 +1,7 @@
 use Rattle.std.proofs.Common.{◌≡◌, ◌≢◌, [], Some, drop, map, ap, ◌∙◌}
 use Rattle.std.proofs.lemmas.List.{take_rest}
 use Rattle.cwr_records.specs.Lines.{line_of_piece}
-use Rattle.cwr_files.proofs.OnePass.{read-room, last-room, none-left, some-left, ends-behind-lines, ends-behind-last, ends-faulty}
+use Rattle.cwr_files.proofs.lemmas.OnePass.{read-room, last-room, none-left, some-left, ends-behind-lines, ends-behind-last, ends-faulty}
 use Rattle.cwr_files.proofs.fault_finder.last_fault.Goals as goal
 
 pub end_fault-requires : goal.end_fault-requires

@@ -1,7 +1,7 @@
 use Rattle.std.proofs.Common.{◌++◌, ap, ◌∙◌, bytes_eq}
 use Rattle.cwr_records.specs.Records.{header_of}
 use Rattle.cwr_records.specs.declared.transmission_header.TransmissionHeader.{TransmissionHeader}
-use Rattle.cwr_files.proofs.SenderKeys.{other_sender_type}
+use Rattle.cwr_files.proofs.lemmas.SenderKeys.{other_sender_type}
 use Rattle.cwr_files.proofs.line_faults.is_of_sender.Goals as goal
 
 pub returns-else-is : goal.returns-else-is

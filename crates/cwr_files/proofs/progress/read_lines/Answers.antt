@@ -1,7 +1,7 @@
 use Rattle.std.proofs.Common.{map}
 use Rattle.std.proofs.lemmas.List.{take_rest}
 use Rattle.cwr_records.specs.Lines.{line_of_piece}
-use Rattle.cwr_files.proofs.OnePass.{read-room, next-line, fault-line}
+use Rattle.cwr_files.proofs.lemmas.OnePass.{read-room, next-line, fault-line}
 use Rattle.cwr_files.proofs.progress.read_lines.Goals as goal
 
 pub step-requires : goal.step-requires

@@ -1,5 +1,5 @@
 use Rattle.std.proofs.Common.{◌-◌, length}
-use Rattle.cwr_files.proofs.OnePass.{IsAtLine}
+use Rattle.cwr_files.proofs.lemmas.OnePass.{IsAtLine}
 use Rattle.cwr_files.proofs.progress.read_lines.Given as goal
 
 abbrev pub invariant-lines : goal.invariant-lines

@@ -2,7 +2,7 @@ use Rattle.std.proofs.Common.{Some, length, ap, sym, ◌∙◌}
 use Rattle.std.proofs.lemmas.List.{take_rest}
 use Rattle.cwr_records.specs.Lines.{line_of_piece}
 use Rattle.cwr_files.specs.LineFaults.{is_too_large}
-use Rattle.cwr_files.proofs.OnePass.{read-room, settles-size}
+use Rattle.cwr_files.proofs.lemmas.OnePass.{read-room, settles-size}
 use Rattle.cwr_files.proofs.progress.read_on.Goals as goal
 
 pub at_next_line-requires : goal.at_next_line-requires

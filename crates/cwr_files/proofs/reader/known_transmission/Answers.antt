@@ -1,5 +1,5 @@
 use Rattle.std.proofs.lemmas.Result.{IfOk-weaker}
-use Rattle.cwr_files.proofs.Judged.{headed, reads_in, small}
+use Rattle.cwr_files.proofs.lemmas.Judged.{headed, reads_in, small}
 use Rattle.cwr_files.proofs.reader.known_transmission.Goals as goal
 
 pub contents-requires-clause-headed : goal.contents-requires-clause-headed

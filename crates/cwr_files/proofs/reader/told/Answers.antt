@@ -1,5 +1,5 @@
 use Rattle.std.proofs.Common.{sym, ◌∙◌}
-use Rattle.cwr_files.proofs.Judged.{headed, small, found, reads_in, only_one, no_other}
+use Rattle.cwr_files.proofs.lemmas.Judged.{headed, small, found, reads_in, only_one, no_other}
 use Rattle.cwr_files.proofs.reader.told.Goals as goal
 
 pub returns-in-Some-clause-only : goal.returns-in-Some-clause-only

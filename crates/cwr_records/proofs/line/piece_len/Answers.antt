@@ -1,5 +1,5 @@
 use Rattle.std.proofs.Common.{refl}
-use Rattle.cwr_records.proofs.Lines.{pieces-at, pieces-last}
+use Rattle.cwr_records.proofs.lemmas.Lines.{pieces-at, pieces-last}
 use Rattle.cwr_records.proofs.line.piece_len.Goals as goal
 
 pub returns-in-Some-clause-piece : goal.returns-in-Some-clause-piece

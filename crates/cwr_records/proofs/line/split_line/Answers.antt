@@ -1,4 +1,4 @@
-use Rattle.cwr_records.proofs.Lines.{first_line}
+use Rattle.cwr_records.proofs.lemmas.Lines.{first_line}
 use Rattle.cwr_records.proofs.line.split_line.Goals as goal
 
 pub returns : goal.returns

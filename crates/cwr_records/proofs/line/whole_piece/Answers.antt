@@ -1,5 +1,5 @@
 use Rattle.std.proofs.lemmas.List.{take_rest}
-use Rattle.cwr_records.proofs.Lines.{none-found, found-at}
+use Rattle.cwr_records.proofs.lemmas.Lines.{none-found, found-at}
 use Rattle.cwr_records.proofs.line.whole_piece.Goals as goal
 
 pub returns-in-Some : goal.returns-in-Some

@@ -1,6 +1,6 @@
 use Rattle.std.proofs.Common.{◌<◌, ◌∙◌, length, get_or, arith, rules}
 use Rattle.cwr_records.specs.declared.read.TheConstants.{TYPES}
-use Rattle.cwr_records.proofs.RecordTypes.{first_of-other, told, past_end}
+use Rattle.cwr_records.proofs.lemmas.RecordTypes.{first_of-other, told, past_end}
 use Rattle.cwr_records.proofs.read.record_type.Goals as goal
 
 pub loop-letters-preserved : goal.loop-letters-preserved

@@ -2,7 +2,7 @@ use Rattle.std.proofs.Common.{◌≡◌, ℕ, List, ◌<◌, ◌++◌, ◌∙◌
 use Rattle.std.proofs.lemmas.List.{length-map}
 use Rattle.cwr_records.specs.Layouts.{nowhere, position_of, width_of}
 use Rattle.cwr_records.specs.declared.layout.Position.{Position}
-use Rattle.cwr_records.proofs.Rows.{row-next, ordered-next, kept-next, widths-all, on_ok}
+use Rattle.cwr_records.proofs.lemmas.Rows.{row-next, ordered-next, kept-next, widths-all, on_ok}
 use Rattle.cwr_records.proofs.write.append_record.Goals as goal
 
 pub loop-index-preserved : goal.loop-index-preserved

@@ -1,6 +1,6 @@
 use Rattle.std.proofs.Common.{rules}
 use Rattle.std.proofs.lemmas.Result.{on_ok_weaker}
-use Rattle.cwr_records.proofs.Rows.{reads_back}
+use Rattle.cwr_records.proofs.lemmas.Rows.{reads_back}
 use Rattle.cwr_records.proofs.write.write_record.Goals as goal
 
 pub returns-else-is_err-clause-read_back : goal.returns-else-is_err-clause-read_back

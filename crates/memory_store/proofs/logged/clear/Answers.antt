@@ -1,7 +1,7 @@
 use Rattle.std.proofs.Common.{◌∙◌, ap, arith}
 use Rattle.sqlite_trees.specs.Tree.{with_tree}
 use Rattle.memory_store.specs.Log.{rows_at}
-use Rattle.memory_store.proofs.RowsAt.{rows_at-set, rows_at-empty}
+use Rattle.memory_store.proofs.lemmas.RowsAt.{rows_at-set, rows_at-empty}
 use Rattle.memory_store.proofs.logged.clear.Goals as goal
 
 pub returns-then-tree-len : goal.returns-then-tree-len

@@ -1,5 +1,5 @@
 use Rattle.std.proofs.Common.{◌≡◌, map, take}
-use Rattle.sorted_rows.specs.Pieces.{tree_rows}
+use Rattle.memory_store.specs.Pieces.{tree_rows}
 use Rattle.memory_store.proofs.logged.copy_trees.Given as goal
 
 abbrev pub invariant-loop-tree : goal.invariant-loop-tree

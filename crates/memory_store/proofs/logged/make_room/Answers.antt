@@ -1,5 +1,5 @@
 use Rattle.std.proofs.Common.{◌∙◌}
-use Rattle.memory_store.proofs.RowsAt.{rows_at-pushed}
+use Rattle.memory_store.proofs.lemmas.RowsAt.{rows_at-pushed}
 use Rattle.memory_store.proofs.logged.make_room.Goals as goal
 
 pub loop-alloc-preserved : goal.loop-alloc-preserved

@@ -1,9 +1,9 @@
 use Rattle.std.proofs.Common.{◌≡◌, ◌∙◌, ap, sym}
 use Rattle.std.proofs.lemmas.Result.{on_ok_weaker, on_err_weaker}
 use Rattle.sqlite_trees.specs.Tree.{Trees, with_tree}
-use Rattle.sorted_rows.specs.Pieces.{changed, tree_rows}
+use Rattle.memory_store.specs.Pieces.{changed, tree_rows}
 use Rattle.memory_store.specs.Log.{rows_at}
-use Rattle.memory_store.proofs.RowsAt.{rows_at-set, rows_at-read, rows_at-same}
+use Rattle.memory_store.proofs.lemmas.RowsAt.{rows_at-set, rows_at-read, rows_at-same}
 use Rattle.memory_store.proofs.logged.write.Goals as goal
 
 pub returns-clause-ok : goal.returns-clause-ok

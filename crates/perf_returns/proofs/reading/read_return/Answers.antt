@@ -9,8 +9,8 @@ use Rattle.csv.proofs.ReadFacts.{rows-end, rows-more}
 use Rattle.perf_returns.specs.Returns.{fault_of_records, return_fault, performances_in, performances_of}
 use Rattle.perf_returns.specs.Rows.{row_added}
 use Rattle.perf_returns.specs.declared.performance.Performance.{Performance}
-use Rattle.perf_returns.proofs.Records.{records_are, records_begin}
-use Rattle.perf_returns.proofs.Taken.{fault_of_all, fault_of_begun, none_behind, none_seen, not_too_many, rows_few, rows_more, told_by}
+use Rattle.perf_returns.proofs.lemmas.Records.{records_are, records_begin}
+use Rattle.perf_returns.proofs.lemmas.Taken.{fault_of_all, fault_of_begun, none_behind, none_seen, not_too_many, rows_few, rows_more, told_by}
 use Rattle.perf_returns.proofs.reading.read_return.Goals as goal
 
 pub loop-fields-init : goal.loop-fields-init

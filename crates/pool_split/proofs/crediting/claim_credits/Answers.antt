@@ -3,8 +3,8 @@ use Rattle.std.specs.Global.{Global}
 use Rattle.std.proofs.lemmas.List.{length-map}
 use Rattle.pool_split.specs.Credits.{units_of}
 use Rattle.pool_split.specs.declared.claim.Credit.{Credit}
-use Rattle.pool_split.proofs.Parts.{if_ok_both, length-split_of}
-use Rattle.pool_split.proofs.Units.{held_units}
+use Rattle.pool_split.proofs.lemmas.Parts.{if_ok_both, length-split_of}
+use Rattle.pool_split.proofs.lemmas.Units.{held_units}
 use Rattle.pool_split.proofs.crediting.claim_credits.Goals as goal
 
 pub returns-in_ok-parts-in-Some-clause-whole : goal.returns-in_ok-parts-in-Some-clause-whole

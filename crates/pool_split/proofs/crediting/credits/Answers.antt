@@ -5,8 +5,8 @@ use Rattle.std.proofs.lemmas.List.{length-map}
 use Rattle.pool_split.specs.Credits.{paid_credits}
 use Rattle.pool_split.specs.Split.{split_of}
 use Rattle.pool_split.specs.declared.claim.Credit.{Credit}
-use Rattle.pool_split.proofs.Parts.{if_ok_both, length-split_of}
-use Rattle.pool_split.proofs.Units.{no_claims, some_claims, some_points}
+use Rattle.pool_split.proofs.lemmas.Parts.{if_ok_both, length-split_of}
+use Rattle.pool_split.proofs.lemmas.Units.{no_claims, some_claims, some_points}
 use Rattle.pool_split.proofs.crediting.credits.Goals as goal
 
 pub returns-then-is_empty-clause-credits : goal.returns-then-is_empty-clause-credits

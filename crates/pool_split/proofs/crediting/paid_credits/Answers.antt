@@ -6,7 +6,7 @@ use Rattle.std.proofs.lemmas.Slice.Zip.{get_or-zip, length-zip}
 use Rattle.pool_split.specs.Credits.{claim_credits, units_of}
 use Rattle.pool_split.specs.declared.claim.Claim.{Claim}
 use Rattle.pool_split.specs.declared.claim.Credit.{Credit}
-use Rattle.pool_split.proofs.Units.{units_append}
+use Rattle.pool_split.proofs.lemmas.Units.{units_append}
 use Rattle.pool_split.proofs.crediting.paid_credits.Goals as goal
 
 abbrev paid_to : Claim × ℕ → List Credit

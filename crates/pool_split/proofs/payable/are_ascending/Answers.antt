@@ -1,5 +1,5 @@
 use Rattle.std.proofs.Common.{◌-◌, arith, refl, sym, ◌∙◌, true≢false}
-use Rattle.pool_split.proofs.Neighbours.{ascend_by_neighbours, below_from_ascend}
+use Rattle.pool_split.proofs.lemmas.Neighbours.{ascend_by_neighbours, below_from_ascend}
 use Rattle.pool_split.proofs.payable.are_ascending.Goals as goal
 
 pub returns-then-not-is_below : goal.returns-then-not-is_below

@@ -1,5 +1,5 @@
 use Rattle.std.proofs.Common.{◌-◌}
-use Rattle.pool_split.proofs.Neighbours.{AreBelowNext}
+use Rattle.pool_split.proofs.lemmas.Neighbours.{AreBelowNext}
 use Rattle.pool_split.proofs.payable.are_ascending.Given as goal
 
 abbrev pub invariant-loop-place : goal.invariant-loop-place

@@ -3,7 +3,7 @@ use Rattle.std.specs.Global.{Global}
 use Rattle.std.proofs.lemmas.List.{length-map}
 use Rattle.pool_split.specs.Threshold.{IsThreshold}
 use Rattle.pool_split.specs.Split.{left, remainder, remainders}
-use Rattle.pool_split.proofs.Parts.{threshold_adds, threshold_parts_are, fair, if_ok_both, left_within, whole_parts, whole_within}
+use Rattle.pool_split.proofs.lemmas.Parts.{threshold_adds, threshold_parts_are, fair, if_ok_both, left_within, whole_parts, whole_within}
 use Rattle.pool_split.proofs.splitting.split.Goals as goal
 
 pub sum-requires : goal.sum-requires

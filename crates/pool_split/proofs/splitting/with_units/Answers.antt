@@ -3,7 +3,7 @@ use Rattle.std.specs.List.{range_with_len}
 use Rattle.std.proofs.lemmas.List.FromFn.{map-range_with_len_more}
 use Rattle.std.proofs.lemmas.List.Sums.{sum_by_more, sum_by_push}
 use Rattle.pool_split.specs.Threshold.{threshold_part, threshold_unit, takes_unit}
-use Rattle.pool_split.proofs.Counts.{at, one_if, unit_adds}
+use Rattle.pool_split.proofs.lemmas.Counts.{at, one_if, unit_adds}
 use Rattle.pool_split.proofs.splitting.with_units.Goals as goal
 
 pub loop-place-preserved : goal.loop-place-preserved

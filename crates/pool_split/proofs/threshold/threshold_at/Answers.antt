@@ -1,6 +1,6 @@
 use Rattle.std.proofs.Common.{arith}
 use Rattle.std.specs.List.Sorted.{IsPermutation}
-use Rattle.pool_split.proofs.Thresholds.{threshold_is}
+use Rattle.pool_split.proofs.lemmas.Thresholds.{threshold_is}
 use Rattle.pool_split.proofs.threshold.threshold_at.Goals as goal
 
 pub overflow_sub-result : goal.overflow_sub-result

@@ -2,8 +2,8 @@ use Rattle.std.proofs.Common.{◌≡◌, ◌≤◌, ◌+◌, ℕ, Some, true, sy
 use Rattle.work_ids.specs.Segments.{base_of, index_of, segment_of, sequence_of}
 use Rattle.work_ids.specs.declared.segment.Segment.TheVariants.{Year}
 use Rattle.sender_segments.specs.Ways.{End, end_stated, is_reached}
-use Rattle.sender_segments.proofs.Ranks.{base_within, room_before}
-use Rattle.sender_segments.proofs.Reached.{next_reached, over_reached}
+use Rattle.sender_segments.proofs.lemmas.Ranks.{base_within, room_before}
+use Rattle.sender_segments.proofs.lemmas.Reached.{next_reached, over_reached}
 use Rattle.sender_segments.proofs.front.front_from.Goals as goal
 
 pub loop-front-preserved-then-has : goal.loop-front-preserved-then-has

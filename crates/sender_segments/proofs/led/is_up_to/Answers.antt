@@ -1,7 +1,7 @@
 use Rattle.std.proofs.Common.{◌∙◌, ◌&&◌, ℕ, Bool, nat_le, ap, sym}
 use Rattle.work_ids.specs.Segments.{sequence_of}
 use Rattle.sender_segments.specs.Ways.{leads_to}
-use Rattle.sender_segments.proofs.LedTo.{up_to_front}
+use Rattle.sender_segments.proofs.lemmas.LedTo.{up_to_front}
 use Rattle.sender_segments.proofs.led.is_up_to.Goals as goal
 
 pub returns : goal.returns

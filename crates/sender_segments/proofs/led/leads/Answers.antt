@@ -2,8 +2,8 @@ use Rattle.std.proofs.Common.{◌≡◌, ◌<◌, ◌≤◌, ℕ, Some, true, sy
 use Rattle.work_ids.specs.Segments.{base_of, index_of, segment_of}
 use Rattle.work_ids.specs.declared.segment.Segment.TheVariants.{Year}
 use Rattle.sender_segments.specs.Ways.{End, end_stated, leads_to}
-use Rattle.sender_segments.proofs.LedTo.{base_is, base_segment, bases_back, led_over, skips, stops}
-use Rattle.sender_segments.proofs.Ranks.{base_within}
+use Rattle.sender_segments.proofs.lemmas.LedTo.{base_is, base_segment, bases_back, led_over, skips, stops}
+use Rattle.sender_segments.proofs.lemmas.Ranks.{base_within}
 use Rattle.sender_segments.proofs.led.leads.Goals as goal
 
 pub loop-at-preserved : goal.loop-at-preserved

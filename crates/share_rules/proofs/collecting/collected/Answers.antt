@@ -3,7 +3,7 @@ use Rattle.share_rules.specs.Parties.{is_interested_party, last_counting}
 use Rattle.share_rules.specs.Steps.{shares_after, shares_or}
 use Rattle.share_rules.specs.declared.party.Side.{Side}
 use Rattle.share_rules.specs.declared.shares.Shares.{Shares}
-use Rattle.share_rules.proofs.Nearest.{collected_is, from_none, rows_among, rows_next, up_to_next}
+use Rattle.share_rules.proofs.lemmas.Nearest.{collected_is, from_none, rows_among, rows_next, up_to_next}
 use Rattle.share_rules.proofs.collecting.collected.Goals as goal
 
 pub loop-record-init : goal.loop-record-init

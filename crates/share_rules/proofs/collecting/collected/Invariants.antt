@@ -1,6 +1,6 @@
 use Rattle.std.proofs.Common.{◌≡◌, drop}
 use Rattle.share_rules.specs.Parties.{collected, last_counting}
-use Rattle.share_rules.proofs.Nearest.{rows_among, up_to_next}
+use Rattle.share_rules.proofs.lemmas.Nearest.{rows_among, up_to_next}
 use Rattle.share_rules.specs.Steps.{shares_or}
 use Rattle.share_rules.proofs.collecting.collected.Given as goal
 

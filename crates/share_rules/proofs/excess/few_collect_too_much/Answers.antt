@@ -1,7 +1,7 @@
 use Rattle.std.proofs.Common.{◌+◌, drop, map, sym, ap, ◌∙◌, arith}
 use Rattle.std.proofs.lemmas.List.{take_rest}
 use Rattle.share_rules.specs.Parties.{collected, interests}
-use Rattle.share_rules.proofs.Exceeding.{beside_over, beside_party, exceed_beside}
+use Rattle.share_rules.proofs.lemmas.Exceeding.{beside_over, beside_party, exceed_beside}
 use Rattle.share_rules.specs.Steps.{with_shares}
 use Rattle.share_rules.specs.declared.totals.Totals.{Totals}
 use Rattle.share_rules.proofs.excess.few_collect_too_much.Goals as goal

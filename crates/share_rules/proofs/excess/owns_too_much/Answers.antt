@@ -1,6 +1,6 @@
 use Rattle.std.proofs.Common.{◌+◌, drop, map, sym, ◌∙◌, arith}
 use Rattle.share_rules.specs.Parties.{owned, interests}
-use Rattle.share_rules.proofs.Exceeding.{beside_over, beside_party}
+use Rattle.share_rules.proofs.lemmas.Exceeding.{beside_over, beside_party}
 use Rattle.share_rules.proofs.excess.owns_too_much.Goals as goal
 
 pub returns-then-is_exceeded : goal.returns-then-is_exceeded

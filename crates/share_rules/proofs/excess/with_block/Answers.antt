@@ -4,8 +4,8 @@ use Rattle.share_rules.specs.Blocks.{collected_behind, latest}
 use Rattle.share_rules.specs.Parties.{collected}
 use Rattle.share_rules.specs.Steps.{is_exceeded}
 use Rattle.share_rules.specs.declared.party.Side.{Side}
-use Rattle.share_rules.proofs.Blocks.{one_for_all}
-use Rattle.share_rules.proofs.Exceeding.{exceeds_from, sums_front}
+use Rattle.share_rules.proofs.lemmas.Blocks.{one_for_all}
+use Rattle.share_rules.proofs.lemmas.Exceeding.{exceeds_from, sums_front}
 use Rattle.share_rules.proofs.excess.with_block.Goals as goal
 
 pub note_all-requires-clause-none : goal.note_all-requires-clause-none

@@ -2,8 +2,8 @@ use Rattle.std.proofs.Common.{◌<◌, ℕ, true, List, [], ◌∷◌, ◌++◌,
 use Rattle.std.specs.List.{list_any}
 use Rattle.share_rules.specs.Parties.{is_interested_party}
 use Rattle.share_rules.specs.declared.party.Side.{Side}
-use Rattle.share_rules.proofs.Blocks.{answers_set, answers_stay}
-use Rattle.share_rules.proofs.Found.{party_found, party_passes}
+use Rattle.share_rules.proofs.lemmas.Blocks.{answers_set, answers_stay}
+use Rattle.share_rules.proofs.lemmas.Found.{party_found, party_passes}
 use Rattle.share_rules.proofs.found_parties.mark_party.Goals as goal
 
 pub returns-in-Some : goal.returns-in-Some

@@ -1,7 +1,7 @@
 use Rattle.std.proofs.Common.{ℕ, None, List, [], refl}
 use Rattle.share_rules.specs.Blocks.{latest}
 use Rattle.share_rules.specs.declared.party.Side.{Side}
-use Rattle.share_rules.proofs.Blocks.{one_for_all}
+use Rattle.share_rules.proofs.lemmas.Blocks.{one_for_all}
 use Rattle.share_rules.proofs.holding.push_block.Goals as goal
 
 pub note_all-requires-clause-none : goal.note_all-requires-clause-none

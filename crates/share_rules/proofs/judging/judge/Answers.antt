@@ -1,5 +1,5 @@
 use Rattle.std.proofs.Common.{sym, ◌∙◌}
-use Rattle.share_rules.proofs.First.{fault_9, fault_11}
+use Rattle.share_rules.proofs.lemmas.First.{fault_9, fault_11}
 use Rattle.share_rules.proofs.judging.judge.Goals as goal
 
 pub returns-then-have_wrong_ipi : goal.returns-then-have_wrong_ipi

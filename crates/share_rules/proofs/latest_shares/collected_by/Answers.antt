@@ -1,7 +1,7 @@
 use Rattle.std.proofs.Common.{Option, sym, ap, ◌∙◌, unwrap_or}
 use Rattle.share_rules.specs.Parties.{no_shares}
 use Rattle.share_rules.specs.declared.shares.Shares.{Shares}
-use Rattle.share_rules.proofs.Latest.{latest_collected}
+use Rattle.share_rules.proofs.lemmas.Latest.{latest_collected}
 use Rattle.share_rules.proofs.latest_shares.collected_by.Goals as goal
 
 pub returns-in-Some : goal.returns-in-Some

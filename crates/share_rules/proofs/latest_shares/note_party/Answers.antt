@@ -1,8 +1,8 @@
 use Rattle.std.proofs.Common.{◌<◌, ℕ, None, List, ◌∷◌, length, sym, arith}
 use Rattle.share_rules.specs.Blocks.{latest}
 use Rattle.share_rules.specs.declared.party.Side.{Side}
-use Rattle.share_rules.proofs.Blocks.{answers_set, answers_stay}
-use Rattle.share_rules.proofs.Latest.{party_ends, party_passes}
+use Rattle.share_rules.proofs.lemmas.Blocks.{answers_set, answers_stay}
+use Rattle.share_rules.proofs.lemmas.Latest.{party_ends, party_passes}
 use Rattle.share_rules.proofs.latest_shares.note_party.Goals as goal
 
 pub returns-in-Some : goal.returns-in-Some

@@ -2,8 +2,8 @@ use Rattle.std.proofs.Common.{◌<◌, ℕ, Some, List, ◌∷◌, is_some, leng
 use Rattle.std.proofs.lemmas.List.{get_or_default}
 use Rattle.share_rules.specs.Blocks.{latest}
 use Rattle.share_rules.specs.declared.party.Side.{Side}
-use Rattle.share_rules.proofs.Blocks.{answers_hold, answers_set, answers_stay}
-use Rattle.share_rules.proofs.Latest.{first_taken, later_stays, row_counts, row_passes}
+use Rattle.share_rules.proofs.lemmas.Blocks.{answers_hold, answers_set, answers_stay}
+use Rattle.share_rules.proofs.lemmas.Latest.{first_taken, later_stays, row_counts, row_passes}
 use Rattle.share_rules.proofs.latest_shares.note_row.Goals as goal
 
 pub returns-then-is_none : goal.returns-then-is_none

@@ -1,7 +1,7 @@
 use Rattle.std.proofs.Common.{◌≤◌, length, drop, arith}
 use Rattle.std.proofs.lemmas.Grind.{common_steps}
 use Rattle.std.proofs.lemmas.List.{length-drop}
-use Rattle.share_rules.proofs.Blocks.{all_bytes, drop_bytes, key_small}
+use Rattle.share_rules.proofs.lemmas.Blocks.{all_bytes, drop_bytes, key_small}
 use Rattle.share_rules.proofs.party_keys.key_of.Goals as goal
 
 pub overflow_mul-key : goal.overflow_mul-key

@@ -1,6 +1,6 @@
 use Rattle.std.proofs.Common.{arith, rules}
 use Rattle.share_rules.specs.Weights.{weights_of}
-use Rattle.share_rules.proofs.Whole.{clean_is_whole}
+use Rattle.share_rules.proofs.lemmas.Whole.{clean_is_whole}
 use Rattle.share_rules.proofs.weighing.weights.Goals as goal
 
 pub returns-clause-weights : goal.returns-clause-weights

@@ -1,12 +1,12 @@
 use Rattle.std.proofs.Common.{◌≡◌, Ok, ap, ap₂, nat_lt, subst, sym}
 use Rattle.sqlite.specs.Effect.{Database}
 use Rattle.sqlite.specs.Held.{state}
-use Rattle.society_core.proofs.Stores.{transmission_entry}
+use Rattle.society_core.proofs.lemmas.Stores.{transmission_entry}
 use Rattle.society_core.specs.Answers.{place_by}
 use Rattle.society_core.specs.declared.store.Place.{Place}
 use Rattle.society_book.specs.Arriving.{ArrivesBy, ArrivesWith, TakesRun}
-use Rattle.society_book.proofs.lines.ArrivedRuns.{arrives_with}
-use Rattle.society_book.proofs.together.StepLemmas.{does_as, does_open_then, does_then}
+use Rattle.society_book.proofs.lemmas.lines.ArrivedRuns.{arrives_with}
+use Rattle.society_book.proofs.lemmas.together.StepLemmas.{does_as, does_open_then, does_then}
 use Rattle.society_arrivals.proofs.arrivals.arrive_inside.Goals as goal
 
 pub returns-clause-does : goal.returns-clause-does

@@ -1,7 +1,7 @@
 use Rattle.std.proofs.Common.{◌≡◌, ◌+◌, Ok, arith}
 use Rattle.sqlite.specs.Held.{state}
-use Rattle.society_book.proofs.lines.ArrivedRuns.{held_arrives, next_arrives}
-use Rattle.society_book.proofs.together.StepLemmas.{does_also, nothing}
+use Rattle.society_book.proofs.lemmas.lines.ArrivedRuns.{held_arrives, next_arrives}
+use Rattle.society_book.proofs.lemmas.together.StepLemmas.{does_also, nothing}
 use Rattle.society_arrivals.proofs.arrivals.run_from.Goals as goal
 
 pub returns-then-value-front-clause-looks : goal.returns-then-value-front-clause-looks

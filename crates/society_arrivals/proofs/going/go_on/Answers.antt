@@ -1,7 +1,7 @@
 use Rattle.std.proofs.Common.{◌≡◌, ◌∙◌, ◌+◌, ℕ, ap}
 use Rattle.sqlite.specs.Held.{state}
-use Rattle.society_book.proofs.lines.RunFolds.{taken_runs}
-use Rattle.society_book.proofs.together.StepLemmas.{does_also, looks_inside}
+use Rattle.society_book.proofs.lemmas.lines.RunFolds.{taken_runs}
+use Rattle.society_book.proofs.lemmas.together.StepLemmas.{does_also, looks_inside}
 use Rattle.society_arrivals.proofs.going.go_on.Goals as goal
 
 pub returns-in-Some-clause-looks : goal.returns-in-Some-clause-looks

@@ -2,8 +2,8 @@ use Rattle.std.proofs.Common.{◌≡◌, ◌∙◌, ℕ, Ok, Some, ap, arith, re
 use Rattle.sqlite.specs.Held.{state}
 use Rattle.society_book.specs.EndLists.{behind_end, end_listed}
 use Rattle.society_book.specs.Going.{RunsOn, RunsPast}
-use Rattle.society_book.proofs.lines.SegmentEnds.{past_all, past_more, past_none}
-use Rattle.society_book.proofs.together.StepLemmas.{looks_as, looks_then, nothing}
+use Rattle.society_book.proofs.lemmas.lines.SegmentEnds.{past_all, past_more, past_none}
+use Rattle.society_book.proofs.lemmas.together.StepLemmas.{looks_as, looks_then, nothing}
 use Rattle.society_arrivals.proofs.going.go_over.Goals as goal
 use Rattle.work_ids.specs.Segments.{base_of, segment_of}
 

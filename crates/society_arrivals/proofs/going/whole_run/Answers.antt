@@ -2,8 +2,8 @@ use Rattle.std.proofs.Common.{Ok, ◌≡◌, ◌∙◌, subst}
 use Rattle.sqlite.specs.Effect.{Database}
 use Rattle.sqlite.specs.Held.{state}
 use Rattle.society_book.specs.Going.{RunsOn, RunsOver}
-use Rattle.society_book.proofs.lines.ArrivedRuns.{whole_by}
-use Rattle.society_book.proofs.together.StepLemmas.{does_open_then, looks_as, looks_then}
+use Rattle.society_book.proofs.lemmas.lines.ArrivedRuns.{whole_by}
+use Rattle.society_book.proofs.lemmas.together.StepLemmas.{does_open_then, looks_as, looks_then}
 use Rattle.society_arrivals.proofs.going.whole_run.Goals as goal
 
 pub returns-clause-looks : goal.returns-clause-looks

@@ -1,7 +1,7 @@
 use Rattle.std.proofs.Common.{Ok}
 use Rattle.sqlite.specs.Held.{state}
-use Rattle.society_book.proofs.lines.RunWrites.{tells_works}
-use Rattle.society_book.proofs.together.StepLemmas.{does_of, does_then}
+use Rattle.society_book.proofs.lemmas.lines.RunWrites.{tells_works}
+use Rattle.society_book.proofs.lemmas.together.StepLemmas.{does_of, does_then}
 use Rattle.society_arrivals.proofs.settling.add_works.Goals as goal
 
 pub returns-clause-does : goal.returns-clause-does

@@ -2,8 +2,8 @@ use Rattle.std.proofs.Common.{◌∙◌, ◌||◌, ◌+◌, IsTrue, List, ℕ, O
 use Rattle.std.proofs.lemmas.List.Folds.{list_any_more}
 use Rattle.sqlite.specs.Held.{state}
 use Rattle.society_book.specs.Runs.{is_key_among}
-use Rattle.society_book.proofs.lines.RunLines.{ends_less}
-use Rattle.society_book.proofs.together.StepLemmas.{looks_then}
+use Rattle.society_book.proofs.lemmas.lines.RunLines.{ends_less}
+use Rattle.society_book.proofs.lemmas.together.StepLemmas.{looks_then}
 use Rattle.society_arrivals.proofs.settling.learn_all.Goals as goal
 
 pub loop-work-preserved : goal.loop-work-preserved

@@ -3,8 +3,8 @@ use Rattle.sqlite.specs.Held.{state}
 use Rattle.society_core.specs.Book.{front, version_in}
 use Rattle.society_book.specs.Runs.{line_at_front}
 use Rattle.society_book.specs.Shown.{ShowVersion}
-use Rattle.society_book.proofs.lines.LineRows.{back_by, front_version, version_shows}
-use Rattle.society_book.proofs.together.StepLemmas.{looks_as, looks_of}
+use Rattle.society_book.proofs.lemmas.lines.LineRows.{back_by, front_version, version_shows}
+use Rattle.society_book.proofs.lemmas.together.StepLemmas.{looks_as, looks_of}
 use Rattle.society_arrivals.proofs.settling.learn_work.Goals as goal
 
 pub returns-clause-looks : goal.returns-clause-looks

@@ -8,8 +8,8 @@ use Rattle.sqlite_value.specs.declared.value.Value.TheVariants.{Int, Text}
 use Rattle.society_book.specs.Arriving.{PutsOutcomes}
 use Rattle.society_book.specs.Outcomes.{settled}
 use Rattle.society_book.specs.Runs.{behind_run, line_at_front}
-use Rattle.society_book.proofs.lines.RunWrites.{settles_by}
-use Rattle.society_book.proofs.together.StepLemmas.{does_then}
+use Rattle.society_book.proofs.lemmas.lines.RunWrites.{settles_by}
+use Rattle.society_book.proofs.lemmas.together.StepLemmas.{does_then}
 use Rattle.society_arrivals.proofs.settling.put_run.Goals as goal
 
 pub returns-clause-does : goal.returns-clause-does

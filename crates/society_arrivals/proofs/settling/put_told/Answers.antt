@@ -1,7 +1,7 @@
 use Rattle.std.proofs.Common.{Ok}
 use Rattle.sqlite.specs.Held.{state}
-use Rattle.society_book.proofs.lines.RunWrites.{adds_ordered, puts_line_by}
-use Rattle.society_book.proofs.together.StepLemmas.{does_of, does_then}
+use Rattle.society_book.proofs.lemmas.lines.RunWrites.{adds_ordered, puts_line_by}
+use Rattle.society_book.proofs.lemmas.together.StepLemmas.{does_of, does_then}
 use Rattle.society_arrivals.proofs.settling.put_told.Goals as goal
 
 pub returns-clause-does : goal.returns-clause-does

@@ -3,9 +3,9 @@ use Rattle.sqlite.specs.Held.{state}
 use Rattle.society_core.specs.Book.{front}
 use Rattle.society_book.specs.DerivedRows.{works_to}
 use Rattle.society_book.specs.Steps.{HasReached, ShowReached}
-use Rattle.society_book.proofs.shown.FrontRows.{reached_found}
-use Rattle.society_book.proofs.shown.QuestionLemmas.{by_book}
-use Rattle.society_book.proofs.together.StepLemmas.{looks_as, looks_of, on_ok}
+use Rattle.society_book.proofs.lemmas.shown.FrontRows.{reached_found}
+use Rattle.society_book.proofs.lemmas.shown.QuestionLemmas.{by_book}
+use Rattle.society_book.proofs.lemmas.together.StepLemmas.{looks_as, looks_of, on_ok}
 use Rattle.society_arrivals.proofs.settling.reached_in.Goals as goal
 
 pub returns-clause-looks : goal.returns-clause-looks

@@ -1,7 +1,7 @@
 use Rattle.std.proofs.Common.{◌≡◌, ◌+◌, ◌++◌, ◌∷◌, [], IsPermutation, ℕ, ℤ, ap, arith, pos, subst, suc}
 use Rattle.sqlite.specs.Held.{state}
 use Rattle.sender_segments.specs.Ways.{end_stated}
-use Rattle.society_core.proofs.Stores.{sound_stated}
+use Rattle.society_core.proofs.lemmas.Stores.{sound_stated}
 use Rattle.society_core.specs.Ends.{place_stated}
 use Rattle.society_core.specs.Keys.{segment_key}
 use Rattle.society_rows.specs.Layout as layout
@@ -10,11 +10,11 @@ use Rattle.society_rows.specs.Stored.{rows_in}
 use Rattle.sqlite_value.specs.Order.{Row}
 use Rattle.sqlite_value.specs.declared.value.Value.TheVariants.{Int, Text}
 use Rattle.society_book.specs.BookRows.{end_row}
-use Rattle.society_book.proofs.lines.ArrivedRuns.{ended_order}
-use Rattle.society_book.proofs.lines.KnownSenders.{knows_stated}
-use Rattle.society_book.proofs.lines.RunBooks.{lined_by}
-use Rattle.society_book.proofs.lines.RunTables.{end_added}
-use Rattle.society_book.proofs.together.StepLemmas.{does_of, does_then}
+use Rattle.society_book.proofs.lemmas.lines.ArrivedRuns.{ended_order}
+use Rattle.society_book.proofs.lemmas.lines.KnownSenders.{knows_stated}
+use Rattle.society_book.proofs.lemmas.lines.RunBooks.{lined_by}
+use Rattle.society_book.proofs.lemmas.lines.RunTables.{end_added}
+use Rattle.society_book.proofs.lemmas.together.StepLemmas.{does_of, does_then}
 use Rattle.society_arrivals.proofs.statements.end_run.Goals as goal
 
 -- the column of a year

@@ -2,8 +2,8 @@ use Rattle.std.proofs.Common.{◌≡◌, Ok, subst, sym}
 use Rattle.sqlite.specs.Effect.{Database}
 use Rattle.sqlite.specs.Held.{state}
 use Rattle.society_book.specs.Arriving.{EndsRun, StatesBy, StatesWith}
-use Rattle.society_book.proofs.lines.ArrivedRuns.{states_with}
-use Rattle.society_book.proofs.together.StepLemmas.{does_as, does_open_then, does_then}
+use Rattle.society_book.proofs.lemmas.lines.ArrivedRuns.{states_with}
+use Rattle.society_book.proofs.lemmas.together.StepLemmas.{does_as, does_open_then, does_then}
 use Rattle.society_arrivals.proofs.statements.state_inside.Goals as goal
 
 pub returns-clause-does : goal.returns-clause-does

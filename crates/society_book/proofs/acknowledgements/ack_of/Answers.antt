@@ -2,8 +2,8 @@ use Rattle.std.proofs.Common.{List, Option, Some, None, Ok, Vec, Global, ap, sym
 use Rattle.ack_files.specs.Acknowledgement.{acknowledgement}
 use Rattle.cwr_files.specs.Contents.{transmission_in}
 use Rattle.society_core.specs.Book.{body_at}
-use Rattle.society_book.proofs.shown.AckRows.{acknowledged, not_acknowledged}
-use Rattle.society_book.proofs.shown.QuestionLemmas.{asked_then, then_asked}
+use Rattle.society_book.proofs.lemmas.shown.AckRows.{acknowledged, not_acknowledged}
+use Rattle.society_book.proofs.lemmas.shown.QuestionLemmas.{asked_then, then_asked}
 use Rattle.works_core.specs.declared.verdict.Verdict.{Verdict}
 use Rattle.society_book.proofs.acknowledgements.ack_of.Goals as goal
 

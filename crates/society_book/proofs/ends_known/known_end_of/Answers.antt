@@ -3,7 +3,7 @@ use Rattle.sender_segments.specs.Ways.{StatedEnds, end_stated}
 use Rattle.society_core.specs.Answers.{end_known_with}
 use Rattle.society_core.specs.Book.{front}
 use Rattle.society_core.specs.Ends.{end_known_by, number_past, place_stated}
-use Rattle.society_book.proofs.shown.QuestionLemmas.{asked_then, then_asked}
+use Rattle.society_book.proofs.lemmas.shown.QuestionLemmas.{asked_then, then_asked}
 use Rattle.society_book.proofs.ends_known.known_end_of.Goals as goal
 
 pub returns-in-Absent : goal.returns-in-Absent

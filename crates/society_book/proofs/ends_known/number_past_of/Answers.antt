@@ -1,8 +1,8 @@
 use Rattle.std.proofs.Common.{◌≡◌, ◌∙◌, ◌+◌, ℕ, ap, ap₂}
 use Rattle.society_core.specs.Ends.{last_number_of, place_stated}
 use Rattle.society_book.specs.Standing.{numbers_within}
-use Rattle.society_book.proofs.shown.HeldNumbers.{past_found}
-use Rattle.society_book.proofs.shown.QuestionLemmas.{as_asked}
+use Rattle.society_book.proofs.lemmas.shown.HeldNumbers.{past_found}
+use Rattle.society_book.proofs.lemmas.shown.QuestionLemmas.{as_asked}
 use Rattle.society_book.proofs.ends_known.number_past_of.Goals as goal
 use Rattle.work_ids.specs.Segments.{base_of, index_of, most_in}
 use Rattle.work_ids.specs.declared.segment.Segment.{Segment}

@@ -1,8 +1,8 @@
 use Rattle.std.proofs.Common.{◌∙◌, Ok, ap}
 use Rattle.sqlite.specs.Held.{state}
 use Rattle.society_book.specs.EndLists.{end_shown}
-use Rattle.society_book.proofs.rows_alike.EndRows.{ends_found}
-use Rattle.society_book.proofs.together.StepLemmas.{looks_as, looks_of, more, on_ok}
+use Rattle.society_book.proofs.lemmas.rows_alike.EndRows.{ends_found}
+use Rattle.society_book.proofs.lemmas.together.StepLemmas.{looks_as, looks_of, more, on_ok}
 use Rattle.society_book.proofs.ends_read.ends_in.Goals as goal
 
 pub returns-clause-looks : goal.returns-clause-looks

@@ -1,8 +1,8 @@
 use Rattle.std.proofs.Common.{◌∙◌, ap}
 use Rattle.society_book.specs.EndLists.{end_shown}
-use Rattle.society_book.proofs.rows_alike.EndRows.{ends_found}
-use Rattle.society_book.proofs.shown.QuestionLemmas.{then_asked}
-use Rattle.society_book.proofs.together.StepLemmas.{more}
+use Rattle.society_book.proofs.lemmas.rows_alike.EndRows.{ends_found}
+use Rattle.society_book.proofs.lemmas.shown.QuestionLemmas.{then_asked}
+use Rattle.society_book.proofs.lemmas.together.StepLemmas.{more}
 use Rattle.society_book.proofs.ends_read.ends_of.Goals as goal
 
 pub returns : goal.returns

@@ -2,7 +2,7 @@ use Rattle.std.proofs.Common.{◌≡◌, ◌∙◌, ◌+◌, ◌++◌, ◌∷◌
 use Rattle.std.proofs.lemmas.List.{take_more}
 use Rattle.sqlite_value.specs.Order.{Row}
 use Rattle.society_book.specs.EndLists.{end_listed, end_shown}
-use Rattle.society_book.proofs.rows_alike.EndRows.{listed_shown}
+use Rattle.society_book.proofs.lemmas.rows_alike.EndRows.{listed_shown}
 use Rattle.society_book.proofs.ends_read.ends_shown.Goals as goal
 
 pub loop-row-preserved : goal.loop-row-preserved

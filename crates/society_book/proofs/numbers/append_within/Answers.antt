@@ -1,7 +1,7 @@
 use Rattle.std.proofs.Common.{◌∙◌, ◌++◌, ℕ, List, ap, map}
 use Rattle.society_book.specs.Columns.{whole_number_at}
-use Rattle.society_book.proofs.shown.NumberRows.{where_well, within_found}
-use Rattle.society_book.proofs.shown.QuestionLemmas.{then_asked}
+use Rattle.society_book.proofs.lemmas.shown.NumberRows.{where_well, within_found}
+use Rattle.society_book.proofs.lemmas.shown.QuestionLemmas.{then_asked}
 use Rattle.society_book.proofs.numbers.append_within.Goals as goal
 
 pub returns : goal.returns

@@ -1,5 +1,5 @@
 use Rattle.std.proofs.Common.{◌∙◌, Some, ap, arith, sym}
-use Rattle.society_book.proofs.shown.NumberRows.{last_of}
+use Rattle.society_book.proofs.lemmas.shown.NumberRows.{last_of}
 use Rattle.society_book.proofs.numbers.last_number.Goals as goal
 
 pub returns-in_ok-number_of-in-len1-up : goal.returns-in_ok-number_of-in-len1-up

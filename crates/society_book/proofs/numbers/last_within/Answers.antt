@@ -1,9 +1,9 @@
 use Rattle.std.proofs.Common.{◌∙◌, ap, map}
 use Rattle.society_core.specs.Ends.{last_number_of}
 use Rattle.society_book.specs.Columns.{whole_number_at}
-use Rattle.society_book.proofs.shown.NumberRows.{within_found}
-use Rattle.society_book.proofs.shown.QuestionLemmas.{then_asked}
-use Rattle.society_book.proofs.together.StepLemmas.{more}
+use Rattle.society_book.proofs.lemmas.shown.NumberRows.{within_found}
+use Rattle.society_book.proofs.lemmas.shown.QuestionLemmas.{then_asked}
+use Rattle.society_book.proofs.lemmas.together.StepLemmas.{more}
 use Rattle.society_book.proofs.numbers.last_within.Goals as goal
 
 pub returns : goal.returns

@@ -1,5 +1,5 @@
-use Rattle.society_book.proofs.shown.OrderRows.{cut_found, if_ok_as}
-use Rattle.society_book.proofs.shown.QuestionLemmas.{by_book, then_asked}
+use Rattle.society_book.proofs.lemmas.shown.OrderRows.{cut_found, if_ok_as}
+use Rattle.society_book.proofs.lemmas.shown.QuestionLemmas.{by_book, then_asked}
 use Rattle.society_book.proofs.orders.cut_of.Goals as goal
 
 pub returns : goal.returns

@@ -1,8 +1,8 @@
 use Rattle.std.proofs.Common.{◌∙◌, Ok, ap}
 use Rattle.society_book.specs.BookRows.{kind_marked}
 use Rattle.society_book.specs.OrderShown.{IsKindOf}
-use Rattle.society_book.proofs.shown.OrderRows.{kind_found}
-use Rattle.society_book.proofs.shown.QuestionLemmas.{by_book, then_asked}
+use Rattle.society_book.proofs.lemmas.shown.OrderRows.{kind_found}
+use Rattle.society_book.proofs.lemmas.shown.QuestionLemmas.{by_book, then_asked}
 use Rattle.society_book.proofs.orders.kind_of.Goals as goal
 
 pub returns : goal.returns

@@ -1,8 +1,8 @@
 use Rattle.std.proofs.Common.{◌∙◌, Ok, sym}
 use Rattle.society_core.specs.Book.{order_at}
 use Rattle.society_core.specs.declared.store.Known.TheVariants.{Absent}
-use Rattle.society_book.proofs.shown.OrderRows.{unknown_so}
-use Rattle.society_book.proofs.shown.QuestionLemmas.{then_asked}
+use Rattle.society_book.proofs.lemmas.shown.OrderRows.{unknown_so}
+use Rattle.society_book.proofs.lemmas.shown.QuestionLemmas.{then_asked}
 use Rattle.society_book.proofs.orders.known_pool_of.Goals as goal
 
 pub returns-in-None : goal.returns-in-None

@@ -1,4 +1,4 @@
-use Rattle.society_book.proofs.shown.QuestionLemmas.{asked_then}
+use Rattle.society_book.proofs.lemmas.shown.QuestionLemmas.{asked_then}
 use Rattle.society_book.proofs.orders.known_with_amount.Goals as goal
 
 pub returns : goal.returns

@@ -1,7 +1,7 @@
 use Rattle.std.proofs.Common.{◌∙◌, Some}
 use Rattle.society_core.specs.Book.{order_at}
-use Rattle.society_book.proofs.shown.OrderRows.{if_ok_as, known_so}
-use Rattle.society_book.proofs.shown.QuestionLemmas.{by_book, then_asked}
+use Rattle.society_book.proofs.lemmas.shown.OrderRows.{if_ok_as, known_so}
+use Rattle.society_book.proofs.lemmas.shown.QuestionLemmas.{by_book, then_asked}
 use Rattle.society_book.proofs.orders.known_with_cut.Goals as goal
 
 pub returns : goal.returns

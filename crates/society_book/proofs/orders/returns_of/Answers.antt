@@ -1,5 +1,5 @@
-use Rattle.society_book.proofs.shown.OrderRows.{if_ok_as, returns_found}
-use Rattle.society_book.proofs.shown.QuestionLemmas.{by_book, then_asked}
+use Rattle.society_book.proofs.lemmas.shown.OrderRows.{if_ok_as, returns_found}
+use Rattle.society_book.proofs.lemmas.shown.QuestionLemmas.{by_book, then_asked}
 use Rattle.society_book.proofs.orders.returns_of.Goals as goal
 
 pub returns : goal.returns

@@ -2,7 +2,7 @@ use Rattle.std.proofs.Common.{◌∙◌, ◌++◌, ◌<◌, drop, map, length, a
 use Rattle.std.proofs.lemmas.List.{append-nil, drop_all, get_or_default}
 use Rattle.society_book.specs.Outcomes.{settled}
 use Rattle.society_book.specs.Runs.{Settled}
-use Rattle.society_book.proofs.lines.OutcomeLemmas.{settled_at, settled_end}
+use Rattle.society_book.proofs.lemmas.lines.OutcomeLemmas.{settled_at, settled_end}
 use Rattle.society_book.proofs.outcomes.append_outcomes.Goals as goal
 
 pub loop-at-preserved : goal.loop-at-preserved

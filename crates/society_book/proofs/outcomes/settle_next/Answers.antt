@@ -1,7 +1,7 @@
 use Rattle.std.proofs.Common.{◌≡◌, ◌∙◌, ◌++◌, ℕ, List, OnOk, map, ap, sym, subst}
 use Rattle.society_book.specs.Outcomes.{settled}
 use Rattle.society_book.specs.Runs.{settled_from}
-use Rattle.society_book.proofs.lines.OutcomeLemmas.{on_any}
+use Rattle.society_book.proofs.lemmas.lines.OutcomeLemmas.{on_any}
 use Rattle.society_book.proofs.outcomes.settle_next.Goals as goal
 use Rattle.works_core.specs.Ends.{EndsAt, KnowsWorks}
 use Rattle.works_core.specs.Verdicts.{verdicts_from}

@@ -2,7 +2,7 @@ use Rattle.std.proofs.Common.{◌≡◌, ◌∙◌, ◌+◌, ◌++◌, ◌<◌, 
 use Rattle.std.proofs.lemmas.List.{append-nil, drop_all}
 use Rattle.society_book.specs.Outcomes.{settled}
 use Rattle.society_book.specs.Runs.{KnowsRun, Notes, Settled, behind_run, settled_from, settled_run}
-use Rattle.society_book.proofs.lines.OutcomeLemmas.{next_of}
+use Rattle.society_book.proofs.lemmas.lines.OutcomeLemmas.{next_of}
 use Rattle.society_book.proofs.outcomes.settle_run.Goals as goal
 use Rattle.works_core.specs.Ends.{EndsAt}
 use Rattle.works_core.specs.Verdicts.{verdicts_from}

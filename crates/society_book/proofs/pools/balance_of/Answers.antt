@@ -2,8 +2,8 @@ use Rattle.std.proofs.Common.{◌∙◌, ap}
 use Rattle.std.specs.List.{sum_by}
 use Rattle.pool_split.specs.Credits.{units_of}
 use Rattle.society_book.specs.DerivedRows.{credits_to}
-use Rattle.society_book.proofs.shown.AccountTexts.{units_by_text}
-use Rattle.society_book.proofs.shown.QuestionLemmas.{as_asked}
+use Rattle.society_book.proofs.lemmas.shown.AccountTexts.{units_by_text}
+use Rattle.society_book.proofs.lemmas.shown.QuestionLemmas.{as_asked}
 use Rattle.society_book.proofs.pools.balance_of.Goals as goal
 
 pub returns : goal.returns

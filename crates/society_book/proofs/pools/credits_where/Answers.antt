@@ -1,5 +1,5 @@
-use Rattle.society_book.proofs.shown.CreditRows.{credits_found, shown_closed}
-use Rattle.society_book.proofs.shown.QuestionLemmas.{by_book, then_asked}
+use Rattle.society_book.proofs.lemmas.shown.CreditRows.{credits_found, shown_closed}
+use Rattle.society_book.proofs.lemmas.shown.QuestionLemmas.{by_book, then_asked}
 use Rattle.society_book.proofs.pools.credits_where.Goals as goal
 
 pub returns : goal.returns

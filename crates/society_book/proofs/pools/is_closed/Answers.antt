@@ -1,8 +1,8 @@
 use Rattle.std.proofs.Common.{subst, sym}
 use Rattle.society_core.specs.Book.{order_at}
 use Rattle.society_book.specs.Shown.{ShowPool}
-use Rattle.society_book.proofs.shown.CreditRows.{pool_found}
-use Rattle.society_book.proofs.shown.QuestionLemmas.{by_book, then_asked}
+use Rattle.society_book.proofs.lemmas.shown.CreditRows.{pool_found}
+use Rattle.society_book.proofs.lemmas.shown.QuestionLemmas.{by_book, then_asked}
 use Rattle.society_book.proofs.pools.is_closed.Goals as goal
 
 pub returns : goal.returns

@@ -1,6 +1,6 @@
 use Rattle.std.proofs.Common.{◌∙◌, Ok, ap, sym}
-use Rattle.society_book.proofs.shown.CreditParts.{isrc_said}
-use Rattle.society_book.proofs.shown.CreditRows.{not_dash}
+use Rattle.society_book.proofs.lemmas.shown.CreditParts.{isrc_said}
+use Rattle.society_book.proofs.lemmas.shown.CreditRows.{not_dash}
 use Rattle.society_book.proofs.pools.isrc_of.Goals as goal
 
 pub returns-in-Ok-Some : goal.returns-in-Ok-Some

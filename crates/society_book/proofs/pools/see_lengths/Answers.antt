@@ -1,4 +1,4 @@
-use Rattle.society_book.proofs.shown.AccountTexts.{eleven_long, nine_long}
+use Rattle.society_book.proofs.lemmas.shown.AccountTexts.{eleven_long, nine_long}
 use Rattle.society_book.proofs.pools.see_lengths.Goals as goal
 
 pub returns-in-Party : goal.returns-in-Party

@@ -3,8 +3,8 @@ use Rattle.std.specs.List.{sum_by}
 use Rattle.pool_split.specs.Credits.{units_of}
 use Rattle.society_book.specs.DerivedRows.{credits_to}
 use Rattle.society_book.specs.Shown.{ShowUnits}
-use Rattle.society_book.proofs.shown.AccountRows.{balance_found}
-use Rattle.society_book.proofs.shown.QuestionLemmas.{by_book, then_asked}
+use Rattle.society_book.proofs.lemmas.shown.AccountRows.{balance_found}
+use Rattle.society_book.proofs.lemmas.shown.QuestionLemmas.{by_book, then_asked}
 use Rattle.society_book.proofs.pools.units_under.Goals as goal
 
 pub returns : goal.returns

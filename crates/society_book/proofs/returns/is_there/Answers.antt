@@ -1,8 +1,8 @@
 use Rattle.std.proofs.Common.{subst, sym}
 use Rattle.society_core.specs.Book.{return_at}
 use Rattle.society_book.specs.Shown.{ShowKey}
-use Rattle.society_book.proofs.rows_alike.KeyRows.{refilled_by, return_key_shows}
-use Rattle.society_book.proofs.shown.QuestionLemmas.{by_book, then_asked}
+use Rattle.society_book.proofs.lemmas.rows_alike.KeyRows.{refilled_by, return_key_shows}
+use Rattle.society_book.proofs.lemmas.shown.QuestionLemmas.{by_book, then_asked}
 use Rattle.society_book.proofs.returns.is_there.Goals as goal
 
 pub returns : goal.returns

@@ -1,9 +1,9 @@
 use Rattle.std.proofs.Common.{subst, sym}
 use Rattle.society_core.specs.Answers.{payer}
 use Rattle.society_book.specs.Shown.{ShowPayer}
-use Rattle.society_book.proofs.rows_alike.KeyRows.{refilled_by}
-use Rattle.society_book.proofs.shown.PaidRows.{payer_found}
-use Rattle.society_book.proofs.shown.QuestionLemmas.{by_book, then_asked}
+use Rattle.society_book.proofs.lemmas.rows_alike.KeyRows.{refilled_by}
+use Rattle.society_book.proofs.lemmas.shown.PaidRows.{payer_found}
+use Rattle.society_book.proofs.lemmas.shown.QuestionLemmas.{by_book, then_asked}
 use Rattle.society_book.proofs.returns.payer_of.Goals as goal
 
 pub returns : goal.returns

@@ -2,8 +2,8 @@ use Rattle.std.proofs.Common.{◌∙◌, ap, cond}
 use Rattle.society_core.specs.Answers.{paid_by, payer}
 use Rattle.society_core.specs.Book.{return_at}
 use Rattle.society_core.specs.declared.store.Payment.TheVariants.{Unknown}
-use Rattle.society_book.proofs.shown.PaidRows.{payment_is}
-use Rattle.society_book.proofs.shown.QuestionLemmas.{asked_then}
+use Rattle.society_book.proofs.lemmas.shown.PaidRows.{payment_is}
+use Rattle.society_book.proofs.lemmas.shown.QuestionLemmas.{asked_then}
 use Rattle.society_book.proofs.returns.payment_of.Goals as goal
 
 pub returns : goal.returns

@@ -5,7 +5,7 @@ use Rattle.society_rows.specs.Layout.{returns}
 use Rattle.society_rows.specs.Rows.{return_values}
 use Rattle.society_rows.specs.Stored.{Adds}
 use Rattle.society_book.specs.Shown.{ReturnComes, SurvivesChange}
-use Rattle.society_book.proofs.together.AloneLemmas.{at_end, written_survives}
+use Rattle.society_book.proofs.lemmas.together.AloneLemmas.{at_end, written_survives}
 use Rattle.society_book.proofs.returns.write_return.Goals as goal
 
 pub returns-in_err-commit-clause-survives : goal.returns-in_err-commit-clause-survives

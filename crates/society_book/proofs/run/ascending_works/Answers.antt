@@ -2,7 +2,7 @@ use Rattle.std.proofs.Common.{◌≡◌, IfOk, rules, subst, ◌∙◌, ap}
 use Rattle.std.proofs.lemmas.Cmp.{nat_list_cmp_total}
 use Rattle.std.proofs.lemmas.Map.Lookups.{exact_bytes}
 use Rattle.society_core.specs.Keys.{ascending, bytes_cmp}
-use Rattle.society_core.proofs.Ascending.{collected_ascends}
+use Rattle.society_core.proofs.lemmas.Ascending.{collected_ascends}
 use Rattle.society_book.proofs.run.ascending_works.Goals as goal
 
 pub returns : goal.returns

@@ -2,7 +2,7 @@ use Rattle.std.proofs.Common.{◌≡◌, ◌∙◌, Ok, ap, sym}
 use Rattle.sender_segments.specs.Ways.{StatedEnds}
 use Rattle.society_core.specs.Answers.{free_under}
 use Rattle.society_core.specs.Ends.{last_below}
-use Rattle.society_book.proofs.shown.QuestionLemmas.{then_asked}
+use Rattle.society_book.proofs.lemmas.shown.QuestionLemmas.{then_asked}
 use Rattle.society_book.proofs.senders.free_number.Goals as goal
 use Rattle.society_book.proofs.senders.free_number.Goals.{in-Some, in-None}
 use Rattle.work_ids.specs.Segments.{segment_of, sequence_of}

@@ -1,8 +1,8 @@
 use Rattle.std.proofs.Common.{subst, sym}
 use Rattle.society_core.specs.Book.{front}
 use Rattle.society_book.specs.Shown.{ShowFront}
-use Rattle.society_book.proofs.shown.FrontRows.{front_found}
-use Rattle.society_book.proofs.shown.QuestionLemmas.{by_book, then_asked}
+use Rattle.society_book.proofs.lemmas.shown.FrontRows.{front_found}
+use Rattle.society_book.proofs.lemmas.shown.QuestionLemmas.{by_book, then_asked}
 use Rattle.society_book.proofs.senders.front_of.Goals as goal
 
 pub returns : goal.returns

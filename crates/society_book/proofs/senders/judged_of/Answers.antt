@@ -1,8 +1,8 @@
 use Rattle.std.proofs.Common.{Ok, Some, cond, subst, sym, []}
 use Rattle.society_core.specs.Book.{is_in_line, verdicts_in}
 use Rattle.society_book.specs.Shown.{ShowVerdicts}
-use Rattle.society_book.proofs.shown.QuestionLemmas.{then_asked}
-use Rattle.society_book.proofs.shown.VerdictRows.{shown_in_line, verdicts_back, verdicts_found}
+use Rattle.society_book.proofs.lemmas.shown.QuestionLemmas.{then_asked}
+use Rattle.society_book.proofs.lemmas.shown.VerdictRows.{shown_in_line, verdicts_back, verdicts_found}
 use Rattle.society_book.proofs.senders.judged_of.Goals as goal
 
 pub returns : goal.returns

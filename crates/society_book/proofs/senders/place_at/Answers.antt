@@ -1,12 +1,12 @@
 use Rattle.std.proofs.Common.{◌≡◌, ◌∙◌, ℕ, Ok, ap₂, subst, sym, true}
 use Rattle.sender_segments.specs.Ways.{IsWithinEnd, StatedEnds, leads_to, numbers_up_to}
-use Rattle.society_core.proofs.Books.{sound_order}
-use Rattle.society_core.proofs.Fronts.{front_led}
-use Rattle.society_core.proofs.KeptFronts.{kept_front_fits}
-use Rattle.society_core.proofs.LineNumbers.{in_line_is}
+use Rattle.society_core.proofs.lemmas.Books.{sound_order}
+use Rattle.society_core.proofs.lemmas.Fronts.{front_led}
+use Rattle.society_core.proofs.lemmas.KeptFronts.{kept_front_fits}
+use Rattle.society_core.proofs.lemmas.LineNumbers.{in_line_is}
 use Rattle.society_core.specs.Answers.{place_by}
 use Rattle.society_core.specs.Book.{ends_of, is_one_of}
-use Rattle.society_book.proofs.shown.QuestionLemmas.{then_asked}
+use Rattle.society_book.proofs.lemmas.shown.QuestionLemmas.{then_asked}
 use Rattle.society_book.proofs.senders.place_at.Goals as goal
 
 pub returns : goal.returns

@@ -1,9 +1,9 @@
 use Rattle.std.proofs.Common.{◌∙◌, ℕ, Ok, ap, ap₂, sym}
 use Rattle.sender_segments.specs.Ways.{numbers_up_to}
-use Rattle.society_core.proofs.LineNumbers.{in_line_is}
+use Rattle.society_core.proofs.lemmas.LineNumbers.{in_line_is}
 use Rattle.society_core.specs.Answers.{place_by}
 use Rattle.society_core.specs.Book.{ends_of, is_one_of}
-use Rattle.society_book.proofs.shown.QuestionLemmas.{then_asked}
+use Rattle.society_book.proofs.lemmas.shown.QuestionLemmas.{then_asked}
 use Rattle.society_book.proofs.senders.place_of.Goals as goal
 
 pub returns-then-reached-greatest : goal.returns-then-reached-greatest

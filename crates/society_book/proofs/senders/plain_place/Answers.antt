@@ -1,7 +1,7 @@
 use Rattle.std.proofs.Common.{◌≤◌, ◌∙◌, ap, arith, sym}
 use Rattle.sender_segments.specs.Ways.{numbers_up_to}
 use Rattle.society_core.specs.Book.{is_one_of}
-use Rattle.society_book.proofs.shown.PlainFronts.{plain_line}
+use Rattle.society_book.proofs.lemmas.shown.PlainFronts.{plain_line}
 use Rattle.society_book.proofs.senders.plain_place.Goals as goal
 
 pub returns-clause-applied : goal.returns-clause-applied

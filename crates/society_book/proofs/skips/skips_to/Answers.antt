@@ -1,7 +1,7 @@
 use Rattle.std.proofs.Common.{◌≡◌, ◌∙◌, ◌<◌, ◌≤◌, ◌++◌, ◌∷◌, [], List, Some, ℕ, ap, subst, sym}
 use Rattle.society_book.specs.EndLists.{end_listed, passed_to}
 use Rattle.society_book.specs.declared.skips.Skip.{Skip}
-use Rattle.society_book.proofs.shown.Skips.{AreSkippedTo, all_skipped, with_skip, without_skip}
+use Rattle.society_book.proofs.lemmas.shown.Skips.{AreSkippedTo, all_skipped, with_skip, without_skip}
 use Rattle.society_book.proofs.skips.skips_to.Goals as goal
 use Rattle.work_ids.specs.Segments.{segment_of}
 

@@ -1,7 +1,7 @@
 use Rattle.std.proofs.Common.{◌≤◌, ◌-◌}
 use Rattle.sender_segments.specs.Ways.{AreRight}
 use Rattle.society_book.specs.EndLists.{end_listed}
-use Rattle.society_book.proofs.shown.Skips.{AreSkippedTo}
+use Rattle.society_book.proofs.lemmas.shown.Skips.{AreSkippedTo}
 use Rattle.society_book.proofs.skips.skips_to.Given as goal
 
 -- all that is skipped before the segment that it has come to is in the list

@@ -1,9 +1,9 @@
 use Rattle.std.proofs.Common.{◌∙◌, ◌++◌, [], List, ℕ, Ok, ap₂, arith}
 use Rattle.society_core.specs.Book.{front}
 use Rattle.society_book.specs.Standing.{numbers_above}
-use Rattle.society_book.proofs.shown.HeldNumbers.{held_is}
-use Rattle.society_book.proofs.shown.PlainFronts.{plain_lists}
-use Rattle.society_book.proofs.shown.QuestionLemmas.{then_asked}
+use Rattle.society_book.proofs.lemmas.shown.HeldNumbers.{held_is}
+use Rattle.society_book.proofs.lemmas.shown.PlainFronts.{plain_lists}
+use Rattle.society_book.proofs.lemmas.shown.QuestionLemmas.{then_asked}
 use Rattle.society_book.proofs.standing.held_above.Goals as goal
 
 pub returns : goal.returns

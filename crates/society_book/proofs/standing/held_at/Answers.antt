@@ -2,8 +2,8 @@ use Rattle.std.proofs.Common.{◌≡◌, ◌∙◌, ◌++◌, ℕ, Ok, ap, subst
 use Rattle.society_core.specs.Book.{front, held}
 use Rattle.society_book.specs.Shown.{ByBook}
 use Rattle.society_book.specs.Standing.{ListsSkipped, numbers_above}
-use Rattle.society_book.proofs.shown.HeldNumbers.{held_is}
-use Rattle.society_book.proofs.shown.QuestionLemmas.{asked_then, then_asked}
+use Rattle.society_book.proofs.lemmas.shown.HeldNumbers.{held_is}
+use Rattle.society_book.proofs.lemmas.shown.QuestionLemmas.{asked_then, then_asked}
 use Rattle.society_book.proofs.standing.held_at.Goals as goal
 
 pub returns : goal.returns

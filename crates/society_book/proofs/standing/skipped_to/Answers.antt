@@ -1,12 +1,12 @@
 use Rattle.std.proofs.Common.{◌≡◌, ◌∙◌, ◌++◌, [], List, ℕ, Ok, ap, arith, flat_map, get_or, subst, sym, take, true}
 use Rattle.std.proofs.lemmas.List.{flat_map_more, take_all, take_more}
 use Rattle.sender_segments.specs.Ways.{StatedEnds, leads_to}
-use Rattle.society_core.proofs.Fronts.{front_led}
+use Rattle.society_core.proofs.lemmas.Fronts.{front_led}
 use Rattle.society_core.specs.Book.{ends_of}
 use Rattle.society_book.specs.Standing.{AreSkipped, numbers_within}
 use Rattle.society_book.specs.declared.skips.Skip.{Skip}
-use Rattle.society_book.proofs.shown.AskedInTurn.{failed_behind}
-use Rattle.society_book.proofs.shown.QuestionLemmas.{asked_then, then_asked}
+use Rattle.society_book.proofs.lemmas.shown.AskedInTurn.{failed_behind}
+use Rattle.society_book.proofs.lemmas.shown.QuestionLemmas.{asked_then, then_asked}
 use Rattle.society_book.proofs.standing.skipped_to.Goals as goal
 
 pub loop-skip-init : goal.loop-skip-init

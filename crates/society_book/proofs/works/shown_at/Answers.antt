@@ -2,8 +2,8 @@ use Rattle.std.proofs.Common.{subst, sym}
 use Rattle.society_core.specs.Book.{body_at}
 use Rattle.society_core.specs.Keys.{transmission_key}
 use Rattle.society_book.specs.Shown.{ShowBody}
-use Rattle.society_book.proofs.rows_alike.KeyRows.{transmission_shows}
-use Rattle.society_book.proofs.shown.QuestionLemmas.{by_book, then_asked}
+use Rattle.society_book.proofs.lemmas.rows_alike.KeyRows.{transmission_shows}
+use Rattle.society_book.proofs.lemmas.shown.QuestionLemmas.{by_book, then_asked}
 use Rattle.society_book.proofs.works.shown_at.Goals as goal
 
 pub returns : goal.returns

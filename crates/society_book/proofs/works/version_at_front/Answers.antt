@@ -1,8 +1,8 @@
 use Rattle.std.proofs.Common.{subst, sym}
 use Rattle.society_core.specs.Book.{front, version_in}
 use Rattle.society_book.specs.Shown.{ShowVersion}
-use Rattle.society_book.proofs.lines.LineRows.{back_by, version_shows}
-use Rattle.society_book.proofs.shown.QuestionLemmas.{by_book, then_asked}
+use Rattle.society_book.proofs.lemmas.lines.LineRows.{back_by, version_shows}
+use Rattle.society_book.proofs.lemmas.shown.QuestionLemmas.{by_book, then_asked}
 use Rattle.society_book.proofs.works.version_at_front.Goals as goal
 
 pub returns : goal.returns

@@ -1,6 +1,6 @@
 use Rattle.std.proofs.Common.{None, Ok, sym, ◌∙◌}
-use Rattle.society_book.proofs.shown.QuestionLemmas.{asked_then, then_asked}
-use Rattle.society_book.proofs.shown.WorkRows.{no_work, work_shown}
+use Rattle.society_book.proofs.lemmas.shown.QuestionLemmas.{asked_then, then_asked}
+use Rattle.society_book.proofs.lemmas.shown.WorkRows.{no_work, work_shown}
 use Rattle.society_book.proofs.works.work_of.Goals as goal
 
 pub returns : goal.returns

@@ -1,6 +1,6 @@
 use Rattle.std.proofs.Common.{Ok}
 use Rattle.sqlite.specs.Held.{state}
-use Rattle.society_book.proofs.together.StepLemmas.{looks_as}
+use Rattle.society_book.proofs.lemmas.together.StepLemmas.{looks_as}
 use Rattle.society_closings.proofs.chosen.choose_work.Goals as goal
 
 pub returns-clause-looks : goal.returns-clause-looks

@@ -4,8 +4,8 @@ use Rattle.std.proofs.lemmas.List.Folds.{list_any_more}
 use Rattle.std.specs.List.{list_any}
 use Rattle.sqlite.specs.Held.{state}
 use Rattle.society_closings.specs.CutWorks.{Chooses}
-use Rattle.society_closings.proofs.cuts.CutChoices.{chooses_as}
-use Rattle.society_book.proofs.together.StepLemmas.{looks_as, looks_then, nothing}
+use Rattle.society_closings.proofs.lemmas.cuts.CutChoices.{chooses_as}
+use Rattle.society_book.proofs.lemmas.together.StepLemmas.{looks_as, looks_then, nothing}
 use Rattle.society_closings.proofs.chosen.chosen_of.Goals as goal
 
 pub loop-work-init : goal.loop-work-init

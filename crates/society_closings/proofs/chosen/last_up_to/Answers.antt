@@ -2,7 +2,7 @@ use Rattle.std.proofs.Common.{◌∙◌, List, ap, option_map}
 use Rattle.std.proofs.lemmas.List.{take_all}
 use Rattle.sqlite_value.specs.Order.{Row}
 use Rattle.society_book.specs.Shown.{version_shown}
-use Rattle.society_closings.proofs.cuts.CutRows.{row_up_to}
+use Rattle.society_closings.proofs.lemmas.cuts.CutRows.{row_up_to}
 use Rattle.society_closings.proofs.chosen.last_up_to.Goals as goal
 
 pub returns : goal.returns

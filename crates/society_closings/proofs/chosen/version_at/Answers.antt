@@ -2,9 +2,9 @@ use Rattle.std.proofs.Common.{◌∙◌, List, Ok, ap, option_map}
 use Rattle.sqlite.specs.Held.{state}
 use Rattle.sqlite_value.specs.Order.{Row}
 use Rattle.society_book.specs.Shown.{version_shown}
-use Rattle.society_closings.proofs.cuts.CutRows.{row_up_to, version_found}
-use Rattle.society_book.proofs.lines.LineRows.{back_by}
-use Rattle.society_book.proofs.together.StepLemmas.{looks_as, looks_of, more}
+use Rattle.society_closings.proofs.lemmas.cuts.CutRows.{row_up_to, version_found}
+use Rattle.society_book.proofs.lemmas.lines.LineRows.{back_by}
+use Rattle.society_book.proofs.lemmas.together.StepLemmas.{looks_as, looks_of, more}
 use Rattle.society_closings.proofs.chosen.version_at.Goals as goal
 
 pub returns-clause-looks : goal.returns-clause-looks

@@ -1,7 +1,7 @@
 use Rattle.std.proofs.Common.{Ok}
 use Rattle.sqlite.specs.Held.{state}
-use Rattle.society_closings.proofs.money.PoolWrites.{adds_cut}
-use Rattle.society_book.proofs.together.StepLemmas.{does_of, does_open_then}
+use Rattle.society_closings.proofs.lemmas.money.PoolWrites.{adds_cut}
+use Rattle.society_book.proofs.lemmas.together.StepLemmas.{does_of, does_open_then}
 use Rattle.society_closings.proofs.closings.add_cut.Goals as goal
 
 pub returns-clause-does : goal.returns-clause-does

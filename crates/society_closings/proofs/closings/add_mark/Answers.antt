@@ -1,6 +1,6 @@
 use Rattle.std.proofs.Common.{◌≡◌, refl}
 use Rattle.sqlite.specs.Held.{state}
-use Rattle.society_book.proofs.together.StepLemmas.{does_also, does_of, nothing}
+use Rattle.society_book.proofs.lemmas.together.StepLemmas.{does_also, does_of, nothing}
 use Rattle.society_closings.proofs.closings.add_mark.Goals as goal
 
 pub returns-in-Performing-clause-does : goal.returns-in-Performing-clause-does

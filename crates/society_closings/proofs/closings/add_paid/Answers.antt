@@ -1,6 +1,6 @@
 use Rattle.sqlite.specs.Held.{state}
-use Rattle.society_closings.proofs.money.PoolWrites.{adds_order}
-use Rattle.society_book.proofs.together.StepLemmas.{does_of, does_open_then}
+use Rattle.society_closings.proofs.lemmas.money.PoolWrites.{adds_order}
+use Rattle.society_book.proofs.lemmas.together.StepLemmas.{does_of, does_open_then}
 use Rattle.society_closings.proofs.closings.add_paid.Goals as goal
 
 pub returns-clause-does : goal.returns-clause-does

@@ -2,7 +2,7 @@ use Rattle.std.proofs.Common.{◌∙◌, ◌++◌, ◌∷◌, ◌<◌, [], List,
 use Rattle.std.proofs.lemmas.Option.{slice_get_read}
 use Rattle.sqlite_value.specs.Order.{Row}
 use Rattle.society_book.specs.DerivedRows.{credit_row}
-use Rattle.society_closings.proofs.money.PoolWrites.{lines_to, mapped_at}
+use Rattle.society_closings.proofs.lemmas.money.PoolWrites.{lines_to, mapped_at}
 use Rattle.society_closings.proofs.closings.line_rows.Goals as goal
 use Rattle.work_ids.specs.Account.{account_text}
 

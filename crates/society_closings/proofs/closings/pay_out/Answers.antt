@@ -1,6 +1,6 @@
 use Rattle.std.proofs.Common.{Ok}
 use Rattle.sqlite.specs.Held.{state}
-use Rattle.society_book.proofs.together.StepLemmas.{does_of, does_then}
+use Rattle.society_book.proofs.lemmas.together.StepLemmas.{does_of, does_then}
 use Rattle.society_closings.proofs.closings.pay_out.Goals as goal
 
 pub returns-clause-does : goal.returns-clause-does

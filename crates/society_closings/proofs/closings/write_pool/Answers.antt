@@ -1,8 +1,8 @@
 use Rattle.std.proofs.Common.{◌∙◌, ap, map, w64}
 use Rattle.std.proofs.lemmas.Int.{to_z-of_z}
 use Rattle.sqlite.specs.Held.{state}
-use Rattle.society_closings.proofs.money.PoolWrites.{closes_by}
-use Rattle.society_book.proofs.together.StepLemmas.{does_open_then}
+use Rattle.society_closings.proofs.lemmas.money.PoolWrites.{closes_by}
+use Rattle.society_book.proofs.lemmas.together.StepLemmas.{does_open_then}
 use Rattle.society_closings.proofs.closings.write_pool.Goals as goal
 
 pub returns-clause-does : goal.returns-clause-does

@@ -2,12 +2,12 @@ use Rattle.std.proofs.Common.{◌≡◌, ◌∙◌, ◌+◌, ◌++◌, ◌∷◌
 use Rattle.std.proofs.lemmas.List.{length-take-le, take_all, take_more}
 use Rattle.cwr_files.specs.Transaction.{number_of_work}
 use Rattle.cwr_files.specs.declared.transmission.Transaction.{Transaction}
-use Rattle.society_core.proofs.CandidateLemmas.{adds_then}
+use Rattle.society_core.proofs.lemmas.CandidateLemmas.{adds_then}
 use Rattle.society_core.specs.Candidates.{AddsCandidates, work_where}
 use Rattle.society_core.specs.Owners.{CutWork}
 use Rattle.society_core.specs.Points.{is_tallied}
 use Rattle.society_closings.specs.CutWorks.{is_chosen, works_chosen}
-use Rattle.society_closings.proofs.cuts.CutCandidates.{where_push}
+use Rattle.society_closings.proofs.lemmas.cuts.CutCandidates.{where_push}
 use Rattle.society_closings.proofs.cut_works.add_group.Goals as goal
 use Rattle.society_core.specs.Pools.{holders_of}
 

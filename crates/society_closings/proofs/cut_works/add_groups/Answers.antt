@@ -4,12 +4,12 @@ use Rattle.std.proofs.lemmas.List.{append-nil, take_more}
 use Rattle.cwr_files.specs.Transaction.{number_of_work}
 use Rattle.cwr_files.specs.declared.transmission.Group.{Group}
 use Rattle.cwr_files.specs.declared.transmission.Transaction.{Transaction}
-use Rattle.society_core.proofs.CandidateLemmas.{adds_then}
+use Rattle.society_core.proofs.lemmas.CandidateLemmas.{adds_then}
 use Rattle.society_core.specs.Candidates.{AddsCandidates}
 use Rattle.society_core.specs.Owners.{CutWork}
 use Rattle.society_core.specs.Points.{is_tallied}
 use Rattle.society_closings.specs.CutWorks.{is_chosen, works_chosen}
-use Rattle.society_closings.proofs.cuts.CutCandidates.{where_append}
+use Rattle.society_closings.proofs.lemmas.cuts.CutCandidates.{where_append}
 use Rattle.society_closings.proofs.cut_works.add_groups.Goals as goal
 use Rattle.society_core.specs.Pools.{holders_of}
 

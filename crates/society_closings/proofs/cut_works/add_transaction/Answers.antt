@@ -1,7 +1,9 @@
 use Rattle.std.proofs.Common.{◌≡◌, ◌∙◌, Bool, true, OnOk, ap, subst, sym}
 use Rattle.cwr_files.specs.Transaction.{number_of_work}
 use Rattle.society_core.specs.Candidates.{AddsWorks, work_where}
-use Rattle.society_core.proofs.CandidateLemmas.{number_read}
+use Rattle.society_core.specs.Points.{is_tallied}
+use Rattle.society_core.specs.Pools.{holders_of}
+use Rattle.society_core.proofs.lemmas.CandidateLemmas.{as_numbered, number_read}
 use Rattle.society_closings.specs.CutWorks.{is_chosen}
 use Rattle.society_closings.proofs.cut_works.add_transaction.Goals as goal
 
@@ -14,4 +16,4 @@ returns c =
     subst
     (λ (b : Bool). OnOk c.add_candidates.result (AddsWorks c.args.kind c.args.office.now c.args.tally.now (work_where b c.args.sender.now t) c.args.candidates.now.items c.add_candidates.new.candidates.items))
     (sym chosen)
-    (c.add_candidates.ensures numbered)
+    (as_numbered (holders_of c.args.kind c.args.office.now) (is_tallied c.args.tally.now) c.args.sender.now c.in-Some.work t c.args.candidates.now.items c.add_candidates.new.candidates.items c.add_candidates.result numbered c.add_candidates.ensures)

@@ -7,9 +7,9 @@ use Rattle.society_core.specs.Keys.{transmission_key}
 use Rattle.society_core.specs.Points.{is_tallied}
 use Rattle.society_closings.specs.CutWorks.{works_chosen}
 use Rattle.society_book.specs.Shown.{ShowBody}
-use Rattle.society_closings.proofs.cuts.CutCandidates.{chosen_adds, shown_all}
-use Rattle.society_book.proofs.rows_alike.KeyRows.{transmission_shows_by}
-use Rattle.society_book.proofs.together.StepLemmas.{looks_as, looks_of, more}
+use Rattle.society_closings.proofs.lemmas.cuts.CutCandidates.{chosen_adds, shown_all}
+use Rattle.society_book.proofs.lemmas.rows_alike.KeyRows.{transmission_shows_by}
+use Rattle.society_book.proofs.lemmas.together.StepLemmas.{looks_as, looks_of, more}
 use Rattle.society_closings.proofs.cut_works.add_transmission.Goals as goal
 use Rattle.society_core.specs.Pools.{holders_of}
 

@@ -2,12 +2,12 @@ use Rattle.std.proofs.Common.{◌≡◌, ◌∙◌, ◌+◌, ◌++◌, ◌∷◌
 use Rattle.std.proofs.lemmas.List.{append-nil, take_all, take_more}
 use Rattle.std.proofs.lemmas.Grind.{flat_map-append}
 use Rattle.sqlite.specs.Held.{state}
-use Rattle.society_core.proofs.CandidateLemmas.{adds_then}
+use Rattle.society_core.proofs.lemmas.CandidateLemmas.{adds_then}
 use Rattle.society_core.specs.Candidates.{AddsCandidates, transactions_sent}
 use Rattle.society_core.specs.Owners.{CutWork, versions_of_transmission}
 use Rattle.society_core.specs.Points.{is_tallied}
-use Rattle.society_closings.proofs.cuts.CutSets.{listed_within, set_adds, versions_in}
-use Rattle.society_book.proofs.together.StepLemmas.{looks_as, looks_then}
+use Rattle.society_closings.proofs.lemmas.cuts.CutSets.{listed_within, set_adds, versions_in}
+use Rattle.society_book.proofs.lemmas.together.StepLemmas.{looks_as, looks_then}
 use Rattle.society_closings.proofs.cut_works.add_transmissions.Goals as goal
 use Rattle.society_core.specs.Pools.{holders_of}
 

@@ -6,7 +6,7 @@ use Rattle.society_core.specs.Points.{is_tallied}
 use Rattle.society_closings.specs.CutWorks.{ChoosesNaming}
 use Rattle.society_book.specs.Sources.{HoldsWorks}
 use Rattle.society_book.specs.Steps.{Looks}
-use Rattle.society_closings.proofs.cuts.CutSets.{versions_in}
+use Rattle.society_closings.proofs.lemmas.cuts.CutSets.{versions_in}
 use Rattle.society_closings.proofs.cut_works.add_transmissions.Given as goal
 use Rattle.society_core.specs.Pools.{holders_of}
 

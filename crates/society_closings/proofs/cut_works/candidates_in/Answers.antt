@@ -2,8 +2,8 @@ use Rattle.std.proofs.Common.{◌≡◌, ◌∙◌, List, ℕ, ap, bytes_eq, sym
 use Rattle.std.specs.List.{list_any}
 use Rattle.sqlite.specs.Held.{state}
 use Rattle.society_core.specs.Points.{is_tallied}
-use Rattle.society_closings.proofs.cuts.CutNotes.{all_asked}
-use Rattle.society_book.proofs.together.StepLemmas.{looks_then}
+use Rattle.society_closings.proofs.lemmas.cuts.CutNotes.{all_asked}
+use Rattle.society_book.proofs.lemmas.together.StepLemmas.{looks_then}
 use Rattle.society_closings.proofs.cut_works.candidates_in.Goals as goal
 
 pub returns-clause-looks : goal.returns-clause-looks

@@ -1,14 +1,14 @@
 use Rattle.std.proofs.Common.{◌≡◌, ◌∙◌, ◌+◌, ◌++◌, ◌∷◌, [], List, Ok, ap, flat_map, subst, sym, take, true}
 use Rattle.std.proofs.lemmas.List.{take_all, take_more}
 use Rattle.sqlite.specs.Held.{state}
-use Rattle.society_core.proofs.CandidateLemmas.{all_at, works_push}
+use Rattle.society_core.proofs.lemmas.CandidateLemmas.{all_at, works_push}
 use Rattle.society_core.specs.Book.{is_applied}
 use Rattle.society_core.specs.Candidates.{StandFor}
 use Rattle.society_core.specs.Owners.{CutWork, versions_at_cut}
 use Rattle.society_core.specs.Points.{is_tallied}
 use Rattle.society_core.specs.declared.transmission_key.TransmissionKey.{TransmissionKey}
 use Rattle.society_closings.specs.CutWorks.{notes_of_sender}
-use Rattle.society_book.proofs.together.StepLemmas.{looks_as, looks_then}
+use Rattle.society_book.proofs.lemmas.together.StepLemmas.{looks_as, looks_then}
 use Rattle.society_closings.proofs.cut_works.candidates_of.Goals as goal
 use Rattle.society_core.specs.Pools.{holders_of}
 

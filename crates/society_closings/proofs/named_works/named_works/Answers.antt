@@ -1,7 +1,7 @@
 use Rattle.std.proofs.Common.{List, Ok, sym, ℕ, ◌∙◌}
 use Rattle.sqlite.specs.Held.{state}
-use Rattle.society_closings.proofs.cuts.CutNotes.{none_wanted, wanted_noted}
-use Rattle.society_book.proofs.together.StepLemmas.{looks_as, nothing}
+use Rattle.society_closings.proofs.lemmas.cuts.CutNotes.{none_wanted, wanted_noted}
+use Rattle.society_book.proofs.lemmas.together.StepLemmas.{looks_as, nothing}
 use Rattle.society_closings.proofs.named_works.named_works.Goals as goal
 
 pub returns-then-is_empty-clause-looks : goal.returns-then-is_empty-clause-looks

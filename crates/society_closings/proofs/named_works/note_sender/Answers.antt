@@ -1,7 +1,7 @@
 use Rattle.std.proofs.Common.{Ok}
 use Rattle.sqlite.specs.Held.{state}
-use Rattle.society_closings.proofs.cuts.CutNotes.{sender_noted}
-use Rattle.society_book.proofs.together.StepLemmas.{looks_as, looks_of}
+use Rattle.society_closings.proofs.lemmas.cuts.CutNotes.{sender_noted}
+use Rattle.society_book.proofs.lemmas.together.StepLemmas.{looks_as, looks_of}
 use Rattle.society_closings.proofs.named_works.note_sender.Goals as goal
 
 pub returns-clause-looks : goal.returns-clause-looks

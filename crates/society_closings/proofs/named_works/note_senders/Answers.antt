@@ -5,8 +5,8 @@ use Rattle.std.specs.List.{list_any}
 use Rattle.sqlite.specs.Held.{state}
 use Rattle.society_core.specs.declared.transmission_key.TransmissionKey.{TransmissionKey}
 use Rattle.society_closings.specs.CutWorks.{NotesSenders}
-use Rattle.society_closings.proofs.cuts.CutNotes.{no_senders, notes_still, notes_then, one_sender_more}
-use Rattle.society_book.proofs.together.StepLemmas.{looks_as, looks_then, nothing}
+use Rattle.society_closings.proofs.lemmas.cuts.CutNotes.{no_senders, notes_still, notes_then, one_sender_more}
+use Rattle.society_book.proofs.lemmas.together.StepLemmas.{looks_as, looks_then, nothing}
 use Rattle.society_closings.proofs.named_works.note_senders.Goals as goal
 
 pub loop-key-init : goal.loop-key-init

@@ -5,9 +5,9 @@ use Rattle.society_core.specs.Book.{Book, return_at}
 use Rattle.society_core.specs.Candidates.{rows_of_return}
 use Rattle.society_book.specs.Sources.{HoldsWorks}
 use Rattle.society_book.specs.Shown.{ShowBody}
-use Rattle.society_book.proofs.rows_alike.KeyRows.{refilled_by, return_shows_by}
-use Rattle.society_closings.proofs.money.Payments.{counted_by}
-use Rattle.society_book.proofs.together.StepLemmas.{looks_as, looks_of}
+use Rattle.society_book.proofs.lemmas.rows_alike.KeyRows.{refilled_by, return_shows_by}
+use Rattle.society_closings.proofs.lemmas.money.Payments.{counted_by}
+use Rattle.society_book.proofs.lemmas.together.StepLemmas.{looks_as, looks_of}
 use Rattle.society_closings.proofs.paying.add_return.Goals as goal
 
 pub returns-clause-looks : goal.returns-clause-looks

@@ -6,7 +6,7 @@ use Rattle.std.specs.Bool.{⊤}
 use Rattle.society_rows.specs.Stored.{HasLayout}
 use Rattle.society_closings.specs.Closings.{ClosesPool}
 use Rattle.society_book.specs.Shown.{AddsAlone}
-use Rattle.society_book.proofs.together.AloneLemmas.{alone_done, alone_survives, at_end}
+use Rattle.society_book.proofs.lemmas.together.AloneLemmas.{alone_done, alone_survives, at_end}
 use Rattle.society_closings.proofs.paying.close.Goals as goal
 
 pub returns-in_err-commit : goal.returns-in_err-commit

@@ -2,14 +2,14 @@ use Rattle.std.proofs.Common.{List, subst}
 use Rattle.sqlite.specs.Effect.{Database}
 use Rattle.sqlite.specs.Held.{state}
 use Rattle.pool_split.specs.declared.claim.Credit.{Credit}
-use Rattle.society_core.proofs.Closes.{entry_of_close, no_payer}
-use Rattle.society_core.proofs.Stores.{from_one}
+use Rattle.society_core.proofs.lemmas.Closes.{entry_of_close, no_payer}
+use Rattle.society_core.proofs.lemmas.Stores.{from_one}
 use Rattle.society_core.specs.Pools.{credits_of}
 use Rattle.society_closings.specs.Closings.{ClosesWith}
-use Rattle.society_closings.proofs.money.Payments.{cut_reached}
-use Rattle.society_closings.proofs.money.PoolHolds.{pool_holds}
-use Rattle.society_closings.proofs.cuts.WorksHeld.{works_of}
-use Rattle.society_book.proofs.together.StepLemmas.{does_then_open}
+use Rattle.society_closings.proofs.lemmas.money.Payments.{cut_reached}
+use Rattle.society_closings.proofs.lemmas.money.PoolHolds.{pool_holds}
+use Rattle.society_closings.proofs.lemmas.cuts.WorksHeld.{works_of}
+use Rattle.society_book.proofs.lemmas.together.StepLemmas.{does_then_open}
 use Rattle.society_closings.proofs.paying.close_inside.Goals as goal
 
 pub returns-clause-does : goal.returns-clause-does

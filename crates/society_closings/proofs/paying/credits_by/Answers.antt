@@ -3,8 +3,8 @@ use Rattle.pool_split.specs.Credits.{credits}
 use Rattle.society_core.specs.Claims.{claims_among}
 use Rattle.society_core.specs.Points.{is_tallied, points_by_recording, rows_named}
 use Rattle.society_core.specs.Pools.{claims_of, credits_of}
-use Rattle.society_core.proofs.CreditLemmas.{claims_are}
-use Rattle.society_core.proofs.PointLemmas.{recordings_tallied}
+use Rattle.society_core.proofs.lemmas.CreditLemmas.{claims_are}
+use Rattle.society_core.proofs.lemmas.PointLemmas.{recordings_tallied}
 use Rattle.society_closings.proofs.paying.credits_by.Goals as goal
 
 pub returns : goal.returns

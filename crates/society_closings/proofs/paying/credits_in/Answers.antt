@@ -9,8 +9,8 @@ use Rattle.society_core.specs.Pools.{credits_of}
 use Rattle.society_core.specs.declared.return_key.ReturnKey.{ReturnKey}
 use Rattle.society_closings.specs.Closings.{PaysBy}
 use Rattle.society_book.specs.Sources.{HoldsWorks}
-use Rattle.society_closings.proofs.money.Payments.{by_each}
-use Rattle.society_book.proofs.together.StepLemmas.{looks_as, looks_then}
+use Rattle.society_closings.proofs.lemmas.money.Payments.{by_each}
+use Rattle.society_book.proofs.lemmas.together.StepLemmas.{looks_as, looks_then}
 use Rattle.society_closings.proofs.paying.credits_in.Goals as goal
 use Rattle.society_core.specs.Pools.{holders_of}
 use Rattle.share_rules.specs.declared.kind.Kind.{Kind}

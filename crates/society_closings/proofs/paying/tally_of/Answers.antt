@@ -4,8 +4,8 @@ use Rattle.sqlite.specs.Held.{state}
 use Rattle.society_core.specs.Candidates.{rows_of_return}
 use Rattle.society_core.specs.Points.{Tallies}
 use Rattle.society_core.specs.declared.return_key.ReturnKey.{ReturnKey}
-use Rattle.society_closings.proofs.money.Payments.{rows_next}
-use Rattle.society_book.proofs.together.StepLemmas.{looks_as, looks_then, nothing}
+use Rattle.society_closings.proofs.lemmas.money.Payments.{rows_next}
+use Rattle.society_book.proofs.lemmas.together.StepLemmas.{looks_as, looks_then, nothing}
 use Rattle.society_closings.proofs.paying.tally_of.Goals as goal
 
 pub loop-key-init : goal.loop-key-init

@@ -1,5 +1,5 @@
 use Rattle.std.proofs.Common.{[], ◌∷◌, refl}
-use Rattle.society_closings.proofs.money.SameTotals.{same_behind, same_itself, same_merged}
+use Rattle.society_closings.proofs.lemmas.money.SameTotals.{same_behind, same_itself, same_merged}
 use Rattle.society_closings.proofs.totals.next_total.Goals as goal
 
 pub returns-then-is_same : goal.returns-then-is_same

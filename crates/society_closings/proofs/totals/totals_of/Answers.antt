@@ -1,5 +1,5 @@
 use Rattle.std.proofs.Common.{◌∙◌, IfOk, Result, Ok, Err}
-use Rattle.society_closings.proofs.money.SameTotals.{same_in_order}
+use Rattle.society_closings.proofs.lemmas.money.SameTotals.{same_in_order}
 use Rattle.society_closings.proofs.totals.totals_of.Goals as goal
 
 weaker_ok : {X E : Type 0} (r : Result X E) (P Q : X → Type 0) → ((x : X) → P x → Q x) → IfOk r P → IfOk r Q

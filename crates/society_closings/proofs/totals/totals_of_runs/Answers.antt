@@ -2,8 +2,8 @@ use Rattle.std.proofs.Common.{◌∙◌, [], ◌∷◌, ◌++◌, List, ap, appe
 use Rattle.std.proofs.lemmas.List.{take_all}
 use Rattle.pool_split.specs.declared.claim.Credit.{Credit}
 use Rattle.society_closings.specs.Closings.{row_of_account}
-use Rattle.society_closings.proofs.money.PoolWrites.{take_next}
-use Rattle.society_closings.proofs.money.SameTotals.{same_behind, same_itself}
+use Rattle.society_closings.proofs.lemmas.money.PoolWrites.{take_next}
+use Rattle.society_closings.proofs.lemmas.money.SameTotals.{same_behind, same_itself}
 use Rattle.society_closings.proofs.totals.totals_of_runs.Goals as goal
 
 pub loop-credit-init : goal.loop-credit-init

@@ -1,5 +1,5 @@
 use Rattle.std.proofs.Common.{arith, refl}
-use Rattle.society_commands.proofs.DatabaseLemmas.{crash_there}
+use Rattle.society_commands.proofs.lemmas.DatabaseLemmas.{crash_there}
 use Rattle.society_commands.proofs.auditing.audit_database.Goals as goal
 
 pub returns-in-Ok-clause-sound : goal.returns-in-Ok-clause-sound

@@ -1,4 +1,4 @@
-use Rattle.society_commands.proofs.ClosingLemmas.{copied_book}
+use Rattle.society_commands.proofs.lemmas.ClosingLemmas.{copied_book}
 use Rattle.society_commands.proofs.closing.close_tables.Goals as goal
 
 pub returns-in-Ok : goal.returns-in-Ok

@@ -1,6 +1,6 @@
 use Rattle.std.proofs.Common.{ℕ, ◌++◌, decimal, subst, codes}
 use Rattle.society_commands.specs.Connections.{Prints, outcome_text}
-use Rattle.society_commands.proofs.ConnectionLemmas.{prints_on}
+use Rattle.society_commands.proofs.lemmas.ConnectionLemmas.{prints_on}
 use Rattle.society_commands.proofs.connections.print_line.Goals as goal
 
 pub returns : goal.returns

@@ -1,7 +1,7 @@
 use Rattle.std.proofs.Common.{ℕ, List, ◌++◌, decimal, subst, ◌∙◌, codes, rules}
 use Rattle.society_commands.specs.Connections.{Prints}
 use Rattle.society_commands.specs.Replays.{fault_name}
-use Rattle.society_commands.proofs.ConnectionLemmas.{prints_on}
+use Rattle.society_commands.proofs.lemmas.ConnectionLemmas.{prints_on}
 use Rattle.society_commands.proofs.connections.print_outcome.Goals as goal
 
 pub returns-in-Err : goal.returns-in-Err

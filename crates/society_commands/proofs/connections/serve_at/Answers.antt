@@ -1,5 +1,5 @@
 use Rattle.std.proofs.Common.{arith, ◌∙◌}
-use Rattle.society_commands.proofs.ConnectionLemmas.{serves_more}
+use Rattle.society_commands.proofs.lemmas.ConnectionLemmas.{serves_more}
 use Rattle.society_commands.proofs.connections.serve_at.Goals as goal
 
 pub loop-number-preserved : goal.loop-number-preserved

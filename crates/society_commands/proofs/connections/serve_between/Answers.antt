@@ -1,4 +1,4 @@
-use Rattle.society_commands.proofs.ConnectionLemmas.{brings}
+use Rattle.society_commands.proofs.lemmas.ConnectionLemmas.{brings}
 use Rattle.society_commands.proofs.connections.serve_between.Goals as goal
 
 pub returns-clause-brings : goal.returns-clause-brings

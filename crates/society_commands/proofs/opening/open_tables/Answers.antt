@@ -1,5 +1,5 @@
 use Rattle.sqlite.specs.Held.{state}
-use Rattle.society_commands.proofs.DatabaseLemmas.{not_any, not_existing, over_any, over_existing}
+use Rattle.society_commands.proofs.lemmas.DatabaseLemmas.{not_any, not_existing, over_any, over_existing}
 use Rattle.society_commands.proofs.opening.open_tables.Goals as goal
 
 pub returns-then-existing-clause-over : goal.returns-then-existing-clause-over

@@ -1,7 +1,7 @@
 use Rattle.std.proofs.Common.{refl}
 use Rattle.sqlite.specs.Held.{state}
 use Rattle.society_book.specs.Kept.{tables_state}
-use Rattle.society_commands.proofs.ConnectionLemmas.{serves_database, stops_database}
+use Rattle.society_commands.proofs.lemmas.ConnectionLemmas.{serves_database, stops_database}
 use Rattle.society_commands.proofs.opening.serve_database.Goals as goal
 
 pub returns-in-Ok-clause-served : goal.returns-in-Ok-clause-served

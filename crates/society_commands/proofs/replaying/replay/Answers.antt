@@ -1,10 +1,10 @@
 use Rattle.std.proofs.Common.{ap, ◌∙◌, refl}
 use Rattle.sqlite.specs.Held.{state}
 use Rattle.memory_store.specs.Memory.{over_memory}
-use Rattle.http_connection.proofs.ServeLemmas.{no_turn}
+use Rattle.http_desk.proofs.lemmas.ServeLemmas.{no_turn}
 use Rattle.society_book.specs.Kept.{tables_state}
-use Rattle.society_commands.proofs.ReplayLemmas.{replays_from, breaks_off_from}
-use Rattle.society_commands.proofs.TableLemmas.{no_tables}
+use Rattle.society_commands.proofs.lemmas.ReplayLemmas.{replays_from, breaks_off_from}
+use Rattle.society_commands.proofs.lemmas.TableLemmas.{no_tables}
 use Rattle.society_commands.proofs.replaying.replay.Goals as goal
 
 pub returns-in_default-clause-broken_off : goal.returns-in_default-clause-broken_off

@@ -1,6 +1,6 @@
 use Rattle.std.proofs.Common.{ap, inl, inr, refl}
 use Rattle.std.specs.Net.Addr.{ipv4_octets}
-use Rattle.society_commands.proofs.ConnectionLemmas.{serves_store}
+use Rattle.society_commands.proofs.lemmas.ConnectionLemmas.{serves_store}
 use Rattle.society_commands.proofs.serving.serve_store.Goals as goal
 
 pub returns-in-Ok-outcome-clause-served : goal.returns-in-Ok-outcome-clause-served

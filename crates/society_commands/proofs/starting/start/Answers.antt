@@ -1,6 +1,6 @@
 use Rattle.std.proofs.Common.{inr}
-use Rattle.society_words.proofs.WordLemmas.{asks_for, asks_to_audit, asks_to_serve, audit_not_wrong, audit_read, name_is_wrong, read_no_help, refused_audit, refused_replay, refused_serving, replay_not_wrong, replay_read, serve_not_wrong, serving_read, words_are_wrong}
-use Rattle.society_words.specs.Words.{serving_of}
+use Rattle.society_arguments.proofs.lemmas.WordLemmas.{asks_for, asks_to_audit, asks_to_serve, audit_not_wrong, audit_read, name_is_wrong, read_no_help, refused_audit, refused_replay, refused_serving, replay_not_wrong, replay_read, serve_not_wrong, serving_read, words_are_wrong}
+use Rattle.society_arguments.specs.Words.{serving_of}
 use Rattle.society_commands.proofs.starting.start.Goals as goal
 
 pub returns-in-Ok-Replay-clause-wrong : goal.returns-in-Ok-Replay-clause-wrong

@@ -1,10 +1,12 @@
 use Rattle.std.proofs.Common.{◌∙◌}
+use Rattle.society_core.specs.Owners.{cut_work}
 use Rattle.society_core.specs.Points.{is_tallied}
-use Rattle.society_core.proofs.CandidateLemmas.{added_by}
-use Rattle.society_core.proofs.candidates.add_candidates.Goals as goal
 use Rattle.society_core.specs.Pools.{holders_of}
+use Rattle.society_core.proofs.lemmas.CandidateLemmas.{added_by}
+use Rattle.society_core.proofs.candidates.add_candidates.Goals as goal
+use Rattle.works_core.specs.Recordings.{isrcs_of}
 
 pub returns : goal.returns
-returns c numbered =
-    added_by (holders_of c.args.kind c.args.office.now) (is_tallied c.args.tally.now) c.args.sender.now c.args.work.now c.args.transaction.now c.in_ok-named.named.items c.deref.result.now c.deref-2.result.now c.args.candidates.now.items c.append_candidates.new.candidates.items c.append_candidates.result
-    numbered (c.in_ok-named.ensures) (c.deref.ensures.value ∙ c.in_ok-holders.ensures.weights) c.deref-2.ensures.value c.append_candidates.ensures
+returns c =
+    added_by (is_tallied c.args.tally.now) c.args.sender.now c.args.work.now (holders_of c.args.kind c.args.office.now (cut_work c.args.sender.now c.args.transaction.now)) (isrcs_of c.args.transaction.now) c.in_ok-named.named.items c.deref.result.now c.deref-2.result.now c.args.candidates.now.items c.append_candidates.new.candidates.items c.append_candidates.result
+    (c.in_ok-named.ensures) (c.deref.ensures.value ∙ c.in_ok-holders.ensures.weights) c.deref-2.ensures.value c.append_candidates.ensures

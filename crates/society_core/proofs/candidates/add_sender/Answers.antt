@@ -5,9 +5,9 @@ use Rattle.society_core.specs.Candidates.{AddsCandidates, transactions_sent}
 use Rattle.society_core.specs.Book.{numbers_to}
 use Rattle.society_core.specs.Owners.{CutWork, versions_of_transmission}
 use Rattle.society_core.specs.Pools.{holders_of}
-use Rattle.society_core.proofs.CandidateLemmas.{adds_then, versions_over, versions_over_push}
-use Rattle.society_core.proofs.LineNumbers.{in_line_of_to, listed_more, listed_one, there_in_line}
-use Rattle.society_core.proofs.Lines.{line_to}
+use Rattle.society_core.proofs.lemmas.CandidateLemmas.{adds_then, versions_over, versions_over_push}
+use Rattle.society_core.proofs.lemmas.LineNumbers.{in_line_of_to, listed_more, listed_one, there_in_line}
+use Rattle.society_core.proofs.lemmas.Lines.{line_to}
 use Rattle.society_core.proofs.candidates.add_sender.Goals as goal
 
 pub add_versions-requires-clause-line : goal.add_versions-requires-clause-line

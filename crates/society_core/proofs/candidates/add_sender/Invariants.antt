@@ -2,7 +2,7 @@ use Rattle.std.proofs.Common.{take}
 use Rattle.society_core.specs.Book.{numbers_to}
 use Rattle.society_core.specs.Points.{is_tallied}
 use Rattle.society_core.specs.Candidates.{AddsCandidates}
-use Rattle.society_core.proofs.CandidateLemmas.{versions_over}
+use Rattle.society_core.proofs.lemmas.CandidateLemmas.{versions_over}
 use Rattle.society_core.proofs.candidates.add_sender.Given as goal
 use Rattle.society_core.specs.Pools.{holders_of}
 

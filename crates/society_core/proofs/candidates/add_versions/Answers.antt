@@ -12,8 +12,8 @@ use Rattle.society_core.specs.Candidates.{AddsCandidates, is_version_by, transac
 use Rattle.society_core.specs.Owners.{CutWork, is_version_at, versions_of_transmission}
 use Rattle.works_core.specs.Line.{verdicts_at}
 use Rattle.works_core.specs.Numbered.{JudgedTransmission, has_number}
-use Rattle.society_core.proofs.CandidateLemmas.{adds_then, is_version_same, no_place, verdicts_counted_in, versions_push}
-use Rattle.society_core.proofs.Lines.{line_has_one}
+use Rattle.society_core.proofs.lemmas.CandidateLemmas.{adds_then, is_version_same, no_place, verdicts_counted_in, versions_push}
+use Rattle.society_core.proofs.lemmas.Lines.{line_has_one}
 use Rattle.society_core.proofs.candidates.add_versions.Goals as goal
 use Rattle.society_core.specs.Pools.{holders_of}
 

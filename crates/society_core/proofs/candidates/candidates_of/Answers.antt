@@ -4,7 +4,7 @@ use Rattle.society_core.specs.Points.{is_tallied}
 use Rattle.society_core.specs.Candidates.{StandFor}
 use Rattle.society_core.specs.Owners.{CutWork, versions_at_cut}
 use Rattle.society_core.specs.declared.transmission_key.TransmissionKey.{TransmissionKey}
-use Rattle.society_core.proofs.CandidateLemmas.{reached_at, works_push}
+use Rattle.society_core.proofs.lemmas.CandidateLemmas.{reached_at, works_push}
 use Rattle.society_core.proofs.candidates.candidates_of.Goals as goal
 use Rattle.society_core.specs.Pools.{holders_of}
 

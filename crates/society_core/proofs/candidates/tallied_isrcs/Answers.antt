@@ -4,7 +4,7 @@ use Rattle.std.proofs.lemmas.List.{take_more}
 use Rattle.society_core.specs.Candidates.{ListsOnce}
 use Rattle.society_core.specs.Keys.{bytes_cmp}
 use Rattle.society_core.specs.Points.{is_tallied}
-use Rattle.society_core.proofs.CandidateLemmas.{due_is, is_among, listed_more, listed_still, not_due, seen_more, seen_still}
+use Rattle.society_core.proofs.lemmas.CandidateLemmas.{due_is, is_among, listed_more, listed_still, not_due, seen_more, seen_still}
 use Rattle.society_core.proofs.candidates.tallied_isrcs.Goals.{then-is_due+in_ok-insert+in_ok-push, else-is_due}
 use Rattle.society_core.proofs.candidates.tallied_isrcs.Goals as goal
 

@@ -3,7 +3,7 @@ use Rattle.std.specs.BTreeSet.{contains}
 use Rattle.society_core.specs.Candidates.{ListsOnce}
 use Rattle.society_core.specs.Keys.{bytes_cmp}
 use Rattle.society_core.specs.Points.{is_tallied}
-use Rattle.society_core.proofs.CandidateLemmas.{is_among}
+use Rattle.society_core.proofs.lemmas.CandidateLemmas.{is_among}
 use Rattle.society_core.proofs.candidates.tallied_isrcs.Given as goal
 
 -- of each recording of the tally it is known whether it was named so far, and where it was it is listed once

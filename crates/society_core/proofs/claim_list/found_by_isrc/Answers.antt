@@ -4,7 +4,7 @@ use Rattle.std.specs.BTreeMap as tree
 use Rattle.society_core.specs.Claims.{Indexes}
 use Rattle.society_core.specs.Keys.{bytes_cmp}
 use Rattle.society_core.specs.declared.claim_list.Candidate.{Candidate}
-use Rattle.society_core.proofs.ClaimLemmas.{added, added_only, added_several, table_more}
+use Rattle.society_core.proofs.lemmas.ClaimLemmas.{added, added_only, added_several, table_more}
 use Rattle.society_core.proofs.claim_list.found_by_isrc.Goals as goal
 use Rattle.society_core.proofs.claim_list.found_by_isrc.Goals.{then-contains_key, else-contains_key}
 

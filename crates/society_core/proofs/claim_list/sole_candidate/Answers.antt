@@ -3,7 +3,7 @@ use Rattle.std.specs.BTreeMap as tree
 use Rattle.society_core.specs.Keys.{bytes_cmp}
 use Rattle.society_core.specs.declared.claim_list.Candidate.{Candidate}
 use Rattle.society_core.specs.declared.claim_list.Found.TheVariants.{Only, Several}
-use Rattle.society_core.proofs.ClaimLemmas.{got_item, looked_up, sole_is_looked_up}
+use Rattle.society_core.proofs.lemmas.ClaimLemmas.{got_item, looked_up, sole_is_looked_up}
 use Rattle.society_core.proofs.claim_list.sole_candidate.Goals as goal
 
 pub returns-in-Some-Only : goal.returns-in-Some-Only

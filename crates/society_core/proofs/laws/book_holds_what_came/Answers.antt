@@ -1,4 +1,4 @@
-use Rattle.society_core.proofs.HeadlineLemmas.{holds_what_came, one_of_unstated}
+use Rattle.society_core.proofs.lemmas.HeadlineLemmas.{holds_what_came, one_of_unstated}
 use Rattle.society_core.proofs.laws.book_holds_what_came.Goals as goal
 
 pub returns : goal.returns

@@ -1,6 +1,6 @@
-use Rattle.society_core.proofs.Books.{sound_order}
-use Rattle.society_core.proofs.Statements.{plain_ends, plain_is_line, plain_numbers_are, sound_gap}
-use Rattle.society_core.proofs.LineNumbers.{in_line_is, line_is, there_in_line}
+use Rattle.society_core.proofs.lemmas.Books.{sound_order}
+use Rattle.society_core.proofs.lemmas.Statements.{plain_ends, plain_is_line, plain_numbers_are, sound_gap}
+use Rattle.society_core.proofs.lemmas.LineNumbers.{in_line_is, line_is, there_in_line}
 use Rattle.society_core.proofs.laws.front_is_the_first_gap.Goals as goal
 
 pub returns : goal.returns

@@ -1,4 +1,4 @@
-use Rattle.society_core.proofs.HeldLemmas.{held_ascend, held_waits}
+use Rattle.society_core.proofs.lemmas.HeldLemmas.{held_ascend, held_waits}
 use Rattle.society_core.proofs.laws.held_numbers_wait.Goals as goal
 
 pub returns : goal.returns

@@ -1,7 +1,7 @@
 use Rattle.std.proofs.Common.{ap}
 use Rattle.society_core.specs.Answers.{answer}
 use Rattle.society_core.specs.Book.{Book}
-use Rattle.society_core.proofs.HeadlineLemmas.{accepted_alike, order_is_free}
+use Rattle.society_core.proofs.lemmas.HeadlineLemmas.{accepted_alike, order_is_free}
 use Rattle.society_core.proofs.laws.order_of_arrival_is_free.Goals as goal
 
 pub returns-clause-accepted : goal.returns-clause-accepted

@@ -1,4 +1,4 @@
-use Rattle.society_core.proofs.OwnerLemmas.{owns_alone}
+use Rattle.society_core.proofs.lemmas.OwnerLemmas.{owns_alone}
 use Rattle.society_core.proofs.laws.owners_are_alone.Goals as goal
 
 pub returns : goal.returns

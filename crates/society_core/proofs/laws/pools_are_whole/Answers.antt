@@ -1,4 +1,4 @@
-use Rattle.society_core.proofs.PoolLemmas.{pool_adds_up}
+use Rattle.society_core.proofs.lemmas.PoolLemmas.{pool_adds_up}
 use Rattle.society_core.proofs.laws.pools_are_whole.Goals as goal
 
 pub returns : goal.returns

@@ -1,4 +1,4 @@
-use Rattle.society_core.proofs.SoundRuns.{run_is_sound}
+use Rattle.society_core.proofs.lemmas.SoundRuns.{run_is_sound}
 use Rattle.society_core.proofs.laws.runs_keep_books_sound.Goals as goal
 
 pub returns : goal.returns

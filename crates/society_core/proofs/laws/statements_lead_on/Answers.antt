@@ -1,4 +1,4 @@
-use Rattle.society_core.proofs.Statements.{leads_on}
+use Rattle.society_core.proofs.lemmas.Statements.{leads_on}
 use Rattle.society_core.proofs.laws.statements_lead_on.Goals as goal
 
 pub returns : goal.returns

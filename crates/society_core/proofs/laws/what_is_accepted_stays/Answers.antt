@@ -1,5 +1,5 @@
-use Rattle.society_core.proofs.HeadlineLemmas.{run_came, run_keeps}
-use Rattle.society_core.proofs.Statements.{other_end_reused}
+use Rattle.society_core.proofs.lemmas.HeadlineLemmas.{run_came, run_keeps}
+use Rattle.society_core.proofs.lemmas.Statements.{other_end_reused}
 use Rattle.society_core.proofs.laws.what_is_accepted_stays.Goals as goal
 
 pub returns-clause-stays : goal.returns-clause-stays

@@ -1,5 +1,5 @@
-use Rattle.society_core.proofs.Gaps.{acks_alike, verdicts_alike, works_alike}
-use Rattle.society_core.proofs.Statements.{plain_alike}
+use Rattle.society_core.proofs.lemmas.Gaps.{acks_alike, verdicts_alike, works_alike}
+use Rattle.society_core.proofs.lemmas.Statements.{plain_alike}
 use Rattle.society_core.proofs.laws.what_waits_is_unapplied.Goals as goal
 
 pub returns : goal.returns

@@ -1,5 +1,5 @@
 use Rattle.society_core.specs.PlainMaps.{ends_kept, transmissions_of}
-use Rattle.society_core.proofs.Fronts.{front_only}
+use Rattle.society_core.proofs.lemmas.Fronts.{front_only}
 use Rattle.society_core.proofs.line.front_on.Goals as goal
 
 pub returns : goal.returns

@@ -1,7 +1,7 @@
 use Rattle.std.proofs.Common.{◌≡◌, IfOk, rules, subst, ◌∙◌, ap}
 use Rattle.society_core.specs.Keys.{ascending, return_cmp}
-use Rattle.society_core.proofs.Ascending.{collected_ascends}
-use Rattle.society_core.proofs.KeyOrders.{exact_returns, returns_total}
+use Rattle.society_core.proofs.lemmas.Ascending.{collected_ascends}
+use Rattle.society_core.proofs.lemmas.KeyOrders.{exact_returns, returns_total}
 use Rattle.society_core.proofs.order.ascending_returns.Goals as goal
 
 pub returns : goal.returns

@@ -1,7 +1,7 @@
 use Rattle.std.proofs.Common.{◌≡◌, sym, ◌∙◌}
-use Rattle.society_core.proofs.Ascending.{same_contents_ascend}
-use Rattle.society_core.proofs.KeyOrders.{exact_returns, exact_transmissions, returns_total, transmissions_total}
-use Rattle.society_core.proofs.SameOrders.{one_order}
+use Rattle.society_core.proofs.lemmas.Ascending.{same_contents_ascend}
+use Rattle.society_core.proofs.lemmas.KeyOrders.{exact_returns, exact_transmissions, returns_total, transmissions_total}
+use Rattle.society_core.proofs.lemmas.SameOrders.{one_order}
 use Rattle.society_core.proofs.order.orders_are_sets.Goals as goal
 
 pub returns : goal.returns

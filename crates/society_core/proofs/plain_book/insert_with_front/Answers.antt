@@ -5,10 +5,10 @@ use Rattle.sender_segments.specs.Ways.{is_reached}
 use Rattle.society_core.specs.Book.{AreOrderly, Transmissions, ends_among, front_in, is_among}
 use Rattle.society_core.specs.Keys.{bytes_cmp}
 use Rattle.society_core.specs.PlainMaps.{IsReachedBy, ends_kept, transmissions_of}
-use Rattle.society_core.proofs.Fronts.{front_within}
-use Rattle.society_core.proofs.Kept.{one_kept}
-use Rattle.society_core.proofs.KeptFronts.{fronts_raised, other_there, same_front, taken_reaches}
-use Rattle.society_core.proofs.KeyOrders.{exact_transmissions, transmissions_total}
+use Rattle.society_core.proofs.lemmas.Fronts.{front_within}
+use Rattle.society_core.proofs.lemmas.Kept.{one_kept}
+use Rattle.society_core.proofs.lemmas.KeptFronts.{fronts_raised, other_there, same_front, taken_reaches}
+use Rattle.society_core.proofs.lemmas.KeyOrders.{exact_transmissions, transmissions_total}
 use Rattle.society_core.proofs.plain_book.insert_with_front.Goals as goal
 
 pub raise_front-requires-clause-reached : goal.raise_front-requires-clause-reached

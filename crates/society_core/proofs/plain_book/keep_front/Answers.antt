@@ -1,5 +1,5 @@
 use Rattle.std.proofs.Common.{sym, ◌∙◌}
-use Rattle.society_core.proofs.KeptFronts.{zero_kept}
+use Rattle.society_core.proofs.lemmas.KeptFronts.{zero_kept}
 use Rattle.society_core.proofs.plain_book.keep_front.Goals as goal
 
 pub returns-in_ok-insert-clause-same : goal.returns-in_ok-insert-clause-same

@@ -4,7 +4,7 @@ use Rattle.std.specs.List.{last_or}
 use Rattle.society_core.specs.Ends.{place_stated}
 use Rattle.society_core.specs.PlainLines.{numbers_passing}
 use Rattle.society_core.specs.declared.transmission_key.TransmissionKey.{TransmissionKey}
-use Rattle.society_core.proofs.LineKeys.{is_key_past, last_is, last_next}
+use Rattle.society_core.proofs.lemmas.LineKeys.{is_key_past, last_is, last_next}
 use Rattle.society_core.proofs.plain_book.number_past.Goals as goal
 
 pub loop-key-init : goal.loop-key-init

@@ -3,7 +3,7 @@ use Rattle.std.specs.BTreeMap.{keys}
 use Rattle.std.specs.List.{last_or}
 use Rattle.society_core.specs.Ends.{place_stated}
 use Rattle.society_core.specs.PlainLines.{numbers_passing}
-use Rattle.society_core.proofs.LineKeys.{is_key_past}
+use Rattle.society_core.proofs.lemmas.LineKeys.{is_key_past}
 use Rattle.society_core.proofs.plain_book.number_past.Given as goal
 
 -- the last that was found, or else the last of the rest, is the last of all

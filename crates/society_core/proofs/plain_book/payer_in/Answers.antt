@@ -1,5 +1,5 @@
 use Rattle.std.proofs.Common.{not, ap, sym, ◌∙◌}
-use Rattle.society_core.proofs.Found.{first_in, found_all, found_before, found_not, found_now}
+use Rattle.society_core.proofs.lemmas.Found.{first_in, found_all, found_before, found_not, found_now}
 use Rattle.society_core.proofs.plain_book.payer_in.Goals as goal
 use Rattle.society_core.proofs.plain_book.payer_in.Goals.{else-is_none-via-then-is_none+else-names, else-is_none-via-else-is_none}
 

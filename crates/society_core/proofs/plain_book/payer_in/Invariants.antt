@@ -1,5 +1,5 @@
 use Rattle.std.proofs.Common.{◌≡◌}
-use Rattle.society_core.proofs.Found.{first_in, or_later}
+use Rattle.society_core.proofs.lemmas.Found.{first_in, or_later}
 use Rattle.society_core.proofs.plain_book.payer_in.Given as goal
 
 -- the first of all is the one found, or else the first of the rest

@@ -2,8 +2,8 @@ use Rattle.std.proofs.Common.{◌≡◌, true, ap, sym, ◌∙◌}
 use Rattle.std.proofs.lemmas.Bool.{false≢true}
 use Rattle.works_core.specs.Numbered.{has_number}
 use Rattle.society_core.specs.Book.{is_in_line}
-use Rattle.society_core.proofs.LineNumbers.{there_in_line}
-use Rattle.society_core.proofs.Lines.{line_has_own, line_to}
+use Rattle.society_core.proofs.lemmas.LineNumbers.{there_in_line}
+use Rattle.society_core.proofs.lemmas.Lines.{line_has_own, line_to}
 use Rattle.society_core.proofs.plain_lines.ack_of.Goals as goal
 
 pub transmission_of-requires-clause-there : goal.transmission_of-requires-clause-there

@@ -6,9 +6,9 @@ use Rattle.sender_segments.specs.Ascends.{Ascends}
 use Rattle.works_core.specs.Line.{judged_in}
 use Rattle.works_core.specs.Numbered.{JudgedTransmission, last_number}
 use Rattle.society_core.specs.Book.{front, numbers_to}
-use Rattle.society_core.proofs.Books.{sound_order}
-use Rattle.society_core.proofs.LineNumbers.{in_line_of_to, listed_more, listed_one, listed_split, numbers_rise_to, there_in_line}
-use Rattle.society_core.proofs.Lines.{line_over, over_below, over_push}
+use Rattle.society_core.proofs.lemmas.Books.{sound_order}
+use Rattle.society_core.proofs.lemmas.LineNumbers.{in_line_of_to, listed_more, listed_one, listed_split, numbers_rise_to, there_in_line}
+use Rattle.society_core.proofs.lemmas.Lines.{line_over, over_below, over_push}
 use Rattle.society_core.proofs.plain_lines.line_to.Goals as goal
 
 pub transmission_of-requires-clause-there : goal.transmission_of-requires-clause-there

@@ -1,6 +1,6 @@
 use Rattle.std.proofs.Common.{ap, sym, ◌∙◌}
 use Rattle.cwr_files.specs.FileFault.{file_fault}
-use Rattle.society_core.proofs.Books.{right_body}
+use Rattle.society_core.proofs.lemmas.Books.{right_body}
 use Rattle.society_core.proofs.plain_lines.transmission_of.Goals as goal
 
 pub known_transmission-requires : goal.known_transmission-requires

@@ -1,10 +1,10 @@
 use Rattle.std.proofs.Common.{◌≡◌, ◌⊎◌, inl, inr, [], List, Option, None, ap, sym, ◌∙◌, ℕ, arith}
 use Rattle.std.proofs.lemmas.Bool.{false≢true}
 use Rattle.society_core.specs.Book.{front}
-use Rattle.society_core.proofs.Books.{sound_order}
-use Rattle.society_core.proofs.LineNumbers.{in_line_of_to, there_in_line}
-use Rattle.society_core.proofs.Lines.{last_in_line, last_within, line_rises, line_to, versions_at_end}
-use Rattle.society_core.proofs.Numbers.{not_passed, number_is}
+use Rattle.society_core.proofs.lemmas.Books.{sound_order}
+use Rattle.society_core.proofs.lemmas.LineNumbers.{in_line_of_to, there_in_line}
+use Rattle.society_core.proofs.lemmas.Lines.{last_in_line, last_within, line_rises, line_to, versions_at_end}
+use Rattle.society_core.proofs.lemmas.Numbers.{not_passed, number_is}
 use Rattle.work_ids.specs.Segments.{is_transmission_number}
 use Rattle.works_core.specs.Numbered.{JudgedTransmission, last_number}
 use Rattle.works_core.specs.Versions.{work_at}

@@ -2,9 +2,9 @@ use Rattle.std.proofs.Common.{ap, slice_get, sym, ◌∙◌}
 use Rattle.cwr_files.specs.Contents.{transactions_of}
 use Rattle.cwr_files.specs.declared.transmission.Transmission.{Transmission}
 use Rattle.society_core.specs.Book.{front}
-use Rattle.society_core.proofs.CreditLemmas.{version_there}
-use Rattle.society_core.proofs.Gaps.{version_in_line}
-use Rattle.society_core.proofs.LineNumbers.{in_line_of_to, there_in_line}
+use Rattle.society_core.proofs.lemmas.CreditLemmas.{version_there}
+use Rattle.society_core.proofs.lemmas.Gaps.{version_in_line}
+use Rattle.society_core.proofs.lemmas.LineNumbers.{in_line_of_to, there_in_line}
 use Rattle.society_core.proofs.plain_lines.work_of.Goals as goal
 
 pub transmission_of-requires-clause-there : goal.transmission_of-requires-clause-there

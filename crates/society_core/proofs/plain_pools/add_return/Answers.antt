@@ -1,7 +1,7 @@
 use Rattle.std.proofs.Common.{ap, sym, ◌∙◌, is_some}
 use Rattle.std.proofs.lemmas.Bool.{false≢true}
 use Rattle.perf_returns.specs.Returns.{return_fault}
-use Rattle.society_core.proofs.CreditLemmas.{return_has_no_fault}
+use Rattle.society_core.proofs.lemmas.CreditLemmas.{return_has_no_fault}
 use Rattle.society_core.proofs.plain_pools.add_return.Goals as goal
 
 pub unreachable-requires : goal.unreachable-requires

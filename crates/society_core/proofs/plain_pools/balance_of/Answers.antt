@@ -6,7 +6,7 @@ use Rattle.pool_split.specs.Credits.{units_of}
 use Rattle.pool_split.specs.declared.claim.Credit.{Credit}
 use Rattle.society_core.specs.Orders.{Order}
 use Rattle.society_core.specs.Pools.{credits_of, units_to}
-use Rattle.society_core.proofs.PoolLemmas.{credits_through, few_pools, paid_at, part_within, units_next}
+use Rattle.society_core.proofs.lemmas.PoolLemmas.{credits_through, few_pools, paid_at, part_within, units_next}
 use Rattle.society_core.proofs.plain_pools.balance_of.Goals as goal
 
 at_most : (n : ℕ) → nat_le n 1000000000000 ≡ true → n ≤ 1000000000000

@@ -8,8 +8,8 @@ use Rattle.society_core.specs.Claims.{claims_among}
 use Rattle.society_core.specs.Keys.{bytes_cmp}
 use Rattle.society_core.specs.Points.{is_tallied, points_by_recording, rows_named}
 use Rattle.society_core.specs.Pools.{claims_of, credits_of}
-use Rattle.society_core.proofs.CreditLemmas.{claims_are, claims_payable, isrcs_of_claims, points_of_claims}
-use Rattle.society_core.proofs.PointLemmas.{all_points_within, recordings_ascend, recordings_have_points, recordings_tallied}
+use Rattle.society_core.proofs.lemmas.CreditLemmas.{claims_are, claims_payable, isrcs_of_claims, points_of_claims}
+use Rattle.society_core.proofs.lemmas.PointLemmas.{all_points_within, recordings_ascend, recordings_have_points, recordings_tallied}
 use Rattle.society_core.proofs.plain_pools.credits_by.Goals as goal
 
 pub credits-requires-clause-ascending : goal.credits-requires-clause-ascending

@@ -1,5 +1,5 @@
 use Rattle.std.proofs.Common.{sym}
-use Rattle.society_core.proofs.CreditLemmas.{order_has_returns, order_reaches_cut}
+use Rattle.society_core.proofs.lemmas.CreditLemmas.{order_has_returns, order_reaches_cut}
 use Rattle.society_core.proofs.plain_pools.credits_of_pool.Goals as goal
 
 pub credits_by-requires-clause-there : goal.credits_by-requires-clause-there

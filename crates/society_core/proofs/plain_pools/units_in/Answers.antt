@@ -1,7 +1,7 @@
 use Rattle.std.proofs.Common.{◌∙◌, ap, arith, false, sym, true}
 use Rattle.std.proofs.lemmas.List.{take_all}
 use Rattle.society_core.specs.Pools.{units_to}
-use Rattle.society_core.proofs.PoolLemmas.{credit_next, credit_within}
+use Rattle.society_core.proofs.lemmas.PoolLemmas.{credit_next, credit_within}
 use Rattle.society_core.proofs.plain_pools.units_in.Goals as goal
 use Rattle.society_core.proofs.plain_pools.units_in.Goals.{then-is_same, else-is_same}
 

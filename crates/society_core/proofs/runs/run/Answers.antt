@@ -5,9 +5,9 @@ use Rattle.society_core.specs.Requests.{query_of, reply_of}
 use Rattle.society_core.specs.Runs.{Step, AppendsRun}
 use Rattle.society_core.specs.declared.request.Request.{Request}
 use Rattle.society_core.specs.declared.answers.Answer.{Answer}
-use Rattle.society_core.proofs.CleanStores.{stays_through}
-use Rattle.society_core.proofs.HeadlineLemmas.{tells_what_came}
-use Rattle.society_core.proofs.RunLemmas.{appends_more}
+use Rattle.society_core.proofs.lemmas.CleanStores.{stays_through}
+use Rattle.society_core.proofs.lemmas.HeadlineLemmas.{tells_what_came}
+use Rattle.society_core.proofs.lemmas.RunLemmas.{appends_more}
 use Rattle.society_core.proofs.runs.run.Goals as goal
 
 pub loop-request-preserved : goal.loop-request-preserved

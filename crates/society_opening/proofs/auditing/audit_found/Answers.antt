@@ -1,4 +1,4 @@
-use Rattle.society_opening.proofs.opened.AuditedLemmas.{audits_newest, audits_older}
+use Rattle.society_opening.proofs.lemmas.opened.AuditedLemmas.{audits_newest, audits_older}
 use Rattle.society_opening.proofs.auditing.audit_found.Goals as goal
 
 pub returns-in-Layout : goal.returns-in-Layout

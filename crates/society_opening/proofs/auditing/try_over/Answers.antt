@@ -1,7 +1,7 @@
 use Rattle.std.proofs.Common.{rules}
 use Rattle.sqlite.specs.Held.{state}
 use Rattle.society_opening.specs.Audits.{TriesOver}
-use Rattle.society_opening.proofs.opened.AuditedLemmas.{tries_by}
+use Rattle.society_opening.proofs.lemmas.opened.AuditedLemmas.{tries_by}
 use Rattle.society_opening.proofs.auditing.try_over.Goals as goal
 
 pub returns-clause-tries : goal.returns-clause-tries

@@ -1,5 +1,5 @@
 use Rattle.sqlite.specs.Held.{state}
-use Rattle.society_opening.proofs.opened.Reopening.{err_so, found_left, kept_left, ok_so, outside_left, taken_left}
+use Rattle.society_opening.proofs.lemmas.opened.Reopening.{err_so, found_left, kept_left, ok_so, outside_left, taken_left}
 use Rattle.society_opening.proofs.laws.open_after_crash.Goals as goal
 
 pub returns-clause-taken : goal.returns-clause-taken

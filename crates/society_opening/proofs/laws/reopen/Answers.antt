@@ -1,6 +1,6 @@
 use Rattle.std.proofs.Common.{◌∙◌, sym}
 use Rattle.sqlite.specs.Held.{state}
-use Rattle.society_opening.proofs.opened.Reopening.{err_so, kept_again, ok_so, outside_again}
+use Rattle.society_opening.proofs.lemmas.opened.Reopening.{err_so, kept_again, ok_so, outside_again}
 use Rattle.society_opening.proofs.laws.reopen.Goals as goal
 
 pub returns-clause-kept : goal.returns-clause-kept

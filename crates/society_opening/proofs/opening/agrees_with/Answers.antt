@@ -1,10 +1,10 @@
 use Rattle.std.proofs.Common.{refl}
 use Rattle.std.proofs.Math.Logic.{∥∥₁_map}
-use Rattle.society_tables.proofs.opened.OpenLemmas.{as_inspected}
-use Rattle.society_tables.proofs.alike.SameTables.{holds_likewise}
+use Rattle.society_audit.proofs.lemmas.opened.OpenLemmas.{as_inspected}
+use Rattle.society_audit.proofs.lemmas.alike.SameTables.{holds_likewise}
 use Rattle.std.proofs.Common.{refl}
 use Rattle.std.proofs.Math.Logic.{∥∥₁_elim}
-use Rattle.society_tables.proofs.anew.ComesAgain.{passes_alone}
+use Rattle.society_audit.proofs.lemmas.anew.ComesAgain.{passes_alone}
 use Rattle.society_opening.proofs.opening.agrees_with.Goals as goal
 
 pub returns-clause-agree : goal.returns-clause-agree

@@ -1,11 +1,11 @@
 use Rattle.std.proofs.Common.{Ok}
-use Rattle.society_tables.specs.declared.audit_fault.AuditFault.{AuditFault}
-use Rattle.society_tables.proofs.opened.OpenLemmas.{inspected_then, same_answer}
-use Rattle.society_tables.proofs.anew.ComesAgain.{clean_before, shows_still}
-use Rattle.society_opening.proofs.opened.OpenTold.{damaged_so, told_judged, undamaged}
-use Rattle.society_opening.proofs.opened.OpenTold.{there_by}
-use Rattle.society_tables.proofs.opened.Failing.{failed_passed, failed_then}
-use Rattle.society_opening.proofs.opened.FailedOpenings.{failed_opened}
+use Rattle.society_audit.specs.declared.audit_fault.AuditFault.{AuditFault}
+use Rattle.society_audit.proofs.lemmas.opened.OpenLemmas.{inspected_then, same_answer}
+use Rattle.society_audit.proofs.lemmas.anew.ComesAgain.{clean_before, shows_still}
+use Rattle.society_opening.proofs.lemmas.opened.OpenTold.{damaged_so, told_judged, undamaged}
+use Rattle.society_opening.proofs.lemmas.opened.OpenTold.{there_by}
+use Rattle.society_audit.proofs.lemmas.opened.Failing.{failed_passed, failed_then}
+use Rattle.society_opening.proofs.lemmas.opened.FailedOpenings.{failed_opened}
 use Rattle.society_opening.specs.declared.open_fault.OpenFault.TheVariants.{Store}
 use Rattle.society_opening.proofs.opening.audit.Goals as goal
 

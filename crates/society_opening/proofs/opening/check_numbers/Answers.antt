@@ -1,6 +1,6 @@
-use Rattle.society_tables.proofs.anew.ComesAgain.{fails_aside}
-use Rattle.society_tables.proofs.anew.RowsAgain.{passes_err}
-use Rattle.society_tables.proofs.opened.Failing.{failed_row}
+use Rattle.society_audit.proofs.lemmas.anew.ComesAgain.{fails_aside}
+use Rattle.society_audit.proofs.lemmas.anew.RowsAgain.{passes_err}
+use Rattle.society_audit.proofs.lemmas.opened.Failing.{failed_row}
 use Rattle.society_opening.proofs.opening.check_numbers.Goals as goal
 
 pub returns-in_err-is_numbered-clause-passes : goal.returns-in_err-is_numbered-clause-passes

@@ -7,7 +7,7 @@ use Rattle.sqlite_value.specs.Order.{Row}
 use Rattle.society_rows.specs.Rows.{office_values_under}
 use Rattle.society_rows.specs.declared.office.OfficeRow.{OfficeRow}
 use Rattle.society_book.specs.Columns.{whole_number_at, text_at}
-use Rattle.society_tables.specs.Older.{office_row_under}
+use Rattle.society_audit.specs.Older.{office_row_under}
 use Rattle.society_opening.specs.Opening.{IsOneOffice}
 use Rattle.society_opening.proofs.opening.check_office.Goals as goal
 use Rattle.society_opening.proofs.opening.check_office.Goals.{else-row-from-via-then-row-from+then-row-from-2+else-eq, else-row-from-via-then-row-from+else-row-from-2, else-row-from-via-else-row-from}

@@ -1,12 +1,12 @@
 use Rattle.std.proofs.Common.{◌≢◌, Result, Ok, Err, IfErr, ◌∙◌, ◌≡◌, sym}
 use Rattle.std.specs.Result.{IsErrAnd}
-use Rattle.society_tables.proofs.anew.ComesAgain.{clean_before, failed_aside, shows_still}
-use Rattle.society_tables.proofs.anew.OwnLemmas.{are_own}
-use Rattle.society_tables.proofs.anew.RowsAgain.{aside_told}
-use Rattle.society_tables.proofs.opened.Failing.{failed_never, failed_row, failed_then}
-use Rattle.society_tables.proofs.opened.OpenLemmas.{inspected_then, inspects_of}
-use Rattle.society_tables.specs.declared.audit_fault.AuditFault.{AuditFault}
-use Rattle.society_tables.specs.declared.audit_fault.AuditFault.TheVariants.{Store}
+use Rattle.society_audit.proofs.lemmas.anew.ComesAgain.{clean_before, failed_aside, shows_still}
+use Rattle.society_audit.proofs.lemmas.anew.OwnLemmas.{are_own}
+use Rattle.society_audit.proofs.lemmas.anew.RowsAgain.{aside_told}
+use Rattle.society_audit.proofs.lemmas.opened.Failing.{failed_never, failed_row, failed_then}
+use Rattle.society_audit.proofs.lemmas.opened.OpenLemmas.{inspected_then, inspects_of}
+use Rattle.society_audit.specs.declared.audit_fault.AuditFault.{AuditFault}
+use Rattle.society_audit.specs.declared.audit_fault.AuditFault.TheVariants.{Store}
 use Rattle.society_opening.proofs.opening.check_rebuilt.Goals as goal
 
 -- what is no failure of the store is none when it is passed on

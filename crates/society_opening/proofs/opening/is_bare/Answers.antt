@@ -1,6 +1,6 @@
 use Rattle.std.proofs.lemmas.Bool.{false≢true}
 use Rattle.sqlite.specs.Held.{state}
-use Rattle.society_opening.proofs.opened.OpenedLemmas.{found_there}
+use Rattle.society_opening.proofs.lemmas.opened.OpenedLemmas.{found_there}
 use Rattle.society_opening.proofs.opening.is_bare.Goals as goal
 
 pub returns-in_default : goal.returns-in_default

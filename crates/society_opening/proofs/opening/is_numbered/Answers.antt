@@ -4,10 +4,10 @@ use Rattle.society_rows.specs.Layouts.{HasTable}
 use Rattle.society_rows.specs.Questions.{Asks}
 use Rattle.society_rows.specs.Stored.{AreNumbered, HasLayout}
 use Rattle.society_rows.specs.TableNames.{table_called}
-use Rattle.society_rows.proofs.definitions.FirstTables.{has_table}
-use Rattle.society_rows.proofs.readings.AskedRows.{asks_by}
-use Rattle.society_rows.proofs.readings.Queries.{reads_where}
-use Rattle.society_tables.proofs.opened.Failing.{errs_by}
+use Rattle.society_rows.proofs.lemmas.definitions.FirstTables.{has_table}
+use Rattle.society_rows.proofs.lemmas.readings.AskedRows.{asks_by}
+use Rattle.society_rows.proofs.lemmas.readings.Queries.{reads_where}
+use Rattle.society_audit.proofs.lemmas.opened.Failing.{errs_by}
 use Rattle.society_rows.specs.Effects.{ErrsByMedium}
 use Rattle.society_opening.proofs.opening.is_numbered.Goals as goal
 

@@ -1,10 +1,10 @@
 use Rattle.std.proofs.Common.{sym}
 use Rattle.society_opening.specs.declared.open_fault.OpenFault.{OpenFault}
-use Rattle.society_tables.proofs.opened.OpenLemmas.{inspects_of, then_inspected}
-use Rattle.society_opening.proofs.opened.OpenTold.{failed_not_damaged, here_listed, told_failed, told_listed}
-use Rattle.society_opening.proofs.opened.OpenTold.{there_by}
-use Rattle.society_tables.proofs.opened.Failing.{failed_never}
-use Rattle.society_opening.proofs.opened.FailedOpenings.{office_failed}
+use Rattle.society_audit.proofs.lemmas.opened.OpenLemmas.{inspects_of, then_inspected}
+use Rattle.society_opening.proofs.lemmas.opened.OpenTold.{failed_not_damaged, here_listed, told_failed, told_listed}
+use Rattle.society_opening.proofs.lemmas.opened.OpenTold.{there_by}
+use Rattle.society_audit.proofs.lemmas.opened.Failing.{failed_never}
+use Rattle.society_opening.proofs.lemmas.opened.FailedOpenings.{office_failed}
 use Rattle.society_opening.specs.declared.open_fault.OpenFault.TheVariants.{Store}
 use Rattle.society_opening.proofs.opening.office_agrees.Goals as goal
 

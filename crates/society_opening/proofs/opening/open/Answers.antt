@@ -1,7 +1,7 @@
 use Rattle.std.proofs.Common.{subst}
 use Rattle.sqlite.specs.Held.{state}
 use Rattle.sqlite.specs.State.{HasCleanDisk}
-use Rattle.society_opening.proofs.opened.OpenTold.{opened_else, opened_older}
+use Rattle.society_opening.proofs.lemmas.opened.OpenTold.{opened_else, opened_older}
 use Rattle.society_opening.proofs.opening.open.Goals as goal
 
 pub returns-in-Err-clause-opens : goal.returns-in-Err-clause-opens

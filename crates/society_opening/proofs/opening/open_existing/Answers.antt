@@ -5,8 +5,8 @@ use Rattle.sqlite.specs.State.{HasCleanDisk}
 use Rattle.society_opening.specs.Existing.{SurvivesTaking}
 use Rattle.society_opening.specs.Opening.{ShowsAs}
 use Rattle.society_rows.specs.NewBook.{IsBare}
-use Rattle.society_opening.proofs.opened.OpenTold.{not_both, not_older}
-use Rattle.society_opening.proofs.opened.OpenedLemmas.{audited_there, err_empty, survived_there, survives_same}
+use Rattle.society_opening.proofs.lemmas.opened.OpenTold.{not_both, not_older}
+use Rattle.society_opening.proofs.lemmas.opened.OpenedLemmas.{audited_there, err_empty, survived_there, survives_same}
 use Rattle.society_opening.proofs.opening.open_existing.Goals as goal
 
 pub returns-then-is_bare-clause-told : goal.returns-then-is_bare-clause-told

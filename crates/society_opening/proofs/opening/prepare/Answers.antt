@@ -1,5 +1,5 @@
 use Rattle.sqlite.specs.Held.{state}
-use Rattle.society_opening.proofs.opened.OpenedLemmas.{found_no_older, no_failure, opens_audited, opens_begun, opens_other, opens_taken}
+use Rattle.society_opening.proofs.lemmas.opened.OpenedLemmas.{found_no_older, no_failure, opens_audited, opens_begun, opens_other, opens_taken}
 use Rattle.society_opening.specs.declared.open_fault.OpenFault.TheVariants.{Schema}
 use Rattle.society_opening.proofs.opening.prepare.Goals as goal
 

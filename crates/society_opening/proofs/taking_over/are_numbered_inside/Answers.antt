@@ -2,9 +2,9 @@ use Rattle.std.proofs.Common.{subst, sym}
 use Rattle.sqlite.specs.Effect.{Database}
 use Rattle.society_rows.specs.Layout as layout
 use Rattle.society_rows.specs.Stored.{AreNumbered, HasLayout}
-use Rattle.society_tables.proofs.anew.ComesAgain.{clean_before}
-use Rattle.society_tables.proofs.anew.RowsAgain.{aside_told}
-use Rattle.society_tables.proofs.taking.OverLemmas.{sees_not, sees_then}
+use Rattle.society_audit.proofs.lemmas.anew.ComesAgain.{clean_before}
+use Rattle.society_audit.proofs.lemmas.anew.RowsAgain.{aside_told}
+use Rattle.society_audit.proofs.lemmas.taking.OverLemmas.{sees_not, sees_then}
 use Rattle.society_opening.proofs.taking_over.are_numbered_inside.Goals as goal
 
 pub returns-clause-numbered : goal.returns-clause-numbered

@@ -3,10 +3,10 @@ use Rattle.std.proofs.lemmas.Bool.{false≢true}
 use Rattle.sqlite.specs.Held.{state}
 use Rattle.society_rows.specs.Layouts.{HasTable}
 use Rattle.society_rows.specs.Stored.{HasLayout}
-use Rattle.society_rows.proofs.definitions.FirstTables.{has_table}
-use Rattle.society_rows.proofs.readings.Queries.{reads_where}
-use Rattle.society_book.proofs.together.StepLemmas.{looks_of}
-use Rattle.society_tables.proofs.taking.OverLemmas.{over_does, sees_as}
+use Rattle.society_rows.proofs.lemmas.definitions.FirstTables.{has_table}
+use Rattle.society_rows.proofs.lemmas.readings.Queries.{reads_where}
+use Rattle.society_book.proofs.lemmas.together.StepLemmas.{looks_of}
+use Rattle.society_audit.proofs.lemmas.taking.OverLemmas.{over_does, sees_as}
 use Rattle.society_opening.proofs.taking_over.check_numbers_inside.Goals as goal
 
 pub returns-then-branch-clause-numbered : goal.returns-then-branch-clause-numbered

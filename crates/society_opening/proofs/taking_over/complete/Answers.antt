@@ -2,8 +2,8 @@ use Rattle.std.proofs.Common.{Ok}
 use Rattle.sqlite.specs.Held.{state}
 use Rattle.memory_store.specs.Memory.{over_memory}
 use Rattle.society_rows.specs.Stored.{HasLayout}
-use Rattle.society_tables.proofs.taking.FilledLemmas.{fills_none}
-use Rattle.society_tables.proofs.taking.OverLemmas.{over_nothing}
+use Rattle.society_audit.proofs.lemmas.taking.FilledLemmas.{fills_none}
+use Rattle.society_audit.proofs.lemmas.taking.OverLemmas.{over_nothing}
 use Rattle.society_opening.proofs.taking_over.complete.Goals as goal
 
 pub returns-in-Second-clause-filled : goal.returns-in-Second-clause-filled

@@ -6,13 +6,13 @@ use Rattle.memory_store.specs.Memory.{over_memory}
 use Rattle.memory_store.specs.declared.memory.MemoryStore.{MemoryStore}
 use Rattle.society_rows.specs.Stored.{HasLayout}
 use Rattle.society_book.specs.Kept.{HoldsOwnBook}
-use Rattle.society_tables.specs.TakingOver.{AreFilledFrom, AreSame, DoesOver, Fills, KeepsOlder, PassesLike, Sees, filled_names}
-use Rattle.society_tables.specs.declared.audit_fault.AuditFault.{AuditFault}
-use Rattle.society_tables.proofs.alike.SameTables.{holds_likewise}
-use Rattle.society_tables.proofs.anew.ComesAgain.{clean_before, passes_alone}
-use Rattle.society_tables.proofs.anew.RowsAgain.{aside_told}
-use Rattle.society_tables.proofs.taking.Completed.{completed, keeps_older}
-use Rattle.society_tables.proofs.taking.OverLemmas.{over_not, over_then}
+use Rattle.society_audit.specs.TakingOver.{AreFilledFrom, AreSame, DoesOver, Fills, KeepsOlder, PassesLike, Sees, filled_names}
+use Rattle.society_audit.specs.declared.audit_fault.AuditFault.{AuditFault}
+use Rattle.society_audit.proofs.lemmas.alike.SameTables.{holds_likewise}
+use Rattle.society_audit.proofs.lemmas.anew.ComesAgain.{clean_before, passes_alone}
+use Rattle.society_audit.proofs.lemmas.anew.RowsAgain.{aside_told}
+use Rattle.society_audit.proofs.lemmas.taking.Completed.{completed, keeps_older}
+use Rattle.society_audit.proofs.lemmas.taking.OverLemmas.{over_not, over_then}
 use Rattle.society_opening.proofs.taking_over.complete_as.Goals as goal
 
 abbrev shown : Held MemoryStore → Database

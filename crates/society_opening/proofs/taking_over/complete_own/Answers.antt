@@ -2,11 +2,11 @@ use Rattle.std.proofs.Common.{subst, sym}
 use Rattle.sqlite.specs.Effect.{Database}
 use Rattle.sqlite.specs.Held.{state}
 use Rattle.society_rows.specs.Stored.{HasLayout}
-use Rattle.society_tables.proofs.anew.ComesAgain.{clean_before}
-use Rattle.society_tables.specs.TakingOver.{CanComplete, Completes}
-use Rattle.society_tables.proofs.anew.RowsAgain.{aside_told}
-use Rattle.society_tables.proofs.taking.Completed.{own_of, sound_of}
-use Rattle.society_tables.proofs.taking.OverLemmas.{over_not, over_then}
+use Rattle.society_audit.proofs.lemmas.anew.ComesAgain.{clean_before}
+use Rattle.society_audit.specs.TakingOver.{CanComplete, Completes}
+use Rattle.society_audit.proofs.lemmas.anew.RowsAgain.{aside_told}
+use Rattle.society_audit.proofs.lemmas.taking.Completed.{own_of, sound_of}
+use Rattle.society_audit.proofs.lemmas.taking.OverLemmas.{over_not, over_then}
 use Rattle.society_opening.proofs.taking_over.complete_own.Goals as goal
 
 pub returns-clause-does : goal.returns-clause-does

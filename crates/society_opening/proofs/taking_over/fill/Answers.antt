@@ -6,9 +6,9 @@ use Rattle.memory_store.specs.Memory.{over_memory}
 use Rattle.society_rows.specs.Stored.{HasLayout}
 use Rattle.society_rows.specs.declared.tables.TableName.{TableName}
 use Rattle.society_rows.specs.declared.tables.TableName.TheVariants as name
-use Rattle.society_tables.specs.TakingOver.{AreFilledFrom, IsFilledFrom, derived_names}
-use Rattle.society_tables.proofs.taking.FilledLemmas.{fills_none, next_filled}
-use Rattle.society_tables.proofs.taking.OverLemmas.{over_also, over_fails, over_nothing, over_then}
+use Rattle.society_audit.specs.TakingOver.{AreFilledFrom, IsFilledFrom, derived_names}
+use Rattle.society_audit.proofs.lemmas.taking.FilledLemmas.{fills_none, next_filled}
+use Rattle.society_audit.proofs.lemmas.taking.OverLemmas.{over_also, over_fails, over_nothing, over_then}
 use Rattle.society_opening.proofs.taking_over.fill.Goals as goal
 
 pub loop-table-init : goal.loop-table-init

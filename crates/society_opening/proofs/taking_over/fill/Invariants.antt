@@ -3,8 +3,8 @@ use Rattle.std.proofs.Common.{◌≡◌, Ok, take}
 use Rattle.sqlite.specs.Held.{state}
 use Rattle.memory_store.specs.Memory.{over_memory}
 use Rattle.society_rows.specs.Stored.{HasLayout}
-use Rattle.society_tables.specs.TakingOver.{AreFilledFrom, DoesOver, Fills, derived_names}
-use Rattle.society_tables.specs.declared.audit_fault.AuditFault.{AuditFault}
+use Rattle.society_audit.specs.TakingOver.{AreFilledFrom, DoesOver, Fills, derived_names}
+use Rattle.society_audit.specs.declared.audit_fault.AuditFault.{AuditFault}
 use Rattle.society_opening.proofs.taking_over.fill.Given as goal
 
 abbrev pub invariant-loop-table : goal.invariant-loop-table

@@ -1,9 +1,9 @@
 use Rattle.std.proofs.Common.{Ok, Err, rules}
 use Rattle.sqlite.specs.Held.{state}
 use Rattle.society_rows.specs.Stored.{HasLayout}
-use Rattle.society_tables.proofs.anew.ComesAgain.{fails_aside}
-use Rattle.society_tables.proofs.taking.FilledLemmas.{filled_by}
-use Rattle.society_tables.proofs.taking.OverLemmas.{over_as, over_not, over_nothing, over_writes}
+use Rattle.society_audit.proofs.lemmas.anew.ComesAgain.{fails_aside}
+use Rattle.society_audit.proofs.lemmas.taking.FilledLemmas.{filled_by}
+use Rattle.society_audit.proofs.lemmas.taking.OverLemmas.{over_as, over_not, over_nothing, over_writes}
 use Rattle.society_opening.proofs.taking_over.fill_table.Goals as goal
 
 pub returns-clause-filled : goal.returns-clause-filled

@@ -2,10 +2,10 @@ use Rattle.std.proofs.Common.{Ok, Err}
 use Rattle.sqlite.specs.Held.{state}
 use Rattle.society_rows.specs.Layouts.{HasOlder, HasTable, number_of}
 use Rattle.society_rows.specs.declared.tables.TableName.TheVariants as name
-use Rattle.society_rows.proofs.readings.Queries.{reads_where}
-use Rattle.society_book.proofs.together.StepLemmas.{more}
-use Rattle.society_opening.proofs.opened.OpenTold.{failed_not_damaged, has_office, here_listed, there_by, told_failed, told_listed}
-use Rattle.society_tables.proofs.taking.OverLemmas.{over_as, over_not, over_reads}
+use Rattle.society_rows.proofs.lemmas.readings.Queries.{reads_where}
+use Rattle.society_book.proofs.lemmas.together.StepLemmas.{more}
+use Rattle.society_opening.proofs.lemmas.opened.OpenTold.{failed_not_damaged, has_office, here_listed, there_by, told_failed, told_listed}
+use Rattle.society_audit.proofs.lemmas.taking.OverLemmas.{over_as, over_not, over_reads}
 use Rattle.society_opening.proofs.taking_over.office_agrees_inside.Goals as goal
 
 pub returns-clause-finds : goal.returns-clause-finds

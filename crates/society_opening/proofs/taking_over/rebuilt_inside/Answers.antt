@@ -1,10 +1,10 @@
 use Rattle.std.proofs.Common.{Ok, Err}
 use Rattle.sqlite.specs.Held.{state}
-use Rattle.society_tables.proofs.anew.ComesAgain.{failed_aside}
-use Rattle.society_tables.proofs.anew.OwnLemmas.{are_own}
-use Rattle.society_tables.proofs.anew.RowsAgain.{aside_told}
-use Rattle.society_tables.proofs.store.AddLemmas.{any_told}
-use Rattle.society_tables.proofs.taking.OverLemmas.{over_does, sees_as, sees_not}
+use Rattle.society_audit.proofs.lemmas.anew.ComesAgain.{failed_aside}
+use Rattle.society_audit.proofs.lemmas.anew.OwnLemmas.{are_own}
+use Rattle.society_audit.proofs.lemmas.anew.RowsAgain.{aside_told}
+use Rattle.society_tables.proofs.lemmas.AddLemmas.{any_told}
+use Rattle.society_audit.proofs.lemmas.taking.OverLemmas.{over_does, sees_as, sees_not}
 use Rattle.society_opening.proofs.taking_over.rebuilt_inside.Goals as goal
 
 pub returns-clause-sees : goal.returns-clause-sees

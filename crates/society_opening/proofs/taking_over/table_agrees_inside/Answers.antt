@@ -2,13 +2,13 @@ use Rattle.std.proofs.Common.{◌∙◌, Ok, Err, rules, subst, sym}
 use Rattle.std.proofs.lemmas.Bool.{false≢true}
 use Rattle.sqlite.specs.Held.{state}
 use Rattle.society_rows.specs.TableNames.{listing_width, table_called}
-use Rattle.society_tables.specs.Rebuilding.{IsAside}
-use Rattle.society_tables.proofs.alike.OneListing.{listed_alike}
-use Rattle.society_tables.proofs.alike.SameTables.{same_listed}
-use Rattle.society_tables.proofs.anew.ComesAgain.{failed_aside}
-use Rattle.society_tables.proofs.anew.OwnLemmas.{gets_of}
-use Rattle.society_tables.proofs.anew.RowsAgain.{aside_told}
-use Rattle.society_tables.proofs.taking.OverLemmas.{over_does, sees_as, sees_not}
+use Rattle.society_audit.specs.Rebuilding.{IsAside}
+use Rattle.society_audit.proofs.lemmas.alike.OneListing.{listed_alike}
+use Rattle.society_audit.proofs.lemmas.alike.SameTables.{same_listed}
+use Rattle.society_audit.proofs.lemmas.anew.ComesAgain.{failed_aside}
+use Rattle.society_audit.proofs.lemmas.anew.OwnLemmas.{gets_of}
+use Rattle.society_audit.proofs.lemmas.anew.RowsAgain.{aside_told}
+use Rattle.society_audit.proofs.lemmas.taking.OverLemmas.{over_does, sees_as, sees_not}
 use Rattle.society_opening.proofs.taking_over.table_agrees_inside.Goals as goal
 
 pub returns-then-are_same_rows-clause-agree : goal.returns-then-are_same_rows-clause-agree

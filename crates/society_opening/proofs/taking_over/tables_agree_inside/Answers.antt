@@ -8,11 +8,11 @@ use Rattle.society_rows.specs.TableNames.{table_called}
 use Rattle.society_rows.specs.declared.tables.TableName.{TableName}
 use Rattle.society_rows.specs.declared.tables.TableName.TheVariants as name
 use Rattle.society_book.specs.Kept.{HoldsBook}
-use Rattle.society_tables.proofs.anew.ComesAgain.{clean_before}
-use Rattle.society_tables.specs.Opening.{Agree, other_names}
-use Rattle.society_tables.proofs.alike.SameTables.{agree_more}
-use Rattle.society_tables.proofs.anew.RowsAgain.{aside_told}
-use Rattle.society_tables.proofs.taking.OverLemmas.{sees_as, sees_fails, sees_not, sees_then}
+use Rattle.society_audit.proofs.lemmas.anew.ComesAgain.{clean_before}
+use Rattle.society_audit.specs.Opening.{Agree, other_names}
+use Rattle.society_audit.proofs.lemmas.alike.SameTables.{agree_more}
+use Rattle.society_audit.proofs.lemmas.anew.RowsAgain.{aside_told}
+use Rattle.society_audit.proofs.lemmas.taking.OverLemmas.{sees_as, sees_fails, sees_not, sees_then}
 use Rattle.society_opening.proofs.taking_over.tables_agree_inside.Goals as goal
 
 pub loop-table-init : goal.loop-table-init

@@ -3,10 +3,10 @@ use Rattle.sqlite.specs.Held.{state}
 use Rattle.society_rows.specs.Layouts.{HasOlder}
 use Rattle.society_rows.specs.Stored.{HasLayout}
 use Rattle.society_book.specs.BookRows.{book_of}
-use Rattle.society_tables.proofs.anew.ComesAgain.{clean_before, failed_aside}
-use Rattle.society_tables.proofs.anew.RowsAgain.{aside_told}
-use Rattle.society_tables.proofs.taking.Completed.{can_complete, stand_for}
-use Rattle.society_tables.proofs.taking.OverLemmas.{over_not, over_then, over_writes}
+use Rattle.society_audit.proofs.lemmas.anew.ComesAgain.{clean_before, failed_aside}
+use Rattle.society_audit.proofs.lemmas.anew.RowsAgain.{aside_told}
+use Rattle.society_audit.proofs.lemmas.taking.Completed.{can_complete, stand_for}
+use Rattle.society_audit.proofs.lemmas.taking.OverLemmas.{over_not, over_then, over_writes}
 use Rattle.society_opening.proofs.taking_over.take_inside.Goals as goal
 
 pub returns-clause-does : goal.returns-clause-does

@@ -2,11 +2,11 @@ use Rattle.std.proofs.Common.{Ok, subst, sym}
 use Rattle.sqlite.specs.Effect.{Database}
 use Rattle.sqlite.specs.Held.{state}
 use Rattle.society_rows.specs.Layouts.{HasOlder, number_of}
-use Rattle.society_tables.proofs.anew.ComesAgain.{clean_before}
-use Rattle.society_tables.specs.Older.{HoldsOlder}
-use Rattle.society_tables.specs.TakingOver.{TakesIn}
-use Rattle.society_opening.proofs.opened.OpenTold.{damaged_so, there_by, told_judged, told_on, undamaged}
-use Rattle.society_tables.proofs.taking.OverLemmas.{over_fails, over_not, over_retold, over_then}
+use Rattle.society_audit.proofs.lemmas.anew.ComesAgain.{clean_before}
+use Rattle.society_audit.specs.Older.{HoldsOlder}
+use Rattle.society_audit.specs.TakingOver.{TakesIn}
+use Rattle.society_opening.proofs.lemmas.opened.OpenTold.{damaged_so, there_by, told_judged, told_on, undamaged}
+use Rattle.society_audit.proofs.lemmas.taking.OverLemmas.{over_fails, over_not, over_retold, over_then}
 use Rattle.society_opening.proofs.taking_over.take_office.Goals as goal
 
 pub returns-clause-does : goal.returns-clause-does

@@ -2,10 +2,10 @@ use Rattle.std.proofs.Common.{◌∙◌, pos, sym, w64, Ok, inl, inr, refl, ap, 
 use Rattle.std.proofs.lemmas.Int.{to_z-of_z}
 use Rattle.sqlite.specs.Held.{state}
 use Rattle.society_rows.specs.Balances.{HasUnits, HidesUnits}
-use Rattle.society_rows.proofs.changes.Effects.{handed_on}
-use Rattle.society_rows.proofs.readings.Alike.{only_one}
-use Rattle.society_rows.proofs.readings.RunFolds.{none_there}
-use Rattle.society_rows.proofs.each_table.UnitLemmas.{no_units, one_balance, reads_inside, two_rows, unread_row}
+use Rattle.society_rows.proofs.lemmas.changes.Effects.{handed_on}
+use Rattle.society_rows.proofs.lemmas.readings.Alike.{only_one}
+use Rattle.society_rows.proofs.lemmas.readings.RunFolds.{none_there}
+use Rattle.society_rows.proofs.lemmas.each_table.UnitLemmas.{no_units, one_balance, reads_inside, two_rows, unread_row}
 use Rattle.society_rows.proofs.balances.units_of.Goals as goal
 
 pub returns-in-empty-clause-read : goal.returns-in-empty-clause-read

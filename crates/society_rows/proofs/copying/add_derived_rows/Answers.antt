@@ -5,7 +5,7 @@ use Rattle.sqlite_value.specs.Order.{Row}
 use Rattle.society_rows.specs.Effects.{Writes}
 use Rattle.society_rows.specs.Stored.{Adds}
 use Rattle.society_rows.specs.TableNames.{table_called}
-use Rattle.society_rows.proofs.changes.ListWrites.{adds_first, adds_next, adds_fails}
+use Rattle.society_rows.proofs.lemmas.changes.ListWrites.{adds_first, adds_next, adds_fails}
 use Rattle.society_rows.proofs.copying.add_derived_rows.Goals as goal
 
 pub loop-row-init : goal.loop-row-init

@@ -3,9 +3,9 @@ use Rattle.sqlite.specs.Held.{state}
 use Rattle.society_rows.specs.Layout.{credits_table}
 use Rattle.society_rows.specs.Rows.{credit_values}
 use Rattle.society_rows.specs.Stored.{HasLayout, Adds}
-use Rattle.society_rows.proofs.changes.Effects.{writes_by}
-use Rattle.society_rows.proofs.each_table.CreditTable.{pair_text, adds_pair, settled, pair_is}
-use Rattle.society_rows.proofs.errors.Told.{insert_tells}
+use Rattle.society_rows.proofs.lemmas.changes.Effects.{writes_by}
+use Rattle.society_rows.proofs.lemmas.each_table.CreditTable.{pair_text, adds_pair, settled, pair_is}
+use Rattle.society_rows.proofs.lemmas.errors.Told.{insert_tells}
 use Rattle.society_rows.proofs.credits.add_pair.Goals as goal
 
 pub returns-clause-written : goal.returns-clause-written

@@ -3,8 +3,8 @@ use Rattle.sqlite.specs.Held.{state}
 use Rattle.society_rows.specs.Entries.{ListsEntries, entries_text}
 use Rattle.society_rows.specs.Folds.{IsAskedOf}
 use Rattle.society_rows.specs.Stored.{HasLayout}
-use Rattle.society_rows.proofs.readings.EntryQueries.{entries_shown, first_shown, is_asked}
-use Rattle.society_rows.proofs.readings.RowFolds.{first_listed, lists_alone}
+use Rattle.society_rows.proofs.lemmas.readings.EntryQueries.{entries_shown, first_shown, is_asked}
+use Rattle.society_rows.proofs.lemmas.readings.RowFolds.{first_listed, lists_alone}
 use Rattle.society_rows.proofs.entries.fold_entries.Goals as goal
 
 pub returns-clause-taken : goal.returns-clause-taken

@@ -1,7 +1,7 @@
 use Rattle.sqlite_tied.specs.Compute.{everything}
 use Rattle.society_rows.specs.declared.tables.TableName.TheVariants as name
 use Rattle.society_rows.specs.Layout.{written_out}
-use Rattle.society_rows.proofs.definitions.Called.{guards_as}
+use Rattle.society_rows.proofs.lemmas.definitions.Called.{guards_as}
 use Rattle.society_rows.proofs.finding.guards.Goals as goal
 
 pub returns-in-Office : goal.returns-in-Office

@@ -2,7 +2,7 @@ use Rattle.std.proofs.Common.{map}
 use Rattle.society_rows.specs.declared.tables.TableName.TheVariants as name
 use Rattle.society_rows.specs.Layout.{written_out}
 use Rattle.society_rows.specs.Shapes.{refers_to}
-use Rattle.society_rows.proofs.definitions.Called.{called_as}
+use Rattle.society_rows.proofs.lemmas.definitions.Called.{called_as}
 use Rattle.society_rows.proofs.finding.is_called.Goals as goal
 
 pub returns-in-Office : goal.returns-in-Office

@@ -1,8 +1,8 @@
 use Rattle.std.proofs.Common.{◌∙◌, ◌+◌, length, refl, sym, ap, arith}
 use Rattle.society_rows.specs.declared.fault.RowFault.TheVariants.{Unread}
-use Rattle.society_rows.proofs.readings.RowFolds.{err_as}
-use Rattle.society_rows.proofs.readings.Alike.{only_one}
-use Rattle.society_rows.proofs.readings.RunFolds.{none_there, runs_to_first, runs_on, run_doubled, run_ends, run_fills, run_overflows, run_refused, run_stops, run_told}
+use Rattle.society_rows.proofs.lemmas.readings.RowFolds.{err_as}
+use Rattle.society_rows.proofs.lemmas.readings.Alike.{only_one}
+use Rattle.society_rows.proofs.lemmas.readings.RunFolds.{none_there, runs_to_first, runs_on, run_doubled, run_ends, run_fills, run_overflows, run_refused, run_stops, run_told}
 use Rattle.society_rows.proofs.folding.fold_run.Goals as goal
 
 pub loop-number-init : goal.loop-number-init

@@ -1,5 +1,5 @@
 use Rattle.std.proofs.Common.{◌≡◌}
-use Rattle.society_rows.proofs.readings.RunFolds.{HasRunTo}
+use Rattle.society_rows.proofs.lemmas.readings.RunFolds.{HasRunTo}
 use Rattle.society_rows.proofs.folding.fold_run.Given as goal
 
 abbrev pub invariant-loop-number : goal.invariant-loop-number

@@ -6,7 +6,7 @@ use Rattle.sqlite.specs.Values.{bound}
 use Rattle.sqlite.proofs.Callers.{begun_plain}
 use Rattle.society_rows.specs.Folds.{ReadsAloneOver, HasTaken, AreShownFirst, IsAskedOf, StopsOver, StopsShowing}
 use Rattle.society_rows.specs.declared.fault.RowFault.TheVariants.{Unread}
-use Rattle.society_rows.proofs.readings.RowFolds.{plain_asked, told_over, commits_nothing, survives_on, same_on, fails_alone, refused_alone, stopped_alone, ends_alone, HasGone, gone_given, goes_on, given_first, refused_over, stops_for, err_as}
+use Rattle.society_rows.proofs.lemmas.readings.RowFolds.{plain_asked, told_over, commits_nothing, survives_on, same_on, fails_alone, refused_alone, stopped_alone, ends_alone, HasGone, gone_given, goes_on, given_first, refused_over, stops_for, err_as}
 use Rattle.society_rows.proofs.folding.fold_shown.Goals as goal
 
 pub returns-in_err-rows-clause-taken : goal.returns-in_err-rows-clause-taken

@@ -3,7 +3,7 @@ use Rattle.sqlite.specs.State.{HasCleanDisk, IsUnchanged, Survives}
 use Rattle.sqlite.specs.Held.{state}
 use Rattle.sqlite.specs.Values.{bound}
 use Rattle.society_rows.specs.Folds.{HasTaken, IsAskedOf, WasOther}
-use Rattle.society_rows.proofs.readings.RowFolds.{HasGone}
+use Rattle.society_rows.proofs.lemmas.readings.RowFolds.{HasGone}
 use Rattle.society_rows.proofs.folding.fold_shown.Given as goal
 
 abbrev pub invariant-rows : goal.invariant-rows

@@ -1,4 +1,4 @@
-use Rattle.society_rows.proofs.readings.KeyEquality.{text_key, number_key, text_number_key, text_text_key, text_segment_key, segments_ordered}
+use Rattle.society_rows.proofs.lemmas.readings.KeyEquality.{text_key, number_key, text_number_key, text_text_key, text_segment_key, segments_ordered}
 use Rattle.society_rows.proofs.keys.keys_are_values.Goals as goal
 
 pub returns : goal.returns

@@ -4,9 +4,9 @@ use Rattle.society_rows.specs.Layout.{office}
 use Rattle.society_rows.specs.NewBook.{IsBare, IsEmptyBook, Begins}
 use Rattle.society_rows.specs.Rows.{office_values}
 use Rattle.society_rows.specs.Stored.{HasLayout, Adds}
-use Rattle.society_rows.proofs.changes.Effects.{writes_then}
-use Rattle.society_rows.proofs.each_table.OfficeTable.{begins}
-use Rattle.society_rows.proofs.errors.Told.{tells_then}
+use Rattle.society_rows.proofs.lemmas.changes.Effects.{writes_then}
+use Rattle.society_rows.proofs.lemmas.each_table.OfficeTable.{begins}
+use Rattle.society_rows.proofs.lemmas.errors.Told.{tells_then}
 use Rattle.society_rows.proofs.layout.begin_book.Goals as goal
 
 pub returns-clause-begun : goal.returns-clause-begun

@@ -3,9 +3,9 @@ use Rattle.std.proofs.lemmas.List.{length-map, get_or-map}
 use Rattle.sqlite.specs.Held.{state}
 use Rattle.society_rows.specs.NewBook.{IsBare, HasEmpty, IsEmptyBook}
 use Rattle.society_rows.specs.Texts.{all_texts}
-use Rattle.society_rows.proofs.changes.Effects.{writes_none, writes_by, writes_then, writes_fail, writes_as}
-use Rattle.society_rows.proofs.definitions.NewBooks.{first_tables, next_table, next_tells, last_tables}
-use Rattle.society_rows.proofs.errors.Told.{tells_after}
+use Rattle.society_rows.proofs.lemmas.changes.Effects.{writes_none, writes_by, writes_then, writes_fail, writes_as}
+use Rattle.society_rows.proofs.lemmas.definitions.NewBooks.{first_tables, next_table, next_tells, last_tables}
+use Rattle.society_rows.proofs.lemmas.errors.Told.{tells_after}
 use Rattle.society_rows.proofs.layout.make_tables.Goals as goal
 
 pub loop-text-init : goal.loop-text-init

@@ -3,9 +3,9 @@ use Rattle.sqlite.specs.Held.{state}
 use Rattle.society_rows.specs.Folds.{IsAskedOf}
 use Rattle.society_rows.specs.LineSenders.{ListsSenders, senders_text}
 use Rattle.society_rows.specs.Stored.{HasLayout}
-use Rattle.society_rows.proofs.readings.Queries.{laid}
-use Rattle.society_rows.proofs.readings.RowFolds.{first_listed, lists_alone}
-use Rattle.society_rows.proofs.readings.SenderQueries.{first_shown, is_asked, senders_are, shows_senders}
+use Rattle.society_rows.proofs.lemmas.readings.Queries.{laid}
+use Rattle.society_rows.proofs.lemmas.readings.RowFolds.{first_listed, lists_alone}
+use Rattle.society_rows.proofs.lemmas.readings.SenderQueries.{first_shown, is_asked, senders_are, shows_senders}
 use Rattle.society_rows.proofs.line_senders.fold_senders.Goals as goal
 
 pub returns-clause-taken : goal.returns-clause-taken

@@ -6,10 +6,10 @@ use Rattle.sqlite_trees.specs.View.{is_int}
 use Rattle.society_rows.specs.Layouts.{HasTable}
 use Rattle.society_rows.specs.Stored.{AreNumbered}
 use Rattle.society_rows.specs.TableNames.{table_called, rowids_text}
-use Rattle.society_rows.proofs.changes.Effects.{handed_on}
-use Rattle.society_rows.proofs.readings.Queries.{query_of, reads_by}
-use Rattle.society_rows.proofs.readings.RowidQueries.{rowids_are, rowids_read, numbered_by, reads_of, reads_not}
-use Rattle.society_rows.proofs.errors.Told.{query_tells_over}
+use Rattle.society_rows.proofs.lemmas.changes.Effects.{handed_on}
+use Rattle.society_rows.proofs.lemmas.readings.Queries.{query_of, reads_by}
+use Rattle.society_rows.proofs.lemmas.readings.RowidQueries.{rowids_are, rowids_read, numbered_by, reads_of, reads_not}
+use Rattle.society_rows.proofs.lemmas.errors.Told.{query_tells_over}
 use Rattle.society_rows.proofs.numbering.are_numbered.Goals as goal
 
 pub returns-in_err-rows-clause-read : goal.returns-in_err-rows-clause-read

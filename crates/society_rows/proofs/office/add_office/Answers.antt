@@ -4,9 +4,9 @@ use Rattle.sqlite.specs.Held.{state}
 use Rattle.society_rows.specs.Layout.{office}
 use Rattle.society_rows.specs.Rows.{office_values}
 use Rattle.society_rows.specs.Stored.{HasLayout, Adds}
-use Rattle.society_rows.proofs.changes.Effects.{writes_by}
-use Rattle.society_rows.proofs.each_table.OfficeTable.{insert_text, adds_office, settled, insert_is}
-use Rattle.society_rows.proofs.errors.Told.{insert_tells}
+use Rattle.society_rows.proofs.lemmas.changes.Effects.{writes_by}
+use Rattle.society_rows.proofs.lemmas.each_table.OfficeTable.{insert_text, adds_office, settled, insert_is}
+use Rattle.society_rows.proofs.lemmas.errors.Told.{insert_tells}
 use Rattle.society_rows.proofs.office.add_office.Goals as goal
 
 pub returns-clause-written : goal.returns-clause-written

@@ -5,8 +5,8 @@ use Rattle.society_rows.specs.Layouts.{HasTable}
 use Rattle.society_rows.specs.Reads.{Lists}
 use Rattle.society_rows.specs.Stored.{HasLayout}
 use Rattle.society_rows.specs.declared.tables.TableName.TheVariants as name
-use Rattle.society_rows.proofs.definitions.FirstTables.{has_table}
-use Rattle.society_rows.proofs.readings.Queries.{reads_where}
+use Rattle.society_rows.proofs.lemmas.definitions.FirstTables.{has_table}
+use Rattle.society_rows.proofs.lemmas.readings.Queries.{reads_where}
 use Rattle.society_rows.proofs.office.all_offices.Goals as goal
 
 pub returns-clause-read : goal.returns-clause-read

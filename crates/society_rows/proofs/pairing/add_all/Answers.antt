@@ -2,8 +2,8 @@ use Rattle.std.proofs.Common.{◌∙◌, map, refl, rules}
 use Rattle.std.specs.Slice.Iter.{chunks_rest}
 use Rattle.sqlite.specs.Held.{state}
 use Rattle.society_rows.specs.Stored.{HasLayout}
-use Rattle.society_rows.proofs.errors.Told.{tells_after}
-use Rattle.society_rows.proofs.changes.ListWrites.{some_first, some_next, some_fails, some_left, some_all}
+use Rattle.society_rows.proofs.lemmas.errors.Told.{tells_after}
+use Rattle.society_rows.proofs.lemmas.changes.ListWrites.{some_first, some_next, some_fails, some_left, some_all}
 use Rattle.society_rows.proofs.pairing.add_all.Goals as goal
 
 pub loop-part-init : goal.loop-part-init

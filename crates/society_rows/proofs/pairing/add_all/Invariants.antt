@@ -1,7 +1,7 @@
 use Rattle.std.proofs.Common.{◌≡◌}
 use Rattle.std.specs.Slice.Iter.{chunks_rest, chunks_size}
 use Rattle.sqlite.specs.Held.{state}
-use Rattle.society_rows.proofs.changes.ListWrites.{AddsSome}
+use Rattle.society_rows.proofs.lemmas.changes.ListWrites.{AddsSome}
 use Rattle.society_rows.proofs.pairing.add_all.Given as goal
 
 abbrev pub invariant-loop-part : goal.invariant-loop-part

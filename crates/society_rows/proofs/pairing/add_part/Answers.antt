@@ -1,6 +1,6 @@
 use Rattle.std.proofs.Common.{arith}
 use Rattle.sqlite.specs.Held.{state}
-use Rattle.society_rows.proofs.changes.ListWrites.{adds_empty}
+use Rattle.society_rows.proofs.lemmas.changes.ListWrites.{adds_empty}
 use Rattle.society_rows.proofs.pairing.add_part.Goals as goal
 
 pub returns-in-empty-clause-written : goal.returns-in-empty-clause-written

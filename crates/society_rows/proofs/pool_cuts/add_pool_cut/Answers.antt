@@ -3,9 +3,9 @@ use Rattle.sqlite.specs.Held.{state}
 use Rattle.society_rows.specs.Layout.{pool_cuts}
 use Rattle.society_rows.specs.Rows.{pool_cut_values}
 use Rattle.society_rows.specs.Stored.{HasLayout, Adds}
-use Rattle.society_rows.proofs.changes.Effects.{writes_by}
-use Rattle.society_rows.proofs.each_table.PoolCutTable.{insert_text, adds_row, settled, insert_is}
-use Rattle.society_rows.proofs.errors.Told.{insert_tells}
+use Rattle.society_rows.proofs.lemmas.changes.Effects.{writes_by}
+use Rattle.society_rows.proofs.lemmas.each_table.PoolCutTable.{insert_text, adds_row, settled, insert_is}
+use Rattle.society_rows.proofs.lemmas.errors.Told.{insert_tells}
 use Rattle.society_rows.proofs.pool_cuts.add_pool_cut.Goals as goal
 
 pub returns-clause-written : goal.returns-clause-written

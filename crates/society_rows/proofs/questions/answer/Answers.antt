@@ -1,4 +1,4 @@
-use Rattle.society_rows.proofs.readings.AskedRows.{answers_as}
+use Rattle.society_rows.proofs.lemmas.readings.AskedRows.{answers_as}
 use Rattle.society_rows.proofs.questions.answer.Goals as goal
 
 pub returns-in-Office-clause-read : goal.returns-in-Office-clause-read

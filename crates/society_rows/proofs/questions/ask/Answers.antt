@@ -1,7 +1,7 @@
 use Rattle.std.proofs.Common.{rules}
 use Rattle.sqlite.specs.Held.{state}
 use Rattle.society_rows.specs.Questions.{RowsAnswer, Asks}
-use Rattle.society_rows.proofs.readings.AskedRows.{asks_by}
+use Rattle.society_rows.proofs.lemmas.readings.AskedRows.{asks_by}
 use Rattle.society_rows.proofs.questions.ask.Goals as goal
 
 pub returns-clause-asked : goal.returns-clause-asked

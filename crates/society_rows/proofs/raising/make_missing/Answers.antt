@@ -5,10 +5,10 @@ use Rattle.sqlite.specs.Effect.{Database}
 use Rattle.society_rows.specs.Layouts.{HasFirst}
 use Rattle.society_rows.specs.Raising.{Extends}
 use Rattle.society_rows.specs.Texts.{all_texts}
-use Rattle.society_rows.proofs.changes.Effects.{writes_none, writes_by, writes_then, writes_fail, writes_as}
-use Rattle.society_rows.proofs.definitions.FirstTables.{first_of}
-use Rattle.society_rows.proofs.definitions.Missing.{Grows, none_made, next_made, next_made_tells, all_made}
-use Rattle.society_rows.proofs.errors.Told.{tells_after}
+use Rattle.society_rows.proofs.lemmas.changes.Effects.{writes_none, writes_by, writes_then, writes_fail, writes_as}
+use Rattle.society_rows.proofs.lemmas.definitions.FirstTables.{first_of}
+use Rattle.society_rows.proofs.lemmas.definitions.Missing.{Grows, none_made, next_made, next_made_tells, all_made}
+use Rattle.society_rows.proofs.lemmas.errors.Told.{tells_after}
 use Rattle.society_rows.proofs.raising.make_missing.Goals as goal
 
 pub loop-at-init : goal.loop-at-init

@@ -2,7 +2,7 @@ use Rattle.std.proofs.Common.{◌≡◌, Ok}
 use Rattle.sqlite.specs.Held.{state}
 use Rattle.society_rows.specs.Effects.{WritesOver}
 use Rattle.society_rows.specs.Layouts.{HasFirst}
-use Rattle.society_rows.proofs.definitions.Missing.{Grows}
+use Rattle.society_rows.proofs.lemmas.definitions.Missing.{Grows}
 use Rattle.society_rows.proofs.raising.make_missing.Given as goal
 
 abbrev pub invariant-loop-at : goal.invariant-loop-at

@@ -2,9 +2,9 @@ use Rattle.sqlite.specs.Held.{state}
 use Rattle.society_rows.specs.Layouts.{HasOlder, tables_of}
 use Rattle.society_rows.specs.Raising.{BecomesNewest, Extends, Renames}
 use Rattle.society_rows.specs.Stored.{HasLayout}
-use Rattle.society_rows.proofs.changes.Effects.{writes_then}
-use Rattle.society_rows.proofs.changes.Renaming.{becomes}
-use Rattle.society_rows.proofs.errors.Told.{tells_then}
+use Rattle.society_rows.proofs.lemmas.changes.Effects.{writes_then}
+use Rattle.society_rows.proofs.lemmas.changes.Renaming.{becomes}
+use Rattle.society_rows.proofs.lemmas.errors.Told.{tells_then}
 use Rattle.society_rows.proofs.raising.raise_inside.Goals as goal
 
 pub returns-clause-raised : goal.returns-clause-raised

@@ -2,10 +2,10 @@ use Rattle.std.proofs.Common.{refl}
 use Rattle.sqlite.specs.Held.{state}
 use Rattle.society_rows.specs.Raising.{Renames}
 use Rattle.society_rows.specs.Stored.{HasLayout}
-use Rattle.society_rows.proofs.changes.Effects.{writes_by}
-use Rattle.society_rows.proofs.changes.Renaming.{newest, renames, update_is, update_text}
-use Rattle.society_rows.proofs.each_table.OfficeTable.{settled}
-use Rattle.society_rows.proofs.errors.Told.{update_tells}
+use Rattle.society_rows.proofs.lemmas.changes.Effects.{writes_by}
+use Rattle.society_rows.proofs.lemmas.changes.Renaming.{newest, renames, update_is, update_text}
+use Rattle.society_rows.proofs.lemmas.each_table.OfficeTable.{settled}
+use Rattle.society_rows.proofs.lemmas.errors.Told.{update_tells}
 use Rattle.society_rows.proofs.raising.rename.Goals as goal
 
 pub returns-clause-renamed : goal.returns-clause-renamed

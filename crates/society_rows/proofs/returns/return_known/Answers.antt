@@ -3,9 +3,9 @@ use Rattle.sqlite_value.specs.declared.value.Value.TheVariants.{Int, Text}
 use Rattle.sqlite.specs.Held.{state}
 use Rattle.society_rows.specs.Layout.{returns}
 use Rattle.society_rows.specs.Reads.{ListsKeys, has_key}
-use Rattle.society_rows.proofs.readings.Queries.{reads_laid}
-use Rattle.society_rows.proofs.readings.KeyQueries.{return_known_is, return_known_lists}
-use Rattle.society_rows.proofs.errors.Told.{query_tells}
+use Rattle.society_rows.proofs.lemmas.readings.Queries.{reads_laid}
+use Rattle.society_rows.proofs.lemmas.readings.KeyQueries.{return_known_is, return_known_lists}
+use Rattle.society_rows.proofs.lemmas.errors.Told.{query_tells}
 use Rattle.society_rows.proofs.returns.return_known.Goals as goal
 
 pub returns-clause-read : goal.returns-clause-read

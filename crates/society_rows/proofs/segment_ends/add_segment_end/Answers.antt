@@ -6,9 +6,9 @@ use Rattle.society_rows.specs.Rows.{segment_end_values}
 use Rattle.society_rows.specs.SegmentColumns.{segment_column}
 use Rattle.society_rows.specs.Stored.{HasLayout, Adds}
 use Rattle.work_ids.specs.Segments.{index_of}
-use Rattle.society_rows.proofs.changes.Effects.{writes_by}
-use Rattle.society_rows.proofs.each_table.SegmentEndTable.{insert_text, adds_row, settled, insert_is}
-use Rattle.society_rows.proofs.errors.Told.{insert_tells}
+use Rattle.society_rows.proofs.lemmas.changes.Effects.{writes_by}
+use Rattle.society_rows.proofs.lemmas.each_table.SegmentEndTable.{insert_text, adds_row, settled, insert_is}
+use Rattle.society_rows.proofs.lemmas.errors.Told.{insert_tells}
 use Rattle.society_rows.proofs.segment_ends.add_segment_end.Goals as goal
 
 pub returns-clause-written : goal.returns-clause-written

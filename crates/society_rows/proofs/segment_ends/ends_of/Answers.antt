@@ -3,9 +3,9 @@ use Rattle.sqlite_value.specs.declared.value.Value.TheVariants.{Text}
 use Rattle.sqlite.specs.Held.{state}
 use Rattle.society_rows.specs.Layout.{segment_ends}
 use Rattle.society_rows.specs.Reads.{Lists, has_key}
-use Rattle.society_rows.proofs.readings.Queries.{reads_laid}
-use Rattle.society_rows.proofs.each_table.SegmentEndTable.{ends_of_is, ends_of_lists}
-use Rattle.society_rows.proofs.errors.Told.{query_tells}
+use Rattle.society_rows.proofs.lemmas.readings.Queries.{reads_laid}
+use Rattle.society_rows.proofs.lemmas.each_table.SegmentEndTable.{ends_of_is, ends_of_lists}
+use Rattle.society_rows.proofs.lemmas.errors.Told.{query_tells}
 use Rattle.society_rows.proofs.segment_ends.ends_of.Goals as goal
 
 pub returns-clause-read : goal.returns-clause-read

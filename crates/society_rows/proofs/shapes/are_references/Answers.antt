@@ -1,5 +1,5 @@
 use Rattle.std.proofs.Common.{rules, sym, ◌∙◌}
-use Rattle.society_rows.proofs.readings.Alike.{alike_more}
+use Rattle.society_rows.proofs.lemmas.readings.Alike.{alike_more}
 use Rattle.society_rows.proofs.shapes.are_references.Goals as goal
 
 pub loop-at-preserved : goal.loop-at-preserved

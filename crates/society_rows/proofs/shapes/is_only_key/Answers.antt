@@ -1,4 +1,4 @@
-use Rattle.society_rows.proofs.readings.Alike.{only_one, only_alike}
+use Rattle.society_rows.proofs.lemmas.readings.Alike.{only_one, only_alike}
 use Rattle.society_rows.proofs.shapes.is_only_key.Goals as goal
 
 pub returns-in-len1 : goal.returns-in-len1

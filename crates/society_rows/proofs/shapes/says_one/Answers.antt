@@ -1,5 +1,5 @@
 use Rattle.std.proofs.Common.{◌≤◌, length, arith}
-use Rattle.society_rows.proofs.definitions.OneChecks.{asks_one, one_asked}
+use Rattle.society_rows.proofs.lemmas.definitions.OneChecks.{asks_one, one_asked}
 use Rattle.society_rows.proofs.shapes.says_one.Goals as goal
 
 pub returns-then-is_first : goal.returns-then-is_first

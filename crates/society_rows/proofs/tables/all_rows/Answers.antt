@@ -3,9 +3,9 @@ use Rattle.sqlite.specs.Held.{state}
 use Rattle.society_rows.specs.Layouts.{HasTable}
 use Rattle.society_rows.specs.Reads.{Lists}
 use Rattle.society_rows.specs.TableNames.{table_called, listing_width, listing_text}
-use Rattle.society_rows.proofs.readings.Listings.{is_asked, lists_called, listing_reads, listing_tells}
-use Rattle.society_rows.proofs.readings.Queries.{reads_by}
-use Rattle.society_rows.proofs.readings.RowFolds.{plain_asked}
+use Rattle.society_rows.proofs.lemmas.readings.Listings.{is_asked, lists_called, listing_reads, listing_tells}
+use Rattle.society_rows.proofs.lemmas.readings.Queries.{reads_by}
+use Rattle.society_rows.proofs.lemmas.readings.RowFolds.{plain_asked}
 use Rattle.society_rows.proofs.tables.all_rows.Goals as goal
 
 pub returns-clause-read : goal.returns-clause-read

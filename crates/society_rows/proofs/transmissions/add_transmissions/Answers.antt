@@ -3,8 +3,8 @@ use Rattle.sqlite.specs.Held.{state}
 use Rattle.society_rows.specs.Layout.{transmissions}
 use Rattle.society_rows.specs.Stored.{HasLayout, Adds}
 use Rattle.society_rows.specs.Rows.{transmission_values}
-use Rattle.society_rows.proofs.errors.Told.{tells_after}
-use Rattle.society_rows.proofs.changes.ListWrites.{adds_first, adds_next, adds_fails, leaves_first}
+use Rattle.society_rows.proofs.lemmas.errors.Told.{tells_after}
+use Rattle.society_rows.proofs.lemmas.changes.ListWrites.{adds_first, adds_next, adds_fails, leaves_first}
 use Rattle.society_rows.proofs.transmissions.add_transmissions.Goals as goal
 
 pub loop-row-init : goal.loop-row-init

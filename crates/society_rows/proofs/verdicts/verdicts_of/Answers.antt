@@ -3,9 +3,9 @@ use Rattle.sqlite_value.specs.declared.value.Value.TheVariants.{Int, Text}
 use Rattle.sqlite.specs.Held.{state}
 use Rattle.society_rows.specs.Layout.{verdicts}
 use Rattle.society_rows.specs.Reads.{Lists, has_key}
-use Rattle.society_rows.proofs.readings.Queries.{reads_laid}
-use Rattle.society_rows.proofs.each_table.VerdictTable.{verdicts_of_is, verdicts_of_lists}
-use Rattle.society_rows.proofs.errors.Told.{query_tells}
+use Rattle.society_rows.proofs.lemmas.readings.Queries.{reads_laid}
+use Rattle.society_rows.proofs.lemmas.each_table.VerdictTable.{verdicts_of_is, verdicts_of_lists}
+use Rattle.society_rows.proofs.lemmas.errors.Told.{query_tells}
 use Rattle.society_rows.proofs.verdicts.verdicts_of.Goals as goal
 
 pub returns-clause-read : goal.returns-clause-read

@@ -3,9 +3,9 @@ use Rattle.sqlite_value.specs.declared.value.Value.TheVariants.{Text}
 use Rattle.sqlite.specs.Held.{state}
 use Rattle.society_rows.specs.Layout.{versions}
 use Rattle.society_rows.specs.Reads.{IsFirstOf, has_key}
-use Rattle.society_rows.proofs.readings.Queries.{reads_laid}
-use Rattle.society_rows.proofs.each_table.VersionTable.{last_version_of_is, last_version_of_shows}
-use Rattle.society_rows.proofs.errors.Told.{query_tells}
+use Rattle.society_rows.proofs.lemmas.readings.Queries.{reads_laid}
+use Rattle.society_rows.proofs.lemmas.each_table.VersionTable.{last_version_of_is, last_version_of_shows}
+use Rattle.society_rows.proofs.lemmas.errors.Told.{query_tells}
 use Rattle.society_rows.proofs.versions.last_version_of.Goals as goal
 
 pub returns-clause-read : goal.returns-clause-read

@@ -3,9 +3,9 @@ use Rattle.sqlite_value.specs.declared.value.Value.TheVariants.{Text}
 use Rattle.sqlite.specs.Held.{state}
 use Rattle.society_rows.specs.Layout.{versions}
 use Rattle.society_rows.specs.Reads.{Lists, has_key}
-use Rattle.society_rows.proofs.readings.Queries.{reads_laid}
-use Rattle.society_rows.proofs.each_table.VersionTable.{versions_of_is, versions_of_lists}
-use Rattle.society_rows.proofs.errors.Told.{query_tells}
+use Rattle.society_rows.proofs.lemmas.readings.Queries.{reads_laid}
+use Rattle.society_rows.proofs.lemmas.each_table.VersionTable.{versions_of_is, versions_of_lists}
+use Rattle.society_rows.proofs.lemmas.errors.Told.{query_tells}
 use Rattle.society_rows.proofs.versions.versions_of.Goals as goal
 
 pub returns-clause-read : goal.returns-clause-read

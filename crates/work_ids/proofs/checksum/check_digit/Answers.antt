@@ -1,4 +1,4 @@
-use Rattle.work_ids.proofs.Sums.{completes, no_digits}
+use Rattle.work_ids.proofs.lemmas.Sums.{completes, no_digits}
 use Rattle.work_ids.proofs.checksum.check_digit.Goals as goal
 
 pub returns-then-not-are_digits-clause-right : goal.returns-then-not-are_digits-clause-right

@@ -1,5 +1,5 @@
 use Rattle.std.proofs.Common.{◌≡◌, ◌≤◌, ◌+◌, ◌*◌}
-use Rattle.work_ids.proofs.Sums.{weighted}
+use Rattle.work_ids.proofs.lemmas.Sums.{weighted}
 use Rattle.work_ids.proofs.checksum.weighted_sum.Given as goal
 
 abbrev pub invariant-loop-index : goal.invariant-loop-index

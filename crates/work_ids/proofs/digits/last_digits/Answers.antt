@@ -1,6 +1,6 @@
 use Rattle.std.proofs.Common.{◌≡◌, ℕ, ◌+◌, ◌-◌, ◌<◌, ◌++◌, length, drop, sym, ap, ◌∙◌, arith, length-set}
 use Rattle.work_ids.specs.Digits.{last_digits}
-use Rattle.work_ids.proofs.LastDigits.{digit_written, digits-none}
+use Rattle.work_ids.proofs.lemmas.LastDigits.{digit_written, digits-none}
 use Rattle.work_ids.proofs.digits.last_digits.Goals as goal
 
 pub loop-at-preserved : goal.loop-at-preserved

@@ -3,7 +3,7 @@ use Rattle.std.proofs.lemmas.Int.Digits.{digits_value_more}
 use Rattle.std.proofs.lemmas.List.{take_all}
 use Rattle.std.proofs.lemmas.List.Sums.{AllPass-from_list_all}
 use Rattle.work_ids.specs.Characters.{is_digit}
-use Rattle.work_ids.proofs.Decimals.{digit_fits, digit_is, no_number, room_more, the_number}
+use Rattle.work_ids.proofs.lemmas.Decimals.{digit_fits, digit_is, no_number, room_more, the_number}
 use Rattle.work_ids.proofs.digits.number.Goals as goal
 
 pub returns-then-not-is_number-clause-value : goal.returns-then-not-is_number-clause-value

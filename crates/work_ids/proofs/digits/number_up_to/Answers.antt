@@ -3,7 +3,7 @@ use Rattle.std.specs.Str.Parse.{digits_value}
 use Rattle.std.proofs.lemmas.Int.Digits.{digits_value_more}
 use Rattle.std.proofs.lemmas.List.Sums.{AllPass-from_list_all}
 use Rattle.work_ids.specs.Characters.{is_digit}
-use Rattle.work_ids.proofs.Decimals.{digit_is, min_more}
+use Rattle.work_ids.proofs.lemmas.Decimals.{digit_is, min_more}
 use Rattle.work_ids.proofs.digits.number_up_to.Goals as goal
 
 pub loop-digit-preserved : goal.loop-digit-preserved

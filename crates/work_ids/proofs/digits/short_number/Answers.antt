@@ -1,6 +1,6 @@
 use Rattle.std.proofs.Common.{◌≤◌, ◌^◌, length, arith}
 use Rattle.std.proofs.Math.Nat.{pow-le-pow_right}
-use Rattle.work_ids.proofs.LastDigits.{value_below}
+use Rattle.work_ids.proofs.lemmas.LastDigits.{value_below}
 use Rattle.work_ids.proofs.digits.short_number.Goals as goal
 
 pub returns-clause-value : goal.returns-clause-value

@@ -1,5 +1,5 @@
 use Rattle.std.proofs.Common.{arith, rules}
-use Rattle.work_ids.proofs.FileNames.{name_form, at_least}
+use Rattle.work_ids.proofs.lemmas.FileNames.{name_form, at_least}
 use Rattle.work_ids.proofs.file_name.number_in_capitals.Goals as goal
 
 pub slice_bounds-short_number-end : goal.slice_bounds-short_number-end

@@ -1,7 +1,7 @@
 use Rattle.std.proofs.Common.{◌∙◌, ap, ℕ, List, map, rules}
 use Rattle.work_ids.specs.Characters.{capital}
 use Rattle.work_ids.specs.FileNames.{number_in_capitals, number_in_name}
-use Rattle.work_ids.proofs.FileNames.{long_name, name_exact}
+use Rattle.work_ids.proofs.lemmas.FileNames.{long_name, name_exact}
 use Rattle.work_ids.proofs.file_name.read_file_name.Goals as goal
 
 pub returns-then-name-gt-LONG_NAME-clause-value : goal.returns-then-name-gt-LONG_NAME-clause-value

@@ -1,6 +1,6 @@
 use Rattle.std.proofs.Common.{sym, ap, arith}
 use Rattle.work_ids.specs.Isrc.{without_isrc_marks}
-use Rattle.work_ids.proofs.Marks.{is_written}
+use Rattle.work_ids.proofs.lemmas.Marks.{is_written}
 use Rattle.work_ids.proofs.isrc.without_isrc_marks.Goals as goal
 
 pub returns : goal.returns

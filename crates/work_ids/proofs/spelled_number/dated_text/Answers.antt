@@ -2,7 +2,7 @@ use Rattle.std.proofs.Common.{◌≡◌, Some, subst}
 use Rattle.std.proofs.Common.{List, ℕ}
 use Rattle.work_ids.specs.SpelledNumber.{dated_in_text}
 use Rattle.work_ids.specs.declared.spelled_number.SpelledNumber.TheVariants.{Dated}
-use Rattle.work_ids.proofs.DatedTexts.{dated_read_back, text_written}
+use Rattle.work_ids.proofs.lemmas.DatedTexts.{dated_read_back, text_written}
 use Rattle.work_ids.proofs.spelled_number.dated_text.Goals as goal
 
 pub returns-clause-back : goal.returns-clause-back

@@ -2,7 +2,7 @@ use Rattle.std.proofs.Common.{sym, ap, ◌∙◌}
 use Rattle.cwr_files.specs.Transaction.{first_work, submitter_number}
 use Rattle.works_core.specs.Line.{judged_by}
 use Rattle.works_core.specs.declared.judged.Judged.TheVariants.{Clean}
-use Rattle.works_core.proofs.CleanLemmas.{clean_has_number, number_there, number_filled}
+use Rattle.works_core.proofs.lemmas.CleanLemmas.{clean_has_number, number_there, number_filled}
 use Rattle.works_core.proofs.sender_line.judged.Goals as goal
 
 pub unreachable-requires : goal.unreachable-requires

@@ -1,6 +1,6 @@
 use Rattle.std.proofs.Common.{ap₂, sym, ◌∙◌}
 use Rattle.works_core.specs.Versions.{next_verdict}
-use Rattle.works_core.proofs.NextLemmas.{next_is}
+use Rattle.works_core.proofs.lemmas.NextLemmas.{next_is}
 use Rattle.works_core.proofs.verdict.next_verdict.Goals as goal
 
 pub returns-clause-verdict : goal.returns-clause-verdict

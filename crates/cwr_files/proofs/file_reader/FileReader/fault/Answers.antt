@@ -1,7 +1,7 @@
 use Rattle.std.proofs.Common.{ap, ◌∙◌}
 use Rattle.cwr_files.specs.Fed.{Fed}
 use Rattle.cwr_files.specs.FileFault.{file_fault}
-use Rattle.cwr_files.proofs.Settled.{known-some, settled-now}
+use Rattle.cwr_files.proofs.lemmas.Settled.{known-some, settled-now}
 use Rattle.cwr_files.proofs.file_reader.FileReader.fault.Goals as goal
 
 pub returns-in-Some : goal.returns-in-Some

@@ -1,6 +1,6 @@
 use Rattle.std.proofs.Common.{◌≡◌, ◌+◌, ◌-◌, length, refl, ap, arith}
 use Rattle.cwr_files.specs.Sizes.{max_body}
-use Rattle.cwr_files.proofs.Settled.{known-some, known-none, stops-again, stays-known, stays-open, stops-here, takes-piece, pending-small, seen-of, nothing-added, stays-as-it-was}
+use Rattle.cwr_files.proofs.lemmas.Settled.{known-some, known-none, stops-again, stays-known, stays-open, stops-here, takes-piece, pending-small, seen-of, nothing-added, stays-as-it-was}
 use Rattle.cwr_files.proofs.file_reader.FileReader.feed.Goals as goal
 
 pub returns-in-Some-clause-feeds : goal.returns-in-Some-clause-feeds

@@ -1,4 +1,4 @@
-use Rattle.cwr_files.proofs.Settled.{pending-none}
+use Rattle.cwr_files.proofs.lemmas.Settled.{pending-none}
 use Rattle.cwr_files.proofs.file_reader.FileReader.new.Goals as goal
 
 pub invariant_of-result : goal.invariant_of-result

@@ -1,4 +1,4 @@
-use Rattle.cwr_files.proofs.OnePass.{read-none}
+use Rattle.cwr_files.proofs.lemmas.OnePass.{read-none}
 use Rattle.cwr_files.proofs.progress.Progress.new.Goals as goal
 
 pub returns-clause-read : goal.returns-clause-read

@@ -3,7 +3,7 @@ use Rattle.std.specs.List.{slice_get, flat_map}
 use Rattle.std.proofs.lemmas.Option.{slice_get_read}
 use Rattle.cwr_files.specs.declared.transmission.Group.{Group}
 use Rattle.cwr_files.specs.declared.transmission.Transaction.{Transaction}
-use Rattle.cwr_files.proofs.Placed.{joined_from, nothing_from, placed_first, placed_behind}
+use Rattle.cwr_files.proofs.lemmas.Placed.{joined_from, nothing_from, placed_first, placed_behind}
 use Rattle.cwr_files.proofs.transmission.Transmission.transaction.Goals as goal
 
 pub returns-then-left-transactions : goal.returns-then-left-transactions

@@ -1,6 +1,6 @@
 use Rattle.std.proofs.Common.{◌∙◌, sym, ap, length}
 use Rattle.cwr_records.specs.Lines.{fill_field}
-use Rattle.cwr_records.proofs.Fields.{filled-length}
+use Rattle.cwr_records.proofs.lemmas.Fields.{filled-length}
 use Rattle.cwr_records.proofs.field.Field.fixed.Goals as goal
 
 pub returns : goal.returns

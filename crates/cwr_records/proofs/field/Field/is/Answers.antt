@@ -4,7 +4,7 @@ use Rattle.std.proofs.lemmas.Slice.Eq.{slice_eq-Decides}
 use Rattle.std.proofs.lemmas.Bool.{false≢true}
 use Rattle.std.proofs.lemmas.Bool.Decides.{Decides-eqb}
 use Rattle.work_ids.specs.Blanks.{is_blank_byte}
-use Rattle.cwr_records.proofs.Fields.{filled-decides, filled-differs}
+use Rattle.cwr_records.proofs.lemmas.Fields.{filled-decides, filled-differs}
 use Rattle.cwr_records.proofs.field.Field.is.Goals as goal
 
 pub returns-then-eq : goal.returns-then-eq

@@ -1,6 +1,6 @@
 use Rattle.std.proofs.Common.{◌∙◌}
 use Rattle.cwr_records.specs.Lines.{is_blank}
-use Rattle.cwr_records.proofs.Fields.{is_blank-filled}
+use Rattle.cwr_records.proofs.lemmas.Fields.{is_blank-filled}
 use Rattle.cwr_records.proofs.field.Field.is_blank.Goals as goal
 
 pub returns : goal.returns

@@ -1,5 +1,5 @@
 use Rattle.std.proofs.Common.{arith}
-use Rattle.cwr_records.proofs.Fields.{number_of-blank}
+use Rattle.cwr_records.proofs.lemmas.Fields.{number_of-blank}
 use Rattle.cwr_records.proofs.field.Field.number.Goals as goal
 
 pub returns-then-self : goal.returns-then-self

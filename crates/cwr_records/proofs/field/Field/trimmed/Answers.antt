@@ -1,5 +1,5 @@
 use Rattle.std.proofs.Common.{◌∙◌, sym, arith}
-use Rattle.cwr_records.proofs.Fields.{trimmed-filled, length-trimmed, filled-length}
+use Rattle.cwr_records.proofs.lemmas.Fields.{trimmed-filled, length-trimmed, filled-length}
 use Rattle.cwr_records.proofs.field.Field.trimmed.Goals as goal
 
 pub returns-clause-value : goal.returns-clause-value

@@ -1,5 +1,5 @@
 use Rattle.std.proofs.Common.{◌∙◌, sym}
-use Rattle.cwr_records.proofs.Fields.{trailing-filled}
+use Rattle.cwr_records.proofs.lemmas.Fields.{trailing-filled}
 use Rattle.cwr_records.proofs.field.Field.trimmed_end.Goals as goal
 
 pub returns-clause-value : goal.returns-clause-value

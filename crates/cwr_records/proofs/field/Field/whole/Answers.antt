@@ -1,5 +1,5 @@
 use Rattle.std.proofs.Common.{◌∙◌, ap, length}
-use Rattle.cwr_records.proofs.Fields.{fill-whole}
+use Rattle.cwr_records.proofs.lemmas.Fields.{fill-whole}
 use Rattle.cwr_records.proofs.field.Field.whole.Goals as goal
 
 pub returns-clause-value : goal.returns-clause-value

@@ -1,5 +1,5 @@
 use Rattle.std.proofs.Common.{◌≤◌, ◌∙◌, arith, ap, length}
-use Rattle.cwr_records.proofs.Fields.{fill-filled, filled-length}
+use Rattle.cwr_records.proofs.lemmas.Fields.{fill-filled, filled-length}
 use Rattle.cwr_records.proofs.field.Field.widened.Goals as goal
 
 pub returns : goal.returns

@@ -1,5 +1,5 @@
 use Rattle.cwr_records.specs.Lines.{fill_field}
-use Rattle.cwr_records.proofs.Fields.{filled-length}
+use Rattle.cwr_records.proofs.lemmas.Fields.{filled-length}
 use Rattle.cwr_records.proofs.fixed.Fixed.field.Goals as goal
 
 pub returns-clause-value : goal.returns-clause-value

@@ -1,6 +1,6 @@
 use Rattle.std.proofs.Common.{rules}
 use Rattle.cwr_records.specs.Lines.{fill_field}
-use Rattle.cwr_records.proofs.Fields.{filled-length}
+use Rattle.cwr_records.proofs.lemmas.Fields.{filled-length}
 use Rattle.cwr_records.proofs.fixed.Fixed.new.Goals as goal
 
 pub returns-clause-value : goal.returns-clause-value

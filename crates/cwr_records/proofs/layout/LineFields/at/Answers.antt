@@ -1,7 +1,7 @@
 use Rattle.std.proofs.Common.{◌≡◌, ◌∙◌, ◌+◌, ◌-◌, rules, ap}
 use Rattle.cwr_records.specs.declared.layout.Position.{Position}
 use Rattle.cwr_records.specs.Layouts.{field_in}
-use Rattle.cwr_records.proofs.Layouts.{is_wide-tells}
+use Rattle.cwr_records.proofs.lemmas.Layouts.{is_wide-tells}
 use Rattle.cwr_records.proofs.layout.LineFields.at.Goals as goal
 
 pub position_at-position-requires : goal.position_at-position-requires

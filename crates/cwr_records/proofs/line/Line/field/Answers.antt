@@ -1,6 +1,6 @@
 use Rattle.std.proofs.Common.{◌∙◌, refl}
 use Rattle.std.proofs.lemmas.List.{take_rest}
-use Rattle.cwr_records.proofs.Fields.{field-clipped}
+use Rattle.cwr_records.proofs.lemmas.Fields.{field-clipped}
 use Rattle.cwr_records.proofs.line.Line.field.Goals as goal
 
 pub returns-clause-value : goal.returns-clause-value

@@ -1,7 +1,7 @@
 use Rattle.std.proofs.Common.{ap, refl, arith, length}
 use Rattle.memory_store.specs.Log.{rows_at}
 use Rattle.memory_store.specs.Shown.{over}
-use Rattle.memory_store.proofs.Shaped.{none_shaped}
+use Rattle.memory_store.proofs.lemmas.Shaped.{none_shaped}
 use Rattle.memory_store.proofs.memory.MemoryStore.new.Goals as goal
 
 pub invariant_of-result : goal.invariant_of-result

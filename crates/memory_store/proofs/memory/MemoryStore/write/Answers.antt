@@ -4,14 +4,14 @@ use Rattle.std.proofs.Math.Logic.{∥∥₁_map}
 use Rattle.sqlite_trees.specs.Memory.{memory_view}
 use Rattle.sqlite_trees.specs.Tree.{Trees, with_tree}
 use Rattle.sqlite_trees.specs.View.{View, SetsTree}
-use Rattle.sorted_rows.specs.Pieces.{changed}
+use Rattle.memory_store.specs.Pieces.{changed}
 use Rattle.memory_store.specs.declared.logged.Logged.{Logged}
 use Rattle.memory_store.specs.Log.{rows_at, rows_after, replayed}
 use Rattle.memory_store.specs.Shown.{AreMarksShaped, AreShaped}
 use Rattle.memory_store.specs.Memory.{current, store_view, marked, cursors_of, Fits}
-use Rattle.memory_store.proofs.Logs.{led_on, places_stay}
-use Rattle.memory_store.proofs.Shaped.{shaped_write}
-use Rattle.memory_store.proofs.ShownCalls.{alike, shown_write}
+use Rattle.memory_store.proofs.lemmas.Logs.{led_on, places_stay}
+use Rattle.memory_store.proofs.lemmas.Shaped.{shaped_write}
+use Rattle.memory_store.proofs.lemmas.ShownCalls.{alike, shown_write}
 use Rattle.memory_store.proofs.memory.MemoryStore.write.Goals as goal
 
 pub invariant_of-self-2 : goal.invariant_of-self-2

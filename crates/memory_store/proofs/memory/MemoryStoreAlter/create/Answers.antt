@@ -7,9 +7,9 @@ use Rattle.sqlite_trees.specs.Props.{rows_set}
 use Rattle.memory_store.specs.Log.{rows_at}
 use Rattle.memory_store.specs.Shown.{over}
 use Rattle.memory_store.specs.Memory.{current, marked, cursors_of}
-use Rattle.memory_store.proofs.Over.{not_catalog, not_version}
-use Rattle.memory_store.proofs.Calls.{quiet, none_absent, listed_shaped, listed_kept}
-use Rattle.memory_store.proofs.ShownCalls.{shown_failure, shown_object}
+use Rattle.memory_store.proofs.lemmas.Over.{not_catalog, not_version}
+use Rattle.memory_store.proofs.lemmas.Calls.{quiet, none_absent, listed_shaped, listed_kept}
+use Rattle.memory_store.proofs.lemmas.ShownCalls.{shown_failure, shown_object}
 use Rattle.memory_store.proofs.memory.MemoryStoreAlter.create.Goals as goal
 
 pub invariant_of-self-clause-shaped : goal.invariant_of-self-clause-shaped

@@ -6,14 +6,14 @@ use Rattle.sqlite_trees.specs.Memory.{memory_view}
 use Rattle.sqlite_trees.specs.Tree.{Trees, with_tree}
 use Rattle.sqlite_trees.specs.View.{View, IsFailure}
 use Rattle.sqlite_trees.specs.Objects.{Destroys}
-use Rattle.sorted_rows.specs.declared.change.Change.TheVariants.{Clear}
+use Rattle.memory_store.specs.declared.change.Change.TheVariants.{Clear}
 use Rattle.memory_store.specs.declared.logged.Logged.{Logged}
 use Rattle.memory_store.specs.Log.{rows_after, rows_at, replayed}
 use Rattle.memory_store.specs.Shown.{over}
 use Rattle.memory_store.specs.Memory.{current, store_view, marked, cursors_of}
-use Rattle.memory_store.proofs.Logs.{led_on, places_stay}
-use Rattle.memory_store.proofs.Calls.{quiet, shaped_failure, shaped_listed}
-use Rattle.memory_store.proofs.ShownCalls.{alike, shown_failure, shown_object}
+use Rattle.memory_store.proofs.lemmas.Logs.{led_on, places_stay}
+use Rattle.memory_store.proofs.lemmas.Calls.{quiet, shaped_failure, shaped_listed}
+use Rattle.memory_store.proofs.lemmas.ShownCalls.{alike, shown_failure, shown_object}
 use Rattle.memory_store.proofs.memory.MemoryStoreAlter.destroy.Goals as goal
 
 pub invariant_of-self-in-Err-1 : goal.invariant_of-self-in-Err-1

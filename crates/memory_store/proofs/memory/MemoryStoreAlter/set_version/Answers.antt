@@ -6,8 +6,8 @@ use Rattle.sqlite_trees.specs.Memory.{memory_view}
 use Rattle.memory_store.specs.Log.{rows_at}
 use Rattle.memory_store.specs.Shown.{over}
 use Rattle.memory_store.specs.Memory.{marked, cursors_of}
-use Rattle.memory_store.proofs.Calls.{quiet, version_shaped, version_kept}
-use Rattle.memory_store.proofs.ShownCalls.{shown_failure, shown_version}
+use Rattle.memory_store.proofs.lemmas.Calls.{quiet, version_shaped, version_kept}
+use Rattle.memory_store.proofs.lemmas.ShownCalls.{shown_failure, shown_version}
 use Rattle.memory_store.proofs.memory.MemoryStoreAlter.set_version.Goals as goal
 
 pub invariant_of-self-clause-shaped : goal.invariant_of-self-clause-shaped

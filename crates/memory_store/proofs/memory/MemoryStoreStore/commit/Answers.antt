@@ -6,9 +6,9 @@ use Rattle.sqlite_trees.specs.View.{View, IsRolledBack, Commits}
 use Rattle.memory_store.specs.Log.{rows_after, rows_at, changed_or, replayed}
 use Rattle.memory_store.specs.Shown.{over}
 use Rattle.memory_store.specs.Memory.{current, store_view, marked, cursors_of}
-use Rattle.memory_store.proofs.Kept.{led}
-use Rattle.memory_store.proofs.Calls.{shaped_rolled_back, shaped_committed, commit_frame}
-use Rattle.memory_store.proofs.ShownCalls.{alike, shown_rollback, shown_commit}
+use Rattle.memory_store.proofs.lemmas.Kept.{led}
+use Rattle.memory_store.proofs.lemmas.Calls.{shaped_rolled_back, shaped_committed, commit_frame}
+use Rattle.memory_store.proofs.lemmas.ShownCalls.{alike, shown_rollback, shown_commit}
 use Rattle.memory_store.proofs.memory.MemoryStoreStore.commit.Goals as goal
 
 pub invariant_of-self : goal.invariant_of-self

@@ -7,10 +7,10 @@ use Rattle.sqlite_trees.specs.View.{View, Releases}
 use Rattle.memory_store.specs.Log.{rows_after, rows_at}
 use Rattle.memory_store.specs.Shown.{over, AreAllShaped}
 use Rattle.memory_store.specs.Memory.{current, store_view, marked, cursors_of}
-use Rattle.memory_store.proofs.Places.{rise_taken}
-use Rattle.memory_store.proofs.Kept.{marks_shaped}
-use Rattle.memory_store.proofs.Calls.{quiet, shaped_failure, shaped_released}
-use Rattle.memory_store.proofs.ShownCalls.{alike, shown_failure, shown_release}
+use Rattle.memory_store.proofs.lemmas.Places.{rise_taken}
+use Rattle.memory_store.proofs.lemmas.Kept.{marks_shaped}
+use Rattle.memory_store.proofs.lemmas.Calls.{quiet, shaped_failure, shaped_released}
+use Rattle.memory_store.proofs.lemmas.ShownCalls.{alike, shown_failure, shown_release}
 use Rattle.memory_store.proofs.memory.MemoryStoreStore.release.Goals as goal
 
 pub invariant_of-self : goal.invariant_of-self

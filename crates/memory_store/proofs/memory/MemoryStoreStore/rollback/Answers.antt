@@ -6,8 +6,8 @@ use Rattle.sqlite_trees.specs.View.{View, IsRolledBack}
 use Rattle.memory_store.specs.Log.{rows_after, rows_at}
 use Rattle.memory_store.specs.Shown.{over}
 use Rattle.memory_store.specs.Memory.{store_view, marked, cursors_of}
-use Rattle.memory_store.proofs.Calls.{quiet, shaped_rolled_back}
-use Rattle.memory_store.proofs.ShownCalls.{alike, shown_rollback}
+use Rattle.memory_store.proofs.lemmas.Calls.{quiet, shaped_rolled_back}
+use Rattle.memory_store.proofs.lemmas.ShownCalls.{alike, shown_rollback}
 use Rattle.memory_store.proofs.memory.MemoryStoreStore.rollback.Goals as goal
 
 pub invariant_of-self : goal.invariant_of-self

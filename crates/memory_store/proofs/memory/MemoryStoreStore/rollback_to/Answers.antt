@@ -7,14 +7,14 @@ use Rattle.sqlite_trees.specs.View.{View, GoesBack}
 use Rattle.memory_store.specs.Log.{rows_after, rows_at, replayed}
 use Rattle.memory_store.specs.Shown.{over}
 use Rattle.memory_store.specs.Memory.{current, store_view, marked, cursors_of}
-use Rattle.memory_store.proofs.Kept.{marks_shaped}
-use Rattle.memory_store.proofs.Calls.{quiet, shaped_failure, shaped_back}
-use Rattle.memory_store.proofs.ShownCalls.{alike, shown_failure, shown_back}
+use Rattle.memory_store.proofs.lemmas.Kept.{marks_shaped}
+use Rattle.memory_store.proofs.lemmas.Calls.{quiet, shaped_failure, shaped_back}
+use Rattle.memory_store.proofs.lemmas.ShownCalls.{alike, shown_failure, shown_back}
 use Rattle.std.proofs.lemmas.Option.{slice_get_within, get_or_from_slice_get}
 use Rattle.memory_store.specs.declared.memory.MemoryStore.{MemoryStore}
-use Rattle.memory_store.proofs.Marks.{no_marks, length-shown_marks, marks_paired}
-use Rattle.memory_store.proofs.Places.{no_last, below_last}
-use Rattle.memory_store.proofs.Logs.{same_places, newest_rows}
+use Rattle.memory_store.proofs.lemmas.Marks.{no_marks, length-shown_marks, marks_paired}
+use Rattle.memory_store.proofs.lemmas.Places.{no_last, below_last}
+use Rattle.memory_store.proofs.lemmas.Logs.{same_places, newest_rows}
 use Rattle.memory_store.proofs.memory.MemoryStoreStore.rollback_to.Goals as goal
 
 pub returns-in_default-clause-ok : goal.returns-in_default-clause-ok

@@ -6,10 +6,10 @@ use Rattle.sqlite_trees.specs.View.{View, IsFailure, Marks}
 use Rattle.memory_store.specs.Log.{rows_after, rows_at}
 use Rattle.memory_store.specs.Shown.{over, AreAllShaped}
 use Rattle.memory_store.specs.Memory.{current, store_view, marked, cursors_of}
-use Rattle.memory_store.proofs.Places.{within_pushed, rise_pushed, unpushed}
-use Rattle.memory_store.proofs.Kept.{marks_shaped, marked_on}
-use Rattle.memory_store.proofs.Calls.{quiet, shaped_failure, shaped_marked}
-use Rattle.memory_store.proofs.ShownCalls.{alike, shown_failure, shown_savepoint}
+use Rattle.memory_store.proofs.lemmas.Places.{within_pushed, rise_pushed, unpushed}
+use Rattle.memory_store.proofs.lemmas.Kept.{marks_shaped, marked_on}
+use Rattle.memory_store.proofs.lemmas.Calls.{quiet, shaped_failure, shaped_marked}
+use Rattle.memory_store.proofs.lemmas.ShownCalls.{alike, shown_failure, shown_savepoint}
 use Rattle.memory_store.proofs.memory.MemoryStoreStore.savepoint.Goals as goal
 
 pub invariant_of-self-in-Err : goal.invariant_of-self-in-Err

@@ -1,6 +1,6 @@
 use Rattle.std.proofs.Common.{◌+◌, ℕ, drop, get_or, ap, ◌∙◌, sym, arith}
 use Rattle.share_rules.specs.Blocks.{descend, halves}
-use Rattle.share_rules.proofs.Blocks.{no_step, room_left, step_passed, step_taken}
+use Rattle.share_rules.proofs.lemmas.Blocks.{no_step, room_left, step_passed, step_taken}
 use Rattle.share_rules.proofs.party_keys.PartyKeys.descend.Goals as goal
 use Rattle.share_rules.proofs.party_keys.PartyKeys.descend.Goals.{else-self-place, then-self-place}
 

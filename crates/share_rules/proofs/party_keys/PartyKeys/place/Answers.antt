@@ -1,6 +1,6 @@
 use Rattle.std.proofs.Common.{ℕ, ap, ◌∙◌, sym}
 use Rattle.share_rules.specs.Blocks.{descend, halves}
-use Rattle.share_rules.proofs.Blocks.{place_missed, place_there}
+use Rattle.share_rules.proofs.lemmas.Blocks.{place_missed, place_there}
 use Rattle.share_rules.proofs.party_keys.PartyKeys.place.Goals as goal
 
 pub returns-then-self-place-clause-place : goal.returns-then-self-place-clause-place

@@ -1,6 +1,6 @@
 use Rattle.std.proofs.Common.{◌∙◌, ◌&&◌, ℕ, Bool, nat_le, ap, sym}
 use Rattle.sender_segments.specs.Ways.{leads_to, numbers_up_to}
-use Rattle.sender_segments.proofs.LedTo.{up_to_front}
+use Rattle.sender_segments.proofs.lemmas.LedTo.{up_to_front}
 use Rattle.society_core.specs.Book.{is_one_of}
 use Rattle.society_book.specs.EndLists.{end_listed}
 use Rattle.society_book.proofs.sender_ends.SenderEnds.is_in_line.Goals as goal

@@ -1,4 +1,4 @@
-use Rattle.society_book.proofs.rows_alike.EndRows.{listed_right, listed_years}
+use Rattle.society_book.proofs.lemmas.rows_alike.EndRows.{listed_right, listed_years}
 use Rattle.society_book.proofs.sender_ends.SenderEnds.see_years.Goals as goal
 
 pub returns-clause-right : goal.returns-clause-right

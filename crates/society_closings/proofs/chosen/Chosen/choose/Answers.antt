@@ -1,5 +1,5 @@
 use Rattle.std.proofs.Common.{◌∙◌, sym}
-use Rattle.society_closings.proofs.cuts.CutChoices.{chooses_kept}
+use Rattle.society_closings.proofs.lemmas.cuts.CutChoices.{chooses_kept}
 use Rattle.society_closings.proofs.chosen.Chosen.choose.Goals as goal
 
 pub returns-in-Some : goal.returns-in-Some

@@ -1,5 +1,5 @@
 use Rattle.std.proofs.Common.{IsSome, refl, subst, sym}
-use Rattle.society_closings.proofs.cuts.CutNotes.{note_more}
+use Rattle.society_closings.proofs.lemmas.cuts.CutNotes.{note_more}
 use Rattle.society_closings.proofs.named_works.NamedWorks.note.Goals as goal
 
 pub returns-in_ok-insert-clause-more : goal.returns-in_ok-insert-clause-more

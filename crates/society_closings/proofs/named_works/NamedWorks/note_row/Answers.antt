@@ -1,6 +1,6 @@
 use Rattle.society_rows.specs.Rows.{recording_values}
-use Rattle.society_rows.proofs.readings.KeyEquality.{text_decides}
-use Rattle.society_closings.proofs.cuts.CutNotes.{unwanted}
+use Rattle.society_rows.proofs.lemmas.readings.KeyEquality.{text_decides}
+use Rattle.society_closings.proofs.lemmas.cuts.CutNotes.{unwanted}
 use Rattle.society_closings.proofs.named_works.NamedWorks.note_row.Goals as goal
 
 pub returns-then-not-may_be-clause-noted : goal.returns-then-not-may_be-clause-noted

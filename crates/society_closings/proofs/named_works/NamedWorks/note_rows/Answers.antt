@@ -2,7 +2,7 @@ use Rattle.std.proofs.Common.{◌≡◌, ◌∙◌, ◌+◌, ◌++◌, ◌∷◌
 use Rattle.std.proofs.lemmas.List.{take_more}
 use Rattle.std.specs.List.{AllByRecursion}
 use Rattle.society_closings.specs.CutWorks.{NotesWanted}
-use Rattle.society_closings.proofs.cuts.CutNotes.{all_wanted_still, notes_then}
+use Rattle.society_closings.proofs.lemmas.cuts.CutNotes.{all_wanted_still, notes_then}
 use Rattle.society_closings.proofs.named_works.NamedWorks.note_rows.Goals as goal
 use Rattle.sqlite_keyed.proofs.ListLemmas.{all-append}
 use Rattle.sqlite_value.specs.Order.{Row}

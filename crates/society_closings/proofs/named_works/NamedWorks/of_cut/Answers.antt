@@ -3,7 +3,7 @@ use Rattle.std.proofs.lemmas.List.Folds.{list_any_more}
 use Rattle.std.proofs.lemmas.Map.Text.{is_eq-slice_cmp}
 use Rattle.std.specs.List.{list_any}
 use Rattle.society_core.specs.declared.transmission_key.TransmissionKey.{TransmissionKey}
-use Rattle.society_closings.proofs.cuts.CutNotes.{put_some}
+use Rattle.society_closings.proofs.lemmas.cuts.CutNotes.{put_some}
 use Rattle.society_closings.proofs.named_works.NamedWorks.of_cut.Goals as goal
 
 pub loop-key-preserved : goal.loop-key-preserved

@@ -1,8 +1,8 @@
 use Rattle.std.proofs.Common.{◌≡◌, ◌∙◌, IfOk, ap, bytes_eq, rules}
 use Rattle.std.specs.List.{list_any}
 use Rattle.society_closings.specs.CutWorks.{has_work}
-use Rattle.society_closings.proofs.cuts.CutNotes.{any_bytes}
-use Rattle.society_book.proofs.together.StepLemmas.{more}
+use Rattle.society_closings.proofs.lemmas.cuts.CutNotes.{any_bytes}
+use Rattle.society_book.proofs.lemmas.together.StepLemmas.{more}
 use Rattle.society_closings.proofs.named_works.NamedWorks.works_of.Goals as goal
 
 pub returns-in-Some : goal.returns-in-Some

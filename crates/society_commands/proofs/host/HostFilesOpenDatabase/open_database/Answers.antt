@@ -1,4 +1,4 @@
-use Rattle.society_commands.proofs.RefusalLemmas.{refuses}
+use Rattle.society_commands.proofs.lemmas.RefusalLemmas.{refuses}
 use Rattle.society_commands.proofs.host.HostFilesOpenDatabase.open_database.Goals as goal
 
 pub returns-in-Ok-clause-opened : goal.returns-in-Ok-clause-opened

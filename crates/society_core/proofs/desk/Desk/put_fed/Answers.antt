@@ -1,4 +1,4 @@
-use Rattle.society_core.proofs.FedLemmas.{puts-fed}
+use Rattle.society_core.proofs.lemmas.FedLemmas.{puts-fed}
 use Rattle.society_core.proofs.desk.Desk.put_fed.Goals as goal
 
 pub returns : goal.returns

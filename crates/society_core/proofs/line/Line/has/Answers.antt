@@ -2,8 +2,8 @@ use Rattle.std.proofs.Common.{rules, ◌≡◌, true, subst, sym}
 use Rattle.sender_segments.specs.Ways.{IsWithinEnd, leads_to}
 use Rattle.society_core.specs.Book.{ends_among}
 use Rattle.society_core.specs.PlainMaps.{ends_kept, transmissions_of}
-use Rattle.society_core.proofs.Fronts.{front_led}
-use Rattle.society_core.proofs.KeptFronts.{kept_front_fits}
+use Rattle.society_core.proofs.lemmas.Fronts.{front_led}
+use Rattle.society_core.proofs.lemmas.KeptFronts.{kept_front_fits}
 use Rattle.society_core.proofs.line.Line.has.Goals as goal
 
 pub is_up_to-requires-clause-led : goal.is_up_to-requires-clause-led

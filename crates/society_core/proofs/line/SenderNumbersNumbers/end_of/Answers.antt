@@ -3,8 +3,8 @@ use Rattle.sender_segments.specs.Ways.{end_stated}
 use Rattle.society_core.specs.Book.{ends_among}
 use Rattle.society_core.specs.Keys.{segment_key}
 use Rattle.society_core.specs.PlainMaps.{ends_kept}
-use Rattle.society_core.proofs.Kept.{get_shown}
-use Rattle.society_core.proofs.KeyOrders.{exact_segments, segments_total}
+use Rattle.society_core.proofs.lemmas.Kept.{get_shown}
+use Rattle.society_core.proofs.lemmas.KeyOrders.{exact_segments, segments_total}
 use Rattle.society_core.proofs.line.SenderNumbersNumbers.end_of.Goals as goal
 
 pub returns : goal.returns

@@ -2,9 +2,9 @@ use Rattle.std.proofs.Common.{◌≡◌, ℕ, Vec, Global, ap, sym, ◌∙◌}
 use Rattle.society_core.specs.Book.{is_among}
 use Rattle.society_core.specs.Keys.{transmission_key}
 use Rattle.society_core.specs.PlainMaps.{transmissions_of}
-use Rattle.society_core.proofs.Kept.{is_some-shown}
-use Rattle.society_core.proofs.KeyOrders.{exact_transmissions, transmissions_total}
-use Rattle.society_core.proofs.Numbers.{number_is}
+use Rattle.society_core.proofs.lemmas.Kept.{is_some-shown}
+use Rattle.society_core.proofs.lemmas.KeyOrders.{exact_transmissions, transmissions_total}
+use Rattle.society_core.proofs.lemmas.Numbers.{number_is}
 use Rattle.work_ids.specs.Segments.{is_transmission_number}
 use Rattle.society_core.proofs.line.SenderNumbersNumbers.has.Goals as goal
 

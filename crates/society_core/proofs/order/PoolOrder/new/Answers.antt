@@ -11,9 +11,9 @@ use Rattle.society_core.specs.Orders.{IsOrder, has_repeat, is_out_of_range, is_t
 use Rattle.society_core.specs.declared.order_fault.OrderFault.TheVariants.{OutOfRange, TooLong, NamedTwice}
 use Rattle.society_core.specs.declared.return_key.ReturnKey.{ReturnKey}
 use Rattle.society_core.specs.declared.transmission_key.TransmissionKey.{TransmissionKey}
-use Rattle.society_core.proofs.Ascending.{ascending_again, ascending_length}
-use Rattle.society_core.proofs.OrderFaults.{all_permuted, cut_permutes, fault_permutes, neither_holds, paid_permutes, told_none}
-use Rattle.society_core.proofs.KeyOrders.{exact_returns, exact_transmissions, returns_total, transmissions_total}
+use Rattle.society_core.proofs.lemmas.Ascending.{ascending_again, ascending_length}
+use Rattle.society_core.proofs.lemmas.OrderFaults.{all_permuted, cut_permutes, fault_permutes, neither_holds, paid_permutes, told_none}
+use Rattle.society_core.proofs.lemmas.KeyOrders.{exact_returns, exact_transmissions, returns_total, transmissions_total}
 use Rattle.society_core.proofs.order.PoolOrder.new.Goals as goal
 
 none_is : {X : Type 0} (o : Option X) → o ≡ None → is_none o ≡ true

@@ -3,8 +3,8 @@ use Rattle.std.specs.FinMap as finite
 use Rattle.sender_segments.specs.Ways.{end_stated}
 use Rattle.society_core.specs.Book.{Book}
 use Rattle.society_core.specs.Keys.{segment_key}
-use Rattle.society_core.proofs.Kept.{get_shown, lent_one, shown_one}
-use Rattle.society_core.proofs.KeyOrders.{exact_segments, segments_total}
+use Rattle.society_core.proofs.lemmas.Kept.{get_shown, lent_one, shown_one}
+use Rattle.society_core.proofs.lemmas.KeyOrders.{exact_segments, segments_total}
 use Rattle.society_core.proofs.plain_book.PlainBook.end.Goals as goal
 
 pub returns : goal.returns

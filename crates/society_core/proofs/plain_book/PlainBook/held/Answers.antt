@@ -4,10 +4,10 @@ use Rattle.sender_segments.specs.Ways.{numbers_up_to}
 use Rattle.society_core.specs.Book.{AreOrderly, Book, ends_among}
 use Rattle.society_core.specs.PlainMaps.{ends_kept}
 use Rattle.society_core.specs.declared.transmission_key.TransmissionKey.{TransmissionKey}
-use Rattle.society_core.proofs.Books.{sound_order}
-use Rattle.society_core.proofs.Kept.{keys_in_order}
-use Rattle.society_core.proofs.KeyOrders.{exact_transmissions, transmissions_total}
-use Rattle.society_core.proofs.LineKeys.{held_by_keys, led_by}
+use Rattle.society_core.proofs.lemmas.Books.{sound_order}
+use Rattle.society_core.proofs.lemmas.Kept.{keys_in_order}
+use Rattle.society_core.proofs.lemmas.KeyOrders.{exact_transmissions, transmissions_total}
+use Rattle.society_core.proofs.lemmas.LineKeys.{held_by_keys, led_by}
 use Rattle.society_core.proofs.plain_book.PlainBook.held.Goals as goal
 
 pub new-line-requires-clause-orderly : goal.new-line-requires-clause-orderly

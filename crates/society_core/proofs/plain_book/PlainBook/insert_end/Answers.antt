@@ -3,7 +3,7 @@ use Rattle.std.specs.FinMap as finite
 use Rattle.society_core.specs.Keys.{segment_key}
 use Rattle.society_core.specs.PlainMaps.{ends_kept, transmissions_of}
 use Rattle.society_core.specs.Book.{AreOrderly, Book, with_end}
-use Rattle.society_core.proofs.Books.{sound_order}
+use Rattle.society_core.proofs.lemmas.Books.{sound_order}
 use Rattle.sender_segments.specs.Ways.{end_stated}
 use Rattle.society_core.specs.Ends.{place_stated}
 use Rattle.society_core.proofs.plain_book.PlainBook.insert_end.Goals as goal

@@ -6,8 +6,8 @@ use Rattle.std.specs.Ordering.{nat_cmp}
 use Rattle.society_core.specs.Book.{Book, with_pool}
 use Rattle.society_core.specs.Orders.{Order}
 use Rattle.society_core.specs.PlainMaps.{plain_book}
-use Rattle.society_core.proofs.Kept.{one_kept, pairs_same}
-use Rattle.society_core.proofs.KeyOrders.{exact_numbers}
+use Rattle.society_core.proofs.lemmas.Kept.{one_kept, pairs_same}
+use Rattle.society_core.proofs.lemmas.KeyOrders.{exact_numbers}
 use Rattle.society_core.proofs.plain_book.PlainBook.insert_pool.Goals as goal
 
 pub returns-clause-ok : goal.returns-clause-ok

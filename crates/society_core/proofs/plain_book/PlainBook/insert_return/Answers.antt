@@ -3,8 +3,8 @@ use Rattle.std.specs.FinMap.{FinMap}
 use Rattle.society_core.specs.Book.{Book, with_return}
 use Rattle.society_core.specs.Keys.{return_cmp}
 use Rattle.society_core.specs.PlainMaps.{plain_book}
-use Rattle.society_core.proofs.Kept.{one_kept}
-use Rattle.society_core.proofs.KeyOrders.{exact_returns, returns_total}
+use Rattle.society_core.proofs.lemmas.Kept.{one_kept}
+use Rattle.society_core.proofs.lemmas.KeyOrders.{exact_returns, returns_total}
 use Rattle.society_core.proofs.plain_book.PlainBook.insert_return.Goals as goal
 
 pub returns-clause-ok : goal.returns-clause-ok

@@ -3,8 +3,8 @@ use Rattle.sender_segments.specs.Ways.{numbers_up_to}
 use Rattle.society_core.specs.Answers.{place_by}
 use Rattle.society_core.specs.Book.{AreOrderly, Book, Transmissions, ends_among, with_transmission}
 use Rattle.society_core.specs.PlainMaps.{ends_kept, plain_book}
-use Rattle.society_core.proofs.Books.{sound_order}
-use Rattle.society_core.proofs.LineKeys.{in_line_by, led_by}
+use Rattle.society_core.proofs.lemmas.Books.{sound_order}
+use Rattle.society_core.proofs.lemmas.LineKeys.{in_line_by, led_by}
 use Rattle.society_core.proofs.plain_book.PlainBook.insert_transmission.Goals as goal
 
 pub insert_with_front-requires-clause-orderly : goal.insert_with_front-requires-clause-orderly

@@ -2,8 +2,8 @@ use Rattle.std.proofs.Common.{ap, sym, subst, ◌∙◌}
 use Rattle.sender_segments.specs.Ways.{numbers_up_to}
 use Rattle.society_core.specs.Book.{AreOrderly, Book, ends_among}
 use Rattle.society_core.specs.PlainMaps.{ends_kept}
-use Rattle.society_core.proofs.Books.{sound_order}
-use Rattle.society_core.proofs.LineKeys.{in_line_by, led_by}
+use Rattle.society_core.proofs.lemmas.Books.{sound_order}
+use Rattle.society_core.proofs.lemmas.LineKeys.{in_line_by, led_by}
 use Rattle.society_core.proofs.plain_book.PlainBook.is_applied.Goals as goal
 
 pub new-requires-clause-orderly : goal.new-requires-clause-orderly

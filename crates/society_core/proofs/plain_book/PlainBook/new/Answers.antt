@@ -5,7 +5,7 @@ use Rattle.society_core.specs.Keys.{bytes_cmp}
 use Rattle.society_core.specs.PlainMaps.{bodies_of, stated_by}
 use Rattle.society_core.specs.declared.segment_key.SegmentKey.{SegmentKey}
 use Rattle.society_core.specs.declared.transmission_key.TransmissionKey.{TransmissionKey}
-use Rattle.society_core.proofs.Books.{no_front}
+use Rattle.society_core.proofs.lemmas.Books.{no_front}
 use Rattle.std.specs.Map.{lookup}
 use Rattle.std.specs.BTreeMap.{is_at}
 use Rattle.work_ids.specs.SegmentEnds.{StatedEnd}

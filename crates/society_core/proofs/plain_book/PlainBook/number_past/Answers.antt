@@ -3,9 +3,9 @@ use Rattle.std.specs.FinMap as finite
 use Rattle.society_core.specs.Book.{Book}
 use Rattle.society_core.specs.Ends.{place_stated}
 use Rattle.society_core.specs.declared.transmission_key.TransmissionKey.{TransmissionKey}
-use Rattle.society_core.proofs.Kept.{keys_in_order}
-use Rattle.society_core.proofs.KeyOrders.{exact_transmissions, transmissions_total}
-use Rattle.society_core.proofs.LineKeys.{past_by_keys}
+use Rattle.society_core.proofs.lemmas.Kept.{keys_in_order}
+use Rattle.society_core.proofs.lemmas.KeyOrders.{exact_transmissions, transmissions_total}
+use Rattle.society_core.proofs.lemmas.LineKeys.{past_by_keys}
 use Rattle.society_core.proofs.plain_book.PlainBook.number_past.Goals as goal
 
 pub returns : goal.returns

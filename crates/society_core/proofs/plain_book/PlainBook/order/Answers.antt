@@ -3,8 +3,8 @@ use Rattle.std.specs.Cmp.{nat_cmp_total}
 use Rattle.std.specs.FinMap as finite
 use Rattle.std.specs.Ordering.{nat_cmp}
 use Rattle.society_core.specs.Orders.{Order}
-use Rattle.society_core.proofs.Kept.{get_shown, lent_one, pairs_same, shown_one}
-use Rattle.society_core.proofs.KeyOrders.{exact_numbers}
+use Rattle.society_core.proofs.lemmas.Kept.{get_shown, lent_one, pairs_same, shown_one}
+use Rattle.society_core.proofs.lemmas.KeyOrders.{exact_numbers}
 use Rattle.society_core.specs.Book.{Book}
 use Rattle.society_core.proofs.plain_book.PlainBook.order.Goals as goal
 

@@ -3,8 +3,8 @@ use Rattle.std.specs.Cmp.{nat_cmp_total}
 use Rattle.std.specs.FinMap as finite
 use Rattle.society_core.specs.Book.{Book}
 use Rattle.society_core.specs.Orders.{Order}
-use Rattle.society_core.proofs.KeyOrders.{exact_numbers}
-use Rattle.society_core.proofs.KeysOfMaps.{entries_in_order}
+use Rattle.society_core.proofs.lemmas.KeyOrders.{exact_numbers}
+use Rattle.society_core.proofs.lemmas.KeysOfMaps.{entries_in_order}
 use Rattle.society_core.proofs.plain_book.PlainBook.orders.Goals as goal
 
 pub returns : goal.returns

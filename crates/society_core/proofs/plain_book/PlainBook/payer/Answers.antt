@@ -2,9 +2,9 @@ use Rattle.std.proofs.Common.{ap, sym, ◌∙◌}
 use Rattle.std.specs.Cmp.{nat_cmp_total}
 use Rattle.std.specs.FinMap as finite
 use Rattle.society_core.specs.Book.{Book}
-use Rattle.society_core.proofs.Found.{first_in}
-use Rattle.society_core.proofs.KeyOrders.{exact_numbers}
-use Rattle.society_core.proofs.KeysOfMaps.{entries_in_order}
+use Rattle.society_core.proofs.lemmas.Found.{first_in}
+use Rattle.society_core.proofs.lemmas.KeyOrders.{exact_numbers}
+use Rattle.society_core.proofs.lemmas.KeysOfMaps.{entries_in_order}
 use Rattle.society_core.proofs.plain_book.PlainBook.payer.Goals as goal
 
 pub returns : goal.returns

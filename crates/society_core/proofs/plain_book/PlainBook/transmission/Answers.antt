@@ -1,8 +1,8 @@
 use Rattle.std.proofs.Common.{ℕ, Vec, Global, ap, sym, ◌∙◌}
 use Rattle.std.specs.FinMap as finite
 use Rattle.society_core.specs.Keys.{transmission_key}
-use Rattle.society_core.proofs.Kept.{get_shown, lent_one, shown_one}
-use Rattle.society_core.proofs.KeyOrders.{exact_transmissions, transmissions_total}
+use Rattle.society_core.proofs.lemmas.Kept.{get_shown, lent_one, shown_one}
+use Rattle.society_core.proofs.lemmas.KeyOrders.{exact_transmissions, transmissions_total}
 use Rattle.society_core.specs.Book.{Book}
 use Rattle.society_core.proofs.plain_book.PlainBook.transmission.Goals as goal
 

@@ -1,5 +1,5 @@
 use Rattle.std.proofs.Common.{refl}
-use Rattle.society_core.proofs.Stores.{sound_after_end, sound_stated}
+use Rattle.society_core.proofs.lemmas.Stores.{sound_after_end, sound_stated}
 use Rattle.society_core.proofs.plain_store.PlainStoreStore.add_end.Goals as goal
 
 pub insert_end-requires-clause-after : goal.insert_end-requires-clause-after

@@ -1,5 +1,5 @@
 use Rattle.std.proofs.Common.{refl}
-use Rattle.society_core.proofs.Stores.{from_one, sound_after_pool}
+use Rattle.society_core.proofs.lemmas.Stores.{from_one, sound_after_pool}
 use Rattle.society_core.proofs.plain_store.PlainStoreStore.add_pool.Goals as goal
 
 pub invariant_of-self : goal.invariant_of-self

@@ -1,5 +1,5 @@
 use Rattle.std.proofs.Common.{refl}
-use Rattle.society_core.proofs.Stores.{return_entry, sound_after_return}
+use Rattle.society_core.proofs.lemmas.Stores.{return_entry, sound_after_return}
 use Rattle.society_core.proofs.plain_store.PlainStoreStore.add_return.Goals as goal
 
 pub invariant_of-self : goal.invariant_of-self

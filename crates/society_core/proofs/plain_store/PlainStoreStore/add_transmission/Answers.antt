@@ -2,7 +2,7 @@ use Rattle.std.proofs.Common.{refl, ap, ap₂, ◌∙◌}
 use Rattle.cwr_files.specs.FileFault.{file_fault}
 use Rattle.society_core.specs.Book.{body_at}
 use Rattle.society_core.specs.Ends.{ended_before}
-use Rattle.society_core.proofs.Stores.{sound_after, sound_taken, transmission_entry}
+use Rattle.society_core.proofs.lemmas.Stores.{sound_after, sound_taken, transmission_entry}
 use Rattle.society_core.proofs.plain_store.PlainStoreStore.add_transmission.Goals as goal
 
 pub insert_transmission-requires-clause-after : goal.insert_transmission-requires-clause-after

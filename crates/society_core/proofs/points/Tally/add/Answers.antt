@@ -2,7 +2,7 @@ use Rattle.std.proofs.Common.{◌≡◌, unwrap_or, rules}
 use Rattle.std.specs.BTreeMap as tree
 use Rattle.society_core.specs.Keys.{bytes_cmp}
 use Rattle.society_core.specs.Points.{points_of}
-use Rattle.society_core.proofs.PointLemmas.{tallies_more}
+use Rattle.society_core.proofs.lemmas.PointLemmas.{tallies_more}
 use Rattle.society_core.proofs.points.Tally.add.Goals as goal
 
 pub returns : goal.returns

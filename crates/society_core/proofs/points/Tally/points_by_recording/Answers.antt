@@ -1,5 +1,5 @@
 use Rattle.std.proofs.Common.{◌≡◌, IfOk, rules, subst}
-use Rattle.society_core.proofs.PointLemmas.{tallied_entries}
+use Rattle.society_core.proofs.lemmas.PointLemmas.{tallied_entries}
 use Rattle.society_core.proofs.points.Tally.points_by_recording.Goals as goal
 
 pub returns : goal.returns

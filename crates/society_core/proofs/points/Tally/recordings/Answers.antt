@@ -3,7 +3,7 @@ use Rattle.std.proofs.lemmas.Result.{IfOk-weaker}
 use Rattle.std.specs.List.{list_any}
 use Rattle.std.specs.Str.{bytes_eq}
 use Rattle.society_core.specs.Points.{is_tallied, recordings_in}
-use Rattle.society_core.proofs.PointLemmas.{tallied_keys, tallied_recordings}
+use Rattle.society_core.proofs.lemmas.PointLemmas.{tallied_keys, tallied_recordings}
 use Rattle.society_core.proofs.points.Tally.recordings.Goals as goal
 
 pub returns-clause-tallied : goal.returns-clause-tallied

@@ -1,5 +1,5 @@
 use Rattle.std.proofs.Common.{◌≡◌, length, arith}
-use Rattle.society_rows.proofs.changes.Columns.{columns_3}
+use Rattle.society_rows.proofs.lemmas.changes.Columns.{columns_3}
 use Rattle.society_rows.proofs.pool_returns.PoolReturnRow.from_row.Goals as goal
 
 pub returns-clause-value : goal.returns-clause-value

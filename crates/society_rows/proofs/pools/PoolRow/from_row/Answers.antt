@@ -1,6 +1,6 @@
 use Rattle.std.proofs.Common.{◌≡◌, length, sym, arith, w64}
 use Rattle.std.proofs.lemmas.Int.{to_z-of_z}
-use Rattle.society_rows.proofs.changes.Columns.{columns_2}
+use Rattle.society_rows.proofs.lemmas.changes.Columns.{columns_2}
 use Rattle.society_rows.proofs.pools.PoolRow.from_row.Goals as goal
 
 pub returns-clause-value : goal.returns-clause-value

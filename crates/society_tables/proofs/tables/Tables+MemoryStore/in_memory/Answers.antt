@@ -1,6 +1,6 @@
 use Rattle.std.proofs.Common.{refl}
-use Rattle.society_book.proofs.shown.AskLemmas.{clean_is}
-use Rattle.society_tables.proofs.alike.EmptyTables.{begun_book, begun_rests}
+use Rattle.society_book.proofs.lemmas.shown.AskLemmas.{clean_is}
+use Rattle.society_tables.proofs.lemmas.EmptyTables.{begun_book, begun_rests}
 use Rattle.society_tables.proofs.tables.Tables+MemoryStore.in_memory.Goals as goal
 
 pub invariant_of-result-clause-rests : goal.invariant_of-result-clause-rests

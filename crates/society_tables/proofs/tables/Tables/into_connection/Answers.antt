@@ -3,7 +3,7 @@ use Rattle.std.proofs.Math.Logic.{∥∥₁_map}
 use Rattle.sqlite.specs.Held.{state}
 use Rattle.sqlite.specs.State.{HasCleanDisk}
 use Rattle.society_book.specs.Kept.{IsAtRest}
-use Rattle.society_book.proofs.shown.AskLemmas.{clean_is, first_true, second_true}
+use Rattle.society_book.proofs.lemmas.shown.AskLemmas.{clean_is, first_true, second_true}
 use Rattle.society_tables.proofs.tables.Tables.into_connection.Goals as goal
 
 pub returns-clause-live : goal.returns-clause-live

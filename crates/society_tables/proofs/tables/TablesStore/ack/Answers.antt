@@ -1,6 +1,6 @@
 use Rattle.std.proofs.Common.{◌≡◌, option_map}
 use Rattle.society_core.specs.Book.{ack}
-use Rattle.society_tables.proofs.store.StoreQuestions.{below_greatest, one_text, question_own, still_rests}
+use Rattle.society_tables.proofs.lemmas.StoreQuestions.{below_greatest, one_text, question_own, still_rests}
 use Rattle.society_tables.proofs.tables.TablesStore.ack.Goals as goal
 
 pub invariant_of-self-clause-rests : goal.invariant_of-self-clause-rests

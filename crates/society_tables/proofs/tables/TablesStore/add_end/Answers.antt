@@ -5,8 +5,8 @@ use Rattle.society_core.specs.Book.{front, with_end}
 use Rattle.society_core.specs.Ends.{place_stated}
 use Rattle.society_book.specs.BookRows.{book_of}
 use Rattle.society_book.specs.Steps.{StatesEnd, StatesEndTo}
-use Rattle.society_tables.proofs.store.AddLemmas.{addition, rests_after}
-use Rattle.society_tables.proofs.store.StoreQuestions.{below_greatest, one_number}
+use Rattle.society_tables.proofs.lemmas.AddLemmas.{addition, rests_after}
+use Rattle.society_tables.proofs.lemmas.StoreQuestions.{below_greatest, one_number}
 use Rattle.society_tables.proofs.tables.TablesStore.add_end.Goals as goal
 
 pub invariant_of-self-clause-rests : goal.invariant_of-self-clause-rests

@@ -3,8 +3,8 @@ use Rattle.std.specs.Bool.{⊤}
 use Rattle.society_core.specs.Book.{with_pool}
 use Rattle.society_book.specs.BookRows.{book_of}
 use Rattle.society_closings.specs.Closings.{ClosesPool}
-use Rattle.society_tables.proofs.store.AddLemmas.{addition, one_truth, rests_after}
-use Rattle.society_tables.proofs.store.StoreQuestions.{below_greatest}
+use Rattle.society_tables.proofs.lemmas.AddLemmas.{addition, one_truth, rests_after}
+use Rattle.society_tables.proofs.lemmas.StoreQuestions.{below_greatest}
 use Rattle.society_tables.proofs.tables.TablesStore.add_pool.Goals as goal
 
 pub invariant_of-self-clause-rests : goal.invariant_of-self-clause-rests

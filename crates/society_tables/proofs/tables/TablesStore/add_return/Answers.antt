@@ -2,14 +2,14 @@ use Rattle.std.proofs.Common.{◌∷◌, []}
 use Rattle.std.proofs.Math.Logic.{∥∥₁_map}
 use Rattle.std.specs.Bool.{⊤}
 use Rattle.society_core.specs.Book.{with_return}
-use Rattle.society_core.proofs.Stores.{return_entry}
+use Rattle.society_core.proofs.lemmas.Stores.{return_entry}
 use Rattle.society_rows.specs.Layout as layout
 use Rattle.society_book.specs.BookRows.{book_of, return_row}
 use Rattle.society_book.specs.Shown.{Comes}
-use Rattle.society_tables.proofs.store.AddLemmas.{addition, any_told, one_truth, rests_after}
-use Rattle.society_book.proofs.rows_alike.KeyRows.{refilled_by}
-use Rattle.society_tables.proofs.store.StoreQuestions.{below_greatest}
-use Rattle.society_tables.proofs.store.ReturnAdds.{return_added}
+use Rattle.society_tables.proofs.lemmas.AddLemmas.{addition, any_told, one_truth, rests_after}
+use Rattle.society_book.proofs.lemmas.rows_alike.KeyRows.{refilled_by}
+use Rattle.society_tables.proofs.lemmas.StoreQuestions.{below_greatest}
+use Rattle.society_tables.proofs.lemmas.ReturnAdds.{return_added}
 use Rattle.society_tables.proofs.tables.TablesStore.add_return.Goals as goal
 
 pub invariant_of-self-clause-rests : goal.invariant_of-self-clause-rests

@@ -4,8 +4,8 @@ use Rattle.society_core.specs.Answers.{place_in_book}
 use Rattle.society_core.specs.Book.{with_transmission}
 use Rattle.society_book.specs.BookRows.{book_of}
 use Rattle.society_book.specs.Steps.{Arrives, ArrivesTo}
-use Rattle.society_tables.proofs.store.AddLemmas.{addition, rests_after}
-use Rattle.society_tables.proofs.store.StoreQuestions.{below_greatest, one_place}
+use Rattle.society_tables.proofs.lemmas.AddLemmas.{addition, rests_after}
+use Rattle.society_tables.proofs.lemmas.StoreQuestions.{below_greatest, one_place}
 use Rattle.society_tables.proofs.tables.TablesStore.add_transmission.Goals as goal
 
 pub invariant_of-self-clause-rests : goal.invariant_of-self-clause-rests

@@ -1,7 +1,7 @@
 use Rattle.std.proofs.Common.{◌≡◌, option_map}
 use Rattle.society_core.specs.Book.{order_at}
 use Rattle.society_core.specs.Pools.{credits_of}
-use Rattle.society_tables.proofs.store.StoreQuestions.{below_greatest, one_payout, question_by, still_rests}
+use Rattle.society_tables.proofs.lemmas.StoreQuestions.{below_greatest, one_payout, question_by, still_rests}
 use Rattle.society_tables.proofs.tables.TablesStore.credits.Goals as goal
 
 pub invariant_of-self-clause-rests : goal.invariant_of-self-clause-rests

@@ -2,7 +2,7 @@ use Rattle.std.proofs.Common.{◌≡◌}
 use Rattle.sender_segments.specs.Ways.{end_stated}
 use Rattle.society_core.specs.Answers.{end_known}
 use Rattle.society_core.specs.Ends.{place_stated}
-use Rattle.society_tables.proofs.store.StoreQuestions.{below_greatest, one_known_end, question_by, still_rests}
+use Rattle.society_tables.proofs.lemmas.StoreQuestions.{below_greatest, one_known_end, question_by, still_rests}
 use Rattle.society_tables.proofs.tables.TablesStore.known_end.Goals as goal
 
 pub invariant_of-self-clause-rests : goal.invariant_of-self-clause-rests

@@ -1,6 +1,6 @@
 use Rattle.std.proofs.Common.{◌≡◌}
 use Rattle.society_core.specs.Answers.{payment_in}
-use Rattle.society_tables.proofs.store.StoreQuestions.{below_greatest, one_payment, question_by, still_rests}
+use Rattle.society_tables.proofs.lemmas.StoreQuestions.{below_greatest, one_payment, question_by, still_rests}
 use Rattle.society_tables.proofs.tables.TablesStore.payment.Goals as goal
 
 pub invariant_of-self-clause-rests : goal.invariant_of-self-clause-rests

@@ -1,7 +1,7 @@
 use Rattle.std.proofs.Common.{◌≡◌, ap₂}
 use Rattle.society_core.specs.Book.{front, held}
 use Rattle.society_core.specs.Requests.{Stands}
-use Rattle.society_tables.proofs.store.StoreQuestions.{below_greatest, one_list, one_number, pairs_alone, question_as, question_by, still_rests}
+use Rattle.society_tables.proofs.lemmas.StoreQuestions.{below_greatest, one_list, one_number, pairs_alone, question_as, question_by, still_rests}
 use Rattle.society_tables.proofs.tables.TablesStore.standing.Goals as goal
 
 pub invariant_of-self-clause-rests : goal.invariant_of-self-clause-rests

@@ -1,6 +1,6 @@
 use Rattle.std.proofs.Common.{◌≡◌, option_map}
 use Rattle.society_core.specs.Book.{shown_verdicts}
-use Rattle.society_tables.proofs.store.StoreQuestions.{below_greatest, one_judgment, question_by, still_rests}
+use Rattle.society_tables.proofs.lemmas.StoreQuestions.{below_greatest, one_judgment, question_by, still_rests}
 use Rattle.society_tables.proofs.tables.TablesStore.verdicts.Goals as goal
 
 pub invariant_of-self-clause-rests : goal.invariant_of-self-clause-rests

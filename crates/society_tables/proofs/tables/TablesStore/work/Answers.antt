@@ -1,7 +1,7 @@
 use Rattle.std.proofs.Common.{◌≡◌, option_map}
 use Rattle.society_core.specs.Answers.{shown_in}
 use Rattle.society_core.specs.Requests.{shown_of}
-use Rattle.society_tables.proofs.store.StoreQuestions.{below_greatest, one_work, question_own, still_rests}
+use Rattle.society_tables.proofs.lemmas.StoreQuestions.{below_greatest, one_work, question_own, still_rests}
 use Rattle.society_tables.proofs.tables.TablesStore.work.Goals as goal
 
 pub invariant_of-self-clause-rests : goal.invariant_of-self-clause-rests

@@ -1,4 +1,4 @@
-use Rattle.work_ids.proofs.Accounts.{ipi_back, party_back}
+use Rattle.work_ids.proofs.lemmas.Accounts.{ipi_back, party_back}
 use Rattle.work_ids.proofs.account.Account.pieces.Goals as goal
 
 pub returns-in-Ipi-clause-back : goal.returns-in-Ipi-clause-back

@@ -1,4 +1,4 @@
-use Rattle.work_ids.proofs.Capitals.{no_isrc_length}
+use Rattle.work_ids.proofs.lemmas.Capitals.{no_isrc_length}
 use Rattle.work_ids.proofs.isrc.Isrc.from_text.Goals as goal
 
 pub returns-then-text-ne-ISRC_LENGTH : goal.returns-then-text-ne-ISRC_LENGTH

@@ -1,7 +1,7 @@
 use Rattle.std.proofs.Common.{sym, ap}
 use Rattle.work_ids.specs.Isrc.{printed_isrc}
-use Rattle.work_ids.proofs.Capitals.{isrc-length, isrc_reads_back}
-use Rattle.work_ids.proofs.Marks.{is_written}
+use Rattle.work_ids.proofs.lemmas.Capitals.{isrc-length, isrc_reads_back}
+use Rattle.work_ids.proofs.lemmas.Marks.{is_written}
 use Rattle.work_ids.proofs.isrc.Isrc.to_text.Goals as goal
 
 pub returns-clause-text : goal.returns-clause-text

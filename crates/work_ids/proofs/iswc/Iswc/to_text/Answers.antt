@@ -1,6 +1,6 @@
 use Rattle.std.proofs.Common.{sym, ap}
 use Rattle.work_ids.specs.Iswc.{printed}
-use Rattle.work_ids.proofs.Marks.{is_written, iswc-length, iswc_reads_back}
+use Rattle.work_ids.proofs.lemmas.Marks.{is_written, iswc-length, iswc_reads_back}
 use Rattle.work_ids.proofs.iswc.Iswc.to_text.Goals as goal
 
 pub returns-clause-text : goal.returns-clause-text

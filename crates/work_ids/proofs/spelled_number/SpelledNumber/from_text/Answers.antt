@@ -1,5 +1,5 @@
 use Rattle.std.proofs.Common.{sym, arith, rules}
-use Rattle.work_ids.proofs.DatedTexts.{dated_exact, dated_form, dated_is, no_dated}
+use Rattle.work_ids.proofs.lemmas.DatedTexts.{dated_exact, dated_form, dated_is, no_dated}
 use Rattle.work_ids.proofs.spelled_number.SpelledNumber.from_text.Goals as goal
 
 pub returns-then-not-is_dated_text-clause-value : goal.returns-then-not-is_dated_text-clause-value

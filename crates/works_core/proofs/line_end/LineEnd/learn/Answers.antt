@@ -1,5 +1,5 @@
 use Rattle.std.proofs.Common.{sym, ◌∙◌}
-use Rattle.works_core.proofs.EndLemmas.{learns, learns-none}
+use Rattle.works_core.proofs.lemmas.EndLemmas.{learns, learns-none}
 use Rattle.works_core.proofs.line_end.LineEnd.learn.Goals as goal
 
 pub returns-in_ok-keep : goal.returns-in_ok-keep

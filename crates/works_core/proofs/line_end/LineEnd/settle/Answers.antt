@@ -1,7 +1,7 @@
 use Rattle.std.proofs.Common.{ap, sym, ◌∙◌}
 use Rattle.works_core.specs.Ends.{last_after, last_in}
 use Rattle.works_core.specs.Versions.{next_verdict}
-use Rattle.works_core.proofs.EndLemmas.{ends-refused, ends-taken, told}
+use Rattle.works_core.proofs.lemmas.EndLemmas.{ends-refused, ends-taken, told}
 use Rattle.works_core.proofs.line_end.LineEnd.settle.Goals as goal
 
 pub returns-in_ok-append-in-Accepted-clause-verdict : goal.returns-in_ok-append-in-Accepted-clause-verdict

@@ -11,7 +11,7 @@ use Rattle.works_core.specs.Versions.{Placed, judged_of, placed_behind, placed_l
 use Rattle.works_core.specs.declared.judged.Judged.{Judged}
 use Rattle.works_core.specs.declared.sender_line.KeptTransmission.{KeptTransmission}
 use Rattle.works_core.specs.declared.verdict.Verdict.{Verdict}
-use Rattle.works_core.proofs.KeptLemmas.{kept_push, placed_push, rising_push}
+use Rattle.works_core.proofs.lemmas.KeptLemmas.{kept_push, placed_push, rising_push}
 use Rattle.works_core.proofs.sender_line.SenderLine.apply.Goals as goal
 
 pub invariant_of-self-2 : goal.invariant_of-self-2

@@ -4,7 +4,7 @@ use Rattle.works_core.specs.Kept.{kept_line}
 use Rattle.works_core.specs.LineValue.{SenderLineValue}
 use Rattle.works_core.specs.Numbered.{last_number}
 use Rattle.works_core.specs.declared.sender_line.KeptTransmission.{KeptTransmission}
-use Rattle.works_core.proofs.KeptLemmas.{last_of}
+use Rattle.works_core.proofs.lemmas.KeptLemmas.{last_of}
 use Rattle.works_core.proofs.sender_line.SenderLine.front.Goals as goal
 
 pub returns-in-Some : goal.returns-in-Some

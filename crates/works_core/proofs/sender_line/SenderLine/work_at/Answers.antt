@@ -2,7 +2,7 @@ use Rattle.std.proofs.Common.{ℕ, ◌<◌, Option, subst, sym, ◌∙◌, arith
 use Rattle.works_core.specs.Kept.{kept_line}
 use Rattle.works_core.specs.LineValue.{SenderLineValue}
 use Rattle.works_core.specs.Versions.{work_at}
-use Rattle.works_core.proofs.CutLemmas.{Walks, ahead, walks_start, walks_within, walks_found, walks_next, walks_nearer, walks_end}
+use Rattle.works_core.proofs.lemmas.CutLemmas.{Walks, ahead, walks_start, walks_within, walks_found, walks_next, walks_nearer, walks_end}
 use Rattle.works_core.proofs.sender_line.SenderLine.work_at.Goals as goal
 
 pub loop-index-init : goal.loop-index-init

@@ -1,5 +1,5 @@
 use Rattle.works_core.specs.Versions.{work_at}
-use Rattle.works_core.proofs.CutLemmas.{Walks, ahead}
+use Rattle.works_core.proofs.lemmas.CutLemmas.{Walks, ahead}
 use Rattle.works_core.proofs.sender_line.SenderLine.work_at.Given as goal
 
 -- what is still looked at ends in the version at the cut

@@ -6,9 +6,9 @@ use Rattle.works_core.specs.Versions.{judged_of, placed_at}
 use Rattle.works_core.specs.declared.judged.Judged.TheVariants.{Clean}
 use Rattle.works_core.specs.declared.version.LinkedVersion.{LinkedVersion}
 use Rattle.works_core.specs.declared.version.WorkVersion.{WorkVersion}
-use Rattle.works_core.proofs.EndLemmas.{linked_is, taken}
-use Rattle.works_core.proofs.NextLemmas.{revision_within}
-use Rattle.works_core.proofs.TrackLemmas.{last_registered, last_within, last_index-accepted, linked_versions-accepted, length-linked_versions, works_in-taken}
+use Rattle.works_core.proofs.lemmas.EndLemmas.{linked_is, taken}
+use Rattle.works_core.proofs.lemmas.NextLemmas.{revision_within}
+use Rattle.works_core.proofs.lemmas.TrackLemmas.{last_registered, last_within, last_index-accepted, linked_versions-accepted, length-linked_versions, works_in-taken}
 use Rattle.works_core.proofs.works.Works.settle_clean.Goals as goal
 
 pub version_at-last-requires : goal.version_at-last-requires

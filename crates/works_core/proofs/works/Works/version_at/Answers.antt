@@ -1,6 +1,6 @@
 use Rattle.std.proofs.Common.{List, ap, get_or, sym, ◌∙◌, Some}
-use Rattle.works_core.proofs.NextLemmas.{none_found}
-use Rattle.works_core.proofs.TrackLemmas.{version_found}
+use Rattle.works_core.proofs.lemmas.NextLemmas.{none_found}
+use Rattle.works_core.proofs.lemmas.TrackLemmas.{version_found}
 use Rattle.works_core.specs.declared.version.LinkedVersion.{LinkedVersion}
 use Rattle.works_core.proofs.works.Works.version_at.Goals as goal
 

@@ -1,0 +1,3 @@
+-- What is proved of the definitions, for the proofs of functions.
+pub mod Fields
+pub mod AckLemmas

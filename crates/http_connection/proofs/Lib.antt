@@ -1,8 +1,0 @@
-pub mod AnsweredLemmas
-pub mod AnsweringLemmas
-pub mod FeedingLemmas
-pub mod FieldLemmas
-pub mod Known
-pub mod ServeLemmas
-pub mod UpcomingLemmas
-mod Worked

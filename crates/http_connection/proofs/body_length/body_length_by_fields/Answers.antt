@@ -1,5 +1,0 @@
-use Rattle.std.proofs.Common.{rules}
-use Rattle.http_connection.proofs.body_length.body_length_by_fields.Goals as goal
-
-pub returns-in-Several : goal.returns-in-Several
-returns-in-Several c = search rules

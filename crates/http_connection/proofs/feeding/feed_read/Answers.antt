@@ -1,6 +1,0 @@
-use Rattle.std.proofs.Common.{arith}
-use Rattle.std.proofs.lemmas.Grind.{common_steps}
-use Rattle.http_connection.proofs.feeding.feed_read.Goals as goal
-
-pub returns-clause-fed : goal.returns-clause-fed
-returns-clause-fed c = grind (arith, common_steps)

@@ -1,5 +1,0 @@
-use Rattle.std.proofs.Common.{rules}
-use Rattle.http_desk.proofs.order_text.rank.Goals as goal
-
-pub returns : goal.returns
-returns c = search rules

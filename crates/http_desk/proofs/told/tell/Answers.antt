@@ -1,4 +1,0 @@
-use Rattle.http_desk.proofs.told.tell.Goals as goal
-
-pub returns-in-Err-clause-ready : goal.returns-in-Err-clause-ready
-returns-in-Err-clause-ready c = tt

@@ -1,0 +1,6 @@
+use Rattle.http_text.specs.OrderText.{sender_named}
+use Rattle.http_text.proofs.lemmas.OrderLemmas.{ReadSoFar}
+use Rattle.http_text.proofs.order_text.cut_of.Given as goal
+
+abbrev pub invariant-loop-entry : goal.invariant-loop-entry
+invariant-loop-entry l = ReadSoFar sender_named l.entry-items l.entry-index l.cut.items

@@ -1,0 +1,46 @@
+use Rattle.std.proofs.Common.{sym, ap, ◌∙◌}
+use Rattle.sqlite_value.proofs.KeyLemmas.{entry_cmp_total}
+use Rattle.sqlite_trees.specs.declared.store.Shape.TheVariants.{Index}
+use Rattle.sqlite_trees.specs.Tree.{remove_entry}
+use Rattle.sqlite_trees.proofs.TreeLemmas.{IsShaped-filter}
+use Rattle.sqlite_trees.proofs.MemoryLemmas.{shaped}
+use Rattle.memory_store.specs.Joined.{joined}
+use Rattle.memory_store.proofs.lemmas.PlaceLemmas as places
+use Rattle.memory_store.proofs.lemmas.WriteLemmas as lemma
+use Rattle.memory_store.proofs.rows.SortedRows.remove.Goals as goal
+
+pub find_near-place-requires-clause-cut : goal.find_near-place-requires-clause-cut
+find_near-place-requires-clause-cut c =
+    let was = rw c.in_ok-settle.ensures.ok at (shaped _ _ c.settle.new.self.ordered) in
+    rw c.as_slice.ensures.value (lemma.cut_rising (entry_cmp_total c.args.order) (λ r. r) c.args.entry.now _ was)
+
+pub invariant_of-self : goal.invariant_of-self
+invariant_of-self c =
+    let was = rw c.in_ok-settle.ensures.ok at (shaped _ _ c.settle.new.self.ordered) in
+    let pieces = c.settle.new.self.pieces.items in
+    let place = c.find_near-place.result in
+    let before = rw c.as_slice.ensures.value at c.find_near-place.ensures.before in
+    let after = rw c.as_slice.ensures.value at c.find_near-place.ensures.after in
+    let head = rw c.as_slice-2.ensures.value at c.if-has_entry.ensures.is in
+    let rows = c.remove.ensures.rows ∙ (lemma.without-found (entry_cmp_total c.args.order) (λ r. r) c.args.entry.now (joined pieces) _ _ (places.split_rows pieces place.piece place.at) was before after (sym head)) in
+    record { ordered = lemma.ordered_as _ (Index c.args.order) _ _ c.in_ok-settle.ensures.ok rows (IsShaped-filter (Index c.args.order) _ _ was); filled = c.remove.ensures.filled }
+
+pub returns-then-has_entry-clause-ok : goal.returns-then-has_entry-clause-ok
+returns-then-has_entry-clause-ok c =
+    let was = rw c.in_ok-settle.ensures.ok at (shaped _ _ c.settle.new.self.ordered) in
+    let pieces = c.settle.new.self.pieces.items in
+    let place = c.find_near-place.result in
+    let before = rw c.as_slice.ensures.value at c.find_near-place.ensures.before in
+    let after = rw c.as_slice.ensures.value at c.find_near-place.ensures.after in
+    let head = rw c.as_slice-2.ensures.value at c.if-has_entry.ensures.is in
+    c.remove.ensures.rows ∙ ((lemma.without-found (entry_cmp_total c.args.order) (λ r. r) c.args.entry.now (joined pieces) _ _ (places.split_rows pieces place.piece place.at) was before after (sym head)) ∙ ap (λ l. remove_entry c.args.order c.args.entry.now (joined l)) c.in_ok-settle.ensures.rows)
+
+pub returns-else-has_entry-clause-ok : goal.returns-else-has_entry-clause-ok
+returns-else-has_entry-clause-ok c =
+    let was = rw c.in_ok-settle.ensures.ok at (shaped _ _ c.settle.new.self.ordered) in
+    let pieces = c.settle.new.self.pieces.items in
+    let place = c.find_near-place.result in
+    let before = rw c.as_slice.ensures.value at c.find_near-place.ensures.before in
+    let after = rw c.as_slice.ensures.value at c.find_near-place.ensures.after in
+    let head = rw c.as_slice-2.ensures.value at c.if-has_entry.ensures.is in
+    (lemma.without-missing (entry_cmp_total c.args.order) (λ r. r) c.args.entry.now (joined pieces) _ _ (places.split_rows pieces place.piece place.at) was before after (sym head)) ∙ ap (λ l. remove_entry c.args.order c.args.entry.now (joined l)) c.in_ok-settle.ensures.rows

@@ -1,0 +1,4 @@
+-- What is proved of the definitions, for the proofs of functions.
+pub mod OptionLemmas
+pub mod RefusalLemmas
+pub mod WordLemmas

@@ -1,0 +1,14 @@
+use Rattle.std.proofs.Common.{refl}
+use Rattle.society_arguments.specs.Words.{AsksServe}
+use Rattle.society_arguments.specs.declared.words.Words.TheVariants as words
+use Rattle.society_arguments.proofs.lemmas.WordLemmas.{at_named, at_none}
+use Rattle.society_arguments.proofs.words.serve_at.Goals as goal
+
+pub returns-in-Replay : goal.returns-in-Replay
+returns-in-Replay c = λ a reads.
+    at_named (AsksServe c.args.database.path.now c.args.database.existing c.args.place) (words.Serve c.args.database c.args.place c.in-Replay.office) c.in-Replay.office
+    (λ society territory name is. ((refl, refl), refl, is)) a (rw c.in-Replay.is at reads)
+
+pub returns-in_default : goal.returns-in_default
+returns-in_default c = λ a reads.
+    at_none (AsksServe c.args.database.path.now c.args.database.existing c.args.place) c.args.words a (λ office is. c.in_default.not-Replay office is) reads

@@ -1,0 +1,6 @@
+-- What is proved of the definitions, for the proofs of functions.
+pub mod audit
+pub mod anew
+pub mod alike
+pub mod opened
+pub mod taking

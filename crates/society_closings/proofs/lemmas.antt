@@ -1,0 +1,3 @@
+-- What is proved of the definitions, for the proofs of functions.
+pub mod cuts
+pub mod money

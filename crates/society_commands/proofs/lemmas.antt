@@ -1,0 +1,7 @@
+-- What is proved of the definitions, for the proofs of functions.
+pub mod ClosingLemmas
+pub mod ConnectionLemmas
+pub mod DatabaseLemmas
+pub mod RefusalLemmas
+pub mod ReplayLemmas
+pub mod TableLemmas

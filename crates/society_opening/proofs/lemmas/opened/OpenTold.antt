@@ -1,0 +1,252 @@
+-- What the fault of an opening says of the office.
+use Rattle.std.proofs.Common.{◌≡◌, ◌≢◌, ◌∙◌, inl, inr, ◌<◌, length, ◌^◌, ◌&&◌, ℕ, nat_le, leb-true, arith, lit≤, Bool, true, false, List, [], ◌∷◌, Result, Ok, Err, IfErr, IfOk, IsPermutation, ap, refl, subst, sym}
+use Rattle.std.specs.Result.{IsErrAnd}
+use Rattle.std.proofs.lemmas.Bool.{false≢true}
+use Rattle.std.proofs.Math.Logic.{∥∥₁_elim}
+use Rattle.share_rules.specs.Office.{name_of}
+use Rattle.std.proofs.lemmas.List.Sorted.{IsPermutation-sym}
+use Rattle.share_rules.specs.declared.office.Office.{Office}
+use Rattle.sqlite.specs.Effect.{Database}
+use Rattle.sqlite_schema.specs.declared.schema.Schema.{Schema}
+use Rattle.sqlite_trees.specs.Tree.{Trees}
+use Rattle.sqlite_value.specs.Order.{Row}
+use Rattle.society_rows.specs.Layout as layout
+use Rattle.society_rows.specs.Reads.{Lists}
+use Rattle.society_rows.specs.Layouts.{HasOlder, HasTable, number_of}
+use Rattle.society_rows.specs.declared.tables.TableName.TheVariants as name
+use Rattle.society_rows.specs.NewBook.{IsBare}
+use Rattle.society_rows.specs.Stored.{HasLayout, rows_in}
+use Rattle.society_rows.specs.declared.older.OlderLayout.{OlderLayout}
+use Rattle.society_rows.specs.declared.older.OlderLayout.TheVariants as older
+use Rattle.society_rows.specs.declared.fault.RowFault.{RowFault}
+use Rattle.society_rows.specs.declared.fault.RowFault.TheVariants as row
+use Rattle.society_book.specs.Kept.{HoldsOwnBook}
+use Rattle.society_audit.specs.Older.{HoldsOlder, HoldsOne, office_row_under}
+use Rattle.society_audit.specs.Opening.{audit_fault_by}
+use Rattle.society_opening.specs.Opening.{IsDamagedOlder, IsOneOffice, IsOutside, TellsDatabase, TellsOffice, TellsOfficeIn, open_fault_by}
+use Rattle.society_audit.specs.Rebuilding.{IsAside}
+use Rattle.society_rows.proofs.lemmas.definitions.FirstTables.{first_long, has_tables}
+use Rattle.society_audit.specs.declared.audit_fault.AuditFault.{AuditFault}
+use Rattle.society_audit.specs.declared.audit_fault.AuditFault.TheVariants as audit
+use Rattle.society_opening.specs.declared.open_fault.OpenFault.{OpenFault}
+use Rattle.society_opening.specs.declared.open_fault.OpenFault.TheVariants as fault
+use Rattle.society_book.proofs.lemmas.shown.AskLemmas.{first_true, second_true}
+use Rattle.society_audit.proofs.lemmas.alike.SameTables.{all_pass}
+use Rattle.society_audit.proofs.lemmas.anew.ComesAgain.{failed_aside}
+use Rattle.society_book.proofs.lemmas.rows_alike.RowLemmas.{one_else}
+
+-- a failed statement says nothing of the office
+pub failed_office : (n : ℕ) (o : Office) (rows : List Row) (e : RowFault) → TellsOffice n o rows (open_fault_by (audit_fault_by e))
+failed_office n o rows row.Memory = tt
+failed_office n o rows row.Schema = tt
+failed_office n o rows row.Unread = tt
+failed_office n o rows row.Overflow = tt
+failed_office n o rows (row.Refused error) = tt
+
+-- nor of the database
+pub failed_outside : (e : RowFault) → IsOutside (open_fault_by (audit_fault_by e))
+failed_outside row.Memory = tt
+failed_outside row.Schema = tt
+failed_outside row.Unread = tt
+failed_outside row.Overflow = tt
+failed_outside (row.Refused error) = tt
+
+pub outside_told : (o : Office) (db : Database) (e : OpenFault) → IsOutside e → TellsDatabase o db e
+outside_told o db fault.Memory outside = tt
+outside_told o db fault.Store outside = tt
+outside_told o db fault.Empty outside = absurd outside
+outside_told o db fault.Schema outside = absurd outside
+outside_told o db fault.OtherOffice outside = absurd outside
+outside_told o db fault.Damaged outside = absurd outside
+
+-- rows that do not pass are no empty database
+abbrev is_empty : OpenFault → Bool
+is_empty fault.Empty = true
+is_empty _ = false
+
+pub outside_there : (e : OpenFault) → IsOutside e → e ≢ fault.Empty
+outside_there fault.Empty outside is = absurd outside
+outside_there fault.Memory outside is = absurd (false≢true (ap is_empty is))
+outside_there fault.Store outside is = absurd (false≢true (ap is_empty is))
+outside_there fault.Schema outside is = absurd outside
+outside_there fault.OtherOffice outside is = absurd outside
+outside_there fault.Damaged outside is = absurd outside
+
+opened_there : (f : AuditFault) → open_fault_by f ≢ fault.Empty
+opened_there audit.Memory is = absurd (false≢true (ap is_empty is))
+opened_there audit.Store is = absurd (false≢true (ap is_empty is))
+opened_there audit.Damaged is = absurd (false≢true (ap is_empty is))
+
+pub there_by : (f : AuditFault) (r : Result (Unit {0}) OpenFault) → IsErrAnd r (λ e. e ≡ open_fault_by f) → IfErr r (λ e. e ≢ fault.Empty)
+there_by f (Ok x) h = tt
+there_by f (Err e) h = λ is. opened_there f (sym h ∙ is)
+
+-- rows that do not pass are still this office's
+pub audited_office : (n : ℕ) (o : Office) (rows : List Row) (f : AuditFault) → rows ≡ office_row_under n o ∷ [] → TellsOffice n o rows (open_fault_by f)
+audited_office n o rows audit.Memory is = tt
+audited_office n o rows audit.Store is = tt
+audited_office n o rows audit.Damaged is = is
+
+-- one office in any order of the rows is one office
+one_likewise : (n : ℕ) (one two : List Row) → IsPermutation one two → IsOneOffice n one → IsOneOffice n two
+one_likewise n [] two same one = absurd one
+one_likewise n (r ∷ []) two same one = subst (IsOneOffice n) (sym (one_else r two same)) one
+one_likewise n (r ∷ s ∷ rows) two same one = absurd one
+
+-- what is said of the rows is said of them in any order
+pub told_likewise : (n : ℕ) (o : Office) (one two : List Row) (e : OpenFault) → IsPermutation one two → TellsOffice n o two e → TellsOffice n o one e
+told_likewise n o one two fault.Memory same told = tt
+told_likewise n o one two fault.Store same told = tt
+told_likewise n o one two fault.Empty same told = absurd told
+told_likewise n o one two fault.Schema same told = λ is. told (one_likewise n one two same is)
+told_likewise n o one two fault.OtherOffice same told =
+    (one_likewise n two one (IsPermutation-sym one two same) told.0, λ is. told.1 (one_else (office_row_under n o) two (subst (λ rows. IsPermutation rows two) is same)))
+told_likewise n o one two fault.Damaged same told = one_else (office_row_under n o) one (subst (λ rows. IsPermutation rows one) told (IsPermutation-sym one two same))
+
+any_order : (db : Trees) (rows : List Row) (width : ℕ) → Lists layout.office (λ _. true) width db rows → IsPermutation (rows_in layout.office db) rows
+any_order db rows width lists = subst (λ l. IsPermutation l rows) (all_pass (rows_in layout.office db)) lists.rows
+
+-- what is said of the rows that are listed is said of the table's
+pub here_listed : (n : ℕ) (o : Office) (db : Trees) (rows : List Row) (width : ℕ) (r : Result (Unit {0}) OpenFault) → Lists layout.office (λ _. true) width db rows → IfOk r (λ _. rows ≡ office_row_under n o ∷ [])
+    → IfOk r (λ _. rows_in layout.office db ≡ office_row_under n o ∷ [])
+here_listed n o db rows width (Ok x) lists is = told_likewise n o (rows_in layout.office db) rows fault.Damaged (any_order db rows width lists) is
+here_listed n o db rows width (Err e) lists is = tt
+
+pub told_listed : (n : ℕ) (o : Office) (db : Trees) (rows : List Row) (width : ℕ) (r : Result (Unit {0}) OpenFault) → Lists layout.office (λ _. true) width db rows → IfErr r (TellsOffice n o rows) → IfErr r (TellsOffice n o (rows_in layout.office db))
+told_listed n o db rows width (Ok x) lists told = tt
+told_listed n o db rows width (Err e) lists told = told_likewise n o (rows_in layout.office db) rows e (any_order db rows width lists) told
+
+-- what is said of the office when a statement fails, and when rows do not pass
+pub told_failed : (n : ℕ) (o : Office) (rows : List Row) (f : RowFault) (r : Result (Unit {0}) OpenFault) → IsErrAnd r (λ e. e ≡ open_fault_by (audit_fault_by f)) → IfErr r (TellsOffice n o rows)
+told_failed n o rows f (Ok x) h = tt
+told_failed n o rows f (Err e) h = subst (TellsOffice n o rows) (sym h) (failed_office n o rows f)
+
+pub told_judged : (n : ℕ) (o : Office) (rows : List Row) (f : AuditFault) (r : Result (Unit {0}) OpenFault) → rows ≡ office_row_under n o ∷ [] → IsErrAnd r (λ e. e ≡ open_fault_by f) → IfErr r (TellsOffice n o rows)
+told_judged n o rows f (Ok x) is h = tt
+told_judged n o rows f (Err e) is h = subst (TellsOffice n o rows) (sym h) (audited_office n o rows f is)
+
+-- what a fault says is said where it is passed on
+pub told_on : (n : ℕ) (o : Office) (rows : List Row) (f : OpenFault) (r : Result (Unit {0}) OpenFault) → TellsOffice n o rows f → IsErrAnd r (λ e. e ≡ f) → IfErr r (TellsOffice n o rows)
+told_on n o rows f (Ok x) told h = tt
+told_on n o rows f (Err e) told h = subst (TellsOffice n o rows) (sym h) told
+
+-- a database is not both bare and of the layout
+pub not_both : (db : Database) → IsBare db → HasLayout db → ⊥
+not_both db bare has =
+    let e : length db.schema.tables ≡ 0 = ap (λ (z : Schema). length z.tables) bare in
+    omega (e, first_long 14 (lit≤ tt) db has, arith)
+
+-- an older layout has the table of the office
+pub has_office : (layout : OlderLayout) (db : Database) → HasOlder layout db → HasTable name.Office db
+has_office older.First db was = has_tables 6 6 (lit≤ tt) db was
+has_office older.Second db was = has_tables 6 12 (lit≤ tt) db was
+
+-- nor an older layout
+pub not_older : (layout : OlderLayout) (db : Database) → IsBare db → HasOlder layout db → ⊥
+not_older older.First db bare has = let e : length db.schema.tables ≡ 0 = ap (λ (z : Schema). length z.tables) bare in omega (e, first_long 6 (lit≤ tt) db has, arith)
+not_older older.Second db bare has = let e : length db.schema.tables ≡ 0 = ap (λ (z : Schema). length z.tables) bare in omega (e, first_long 12 (lit≤ tt) db has, arith)
+
+-- an older layout is not layout 3
+pub older_apart : (layout : OlderLayout) (db : Database) → HasOlder layout db → HasLayout db → ⊥
+older_apart older.First db was has = omega (first_long 6 (lit≤ tt) db was, first_long 14 (lit≤ tt) db has, arith)
+older_apart older.Second db was has = omega (first_long 12 (lit≤ tt) db was, first_long 14 (lit≤ tt) db has, arith)
+
+-- nor is it another older one
+pub older_once : (one two : OlderLayout) (db : Database) → HasOlder one db → HasOlder two db → one ≡ two
+older_once older.First older.First db was also = refl
+older_once older.Second older.Second db was also = refl
+older_once older.First older.Second db was also = absurd (omega (first_long 6 (lit≤ tt) db was, first_long 12 (lit≤ tt) db also, arith))
+older_once older.Second older.First db was also = absurd (omega (first_long 12 (lit≤ tt) db was, first_long 6 (lit≤ tt) db also, arith))
+
+-- what is said of the office is said of a database of layout 3
+pub told_of_layout : (o : Office) (db : Database) (e : OpenFault) → HasLayout db → TellsOfficeIn 3 o db e → (e ≡ fault.Damaged → ¬ HoldsOwnBook o db.trees) → TellsDatabase o db e
+told_of_layout o db fault.Memory has told damaged = tt
+told_of_layout o db fault.Store has told damaged = tt
+told_of_layout o db fault.Empty has told damaged = absurd told
+told_of_layout o db fault.Schema has told damaged = (λ bare. not_both db bare has, λ _. told, λ layout was. absurd (older_apart layout db was has))
+told_of_layout o db fault.OtherOffice has told damaged = inl (has, told)
+told_of_layout o db fault.Damaged has told damaged = inl (has, told, damaged refl)
+
+-- and of one of an older layout
+pub told_of_older : (o : Office) (layout : OlderLayout) (db : Database) (e : OpenFault) → HasOlder layout db → TellsOfficeIn (number_of layout) o db e → (e ≡ fault.Damaged → ¬ HoldsOlder o layout db.trees) → TellsDatabase o db e
+told_of_older o layout db fault.Memory was told damaged = tt
+told_of_older o layout db fault.Store was told damaged = tt
+told_of_older o layout db fault.Empty was told damaged = absurd told
+told_of_older o layout db fault.Schema was told damaged = (
+  λ bare. not_older layout db bare was,
+  λ has. absurd (older_apart layout db was has),
+  λ other also. subst (λ (l : OlderLayout). TellsOfficeIn (number_of l) o db fault.Schema) (older_once layout other db was also) told,
+)
+told_of_older o layout db fault.OtherOffice was told damaged = inr (layout, was, told)
+told_of_older o layout db fault.Damaged was told damaged = inr (layout, (was, told, damaged refl))
+
+nothing_alone : (x y : ⊥) → x ≡ y
+nothing_alone x y = absurd x
+
+-- what holds of tables that hold a book is refuted by none of them
+refuted : (o : Office) (db : Database) → HoldsOne o db.trees → (HoldsOwnBook o db.trees → ⊥) → ⊥
+refuted o db holds never = ∥∥₁_elim holds nothing_alone never
+
+small : (n most : ℕ) → nat_le n most ≡ true → most < 2 ^ 32 → n < 2 ^ 32
+small n most within few = let low = leb-true n most within in omega (low, few, arith)
+
+-- the row of an office can be read
+own_office : (n : ℕ) (o : Office) → IsOneOffice n (office_row_under n o ∷ [])
+own_office n o =
+    let numbers = first_true ((nat_le 1 o.society && nat_le o.society 999) && (nat_le 1 o.territory && nat_le o.territory 9999)) _ o.within_limits in
+    let society = second_true (nat_le 1 o.society) (nat_le o.society 999) (first_true (nat_le 1 o.society && nat_le o.society 999) (nat_le 1 o.territory && nat_le o.territory 9999) numbers) in
+    let territory = second_true (nat_le 1 o.territory) (nat_le o.territory 9999) (second_true (nat_le 1 o.society && nat_le o.society 999) (nat_le 1 o.territory && nat_le o.territory 9999) numbers) in
+    (refl, (refl, (refl, ((o.society, refl, small o.society 999 society (omega arith)), ((o.territory, refl, small o.territory 9999 territory (omega arith)), ((name_of o, refl), tt))))))
+
+-- of a database that holds a book of the office no fault is told but that memory was refused or the database failed
+pub opened_else : (o : Office) (db : Database) (e : OpenFault) → HasLayout db → HoldsOne o db.trees → TellsDatabase o db e → IsOutside e
+opened_else o db fault.Memory has holds told = tt
+opened_else o db fault.Store has holds told = tt
+opened_else o db fault.Empty has holds told = absurd (not_both db told has)
+opened_else o db fault.Schema has holds told = refuted o db holds (λ h. told.1 has (subst (IsOneOffice 3) (sym h.registered) (own_office 3 o)))
+opened_else o db fault.OtherOffice has holds told = elim told [
+  | inl newest ↦ refuted o db holds (λ h. newest.1.1 h.registered)
+  | inr older ↦ absurd (older_apart older.0 db older.1 has)
+]
+opened_else o db fault.Damaged has holds told = elim told [
+  | inl newest ↦ refuted o db holds newest.2
+  | inr older ↦ absurd (older_apart older.0 db older.1.0 has)
+]
+
+-- so of one of an older layout that stands for tables that do
+pub opened_older : (o : Office) (layout : OlderLayout) (db : Database) (e : OpenFault) → HasOlder layout db → HoldsOlder o layout db.trees → TellsDatabase o db e → IsOutside e
+opened_older o layout db fault.Memory was held told = tt
+opened_older o layout db fault.Store was held told = tt
+opened_older o layout db fault.Empty was held told = absurd (not_older layout db told was)
+opened_older o layout db fault.Schema was held told = absurd (told.2 layout was (subst (IsOneOffice (number_of layout)) (sym held.registered) (own_office (number_of layout) o)))
+opened_older o layout db fault.OtherOffice was held told = elim told [
+  | inl newest ↦ absurd (older_apart layout db was newest.0)
+  | inr other ↦ absurd ((subst (λ (l : OlderLayout). TellsOfficeIn (number_of l) o db fault.OtherOffice) (older_once other.0 layout db other.1 was) other.2).1 held.registered)
+]
+opened_older o layout db fault.Damaged was held told = elim told [
+  | inl newest ↦ absurd (older_apart layout db was newest.0)
+  | inr other ↦ absurd ((subst (λ (l : OlderLayout). IsDamagedOlder o l db) (older_once other.0 layout db other.1.0 was) other.1).2 held)
+]
+
+-- a fault that is aside is not told as damage
+abbrev is_damage : OpenFault → Bool
+is_damage fault.Damaged = true
+is_damage _ = false
+
+pub not_damaged : (f : AuditFault) → IsAside f → open_fault_by f ≡ fault.Damaged → ⊥
+not_damaged audit.Memory aside is = absurd (false≢true (ap is_damage is))
+not_damaged audit.Store aside is = absurd (false≢true (ap is_damage is))
+not_damaged audit.Damaged aside is = absurd aside
+
+pub failed_not_damaged : (f : RowFault) (r : Result (Unit {0}) OpenFault) → IsErrAnd r (λ e. e ≡ open_fault_by (audit_fault_by f)) → IfErr r (λ e. e ≢ fault.Damaged)
+failed_not_damaged f (Ok x) h = tt
+failed_not_damaged f (Err e) h = λ is. not_damaged (audit_fault_by f) (failed_aside f) (sym h ∙ is)
+
+-- damage is told where the rows do not hold what they should
+pub damaged_so : (H : Type 0) (f : AuditFault) (r : Result (Unit {0}) OpenFault) → IsErrAnd r (λ e. e ≡ open_fault_by f) → (H → IsAside f) → IfErr r (λ e. e ≡ fault.Damaged → ¬ H)
+damaged_so H f (Ok x) h aside = tt
+damaged_so H f (Err e) h aside = λ is holds. not_damaged f (aside holds) (sym h ∙ is)
+
+pub undamaged : (H : Type 0) (f : OpenFault) (r : Result (Unit {0}) OpenFault) → IsErrAnd r (λ e. e ≡ f) → f ≢ fault.Damaged → IfErr r (λ e. e ≡ fault.Damaged → ¬ H)
+undamaged H f (Ok x) h other = tt
+undamaged H f (Err e) h other = λ is holds. other (sym h ∙ is)

@@ -1,0 +1,155 @@
+-- The missing tables of an older layout, made one after another.
+use Rattle.std.proofs.Common.{◌≡◌, ◌∙◌, ℕ, zero, suc, ◌+◌, ◌<◌, ◌≤◌, List, [], ◌∷◌, ◌++◌, length, take, drop, map, get_or, false, IsTrue, Result, Ok, IfErr, refl, sym, ap, subst, arith, inl, inr, append-nil, append_assoc}
+use Rattle.std.specs.List.{AllByRecursion, fold}
+use Rattle.std.proofs.lemmas.List.{take_more, take_all, length-take}
+use Rattle.std.proofs.lemmas.List.Sums.{fold_push}
+use Rattle.std.proofs.Math.Seq.{drop-append_seam}
+use Rattle.sqlite_schema.specs.declared.schema.Reference.{Reference}
+use Rattle.sqlite_schema.specs.declared.schema.Schema.{Schema}
+use Rattle.sqlite_schema.specs.declared.schema.Table.{Table}
+use Rattle.sqlite_catalog.specs.Change.{created, next_tree}
+use Rattle.sqlite_rules.proofs.ListLemmas.{all_has, all_from, has_either, has_left, has_right}
+use Rattle.sqlite.specs.Effect.{Database}
+use Rattle.sqlite.specs.State.{State, HasCleanDisk, ExecutesInside}
+use Rattle.society_rows.specs.declared.fault.RowFault.{RowFault}
+use Rattle.society_rows.specs.Effects.{OnlyFailsOver, RanAs}
+use Rattle.society_rows.specs.Faults.{IsFailure}
+use Rattle.society_rows.specs.Layout.{all_tables, no_schema, office, tables_with, written_out}
+use Rattle.society_rows.specs.Layouts.{HasFirst, schema_to}
+use Rattle.society_rows.specs.Raising.{Extends}
+use Rattle.society_rows.specs.Texts.{all_texts}
+use Rattle.society_rows.proofs.lemmas.definitions.Creates.{IsDefinition, IsMade, creates}
+use Rattle.society_rows.proofs.lemmas.definitions.FirstTables.{IsOrdered, first_of, ordered, tables_are}
+use Rattle.society_rows.proofs.lemmas.definitions.NewBooks.{defined_at}
+use Rattle.society_rows.proofs.lemmas.definitions.Texts.{AreDefinitionsFrom, later_are}
+use Rattle.society_rows.proofs.lemmas.errors.ToldTables.{create_tells}
+
+defined_from : (n : ℕ) (before : Schema) (texts : List (List ℕ)) (tables : List Table) (d : Table) → AreDefinitionsFrom n before texts tables → (i : ℕ) → n ≤ i → i < length texts
+    → IsDefinition (fold created before (take i tables)) (get_or texts i []) (get_or tables i d)
+defined_from zero before texts tables d all i low within = defined_at before texts tables d all i within
+defined_from (suc n) before [] tables d all i low within = absurd all
+defined_from (suc n) before (text ∷ texts) [] d all i low within = absurd all
+defined_from (suc n) before (text ∷ texts) (table ∷ tables) d all zero low within = absurd (omega arith)
+defined_from (suc n) before (text ∷ texts) (table ∷ tables) d all (suc i) low within = defined_from n (created before table) texts tables d all i (omega arith) (omega arith)
+
+-- the text behind the book's tables makes the next table, in whatever order references are listed
+later_at : (cuts payments : List Reference) (i : ℕ) → 6 ≤ i → i < length all_texts → IsDefinition (schema_to i cuts payments) (get_or all_texts i []) (get_or (tables_with cuts payments) i office)
+later_at cuts payments = defined_from 6 no_schema all_texts (tables_with cuts payments) office (later_are cuts payments)
+
+all_long : (cuts payments : List Reference) → (length (tables_with cuts payments) ≡ 14) × (length all_texts ≡ 14)
+unfolding written_out
+all_long cuts payments = (refl, refl)
+
+-- of so many first tables those behind some are new and empty, and these have the rows that they had
+pub record Grows (from count : ℕ) (old new : Database) : Type 0 where
+  pub was : IsOrdered from old.schema
+  pub first : IsOrdered count new.schema
+  pub kept : AllByRecursion (λ t. new.trees t.tree ≡ old.trees t.tree) old.schema.tables
+  pub made : List Table
+  pub are : new.schema.tables ≡ old.schema.tables ++ made
+  pub empty : AllByRecursion (λ t. new.trees t.tree ≡ []) made
+
+-- no table is made yet
+pub none_made : (from : ℕ) (d : Database) → HasFirst from d → Grows from from d d
+none_made from d has = record { was = ordered has; first = ordered has; kept = all_from _ d.schema.tables (λ t is. refl); made = []; are = sym (append-nil d.schema.tables); empty = tt }
+
+one_more : (from i : ℕ) (table : Table) (old mid new : Database) (has : Grows from i old mid)
+    → take (i + 1) (tables_with has.first.cuts has.first.payments) ≡ take i (tables_with has.first.cuts has.first.payments) ++ table ∷ []
+    → IsMade (schema_to i has.first.cuts has.first.payments) table mid new → Grows from (i + 1) old new
+one_more from i table old mid new has more is_made =
+    let first = has.first in
+    let before = schema_to i first.cuts first.payments in
+    let placed : Table = record table { tree = next_tree before } in
+    let were : before.tables ≡ old.schema.tables ++ has.made = ap (λ (s : Schema). s.tables) (sym first.is) ∙ has.are in
+    let others : AllByRecursion (λ t. new.trees t.tree ≡ mid.trees t.tree) (old.schema.tables ++ has.made) = subst (AllByRecursion (λ t. new.trees t.tree ≡ mid.trees t.tree)) were is_made.others in
+    record {
+      was = has.was;
+      first = record {
+        cuts = first.cuts;
+        payments = first.payments;
+        cuts_are = first.cuts_are;
+        payments_are = first.payments_are;
+        is = is_made.schema ∙ sym (ap (fold created no_schema) more ∙ fold_push created no_schema (take i (tables_with first.cuts first.payments)) table);
+      };
+      kept = all_from _ old.schema.tables (λ t is. all_has _ (old.schema.tables ++ has.made) t others (has_left old.schema.tables has.made t is) ∙ all_has _ old.schema.tables t has.kept is);
+      made = has.made ++ placed ∷ [];
+      are = ap (λ (s : Schema). s.tables) is_made.schema ∙ ap (λ (ts : List Table). ts ++ placed ∷ []) were ∙ append_assoc old.schema.tables has.made (placed ∷ []);
+      empty = all_from _ (has.made ++ placed ∷ []) (λ t is. elim (has_either has.made (placed ∷ []) t is) [
+        | inl was ↦ all_has _ (old.schema.tables ++ has.made) t others (has_right old.schema.tables has.made t was) ∙ all_has _ has.made t has.empty was
+        | inr now ↦ elim now [ inl e ↦ ap (λ (x : Table). new.trees x.tree) e ∙ is_made.empty | inr none ↦ absurd none ]
+      ]);
+    }
+
+-- the next text makes the next table
+pub next_made : (from i : ℕ) → 6 ≤ i → i < length all_texts → (text : List ℕ) → text ≡ get_or all_texts i [] → (d : Database) (old new : State) (count : ℕ) → Grows from i d old.now
+    → ExecutesInside 0 text [] old new (Ok count) → Grows from (i + 1) d new.now
+next_made from i book within text is d old new count has h =
+    let cuts = has.first.cuts in
+    let payments = has.first.payments in
+    let long = all_long cuts payments in
+    let ran = subst (λ t. ExecutesInside 0 t [] old new (Ok count)) is h in
+    one_more from i (get_or (tables_with cuts payments) i office) d old.now new.now has (take_more (tables_with cuts payments) i office (omega (arith, long.0, long.1)))
+    (creates _ _ _ (later_at cuts payments i book within) old new count has.first.is ran.0)
+
+-- what the next text tells of an error
+pub next_made_tells : (i : ℕ) → 6 ≤ i → i < length all_texts → (text : List ℕ) → text ≡ get_or all_texts i [] → (old new : State) (result : Result (Unit {0}) RowFault) → (old.in_transaction ≡ false → IfErr result IsFailure)
+    → (HasCleanDisk new → IsTrue old.in_transaction → RanAs text [] old new result) → OnlyFailsOver (HasFirst i) old new result
+next_made_tells i book within text is old new result ended ran clean first_ones =
+    let has = ordered first_ones in
+    create_tells _ _ _ (later_at has.cuts has.payments i book within) old new result ended (λ clean inside. subst (λ t. RanAs t [] old new result) is (ran clean inside)) clean has.is
+
+-- ---- the tables by their trees
+
+trees_alike : (cuts payments : List Reference) → map (λ (t : Table). t.tree) (tables_with cuts payments) ≡ map (λ (t : Table). t.tree) all_tables
+unfolding written_out
+trees_alike cuts payments = refl
+
+take_alike : (P : ℕ → Type 0) (n : ℕ) (xs ys : List Table) → map (λ (t : Table). t.tree) xs ≡ map (λ (t : Table). t.tree) ys → AllByRecursion (λ t. P t.tree) (take n xs) → AllByRecursion (λ t. P t.tree) (take n ys)
+take_alike P zero xs ys same all = tt
+take_alike P (suc n) xs [] same all = tt
+take_alike P (suc n) [] (y ∷ ys) same all = absurd cc
+take_alike P (suc n) (x ∷ xs) (y ∷ ys) same all =
+    let first : x.tree ≡ y.tree = cc in
+    let rest : map (λ (t : Table). t.tree) xs ≡ map (λ (t : Table). t.tree) ys = cc in
+    (subst P first all.0, take_alike P n xs ys rest all.1)
+
+all_alike : (P : ℕ → Type 0) (xs ys : List Table) → map (λ (t : Table). t.tree) xs ≡ map (λ (t : Table). t.tree) ys → AllByRecursion (λ t. P t.tree) xs → AllByRecursion (λ t. P t.tree) ys
+all_alike P xs [] same all = tt
+all_alike P [] (y ∷ ys) same all = absurd cc
+all_alike P (x ∷ xs) (y ∷ ys) same all =
+    let first : x.tree ≡ y.tree = cc in
+    let rest : map (λ (t : Table). t.tree) xs ≡ map (λ (t : Table). t.tree) ys = cc in
+    (subst P first all.0, all_alike P xs ys rest all.1)
+
+drop_alike : (P : ℕ → Type 0) (n : ℕ) (xs ys : List Table) → map (λ (t : Table). t.tree) xs ≡ map (λ (t : Table). t.tree) ys → AllByRecursion (λ t. P t.tree) (drop n xs) → AllByRecursion (λ t. P t.tree) (drop n ys)
+drop_alike P zero xs ys same all = all_alike P xs ys same all
+drop_alike P (suc n) xs [] same all = tt
+drop_alike P (suc n) [] (y ∷ ys) same all = absurd cc
+drop_alike P (suc n) (x ∷ xs) (y ∷ ys) same all = let rest : map (λ (t : Table). t.tree) xs ≡ map (λ (t : Table). t.tree) ys = cc in drop_alike P n xs ys rest all
+
+-- after the last text every table is there
+pub all_made : (from i : ℕ) → from ≤ length all_texts → length all_texts ≤ i → (d e : Database) → Grows from i d e → Extends from d e
+all_made from i some past d e has =
+    let was = has.was in
+    let first = has.first in
+    let olds = tables_with was.cuts was.payments in
+    let news = tables_with first.cuts first.payments in
+    let long = all_long was.cuts was.payments in
+    let long_now = all_long first.cuts first.payments in
+    let had : d.schema.tables ≡ take from olds = ap (λ (s : Schema). s.tables) was.is ∙ tables_are from was.cuts was.payments in
+    let whole : take i news ≡ news = take_all i news (omega (arith, long_now.0, long_now.1)) in
+    let all : news ≡ take from olds ++ has.made =
+    sym whole ∙ sym (tables_are i first.cuts first.payments) ∙ ap (λ (s : Schema). s.tables) (sym first.is) ∙ has.are ∙ ap (λ ts. ts ++ has.made) had in
+    let count : length (take from olds) ≡ from = omega (arith, length-take from olds, long.0, long.1) in
+    let rest : drop from news ≡ has.made = ap (drop from) all ∙ ap (λ n. drop n (take from olds ++ has.made)) (sym count) ∙ drop-append_seam (take from olds) has.made in
+    record {
+      layout = first_of (record {
+        cuts = first.cuts;
+        payments = first.payments;
+        cuts_are = first.cuts_are;
+        payments_are = first.payments_are;
+        is = first.is ∙ ap (fold created no_schema) (whole ∙ sym (take_all 14 news (omega (arith, long_now.0))));
+      });
+      kept = take_alike (λ n. e.trees n ≡ d.trees n) from olds all_tables (trees_alike was.cuts was.payments) (subst (AllByRecursion (λ t. e.trees t.tree ≡ d.trees t.tree)) had has.kept);
+      empty = drop_alike (λ n. e.trees n ≡ []) from news all_tables (trees_alike first.cuts first.payments) (subst (AllByRecursion (λ t. e.trees t.tree ≡ [])) (sym rest) has.empty);
+    }

@@ -1,4 +1,0 @@
-pub mod OptionLemmas
-pub mod RefusalLemmas
-pub mod WordLemmas
-pub mod Worked

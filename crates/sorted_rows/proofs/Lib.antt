@@ -1,3 +1,0 @@
-pub mod PlaceLemmas
-pub mod SearchLemmas
-pub mod WriteLemmas

@@ -1,9 +1,0 @@
-use Rattle.std.proofs.Common.{◌≡◌, ◌<◌, All, length, take}
-use Rattle.sorted_rows.specs.Joined.{joined}
-use Rattle.sorted_rows.proofs.rows.SortedRows.copy.Given as goal
-
-abbrev pub invariant-loop-piece : goal.invariant-loop-piece
-invariant-loop-piece l = record {
-  rows : joined l.pieces.items ≡ joined (take l.piece-index l.piece-items);
-  filled : All (λ piece. 0 < length piece.items) l.pieces.items;
-}

@@ -1,0 +1,99 @@
+//! Databases in memory that are confirmed, and stores that are found again.
+use crate::checks::told;
+use crate::left::{
+    CLOSED_AT_A_CUT, ONE_WAITS, Opened, REVISIONS, YEAR_BEGUN, left_by, office, opened,
+};
+use society_audit::{AuditFault, confirm};
+use society_core::Store;
+use society_opening::{open_after_crash, reopen};
+use society_rows::Idle;
+use sqlite::{Alter, Connection};
+use std::alloc::Global;
+use std::process::Abort;
+use std::test::Fail;
+use test_bodies::{number, sender};
+
+// What is done over a store is done over any: over a store by its name each call takes a minute to prove.
+
+/// Checks the sender's front in tables that are opened.
+fn check_front<S: Alter + Drop>(
+    rt: &impl Abort,
+    row: &str,
+    opened: Opened<S>,
+    wanted: u32,
+) -> Result<(), Fail> {
+    let Ok(mut tables) = opened else {
+        return Err(Fail::new("an opening"));
+    };
+    let place = tables.place(&sender()?, number(1)?);
+    let place = place.ok().ok_or("a place")?;
+    told(rt, row, &place.front, &wanted);
+    Ok(())
+}
+
+/// Whether a database is confirmed with a body in memory at a time.
+fn is_confirmed<S: Alter>(alloc: Global, conn: &mut Idle<S>, society: u16) -> Result<bool, Fail> {
+    match confirm(alloc, conn, &office(society)?) {
+        Ok(()) => Ok(true),
+        Err(AuditFault::Damaged) => Ok(false),
+        Err(AuditFault::Memory | AuditFault::Store) => Err(Fail::new("a reading")),
+    }
+}
+
+#[test]
+fn a_sound_database_is_confirmed_with_a_body_in_memory_at_a_time(
+    rt: HostRuntime,
+) -> Result<(), Fail> {
+    let alloc = rt.alloc();
+    let Ok(mut conn) = Idle::new(left_by(alloc, ONE_WAITS)?) else {
+        return Err(Fail::new("no transaction"));
+    };
+    for (society, wanted) in [(900, true), (901, false), (900, true)] {
+        let seen = is_confirmed(alloc, &mut conn, society)?;
+        told(&rt, "whether it is confirmed", &seen, &wanted);
+    }
+    Ok(())
+}
+
+#[test]
+fn lines_of_each_kind_are_confirmed(rt: HostRuntime) -> Result<(), Fail> {
+    let alloc = rt.alloc();
+    for (row, steps) in [
+        ("files without works, a pool", CLOSED_AT_A_CUT),
+        ("a number of a year", YEAR_BEGUN),
+        ("revisions of one and of two digits", REVISIONS),
+    ] {
+        let Ok(mut conn) = Idle::new(left_by(alloc, steps)?) else {
+            return Err(Fail::new("no transaction"));
+        };
+        let seen = is_confirmed(alloc, &mut conn, 900)?;
+        told(&rt, row, &seen, &true);
+    }
+    Ok(())
+}
+
+/// Checks the front of a store that is found again by another database, and then by its own connection.
+fn check_found<S: Alter + Drop>(
+    rt: &impl Abort,
+    alloc: Global,
+    opened: Opened<S>,
+    other: Connection<S>,
+) -> Result<(), Fail> {
+    let Ok(tables) = opened else {
+        return Err(Fail::new("an opening"));
+    };
+    if !other.is_autocommit() {
+        return Err(Fail::new("no transaction"));
+    }
+    let row = "a_database_with_the_rows_of_a_store_is_that_store";
+    check_front(rt, row, open_after_crash(alloc, &tables, other), 1)?;
+    let row = "a_store_is_found_again_by_its_connection";
+    check_front(rt, row, reopen(alloc, tables), 1)
+}
+
+#[test]
+fn a_store_is_found_again(rt: HostRuntime) -> Result<(), Fail> {
+    let alloc = rt.alloc();
+    let opened = opened(alloc, left_by(alloc, ONE_WAITS)?, 900)?;
+    check_found(&rt, alloc, opened, left_by(alloc, ONE_WAITS)?)
+}
