@@ -235,7 +235,10 @@ class Statements:
 def is_sender(key: str) -> bool:
     """Whether a key is a sender of files, not an account; an OfficeError where it is neither."""
     if not SENDER.fullmatch(key) and not ACCOUNT.fullmatch(key):
-        raise OfficeError(f"{key} is no account (I00000000199, PPB000000012A1, UNCLAIMED) and no sender of files (PB000000012)")
+        raise OfficeError(
+            f"{key} is no account (I00000000199, PPB000000012A1, UNCLAIMED) and no sender of files (PB000000012); "
+            "`society-office parties COPY` lists the names of accounts"
+        )
     return SENDER.fullmatch(key) is not None
 
 
