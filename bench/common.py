@@ -268,6 +268,30 @@ def ask(connection, method, path, body=None):
     return answer.status, answer.read()
 
 
+def files(count, works):
+    """Files of as many works each, with the path of each."""
+    for n in range(count):
+        yield f"/v1/senders/{SENDER}/transmissions/{n + 1}", works_file(n * works, works)
+
+
+def filled(program, path, requests):
+    """Sends requests to a file's office; answers the bytes of their bodies."""
+    total = 0
+    with Server(program, path) as server:
+        connection = server.connection()
+        for where, body in requests:
+            status, text = ask(connection, "PUT", where, body)
+            assert status == 201, (where, status, text)
+            total += len(body)
+    return total
+
+
+def opened(program, path):
+    """Of an opening: its processor seconds, the seconds that passed, and the peak memory in MB."""
+    with Server(program, path) as server:
+        return server.processor, server.seconds, peak_memory(server.process.pid)
+
+
 def new_database():
     """A path of a file that is not there yet, in a folder of its own that stays."""
     return pathlib.Path(tempfile.mkdtemp()) / "office.db"

@@ -15,7 +15,6 @@ import subprocess
 import sys
 import tempfile
 
-import audit_times
 import common
 from common import OFFICE, Server
 
@@ -109,13 +108,13 @@ def try_samples(program, samples):
 
 def measure(program, count):
     path = common.new_database()
-    audit_times.filled(program, path, audit_times.files(count, 1))
+    common.filled(program, path, common.files(count, 1))
     for layout, statements in (3, ""), (2, SECOND), (1, FIRST):
         changed_by(path, statements)
         copy = path.with_name(f"layout{layout}.db")
         shutil.copy(path, copy)
         size = copy.stat().st_size / 1_000_000
-        processor, passed, peak = audit_times.opened(program, copy)
+        processor, passed, peak = common.opened(program, copy)
         print(f"{count:,} transmissions, layout {layout}: {size:.0f} MB, {processor:.1f} s of processor, {passed:.1f} s, {peak:.0f} MB", flush=True)
 
 

@@ -10,13 +10,11 @@ import os
 import pathlib
 import shutil
 import subprocess
-import sys
 import tempfile
 
 import common
 import old_files
-from audit_times import filled
-from common import OFFICE, SENDER, order_body, plays, works_file
+from common import OFFICE, SENDER, filled, order_body, plays, works_file
 from growth import exponent, in_turn, sender
 
 MANY = 100  # senders of an office of files of one work
