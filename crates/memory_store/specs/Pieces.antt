@@ -9,7 +9,7 @@ use Rattle.memory_store.specs.Joined.{joined}
 use Rattle.memory_store.specs.declared.change.Change.{Change}
 use Rattle.memory_store.specs.declared.change.Change.TheVariants.{Put, Delete, Insert, Remove, Clear}
 use Rattle.memory_store.specs.declared.rows.SortedRows.{SortedRows}
-use Rattle.memory_store.specs.declared.rows.Place.{Place}
+use Rattle.memory_store.specs.declared.rows.RowPlace.{RowPlace}
 
 -- the rows of a tree, in order
 abbrev pub tree_rows : SortedRows → List Row
@@ -28,12 +28,12 @@ rows_before (first ∷ pieces) zero at = take at first.items
 rows_before (first ∷ pieces) (suc piece) at = first.items ++ rows_before pieces piece at
 
 -- what a cursor at a place has left to give
-abbrev pub left_from : Direction → Place → SortedRows → List Row
+abbrev pub left_from : Direction → RowPlace → SortedRows → List Row
 left_from Forward place rows = from_place rows.pieces.items place.piece place.at
 left_from Backward place rows = reverse (rows_before rows.pieces.items place.piece place.at)
 
 -- a cursor at a place gave this row and is at the next place, or was at its end
-abbrev pub CursorSteps : Direction → SortedRows → Place → Row → Option Place → Type 0
+abbrev pub CursorSteps : Direction → SortedRows → RowPlace → Row → Option RowPlace → Type 0
 CursorSteps direction rows place row None = left_from direction place rows ≡ []
 CursorSteps direction rows place row (Some moved) = left_from direction place rows ≡ row ∷ left_from direction moved rows
 

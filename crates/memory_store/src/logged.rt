@@ -6,7 +6,7 @@ ghost use Rattle.memory_store.specs.Pieces.{changed};
 ghost use Rattle.memory_store.specs.Log.{rows_at, replayed, changed_or};
 
 use crate::change::Change;
-use crate::rows::{Place, SortedRows};
+use crate::rows::{RowPlace, SortedRows};
 use std::alloc::{AllocError, Global};
 use std::mem;
 
@@ -15,7 +15,7 @@ use std::mem;
 pub(crate) struct Logged {
     pub tree: usize,
     pub change: Change,
-    pub place: Place,
+    pub place: RowPlace,
 }
 
 /// The trees once more.
@@ -61,7 +61,7 @@ pub(crate) fn write(
     trees: &mut Vec<SortedRows>,
     tree: usize,
     change: Change,
-    near: &mut Place,
+    near: &mut RowPlace,
 ) -> Result<(), AllocError>
     ensures ok { OnOk result (rows_at trees.new.items ≡ with_tree (rows_at trees.old.items) tree (changed change (rows_at trees.old.items tree))) }
     ensures err { OnErr result (rows_at trees.new.items ≡ rows_at trees.old.items) }

@@ -10,7 +10,7 @@ ghost use Rattle.memory_store.specs.Shown.{AreAllShaped};
 use crate::change::Change;
 use crate::cursor::Cursor;
 use crate::logged::{self, Logged};
-use crate::rows::{Place, SortedRows};
+use crate::rows::{RowPlace, SortedRows};
 use sqlite_trees::error::StoreError;
 use sqlite_trees::memory::MemStore;
 use sqlite_trees::schema::Object;
@@ -40,7 +40,7 @@ pub struct MemoryStore {
     marks: Vec<usize>,
     cursors: Vec<Option<Cursor>>,
     /// Where a row of each tree was sought or put last: the next one is often there or right behind it.
-    near: [Place; REMEMBERED],
+    near: [RowPlace; REMEMBERED],
     ghost within: { All (λ n. n ≤ length log.items) marks.items },
     ghost rising: { (i j : ℕ) → i ≤ j → j < length marks.items → slice_index marks.items i ≤ slice_index marks.items j },
     ghost leads: { ∥ rows_at (changed_or changed kept.items) ≡ replayed log.items (rows_at kept.items) ∥₁ },
@@ -72,7 +72,7 @@ impl MemoryStore {
             log: Vec::new(alloc),
             marks: Vec::new(alloc),
             cursors: Vec::new(alloc),
-            near: [Place::start(); REMEMBERED],
+            near: [RowPlace::start(); REMEMBERED],
         })
     }
 
@@ -387,7 +387,7 @@ impl Alter for MemoryStore {
             .push(Logged {
                 tree: tree as usize,
                 change: Change::Clear,
-                place: Place::start(),
+                place: RowPlace::start(),
             })
             .unwrap();
         self.cursors.clear();

@@ -9,7 +9,7 @@ ghost use Rattle.memory_store.specs.Joined.{joined};
 ghost use Rattle.memory_store.specs.Pieces.{rows_before, from_place};
 ghost use Rattle.memory_store.specs.Search.{IsRowPlace, head_passes};
 
-use crate::rows::Place;
+use crate::rows::RowPlace;
 use sqlite_value::keys::Order;
 use sqlite_value::order::compare;
 use sqlite_value::row::Row;
@@ -20,41 +20,41 @@ use std::alloc::{AllocError, Global};
 const PIECE_ROWS: usize = 128;
 
 /// The row behind a place, and the place behind that row.
-pub(crate) fn after(pieces: &[Vec<Row>], place: Place) -> Option<(Place, &Row)>
+pub(crate) fn after(pieces: &[Vec<Row>], place: RowPlace) -> Option<(RowPlace, &Row)>
     requires { All (λ piece. 0 < length piece.items) pieces.now }
     ensures { MatchOption result
         (from_place pieces.now place.piece place.at ≡ [])
         (λ next. from_place pieces.now place.piece place.at ≡ next.1.now ∷ from_place pieces.now next.0.piece next.0.at) }
 {
-    let Place { piece, at } = place;
+    let RowPlace { piece, at } = place;
     if piece >= pieces.len() {
         return None;
     }
     let rows = &pieces[piece];
     if at < rows.len() {
-        return Some((Place { piece, at: at + 1 }, &rows[at]));
+        return Some((RowPlace { piece, at: at + 1 }, &rows[at]));
     }
     // The rows of this piece have all been given.
     let piece = piece + 1;
     if piece >= pieces.len() {
         return None;
     }
-    Some((Place { piece, at: 1 }, &pieces[piece][0]))
+    Some((RowPlace { piece, at: 1 }, &pieces[piece][0]))
 }
 
 /// The row before a place, and the place before that row.
-pub(crate) fn before(pieces: &[Vec<Row>], place: Place) -> Option<(Place, &Row)>
+pub(crate) fn before(pieces: &[Vec<Row>], place: RowPlace) -> Option<(RowPlace, &Row)>
     requires { All (λ piece. 0 < length piece.items) pieces.now }
     ensures { MatchOption result
         (rows_before pieces.now place.piece place.at ≡ [])
         (λ next. rows_before pieces.now place.piece place.at ≡ rows_before pieces.now next.0.piece next.0.at ++ next.1.now ∷ []) }
 {
-    let Place { piece, at } = place;
+    let RowPlace { piece, at } = place;
     if piece < pieces.len() {
         let rows = &pieces[piece];
         let at = at.min(rows.len());
         if at > 0 {
-            return Some((Place { piece, at: at - 1 }, &rows[at - 1]));
+            return Some((RowPlace { piece, at: at - 1 }, &rows[at - 1]));
         }
     }
     let piece = piece.min(pieces.len());
@@ -64,7 +64,7 @@ pub(crate) fn before(pieces: &[Vec<Row>], place: Place) -> Option<(Place, &Row)>
     let rows = &pieces[piece - 1];
     let at = rows.len() - 1;
     Some((
-        Place {
+        RowPlace {
             piece: piece - 1,
             at,
         },
@@ -73,7 +73,7 @@ pub(crate) fn before(pieces: &[Vec<Row>], place: Place) -> Option<(Place, &Row)>
 }
 
 /// Whether there is a row behind a place in its piece, or the place is behind all pieces.
-pub(crate) fn is_row_or_end(pieces: &[Vec<Row>], place: Place) -> bool
+pub(crate) fn is_row_or_end(pieces: &[Vec<Row>], place: RowPlace) -> bool
     ensures within { IsTrue result → place.piece ≤ length pieces.now }
     ensures inside { IsTrue result → place.piece < length pieces.now → IsRowPlace pieces.now place.piece place.at }
 {
@@ -85,28 +85,28 @@ pub(crate) fn is_row_or_end(pieces: &[Vec<Row>], place: Place) -> bool
 }
 
 /// The place one row on.
-pub(crate) fn one_on(pieces: &[Vec<Row>], place: Place) -> Place {
+pub(crate) fn one_on(pieces: &[Vec<Row>], place: RowPlace) -> RowPlace {
     if place.piece >= pieces.len() {
         return place;
     }
     let next = place.at.saturating_add(1);
     if next < pieces[place.piece].len() {
-        return Place {
+        return RowPlace {
             piece: place.piece,
             at: next,
         };
     }
-    Place {
+    RowPlace {
         piece: place.piece + 1,
         at: 0,
     }
 }
 
 /// Where a row will be that is put in at a place that was found.
-pub(crate) fn landing(pieces: &[Vec<Row>], place: Place) -> Place {
+pub(crate) fn landing(pieces: &[Vec<Row>], place: RowPlace) -> RowPlace {
     let count = pieces.len();
     if place.piece == count && count > 0 && pieces[count - 1].len() < PIECE_ROWS {
-        return Place {
+        return RowPlace {
             piece: count - 1,
             at: pieces[count - 1].len(),
         };
@@ -115,16 +115,16 @@ pub(crate) fn landing(pieces: &[Vec<Row>], place: Place) -> Place {
 }
 
 /// Where the row of a rowid would be if rowids counted from 1 and all pieces were full.
-pub(crate) fn place_of_rowid(id: i64) -> Place {
+pub(crate) fn place_of_rowid(id: i64) -> RowPlace {
     let before = usize::try_from(id).unwrap_or(0).saturating_sub(1);
-    Place {
+    RowPlace {
         piece: before / PIECE_ROWS,
         at: before % PIECE_ROWS,
     }
 }
 
 /// Whether the row behind a place that was found has this rowid.
-pub(crate) fn has_rowid(pieces: &[Vec<Row>], place: Place, id: ValueRef<'_>) -> bool
+pub(crate) fn has_rowid(pieces: &[Vec<Row>], place: RowPlace, id: ValueRef<'_>) -> bool
     requires { place.piece < length pieces.now → IsRowPlace pieces.now place.piece place.at }
     ensures is { result ≡ head_passes (λ row. is_eq (value_cmp (rowid row) (owned id.entry))) (from_place pieces.now place.piece place.at) }
     ensures inside { IsTrue result → IsRowPlace pieces.now place.piece place.at }
@@ -133,7 +133,7 @@ pub(crate) fn has_rowid(pieces: &[Vec<Row>], place: Place, id: ValueRef<'_>) -> 
 }
 
 /// Whether the row behind a place that was found is equal to this entry.
-pub(crate) fn has_entry(pieces: &[Vec<Row>], place: Place, order: Order, entry: &Row) -> bool
+pub(crate) fn has_entry(pieces: &[Vec<Row>], place: RowPlace, order: Order, entry: &Row) -> bool
     requires { place.piece < length pieces.now → IsRowPlace pieces.now place.piece place.at }
     ensures is { result ≡ head_passes (λ row. is_eq (entry_cmp order row entry.now)) (from_place pieces.now place.piece place.at) }
     ensures inside { IsTrue result → IsRowPlace pieces.now place.piece place.at }
@@ -145,7 +145,7 @@ pub(crate) fn has_entry(pieces: &[Vec<Row>], place: Place, order: Order, entry: 
 }
 
 /// Puts a row in place of the one behind a place.
-pub(crate) fn replace(pieces: &mut Vec<Vec<Row>>, place: Place, row: Row)
+pub(crate) fn replace(pieces: &mut Vec<Vec<Row>>, place: RowPlace, row: Row)
     requires filled { All (λ piece. 0 < length piece.items) pieces.old.items }
     requires inside { IsRowPlace pieces.old.items place.piece place.at }
     ensures rows { joined pieces.new.items ≡ rows_before pieces.old.items place.piece place.at ++ row ∷ drop 1 (from_place pieces.old.items place.piece place.at) }
@@ -156,7 +156,7 @@ pub(crate) fn replace(pieces: &mut Vec<Vec<Row>>, place: Place, row: Row)
 }
 
 /// Takes the row behind a place away, and the piece with its last row.
-pub(crate) fn remove(pieces: &mut Vec<Vec<Row>>, place: Place)
+pub(crate) fn remove(pieces: &mut Vec<Vec<Row>>, place: RowPlace)
     requires filled { All (λ piece. 0 < length piece.items) pieces.old.items }
     requires inside { IsRowPlace pieces.old.items place.piece place.at }
     ensures rows { joined pieces.new.items ≡ rows_before pieces.old.items place.piece place.at ++ drop 1 (from_place pieces.old.items place.piece place.at) }
@@ -173,7 +173,7 @@ pub(crate) fn remove(pieces: &mut Vec<Vec<Row>>, place: Place)
 pub(crate) fn insert(
     alloc: Global,
     pieces: &mut Vec<Vec<Row>>,
-    place: Place,
+    place: RowPlace,
     row: Row,
 ) -> Result<(), AllocError>
     requires filled { All (λ piece. 0 < length piece.items) pieces.old.items }

@@ -15,17 +15,17 @@ use std::alloc::{AllocError, Global};
 
 /// A place between rows: so many pieces before it, and so many rows of the next piece.
 #[derive(Clone, Copy)]
-pub struct Place {
+pub struct RowPlace {
     pub(crate) piece: usize,
     pub(crate) at: usize,
 }
 
-impl Place {
+impl RowPlace {
     /// Before all rows.
-    pub fn start() -> Place
+    pub fn start() -> RowPlace
         ensures { result ≡ record { piece = 0; at = 0 } }
     {
-        Place { piece: 0, at: 0 }
+        RowPlace { piece: 0, at: 0 }
     }
 }
 
@@ -91,13 +91,19 @@ impl SortedRows {
 
     /// Where a cursor begins: forward at the first entry that is not below the key, backward at the last that is not above it. None where
     /// the rows are in another order. A guess at that place saves the search where it is right.
-    pub fn seek(&self, order: Order, key: &Row, direction: Direction, guess: Place) -> Option<Place>
+    pub fn seek(
+        &self,
+        order: Order,
+        key: &Row,
+        direction: Direction,
+        guess: RowPlace,
+    ) -> Option<RowPlace>
         ensures place { IfSome result (λ place. left_from direction place self.now ≡ sought order direction key.now (tree_rows self.now)) }
         ensures other { result ≡ None → order_of self.now.shape ≢ order }
     {
         let pieces = self.pieces.as_slice();
         if pieces.is_empty() {
-            return Some(Place { piece: 0, at: 0 });
+            return Some(RowPlace { piece: 0, at: 0 });
         }
         if self.shape.order() != order {
             return None;
@@ -111,10 +117,10 @@ impl SortedRows {
     /// Writes the row at a place over `row`, and answers the next place; none at the end.
     pub fn step(
         &self,
-        place: Place,
+        place: RowPlace,
         direction: Direction,
         row: &mut Row,
-    ) -> Result<Option<Place>, AllocError>
+    ) -> Result<Option<RowPlace>, AllocError>
         ensures steps { IfOk result (CursorSteps direction self.now place row.new) }
     {
         let pieces = self.pieces.as_slice();
@@ -135,7 +141,7 @@ impl SortedRows {
         &mut self,
         alloc: Global,
         change: Change,
-        near: &mut Place,
+        near: &mut RowPlace,
     ) -> Result<(), AllocError>
         ensures ok { OnOk result (tree_rows self.new ≡ changed change (tree_rows self.old)) }
         ensures err { OnErr result (tree_rows self.new ≡ tree_rows self.old) }
@@ -168,7 +174,7 @@ impl SortedRows {
         }
     }
 
-    fn put(&mut self, alloc: Global, row: Row, found: &mut Place) -> Result<(), AllocError>
+    fn put(&mut self, alloc: Global, row: Row, found: &mut RowPlace) -> Result<(), AllocError>
         ensures ok { OnOk result (tree_rows self.new ≡ put_row row (tree_rows self.old)) }
         ensures err { OnErr result (tree_rows self.new ≡ tree_rows self.old) }
     {
@@ -187,7 +193,7 @@ impl SortedRows {
         }
     }
 
-    fn delete(&mut self, id: i64, found: &mut Place) -> Result<(), AllocError>
+    fn delete(&mut self, id: i64, found: &mut RowPlace) -> Result<(), AllocError>
         ensures ok { OnOk result (tree_rows self.new ≡ without_rowid id (tree_rows self.old)) }
         ensures err { OnErr result (tree_rows self.new ≡ tree_rows self.old) }
     {
@@ -206,7 +212,7 @@ impl SortedRows {
         alloc: Global,
         order: Order,
         entry: Row,
-        near: &mut Place,
+        near: &mut RowPlace,
     ) -> Result<(), AllocError>
         ensures ok { OnOk result (tree_rows self.new ≡ insert_entry order entry (tree_rows self.old)) }
         ensures err { OnErr result (tree_rows self.new ≡ tree_rows self.old) }
@@ -220,7 +226,7 @@ impl SortedRows {
         pieces::insert(alloc, &mut self.pieces, place, entry)
     }
 
-    fn remove(&mut self, order: Order, entry: &Row, near: &mut Place) -> Result<(), AllocError>
+    fn remove(&mut self, order: Order, entry: &Row, near: &mut RowPlace) -> Result<(), AllocError>
         ensures ok { OnOk result (tree_rows self.new ≡ remove_entry order entry.now (tree_rows self.old)) }
         ensures err { OnErr result (tree_rows self.new ≡ tree_rows self.old) }
     {

@@ -6,7 +6,7 @@ ghost use Rattle.memory_store.specs.Search as spec;
 ghost use Rattle.memory_store.specs.Pieces.{rows_before, from_place};
 
 use crate::pieces;
-use crate::rows::Place;
+use crate::rows::RowPlace;
 use sqlite_value::keys::Order;
 use sqlite_value::order::compare;
 use sqlite_value::row::Row;
@@ -73,7 +73,7 @@ impl Probe<'_> {
     }
 
     /// The place before the first row that fails.
-    pub(crate) fn find(self, pieces: &[Vec<Row>]) -> Place
+    pub(crate) fn find(self, pieces: &[Vec<Row>]) -> RowPlace
         requires cut { IsCutOnce (passes_probe self) (joined pieces.now) }
         requires filled { All (λ piece. 0 < length piece.items) pieces.now }
         ensures before { AllPass (passes_probe self.entry) (rows_before pieces.now result.piece result.at) }
@@ -83,14 +83,14 @@ impl Probe<'_> {
     {
         let piece = self.whole(pieces);
         if piece == pieces.len() {
-            return Place { piece, at: 0 };
+            return RowPlace { piece, at: 0 };
         }
         let at = self.count(pieces[piece].as_slice());
-        Place { piece, at }
+        RowPlace { piece, at }
     }
 
     /// Whether the row before a place passes, if there is one: then all rows before it do.
-    fn passes_before(self, pieces: &[Vec<Row>], place: Place) -> bool
+    fn passes_before(self, pieces: &[Vec<Row>], place: RowPlace) -> bool
         requires cut { IsCutOnce (passes_probe self) (joined pieces.now) }
         requires filled { All (λ piece. 0 < length piece.items) pieces.now }
         ensures { IsTrue result → AllPass (passes_probe self.entry) (rows_before pieces.now place.piece place.at) }
@@ -102,7 +102,7 @@ impl Probe<'_> {
     }
 
     /// Whether the row behind a place fails, if there is one: then all rows behind it do.
-    fn fails_behind(self, pieces: &[Vec<Row>], place: Place) -> bool
+    fn fails_behind(self, pieces: &[Vec<Row>], place: RowPlace) -> bool
         requires cut { IsCutOnce (passes_probe self) (joined pieces.now) }
         requires filled { All (λ piece. 0 < length piece.items) pieces.now }
         ensures { IsTrue result → AllFail (passes_probe self.entry) (from_place pieces.now place.piece place.at) }
@@ -114,7 +114,7 @@ impl Probe<'_> {
     }
 
     /// Whether a place is the one that a search would find.
-    fn is_at(self, pieces: &[Vec<Row>], place: Place) -> bool
+    fn is_at(self, pieces: &[Vec<Row>], place: RowPlace) -> bool
         requires cut { IsCutOnce (passes_probe self) (joined pieces.now) }
         requires filled { All (λ piece. 0 < length piece.items) pieces.now }
         ensures before { IsTrue result → AllPass (passes_probe self.entry) (rows_before pieces.now place.piece place.at) }
@@ -128,7 +128,7 @@ impl Probe<'_> {
     }
 
     /// The place before the first row that fails: this one, the end, or where it is searched for.
-    fn find_else(self, pieces: &[Vec<Row>], place: Place) -> Place
+    fn find_else(self, pieces: &[Vec<Row>], place: RowPlace) -> RowPlace
         requires cut { IsCutOnce (passes_probe self) (joined pieces.now) }
         requires filled { All (λ piece. 0 < length piece.items) pieces.now }
         ensures before { AllPass (passes_probe self.entry) (rows_before pieces.now result.piece result.at) }
@@ -139,7 +139,7 @@ impl Probe<'_> {
         if self.is_at(pieces, place) {
             return place;
         }
-        let end = Place {
+        let end = RowPlace {
             piece: pieces.len(),
             at: 0,
         };
@@ -150,7 +150,7 @@ impl Probe<'_> {
     }
 
     /// The place before the first row that fails. A guess there or one row before it saves the search, and so does the end.
-    pub(crate) fn find_near(self, pieces: &[Vec<Row>], guess: Place) -> Place
+    pub(crate) fn find_near(self, pieces: &[Vec<Row>], guess: RowPlace) -> RowPlace
         requires cut { IsCutOnce (passes_probe self) (joined pieces.now) }
         requires filled { All (λ piece. 0 < length piece.items) pieces.now }
         ensures before { AllPass (passes_probe self.entry) (rows_before pieces.now result.piece result.at) }

@@ -14,7 +14,7 @@ use Rattle.share_rules.specs.Office.{IsOfficeOf, is_office}
 use Rattle.share_rules.specs.declared.office.Office.{Office}
 use Rattle.society_arguments.specs.CommandLine.{command_line}
 use Rattle.society_arguments.specs.declared.words.Database.{Database}
-use Rattle.society_arguments.specs.declared.words.Place.{Place}
+use Rattle.society_arguments.specs.declared.words.Listening.{Listening}
 use Rattle.society_arguments.specs.declared.words.Words.{Words}
 use Rattle.society_arguments.specs.declared.words.Words.TheVariants as words
 
@@ -35,7 +35,7 @@ flag_given option rows = option_map_or (λ text. bytes_eq text (codes "true")) (
 -- what words ask for: to replay at the office with this society, territory and name; to serve connections there at a place, over the database of a path, which has to be there already or not; to audit that database as the office's; to be told of the words; else the name is none, or the words are none that the program knows
 pub data Asked : Type 0 where
   AsksReplay : ℕ → ℕ → Text → Asked
-  AsksServe : Text → Bool → Place → ℕ → ℕ → Text → Asked
+  AsksServe : Text → Bool → Listening → ℕ → ℕ → Text → Asked
   AsksAudit : Text → ℕ → ℕ → Text → Asked
   AsksHelp : Asked
   HasBadName : Asked
@@ -53,13 +53,13 @@ abbrev pub asked_office : List Row → Asked
 asked_office rows = asked_at (number_given 16 (codes "society") rows) (number_given 16 (codes "territory") rows) (first_of (codes "name") rows)
 
 -- the place with a port and a count of connections
-abbrev pub place_at : Option ℕ → Option ℕ → Option Place
+abbrev pub place_at : Option ℕ → Option ℕ → Option Listening
 place_at (Some port) (Some connections) = Some (record { port = port; connections = connections })
 place_at (Some port) None = None
 place_at None connections = None
 
 -- the place that options name
-abbrev pub place_given : List Row → Option Place
+abbrev pub place_given : List Row → Option Listening
 place_given rows = place_at (number_given 16 (codes "port") rows) (number_given 32 (codes "connections") rows)
 
 -- where options name an office, what they ask for there; else what is wrong
@@ -68,7 +68,7 @@ at_office asks (AsksReplay society territory name) = asks society territory name
 at_office asks asked = asked
 
 -- to serve the database of a path at a place, and whether it has to be there already; the rest names an office
-abbrev pub serving : Option Text → Bool → Option Place → Asked → Asked
+abbrev pub serving : Option Text → Bool → Option Listening → Asked → Asked
 serving (Some path) existing (Some place) asked = at_office (AsksServe path existing place) asked
 serving (Some path) existing None asked = HasBadWords
 serving None existing place asked = HasBadWords
@@ -141,11 +141,11 @@ AsksToReplay _ office = ⊥
 pub record Serving : Type 0 where
   pub path : Text
   pub existing : Bool
-  pub place : Place
+  pub place : Listening
   pub office : Office
 
 -- a database, a place and an office, as what is to be served
-abbrev pub serving_of : Database → Place → Office → Serving
+abbrev pub serving_of : Database → Listening → Office → Serving
 serving_of database place office = record { path = database.path.now; existing = database.existing; place = place; office = office }
 
 -- the words ask to serve so

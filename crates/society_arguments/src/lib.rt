@@ -4,4 +4,4 @@
 mod command_line;
 mod words;
 
-pub use words::{Database, Place, Words, words_in};
+pub use words::{Database, Listening, Words, words_in};

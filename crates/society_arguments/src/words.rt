@@ -10,7 +10,7 @@ use std::alloc::Global;
 
 /// Where the office listens, and for how long.
 #[derive(Clone, Copy, Debug, PartialEq, Eq)]
-pub struct Place {
+pub struct Listening {
     /// A port of this machine.
     pub port: u16,
     /// How many connections it serves.
@@ -32,7 +32,7 @@ pub enum Words<'a> {
     /// To replay standard input at this office.
     Replay(Office),
     /// To serve connections at this office, over a database.
-    Serve(Database<'a>, Place, Office),
+    Serve(Database<'a>, Listening, Office),
     /// To audit the database of a path as this office's.
     Audit(&'a str, Office),
     /// The office's name is none.
@@ -92,16 +92,16 @@ fn office_in<'a>(options: &ArgMatches<'_>) -> Words<'a>
 }
 
 /// The place that options name.
-fn place_in(options: &ArgMatches<'_>) -> Option<Place>
+fn place_in(options: &ArgMatches<'_>) -> Option<Listening>
     ensures { result ≡ place_given (rows_of (found_of options.now)) }
 {
     let port = short_number(options, "port")?;
     let connections = long_number(options, "connections")?;
-    Some(Place { port, connections })
+    Some(Listening { port, connections })
 }
 
 /// To serve a database at this place and the office that the words name.
-fn serve_at<'a>(database: Database<'a>, place: Place, words: Words<'a>) -> Words<'a>
+fn serve_at<'a>(database: Database<'a>, place: Listening, words: Words<'a>) -> Words<'a>
     ensures { (a : Asked) → IsReadAs a words.entry
         → IsReadAs (serving (Some database.entry.path.now) database.entry.existing (Some place) a) result }
 {

@@ -11,5 +11,5 @@ mod statements;
 
 pub use arrivals::arrive;
 pub use going::whole_run;
-pub use settling::{add_told, put_told, recordings_by_key, versions_by_key};
+pub use settling::{recordings_by_key, versions_by_key};
 pub use statements::state_end;

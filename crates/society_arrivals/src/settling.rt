@@ -125,8 +125,8 @@ fn add_works<S: Alter>(
     add_recordings(tx, recordings)
 }
 
-/// Adds verdicts, versions and recordings.
-pub fn add_told<S: Alter>(
+// Adds verdicts, versions and recordings.
+fn add_told<S: Alter>(
     tx: &mut Transaction<'_, S>,
     verdicts: &[VerdictRow<'_>],
     versions: &[VersionRow<'_>],
@@ -166,8 +166,8 @@ pub fn recordings_by_key<'a>(
     Ok(rows)
 }
 
-/// Puts a sender's front, and adds what the transactions of its transmissions tell.
-pub fn put_told<S: Alter>(
+// Puts a sender's front, and adds what the transactions of its transmissions tell.
+fn put_told<S: Alter>(
     alloc: Global,
     tx: &mut Transaction<'_, S>,
     front: &FrontRow<'_>,

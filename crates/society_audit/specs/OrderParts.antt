@@ -1,4 +1,4 @@
--- What the orders of pools say, by the pools' numbers.
+-- What the orders of pools say, by the pools' numbers (representation).
 use Rattle.std.specs.Prelude.{ℕ, ◌==◌, ◌≡◌, List, [], ◌∷◌, Option, None, Some, Vec, filter, map, if◌then◌else◌}
 use Rattle.std.specs.BTreeMap as tree
 use Rattle.std.specs.BTreeMap.{BTreeMap}

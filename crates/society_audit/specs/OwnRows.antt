@@ -1,4 +1,4 @@
--- The rows of a database that are of the book itself.
+-- The rows of a database that are of the book itself (representation).
 use Rattle.std.specs.Prelude.{IsTrue, Result}
 use Rattle.sqlite.specs.State.{State}
 use Rattle.sqlite_trees.specs.Tree.{Trees}

@@ -1,4 +1,4 @@
--- How far senders came by a database, as it is read once for all cuts.
+-- How far senders came by a database, as it is read once for all cuts (representation).
 use Rattle.std.specs.Prelude.{◌≡◌, List, Some, ℕ}
 use Rattle.share_rules.specs.declared.office.Office.{Office}
 use Rattle.sqlite.specs.Effect.{Database}

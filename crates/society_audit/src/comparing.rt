@@ -35,7 +35,7 @@ pub const OTHER_TABLES: [TableName; 13] = [
 ];
 
 /// All rows of a table, by its key, read in a transaction that is rolled back; its fault is that of the reading.
-pub fn listed<S: Alter>(conn: &mut Idle<S>, table: TableName) -> Result<Vec<Row>, RowFault>
+pub fn list_table<S: Alter>(conn: &mut Idle<S>, table: TableName) -> Result<Vec<Row>, RowFault>
     ensures asked { between S.Store conn.old conn.new Asks result (λ db rows. ListsAll table db rows.items) }
     ensures medium { between S.Store conn.old conn.new ErrsByMedium result }
 {
@@ -55,7 +55,7 @@ pub(crate) fn rows_of_table<S: Alter>(
     ensures aside { IfErr result IsAside }
     ensures failed { between S.Store conn.old conn.new (TellsFailure Store) result }
 {
-    Ok(listed(conn, table)?)
+    Ok(list_table(conn, table)?)
 }
 
 /// All rows of a table in memory, by its key; the database stays as it is. `Memory` where memory was refused.

@@ -16,7 +16,7 @@ mod references;
 
 pub use audit_fault::AuditFault;
 pub use comparing::{
-    OTHER_TABLES, are_same_rows, listed, named_agree, rows_in_memory, tables_agree,
+    OTHER_TABLES, are_same_rows, list_table, named_agree, rows_in_memory, tables_agree,
 };
 pub use confirming::confirm;
 pub use rebuilding::rebuild;

@@ -31,7 +31,7 @@ use std::alloc::Global;
 use work_ids::PoolNumber;
 
 // The rows that answer a question over tables in memory, which stay as they are.
-fn answered(memory: &mut Idle<MemoryStore>, question: Question<'_>) -> Result<Vec<Row>, RowFault>
+fn ask_memory(memory: &mut Idle<MemoryStore>, question: Question<'_>) -> Result<Vec<Row>, RowFault>
     ensures rows { HasLayout (in_memory memory.old) → IfOk result (λ rows. RowsAnswer question.entry (in_memory memory.old).trees rows.items) }
     ensures same { in_memory memory.new ≡ in_memory memory.old }
 {
@@ -43,7 +43,7 @@ fn is_open_pool(memory: &mut Idle<MemoryStore>, pool: PoolNumber) -> Result<bool
     ensures free { TellsMixed (in_memory memory.old) result (λ book. order_at book pool ≡ None) }
     ensures same { in_memory memory.new ≡ in_memory memory.old }
 {
-    let rows = answered(memory, Question::Pool(pool.value()))?;
+    let rows = ask_memory(memory, Question::Pool(pool.value()))?;
     Ok(rows.as_slice().is_empty())
 }
 
@@ -52,7 +52,7 @@ fn is_unpaid(memory: &mut Idle<MemoryStore>, key: &ReturnKey) -> Result<bool, Ro
     ensures unpaid { TellsMixed (in_memory memory.old) result (λ book. payer book key.now ≡ None) }
     ensures same { in_memory memory.new ≡ in_memory memory.old }
 {
-    let rows = answered(
+    let rows = ask_memory(
         memory,
         Question::Payer(key.reporter.as_bytes(), key.number.value()),
     )?;

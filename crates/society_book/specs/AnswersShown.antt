@@ -1,4 +1,4 @@
--- What the answers to the questions of a book say.
+-- What the answers to the questions of a book say (representation).
 use Rattle.std.specs.Prelude.{ℕ, ◌≡◌, List, Option, Some, Vec, option_map}
 use Rattle.std.specs.List.{slice_get}
 use Rattle.std.specs.declared.alloc.Global.{Global}

@@ -20,6 +20,7 @@ use Rattle.society_core.specs.Orders.{Order}
 use Rattle.society_core.specs.Owners.{CutWork, versions_at_cut, versions_of_transmission, works_of_cut}
 use Rattle.society_core.specs.Points.{Tallies, is_tallied, rows_named}
 use Rattle.society_core.specs.Pools.{credits_of}
+use Rattle.society_core.specs.declared.candidates.Weighing.{Weighing}
 use Rattle.society_core.specs.declared.claim_list.Candidate.{Candidate}
 use Rattle.society_core.specs.declared.return_key.ReturnKey.{ReturnKey}
 use Rattle.society_core.specs.declared.points.Tally.{Tally}
@@ -32,21 +33,21 @@ use Rattle.society_closings.specs.declared.named_works.NamedWorks.{NamedWorks}
 use Rattle.works_core.specs.declared.version.WorkVersion.{WorkVersion}
 
 -- the candidates of the versions at a sender's cut are added that stand in one transmission
-abbrev pub AddsOfTransmission : Kind → Office → Tally → TransmissionKey → ℕ → Chosen → List Candidate → List Candidate → Trees → Type 0
-AddsOfTransmission kind office tally key number chosen old new db =
-    (book : Book) → HoldsWorks office book db → is_one_of (numbers_to book key.sender key.number) number ≡ true → ChoosesNaming office book key (is_tallied tally) chosen
-    → AddsWorks kind office tally (versions_of_transmission office book key number (transactions_sent book key.sender number)) old new
+abbrev pub AddsOfTransmission : Weighing → TransmissionKey → ℕ → Chosen → List Candidate → List Candidate → Trees → Type 0
+AddsOfTransmission weighing key number chosen old new db =
+    (book : Book) → HoldsWorks weighing.office.now book db → is_one_of (numbers_to book key.sender key.number) number ≡ true → ChoosesNaming weighing.office.now book key (is_tallied weighing.tally.now) chosen
+    → AddsWorks weighing (versions_of_transmission weighing.office.now book key number (transactions_sent book key.sender number)) old new
 
 -- the candidates of the versions at a sender's cut are added, by those that are chosen
-abbrev pub AddsChosen : Kind → Office → Tally → TransmissionKey → Chosen → List Candidate → List Candidate → Trees → Type 0
-AddsChosen kind office tally key chosen old new db =
-    (book : Book) → HoldsWorks office book db → ChoosesNaming office book key (is_tallied tally) chosen → AddsWorks kind office tally (versions_at_cut office book key) old new
+abbrev pub AddsChosen : Weighing → TransmissionKey → Chosen → List Candidate → List Candidate → Trees → Type 0
+AddsChosen weighing key chosen old new db =
+    (book : Book) → HoldsWorks weighing.office.now book db → ChoosesNaming weighing.office.now book key (is_tallied weighing.tally.now) chosen → AddsWorks weighing (versions_at_cut weighing.office.now book key) old new
 
 -- the candidates of the versions at a sender's cut are added, by the works that are noted
-abbrev pub AddsOfSender : Kind → Office → Tally → TransmissionKey → NamedWorks → List Candidate → List Candidate → Trees → Type 0
-AddsOfSender kind office tally key named old new db =
-    (book : Book) → HoldsWorks office book db → NotesRecordings db (is_tallied tally) named → notes_of_sender named key.sender ≡ true → is_applied book key ≡ true
-    → AddsWorks kind office tally (versions_at_cut office book key) old new
+abbrev pub AddsOfSender : Weighing → TransmissionKey → NamedWorks → List Candidate → List Candidate → Trees → Type 0
+AddsOfSender weighing key named old new db =
+    (book : Book) → HoldsWorks weighing.office.now book db → NotesRecordings db (is_tallied weighing.tally.now) named → notes_of_sender named key.sender ≡ true → is_applied book key ≡ true
+    → AddsWorks weighing (versions_at_cut weighing.office.now book key) old new
 
 -- they are the candidates of the versions at each key of a cut, by the works that are noted
 abbrev pub AreForCut : Kind → Office → Tally → List TransmissionKey → NamedWorks → Trees → List Candidate → Type 0
@@ -112,10 +113,10 @@ TalliesKept rows old new result =
     → OnOk result (Tallies new (before ++ performances_in (unwrap_or kept [])))
 
 -- the candidates of the versions that are chosen are added that stand in the transmission that the rows show
-abbrev pub AddsShown : Kind → Office → Tally → List Row → List ℕ → ℕ → Chosen → List Candidate → List Candidate → Result (Unit {0}) RowFault → Type 0
-AddsShown kind office tally rows sender number chosen old new result =
+abbrev pub AddsShown : Weighing → List Row → List ℕ → ℕ → Chosen → List Candidate → List Candidate → Result (Unit {0}) RowFault → Type 0
+AddsShown weighing rows sender number chosen old new result =
     (kept : Option (List ℕ)) → ShowBody kept rows
-    → OnOk result (AddsWorks kind office tally (works_chosen chosen sender number 0 (transactions_of (transmission_in (unwrap_or kept [])))) old new)
+    → OnOk result (AddsWorks weighing (works_chosen chosen sender number 0 (transactions_of (transmission_in (unwrap_or kept [])))) old new)
 
 -- the work of a transaction, where it is the version that is chosen of its work
 abbrev pub work_chosen : Chosen → List ℕ → ℕ → ℕ → Transaction → List CutWork

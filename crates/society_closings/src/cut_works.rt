@@ -11,7 +11,7 @@ use crate::named_works::{NamedWorks, named_works};
 use cwr_files::{Transaction, Transmission};
 use share_rules::{Kind, Office};
 use society_book::read_body;
-use society_core::{Candidate, PoolOrder, Tally, TransmissionKey, add_candidates};
+use society_core::{Candidate, PoolOrder, Tally, TransmissionKey, Weighing, add_candidates};
 use society_rows::{Question, RowFault, TransmissionRow, answer};
 use sqlite::{Alter, Row};
 use std::alloc::{AllocError, Global};
@@ -19,10 +19,7 @@ use work_ids::{SenderKey, TransmissionNumber};
 
 // Adds the candidates of a transaction, where it is the version that is chosen of its work.
 fn add_transaction(
-    alloc: Global,
-    kind: Kind,
-    office: &Office,
-    tally: &Tally,
+    weighing: &Weighing<'_>,
     sender: &SenderKey,
     chosen: &Chosen,
     number: TransmissionNumber,
@@ -30,7 +27,7 @@ fn add_transaction(
     transaction: &Transaction<'_>,
     candidates: &mut Vec<Candidate>,
 ) -> Result<(), AllocError>
-    ensures { OnOk result (AddsWorks kind office.now tally.now (work_chosen chosen.now sender.now number place transaction.now) candidates.old.items candidates.new.items) }
+    ensures { OnOk result (AddsWorks weighing.now (work_chosen chosen.now sender.now number place transaction.now) candidates.old.items candidates.new.items) }
 {
     let Some(work) = transaction.work_number() else {
         return Ok(());
@@ -38,16 +35,7 @@ fn add_transaction(
     if !chosen.is_at(&work, number, place) {
         return Ok(());
     }
-    add_candidates(
-        alloc,
-        kind,
-        office,
-        tally,
-        sender,
-        &work,
-        transaction,
-        candidates,
-    )
+    add_candidates(weighing, sender, &work, transaction, candidates)
 }
 
 // The place behind so many transactions; `Overflow` where it has no room.
@@ -62,10 +50,7 @@ fn place_after(place: usize, count: usize) -> Result<usize, RowFault>
 
 // Adds the candidates of the transactions of a group, which begin at a place.
 fn add_group(
-    alloc: Global,
-    kind: Kind,
-    office: &Office,
-    tally: &Tally,
+    weighing: &Weighing<'_>,
     sender: &SenderKey,
     chosen: &Chosen,
     number: TransmissionNumber,
@@ -73,15 +58,12 @@ fn add_group(
     transactions: &[Transaction<'_>],
     candidates: &mut Vec<Candidate>,
 ) -> Result<(), RowFault>
-    ensures { OnOk result (AddsWorks kind office.now tally.now (works_chosen chosen.now sender.now number first transactions.now) candidates.old.items candidates.new.items) }
+    ensures { OnOk result (AddsWorks weighing.now (works_chosen chosen.now sender.now number first transactions.now) candidates.old.items candidates.new.items) }
 {
     for (index, transaction) in transactions.iter().enumerate() {
         let place = place_after(first, index)?;
         add_transaction(
-            alloc,
-            kind,
-            office,
-            tally,
+            weighing,
             sender,
             chosen,
             number,
@@ -95,26 +77,20 @@ fn add_group(
 
 // Adds the candidates of a transmission: of those of its transactions that are chosen.
 fn add_groups(
-    alloc: Global,
-    kind: Kind,
-    office: &Office,
-    tally: &Tally,
+    weighing: &Weighing<'_>,
     sender: &SenderKey,
     chosen: &Chosen,
     number: TransmissionNumber,
     transmission: &Transmission<'_>,
     candidates: &mut Vec<Candidate>,
 ) -> Result<(), RowFault>
-    ensures { OnOk result (AddsWorks kind office.now tally.now (works_chosen chosen.now sender.now number 0 (transactions_of transmission.now)) candidates.old.items candidates.new.items) }
+    ensures { OnOk result (AddsWorks weighing.now (works_chosen chosen.now sender.now number 0 (transactions_of transmission.now)) candidates.old.items candidates.new.items) }
 {
     let mut place: usize = 0;
     for group in transmission.groups.as_slice() {
         let transactions = group.transactions.as_slice();
         add_group(
-            alloc,
-            kind,
-            office,
-            tally,
+            weighing,
             sender,
             chosen,
             number,
@@ -130,60 +106,41 @@ fn add_groups(
 // Adds the candidates of the transmission that rows show; `Unread` where they are not one row, or its body is no transmission
 // of the sender.
 fn add_shown(
-    alloc: Global,
-    kind: Kind,
-    office: &Office,
-    tally: &Tally,
+    weighing: &Weighing<'_>,
     sender: &SenderKey,
     chosen: &Chosen,
     number: TransmissionNumber,
     rows: &[Row],
     candidates: &mut Vec<Candidate>,
 ) -> Result<(), RowFault>
-    ensures { AddsShown kind office.now tally.now rows.now sender.now number chosen.now candidates.old.items candidates.new.items result }
+    ensures { AddsShown weighing.now rows.now sender.now number chosen.now candidates.old.items candidates.new.items result }
 {
     let [row] = rows else {
         return Err(RowFault::Unread);
     };
     let row = TransmissionRow::from_row(row)?;
-    let transmission = read_body(alloc, row.body, sender)?;
-    add_groups(
-        alloc,
-        kind,
-        office,
-        tally,
-        sender,
-        chosen,
-        number,
-        &transmission,
-        candidates,
-    )
+    let transmission = read_body(weighing.alloc, row.body, sender)?;
+    add_groups(weighing, sender, chosen, number, &transmission, candidates)
 }
 
 // Adds the candidates of a sender's transmission: of those of its transactions that are versions at the sender's cut.
 fn add_transmission<S: Alter>(
-    alloc: Global,
-    kind: Kind,
+    weighing: &Weighing<'_>,
     tx: &mut sqlite::Transaction<'_, S>,
-    office: &Office,
-    tally: &Tally,
     key: &TransmissionKey,
     chosen: &Chosen,
     number: TransmissionNumber,
     candidates: &mut Vec<Candidate>,
 ) -> Result<(), RowFault>
     ensures same_reference { tx.new.conn.ghost_name ≡ tx.old.conn.ghost_name }
-    ensures looks { within S.Store tx.old tx.new Looks result (λ db _. AddsOfTransmission kind office.now tally.now key.now number chosen.now candidates.old.items candidates.new.items db) }
+    ensures looks { within S.Store tx.old tx.new Looks result (λ db _. AddsOfTransmission weighing.now key.now number chosen.now candidates.old.items candidates.new.items db) }
 {
     let rows = answer(
         tx,
         Question::Transmission(key.sender.as_bytes(), number.value()),
     )?;
     add_shown(
-        alloc,
-        kind,
-        office,
-        tally,
+        weighing,
         &key.sender,
         chosen,
         number,
@@ -195,44 +152,36 @@ fn add_transmission<S: Alter>(
 // Adds the candidates of a sender by the versions that are chosen of its works. Only transmissions that have one of these are
 // read: no other has a candidate.
 fn add_transmissions<S: Alter>(
-    alloc: Global,
-    kind: Kind,
+    weighing: &Weighing<'_>,
     tx: &mut sqlite::Transaction<'_, S>,
-    office: &Office,
-    tally: &Tally,
     key: &TransmissionKey,
     chosen: &Chosen,
     candidates: &mut Vec<Candidate>,
 ) -> Result<(), RowFault>
     ensures same_reference { tx.new.conn.ghost_name ≡ tx.old.conn.ghost_name }
-    ensures looks { within S.Store tx.old tx.new Looks result (λ db _. AddsChosen kind office.now tally.now key.now chosen.now candidates.old.items candidates.new.items db) }
+    ensures looks { within S.Store tx.old tx.new Looks result (λ db _. AddsChosen weighing.now key.now chosen.now candidates.old.items candidates.new.items db) }
 {
-    let numbers = chosen.transmissions(alloc)?;
+    let numbers = chosen.transmissions(weighing.alloc)?;
     for number in numbers.as_slice() {
-        add_transmission(
-            alloc, kind, tx, office, tally, key, chosen, *number, candidates,
-        )?;
+        add_transmission(weighing, tx, key, chosen, *number, candidates)?;
     }
     Ok(())
 }
 
 // Adds the candidates of a sender: its works that are noted, as they are at its cut.
 fn add_sender<S: Alter>(
-    alloc: Global,
-    kind: Kind,
+    weighing: &Weighing<'_>,
     tx: &mut sqlite::Transaction<'_, S>,
-    office: &Office,
-    tally: &Tally,
     key: &TransmissionKey,
     named: &NamedWorks,
     candidates: &mut Vec<Candidate>,
 ) -> Result<(), RowFault>
     ensures same_reference { tx.new.conn.ghost_name ≡ tx.old.conn.ghost_name }
-    ensures looks { within S.Store tx.old tx.new Looks result (λ db _. AddsOfSender kind office.now tally.now key.now named.now candidates.old.items candidates.new.items db) }
+    ensures looks { within S.Store tx.old tx.new Looks result (λ db _. AddsOfSender weighing.now key.now named.now candidates.old.items candidates.new.items db) }
 {
-    let works = named.works_of(alloc, &key.sender)?;
-    let chosen = chosen_of(alloc, tx, key, works.as_slice())?;
-    add_transmissions(alloc, kind, tx, office, tally, key, &chosen, candidates)
+    let works = named.works_of(weighing.alloc, &key.sender)?;
+    let chosen = chosen_of(weighing.alloc, tx, key, works.as_slice())?;
+    add_transmissions(weighing, tx, key, &chosen, candidates)
 }
 
 // The candidates of the senders of a cut.
@@ -248,9 +197,15 @@ fn candidates_of<S: Alter>(
     ensures same_reference { tx.new.conn.ghost_name ≡ tx.old.conn.ghost_name }
     ensures looks { within S.Store tx.old tx.new Looks result (λ db candidates. AreForCut kind office.now tally.now cut.now named.now db candidates.items) }
 {
+    let weighing = Weighing {
+        alloc,
+        kind,
+        office,
+        tally,
+    };
     let mut candidates = Vec::new(alloc);
     for key in cut {
-        add_sender(alloc, kind, tx, office, tally, key, named, &mut candidates)?;
+        add_sender(&weighing, tx, key, named, &mut candidates)?;
     }
     Ok(candidates)
 }

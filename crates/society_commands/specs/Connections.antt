@@ -32,7 +32,7 @@ use Rattle.society_audit.specs.Older.{HoldsOne, Takes}
 use Rattle.society_opening.specs.Opening.{HasAnyLayout, IsOpenable, ShowsAs, SurvivesOpening, TellsDatabase}
 use Rattle.society_opening.specs.declared.open_fault.OpenFault.{OpenFault}
 use Rattle.society_opening.specs.declared.open_fault.OpenFault.TheVariants.{Empty, Store}
-use Rattle.society_arguments.specs.declared.words.Place.{Place}
+use Rattle.society_arguments.specs.declared.words.Listening.{Listening}
 use Rattle.society_commands.specs.Closing.{HandsBack, IsRest}
 use Rattle.society_commands.specs.Doors.{CameIn, HasAdmitted, IsLoopback}
 use Rattle.society_commands.specs.Replays.{fault_name}
@@ -41,7 +41,12 @@ use Rattle.society_commands.specs.declared.host.Listen.{Ghosts as Listens}
 use Rattle.society_commands.specs.declared.host.OpenDatabase.{Ghosts as Opens}
 use Rattle.society_commands.specs.declared.left.Left.{Left}
 use Rattle.society_commands.specs.declared.left.Left.TheVariants as left
-use Rattle.society_arguments.specs.Words.{Serving}
+use Rattle.society_commands.specs.declared.opening.Job.{Job}
+use Rattle.society_arguments.specs.Words.{Serving, serving_of}
+
+-- what is served by a job at an office
+abbrev pub serving_as : Job → Office → Serving
+serving_as job office = serving_of job.database job.place office
 
 -- how many requests a connection brought, by what it came to
 abbrev pub requests_of : Result Served DeskFault → ℕ
@@ -123,7 +128,7 @@ CannotListen net port = (address : SocketAddrV4) × IsLoopback port address × n
 
 -- serving over a store ended early: it could not listen, so the store is the same and nothing was printed; or fewer connections came than
 -- were asked for, and then one could not be accepted
-abbrev pub StopsServingStore : {N S W : Type 0} → Listens N → (S → State) → S → S → (W → Option (List ℕ)) → Counted W → Counted W → Place → Type 0
+abbrev pub StopsServingStore : {N S W : Type 0} → Listens N → (S → State) → S → S → (W → Option (List ℕ)) → Counted W → Counted W → Listening → Type 0
 StopsServingStore net state desk new_desk contents out new_out place =
     (CannotListen net place.port × (new_desk ≡ desk) × (new_out ≡ out))
     ⊎ ((count : ℕ) × (count < place.connections) × ServesStore net state desk new_desk contents out new_out place.port count true)
@@ -205,23 +210,23 @@ FindsUnsound {F = F} {g = g} opener path office out new_out rest =
     × (new_out ≡ out)
 
 -- so many connections were served over a store that was opened over what a connection was found with, and this is the store behind them
-abbrev pub ServesDatabase : {N S W : Type 0} → Listens N → (S → State) → Office → Bool → connection.State → S → (W → Option (List ℕ)) → Counted W → Counted W → Place → Type 0
+abbrev pub ServesDatabase : {N S W : Type 0} → Listens N → (S → State) → Office → Bool → connection.State → S → (W → Option (List ℕ)) → Counted W → Counted W → Listening → Type 0
 ServesDatabase {S = S} net state office existing found ended contents out new_out place =
     (begun : S) × IsOver office existing found (state begun) × ServesStore net state begun ended contents out new_out place.port place.connections false
 
 -- serving so ended early, and this is the store then
-abbrev pub StopsServingDatabase : {N S W : Type 0} → Listens N → (S → State) → Office → Bool → connection.State → S → (W → Option (List ℕ)) → Counted W → Counted W → Place → Type 0
+abbrev pub StopsServingDatabase : {N S W : Type 0} → Listens N → (S → State) → Office → Bool → connection.State → S → (W → Option (List ℕ)) → Counted W → Counted W → Listening → Type 0
 StopsServingDatabase {S = S} net state office existing found ended contents out new_out place =
     (begun : S) × IsOver office existing found (state begun) × StopsServingStore net state begun ended contents out new_out place
 
 -- so many connections were served over a database, and its store is left as they left it
-abbrev pub LeavesServed : {C N S W : Type 0} → Listens N → (S → State) → Office → Bool → connection.State → Result S C → (W → Option (List ℕ)) → Counted W → Counted W → Place → Type 0
+abbrev pub LeavesServed : {C N S W : Type 0} → Listens N → (S → State) → Office → Bool → connection.State → Result S C → (W → Option (List ℕ)) → Counted W → Counted W → Listening → Type 0
 LeavesServed net state office existing found (Ok ended) contents out new_out place = ServesDatabase net state office existing found ended contents out new_out place
 LeavesServed net state office existing found (Err left) contents out new_out place = ⊥
 
 -- serving ended early, and its store is left as the connections left it; or the database was not opened, its connection is left as
 -- opening left it, and nothing was printed
-abbrev pub LeavesBroken : {C N S W : Type 0} → (C → connection.State) → Listens N → (S → State) → Office → Bool → connection.State → Result S C → (W → Option (List ℕ)) → Counted W → Counted W → Place → Type 0
+abbrev pub LeavesBroken : {C N S W : Type 0} → (C → connection.State) → Listens N → (S → State) → Office → Bool → connection.State → Result S C → (W → Option (List ℕ)) → Counted W → Counted W → Listening → Type 0
 LeavesBroken show net state office existing found (Ok ended) contents out new_out place =
     StopsServingDatabase net state office existing found ended contents out new_out place
 LeavesBroken show net state office existing found (Err left) contents out new_out place =

@@ -20,7 +20,7 @@ pub use connections::serve_connections;
 pub use door::{AcceptFault, Door};
 pub use host::{Host, HostFiles, Listen, OpenDatabase};
 pub use left::Left;
-pub use opening::{open_fault, serve_file};
+pub use opening::{Job, open_fault, serve_file};
 pub use replaying::{BROKEN_OFF, SERVED, TURNS, replay, report};
 pub use serving::serve_store;
 pub use starting::{NoWords, ended, start, why_no_words};

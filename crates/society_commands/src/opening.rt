@@ -2,9 +2,8 @@
 ghost use Rattle.std.specs.Prelude.{◌≡◌, ◌⊎◌, IfErr, IfOk, false};
 ghost use Rattle.sqlite.specs.Files.{file_state};
 ghost use Rattle.sqlite.specs.Held.{state};
-ghost use Rattle.society_commands.specs.Connections.{IsNotOpened, IsOpenedAt, IsOver, IsRefusedAt, LeavesBroken, LeavesServed, ServesOpened, StopsServingOpened};
+ghost use Rattle.society_commands.specs.Connections.{IsNotOpened, IsOpenedAt, IsOver, IsRefusedAt, LeavesBroken, LeavesServed, ServesOpened, StopsServingOpened, serving_as};
 ghost use Rattle.society_commands.specs.Refusals.{database_fault};
-ghost use Rattle.society_arguments.specs.Words.{serving_of};
 
 use crate::closing::close_left;
 use crate::host::{Listen, OpenDatabase};
@@ -13,7 +12,7 @@ use crate::replaying::BROKEN_OFF;
 use crate::serving::serve_store;
 use http_desk::Counted;
 use share_rules::Office;
-use society_arguments::{Database, Place};
+use society_arguments::{Database, Listening};
 use society_core::{Desk, Store};
 use society_opening::{OpenFault, open, open_existing};
 use society_tables::Tables;
@@ -21,6 +20,13 @@ use sqlite::{Alter, Connection, FileStore, Leftover};
 use std::alloc::Global;
 use std::io::Write;
 use std::time::Clock;
+
+/// What a start is to serve: a database, and where connections come in and how many.
+#[derive(Clone, Copy)]
+pub struct Job<'a> {
+    pub database: Database<'a>,
+    pub place: Listening,
+}
 
 /// Opens the database of a path as the office's, serves so many connections over it, and closes it, so that its file alone is the book. Answers
 /// the exit status: 0, or 1 with one line on `err` where the database is not opened, or the port cannot be listened on or a connection
@@ -30,26 +36,22 @@ pub fn serve_file<N: Listen + Clock, O: OpenDatabase + Drop, W: Write, E: Write>
     net: &N,
     opener: O,
     alloc: Global,
-    database: Database<'_>,
-    place: Place,
+    job: Job<'_>,
     office: &Office,
     out: &mut Counted<W>,
     err: &mut E,
 ) -> (u8, Left<O::File>)
     ensures status { (result.0 ≡ 0) ⊎ (result.0 ≡ 1) }
     ensures served { result.0 ≡ 0 → ServesOpened ⟦<Tables<FileStore<O::File>> as Store>⟧.state (λ t. t.conn) N.Listen O.OpenDatabase
-        (serving_of database.entry place office.now) W.contents out.old out.new result.1 }
+        (serving_as job.entry office.now) W.contents out.old out.new result.1 }
     // Nothing is printed where the database is not opened, or nothing can be listened on; else fewer connections came. In each case
     // the clause names what is left of the database.
     ensures broken_off { result.0 ≡ 1 → StopsServingOpened ⟦<Tables<FileStore<O::File>> as Store>⟧.state (λ t. t.conn) N.Listen O.OpenDatabase
-        (serving_of database.entry place office.now) W.contents out.old out.new result.1 }
+        (serving_as job.entry office.now) W.contents out.old out.new result.1 }
 {
-    match open_there(opener, database) {
+    match open_there(opener, job.database) {
         Ok(connection) => {
-            let existing = database.existing;
-            let (status, left) = serve_database(
-                net, alloc, connection, existing, place, office, out, err,
-            );
+            let (status, left) = serve_database(net, alloc, connection, job, office, out, err);
             (status, close_left(left, status, err))
         }
         Err((fault, rest)) => (open_fault(fault, err), Left::of_rest(rest)),
@@ -82,23 +84,22 @@ fn serve_database<N: Listen + Clock, M: Alter + Drop, W: Write, E: Write>(
     net: &N,
     alloc: Global,
     connection: Connection<M>,
-    existing: bool,
-    place: Place,
+    job: Job<'_>,
     office: &Office,
     out: &mut Counted<W>,
     err: &mut E,
 ) -> (u8, Result<Tables<M>, Connection<M>>)
     requires { connection.in_transaction ≡ false }
     ensures status { (result.0 ≡ 0) ⊎ (result.0 ≡ 1) }
-    ensures served { result.0 ≡ 0 → LeavesServed N.Listen ⟦<Tables<M> as Store>⟧.state office.now existing (state M.Store connection)
-        result.1 W.contents out.old out.new place }
-    ensures broken_off { result.0 ≡ 1 → LeavesBroken (state M.Store) N.Listen ⟦<Tables<M> as Store>⟧.state office.now existing
-        (state M.Store connection) result.1 W.contents out.old out.new place }
+    ensures served { result.0 ≡ 0 → LeavesServed N.Listen ⟦<Tables<M> as Store>⟧.state office.now job.entry.database.existing (state M.Store connection)
+        result.1 W.contents out.old out.new job.entry.place }
+    ensures broken_off { result.0 ≡ 1 → LeavesBroken (state M.Store) N.Listen ⟦<Tables<M> as Store>⟧.state office.now job.entry.database.existing
+        (state M.Store connection) result.1 W.contents out.old out.new job.entry.place }
 {
-    match open_tables(alloc, connection, existing, office) {
+    match open_tables(alloc, connection, job.database.existing, office) {
         Ok(tables) => {
             let mut desk = Desk::new(tables);
-            let status = serve_store(net, alloc, &mut desk, place, out, err);
+            let status = serve_store(net, alloc, &mut desk, job.place, out, err);
             (status, Ok(desk.into_store()))
         }
         Err((fault, connection)) => (open_fault(fault, err), Err(connection)),

@@ -7,7 +7,7 @@ use crate::door::AcceptFault;
 use crate::host::Listen;
 use crate::replaying::{BROKEN_OFF, SERVED};
 use http_desk::Counted;
-use society_arguments::Place;
+use society_arguments::Listening;
 use society_core::{Desk, Store};
 use std::alloc::Global;
 use std::io::Write;
@@ -20,7 +20,7 @@ pub fn serve_store<N: Listen + Clock, S: Store, W: Write, E: Write>(
     net: &N,
     alloc: Global,
     desk: &mut Desk<S>,
-    place: Place,
+    place: Listening,
     out: &mut Counted<W>,
     err: &mut E,
 ) -> u8

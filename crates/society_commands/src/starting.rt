@@ -12,7 +12,7 @@ use crate::auditing::audit_file;
 use crate::connections::print;
 use crate::host::{Listen, OpenDatabase};
 use crate::left::Left;
-use crate::opening::serve_file;
+use crate::opening::{Job, serve_file};
 use crate::replaying::{SERVED, broken_off, replay};
 use clap::Error;
 use clap::error::ErrorKind as ClapKind;
@@ -77,7 +77,8 @@ pub fn start<N: Listen + Clock, O: OpenDatabase + Drop, R: Read, W: Write, E: Wr
             (Ok(status), Left::Nothing)
         }
         Ok(Words::Serve(database, place, office)) => {
-            let (status, left) = serve_file(net, opener, alloc, database, place, &office, out, err);
+            let job = Job { database, place };
+            let (status, left) = serve_file(net, opener, alloc, job, &office, out, err);
             (Ok(status), left)
         }
         Ok(Words::Audit(path, office)) => {

@@ -16,6 +16,7 @@ use Rattle.society_core.specs.Orders.{IsOrder, Order}
 use Rattle.society_core.specs.Owners.{CutWork, cut_work, is_at, names_recording, versions_at_cut, versions_of_transmission}
 use Rattle.society_core.specs.Points.{is_tallied}
 use Rattle.society_core.specs.Pools.{holders_of}
+use Rattle.society_core.specs.declared.candidates.Weighing.{Weighing}
 use Rattle.society_core.specs.declared.claim_list.Candidate.{Candidate}
 use Rattle.society_core.specs.declared.points.Tally.{Tally}
 use Rattle.society_core.specs.declared.transmission_key.TransmissionKey.{TransmissionKey}
@@ -67,8 +68,8 @@ abbrev pub AppendsCandidates : List ℕ → List ℕ → List Holder → List (L
 AppendsCandidates sender work holders isrcs old new = new ≡ old ++ map (candidate_with sender work holders) isrcs
 
 -- the candidates have those of these works more, for the recordings that were played, with their holders in this right
-abbrev pub AddsWorks : Kind → Office → Tally → List CutWork → List Candidate → List Candidate → Type 0
-AddsWorks kind office tally works old new = AddsCandidates (holders_of kind office) (is_tallied tally) works old new
+abbrev pub AddsWorks : Weighing → List CutWork → List Candidate → List Candidate → Type 0
+AddsWorks weighing works old new = AddsCandidates (holders_of weighing.kind weighing.office.now) (is_tallied weighing.tally.now) works old new
 
 -- they are the candidates of these works
 abbrev pub AreFor : Kind → Office → Tally → List CutWork → List Candidate → Type 0
@@ -97,26 +98,26 @@ AddsClaimant claimant of_these named old new =
     (isrc : List ℕ) → of_these isrc ≡ true → claimants_among new isrc ≡ claimants_among old isrc ++ (if list_any (bytes_eq isrc) named then claimant ∷ [] else [])
 
 -- a sender's work of this number, with the holders that a transaction of it gives in this right
-abbrev pub claimant_for : Kind → Office → List ℕ → List ℕ → Transaction → Claimant
-claimant_for kind office sender work transaction = record { sender = sender; work = Ok work; holders = holders_of kind office (cut_work sender transaction) }
+abbrev pub claimant_for : Weighing → List ℕ → List ℕ → Transaction → Claimant
+claimant_for weighing sender work transaction = record { sender = sender; work = Ok work; holders = holders_of weighing.kind weighing.office.now (cut_work sender transaction) }
 
 -- the candidates of a sender's work are added: one for each recording of a tally that its transaction names
-abbrev pub AddsWork : Kind → Office → Tally → List ℕ → List ℕ → Transaction → List Candidate → List Candidate → Type 0
-AddsWork kind office tally sender work transaction old new = AddsClaimant (claimant_for kind office sender work transaction) (is_tallied tally) (isrcs_of transaction) old new
+abbrev pub AddsWork : Weighing → List ℕ → List ℕ → Transaction → List Candidate → List Candidate → Type 0
+AddsWork weighing sender work transaction old new = AddsClaimant (claimant_for weighing sender work transaction) (is_tallied weighing.tally.now) (isrcs_of transaction) old new
 
 -- the candidates of a transaction are added where it is the version that its work has at a cut of a line
-abbrev pub AddsVersion : Kind → Office → Tally → List JudgedTransmission → TransmissionKey → ℕ → ℕ → Transaction → List Candidate → List Candidate → Type 0
-AddsVersion kind office tally line key number place transaction old new =
-    AddsWorks kind office tally (work_where (is_version_by line key.number number place (number_of_work transaction)) key.sender transaction) old new
+abbrev pub AddsVersion : Weighing → List JudgedTransmission → TransmissionKey → ℕ → ℕ → Transaction → List Candidate → List Candidate → Type 0
+AddsVersion weighing line key number place transaction old new =
+    AddsWorks weighing (work_where (is_version_by line key.number number place (number_of_work transaction)) key.sender transaction) old new
 
 -- the candidates of those of a transmission's transactions are added that are versions at its sender's cut
-abbrev pub AddsSent : Kind → Office → Tally → Book → TransmissionKey → ℕ → List Candidate → List Candidate → Type 0
-AddsSent kind office tally book key number old new =
-    AddsWorks kind office tally (versions_of_transmission office book key number (transactions_sent book key.sender number)) old new
+abbrev pub AddsSent : Weighing → Book → TransmissionKey → ℕ → List Candidate → List Candidate → Type 0
+AddsSent weighing book key number old new =
+    AddsWorks weighing (versions_of_transmission weighing.office.now book key number (transactions_sent book key.sender number)) old new
 
 -- the candidates of a sender's works are added as they are at its cut
-abbrev pub AddsSender : Kind → Office → Tally → Book → TransmissionKey → List Candidate → List Candidate → Type 0
-AddsSender kind office tally book key old new = AddsWorks kind office tally (versions_at_cut office book key) old new
+abbrev pub AddsSender : Weighing → Book → TransmissionKey → List Candidate → List Candidate → Type 0
+AddsSender weighing book key old new = AddsWorks weighing (versions_at_cut weighing.office.now book key) old new
 
 -- each return that an order names is there (profile)
 abbrev pub HasReturns : Book → Order → Type 0

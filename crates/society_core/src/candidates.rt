@@ -24,6 +24,15 @@ use std::collections::BTreeSet;
 use work_ids::{Isrc, SenderKey, TransmissionNumber, WorkNumber};
 use works_core::{SenderLine, isrcs};
 
+/// What a pool's works are weighed by: the right that is paid, at which office, and the recordings that were played.
+#[derive(Clone, Copy)]
+pub struct Weighing<'a> {
+    pub alloc: Global,
+    pub kind: Kind,
+    pub office: &'a Office,
+    pub tally: &'a Tally,
+}
+
 // Whether a recording is one of a tally and was not seen before.
 fn is_due(tally: &Tally, seen: &BTreeSet<Isrc>, isrc: &Isrc) -> bool
     ensures { result ≡ (is_tallied tally.now isrc.now && not (contains bytes_cmp seen.now isrc.now)) }
@@ -77,23 +86,26 @@ fn append_candidates(
 /// Adds the candidates that a work's version makes: one for each recording of a tally that it names, with this sender, this number
 /// of a work, and the holders of the transaction. Its weights are worked out once, and only where it names one.
 pub fn add_candidates(
-    alloc: Global,
-    kind: Kind,
-    office: &Office,
-    tally: &Tally,
+    weighing: &Weighing<'_>,
     sender: &SenderKey,
     work: &WorkNumber,
     transaction: &Transaction<'_>,
     candidates: &mut Vec<Candidate>,
 ) -> Result<(), AllocError>
-    ensures { OnOk result (AddsWork kind office.now tally.now sender.now work.now transaction.now candidates.old.items candidates.new.items) }
+    ensures { OnOk result (AddsWork weighing.now sender.now work.now transaction.now candidates.old.items candidates.new.items) }
 {
-    let named = tallied_isrcs(alloc, tally, transaction)?;
+    let named = tallied_isrcs(weighing.alloc, weighing.tally, transaction)?;
     if named.is_empty() {
         return Ok(());
     }
-    let holders = weights(alloc, kind, sender, transaction, office)?;
-    append_candidates(alloc, sender, work, &holders, &named, candidates)
+    let holders = weights(
+        weighing.alloc,
+        weighing.kind,
+        sender,
+        transaction,
+        weighing.office,
+    )?;
+    append_candidates(weighing.alloc, sender, work, &holders, &named, candidates)
 }
 
 // Whether the version that a work has at a cut is the transaction at this place of this transmission.
@@ -114,10 +126,7 @@ fn is_version_at(
 
 // Adds the candidates of a transaction, where it is the version that its work has at the sender's cut.
 fn add_transaction(
-    alloc: Global,
-    kind: Kind,
-    office: &Office,
-    tally: &Tally,
+    weighing: &Weighing<'_>,
     key: &TransmissionKey,
     line: &SenderLine,
     number: TransmissionNumber,
@@ -125,7 +134,7 @@ fn add_transaction(
     transaction: &Transaction<'_>,
     candidates: &mut Vec<Candidate>,
 ) -> Result<(), AllocError>
-    ensures { OnOk result (AddsVersion kind office.now tally.now line.now.transmissions key.now number place transaction.now
+    ensures { OnOk result (AddsVersion weighing.now line.now.transmissions key.now number place transaction.now
         candidates.old.items candidates.new.items) }
 {
     let Some(work) = transaction.work_number() else {
@@ -134,24 +143,12 @@ fn add_transaction(
     if !is_version_at(line, key.number, &work, number, place) {
         return Ok(());
     }
-    add_candidates(
-        alloc,
-        kind,
-        office,
-        tally,
-        &key.sender,
-        &work,
-        transaction,
-        candidates,
-    )
+    add_candidates(weighing, &key.sender, &work, transaction, candidates)
 }
 
 // Adds the candidates of a sender's transmission: of those of its transactions that are versions at the sender's cut.
 fn add_versions(
-    alloc: Global,
-    kind: Kind,
-    office: &Office,
-    tally: &Tally,
+    weighing: &Weighing<'_>,
     book: &PlainBook,
     key: &TransmissionKey,
     line: &SenderLine,
@@ -159,12 +156,12 @@ fn add_versions(
     candidates: &mut Vec<Candidate>,
 ) -> Result<(), AllocError>
     requires sound { IsSound book.now }
-    requires line { line.now.transmissions ≡ line_of office.now (transmissions_to book.now key.now.sender key.now.number) }
+    requires line { line.now.transmissions ≡ line_of weighing.now.office.now (transmissions_to book.now key.now.sender key.now.number) }
     requires within { is_one_of (numbers_to book.now key.now.sender key.now.number) number ≡ true }
     requires there { is_there book.now key.now.sender number ≡ true }
-    ensures { OnOk result (AddsSent kind office.now tally.now book.now key.now number candidates.old.items candidates.new.items) }
+    ensures { OnOk result (AddsSent weighing.now book.now key.now number candidates.old.items candidates.new.items) }
 {
-    let transmission = transmission_of(alloc, book, &key.sender, number)?;
+    let transmission = transmission_of(weighing.alloc, book, &key.sender, number)?;
     let Some(verdicts) = line.verdicts(number) else {
         unreachable!();
     };
@@ -172,42 +169,32 @@ fn add_versions(
         let Some(transaction) = transmission.transaction(place) else {
             unreachable!();
         };
-        add_transaction(
-            alloc,
-            kind,
-            office,
-            tally,
-            key,
-            line,
-            number,
-            place,
-            transaction,
-            candidates,
-        )?;
+        add_transaction(weighing, key, line, number, place, transaction, candidates)?;
     }
     Ok(())
 }
 
 // Adds the candidates of a sender: its works as they are at its cut.
 fn add_sender(
-    alloc: Global,
-    kind: Kind,
-    office: &Office,
-    tally: &Tally,
+    weighing: &Weighing<'_>,
     book: &PlainBook,
     key: &TransmissionKey,
     candidates: &mut Vec<Candidate>,
 ) -> Result<(), AllocError>
     requires sound { IsSound book.now }
     requires applied { is_applied book.now key.now ≡ true }
-    ensures { OnOk result (AddsSender kind office.now tally.now book.now key.now candidates.old.items candidates.new.items) }
+    ensures { OnOk result (AddsSender weighing.now book.now key.now candidates.old.items candidates.new.items) }
 {
-    let line = line_to(alloc, office, book, &key.sender, key.number.value())?;
-    let numbers = book.numbers_to(alloc, &key.sender, key.number.value())?;
+    let line = line_to(
+        weighing.alloc,
+        weighing.office,
+        book,
+        &key.sender,
+        key.number.value(),
+    )?;
+    let numbers = book.numbers_to(weighing.alloc, &key.sender, key.number.value())?;
     for number in &numbers {
-        add_versions(
-            alloc, kind, office, tally, book, key, &line, *number, candidates,
-        )?;
+        add_versions(weighing, book, key, &line, *number, candidates)?;
     }
     Ok(())
 }
@@ -225,9 +212,15 @@ pub(crate) fn candidates_of(
     requires reached { ReachesCut book.now order.now }
     ensures { IfOk result (λ list. AreFor kind office.now tally.now (works_of_cut office.now book.now order.now) list.items) }
 {
+    let weighing = Weighing {
+        alloc,
+        kind,
+        office,
+        tally,
+    };
     let mut candidates = Vec::new(alloc);
     for key in order.cut() {
-        add_sender(alloc, kind, office, tally, book, key, &mut candidates)?;
+        add_sender(&weighing, book, key, &mut candidates)?;
     }
     Ok(candidates)
 }

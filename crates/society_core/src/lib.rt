@@ -26,7 +26,7 @@ mod transmission_key;
 mod work;
 
 pub use answers::{Answer, Arrival, Receipt, SenderStatus, Standing, Work};
-pub use candidates::add_candidates;
+pub use candidates::{Weighing, add_candidates};
 pub use claim_list::{Candidate, claims};
 pub use desk::Desk;
 pub use end_fault::EndFault;

@@ -28,7 +28,7 @@ use crate::taking_over::take_over;
 use memory_store::MemoryStore;
 use share_rules::Office;
 use society_audit::own_rows::listed_own;
-use society_audit::{AuditFault, confirm, listed, rebuild, tables_agree};
+use society_audit::{AuditFault, confirm, list_table, rebuild, tables_agree};
 use society_core::Store;
 use society_rows::{
     Found, Idle, LAYOUT, OfficeRow, RowFault, TableName, are_numbered, create, layout_found,
@@ -69,7 +69,7 @@ fn office_agrees<S: Alter>(conn: &mut Idle<S>, office: &Office) -> Result<(), Op
     ensures other { IfErr result (λ e. e ≢ Damaged) }
     ensures there { IfErr result (λ e. e ≢ Empty) }
 {
-    let rows = listed(conn, TableName::Office)?;
+    let rows = list_table(conn, TableName::Office)?;
     check_office(rows.as_slice(), office, LAYOUT)
 }
 

@@ -16,7 +16,10 @@ pub(crate) fn store_fault(fault: RowFault) -> StoreFault
 }
 
 /// An answer of the database as the store's; a fault of the medium is counted.
-pub(crate) fn told<T>(failures: &mut u64, answer: Result<T, RowFault>) -> Result<T, StoreFault>
+pub(crate) fn store_answer<T>(
+    failures: &mut u64,
+    answer: Result<T, RowFault>,
+) -> Result<T, StoreFault>
     requires { failures.old < 2 ^ 64 - 1 }
     ensures { Told answer result failures.old failures.new }
 {

@@ -1,12 +1,13 @@
 //! The store over a database.
-ghost use Rattle.std.specs.Prelude.{◌≡◌, ◌<◌, ◌^◌, IfOk, IsTrue, false, true};
+ghost use Rattle.std.specs.Prelude.{◌≡◌, ◌<◌, ◌-◌, ◌^◌, IfErr, IfOk, IsTrue, false, true};
 ghost use Rattle.sqlite.specs.Held.{state};
 ghost use Rattle.sqlite.specs.State.{HasCleanDisk, IsLive};
 ghost use Rattle.society_core.specs.Book.{empty_book};
+ghost use Rattle.society_core.specs.declared.store.StoreFault.TheVariants.{Refused};
 ghost use Rattle.society_book.specs.BookRows.{book_of};
 ghost use Rattle.society_book.specs.Kept.{IsAtRest, Rests};
 
-use crate::fault::told;
+use crate::fault::store_answer;
 use cwr_files::FileReader;
 use memory_store::MemoryStore;
 use pool_split::Credit;
@@ -59,11 +60,9 @@ impl<S: Alter> Store for Tables<S> {
         number: TransmissionNumber,
         body: &[u8],
     ) -> Result<KnownTransmission, StoreFault> {
-        if self.failures == u64::MAX {
-            return Err(StoreFault::Refused);
-        }
+        self.counts_on()?;
         let answer = known_of(&mut self.conn, sender.as_bytes(), number, body);
-        told(&mut self.failures, answer)
+        store_answer(&mut self.failures, answer)
     }
 
     fn ack(
@@ -72,11 +71,9 @@ impl<S: Alter> Store for Tables<S> {
         sender: &SenderKey,
         number: TransmissionNumber,
     ) -> Result<Option<Vec<u8>>, StoreFault> {
-        if self.failures == u64::MAX {
-            return Err(StoreFault::Refused);
-        }
+        self.counts_on()?;
         let answer = ack_of(alloc, &mut self.conn, &self.office, sender, number);
-        told(&mut self.failures, answer)
+        store_answer(&mut self.failures, answer)
     }
 
     fn place(
@@ -84,27 +81,21 @@ impl<S: Alter> Store for Tables<S> {
         sender: &SenderKey,
         number: TransmissionNumber,
     ) -> Result<Place, StoreFault> {
-        if self.failures == u64::MAX {
-            return Err(StoreFault::Refused);
-        }
+        self.counts_on()?;
         let answer = place_of(&mut self.conn, sender.as_bytes(), number);
-        told(&mut self.failures, answer)
+        store_answer(&mut self.failures, answer)
     }
 
     fn known_end(&mut self, sender: &SenderKey, end: &SegmentEnd) -> Result<KnownEnd, StoreFault> {
-        if self.failures == u64::MAX {
-            return Err(StoreFault::Refused);
-        }
+        self.counts_on()?;
         let answer = known_end_of(&mut self.conn, sender.as_bytes(), end);
-        told(&mut self.failures, answer)
+        store_answer(&mut self.failures, answer)
     }
 
     fn standing(&mut self, alloc: Global, sender: &SenderKey) -> Result<SenderStatus, StoreFault> {
-        if self.failures == u64::MAX {
-            return Err(StoreFault::Refused);
-        }
+        self.counts_on()?;
         let answer = status_of(alloc, &mut self.conn, sender.as_bytes());
-        told(&mut self.failures, answer)
+        store_answer(&mut self.failures, answer)
     }
 
     fn work(
@@ -113,11 +104,9 @@ impl<S: Alter> Store for Tables<S> {
         sender: &SenderKey,
         work: &WorkNumber,
     ) -> Result<Option<Work>, StoreFault> {
-        if self.failures == u64::MAX {
-            return Err(StoreFault::Refused);
-        }
+        self.counts_on()?;
         let answer = work_of(alloc, &mut self.conn, &self.office, sender, work);
-        told(&mut self.failures, answer)
+        store_answer(&mut self.failures, answer)
     }
 
     fn verdicts(
@@ -126,35 +115,27 @@ impl<S: Alter> Store for Tables<S> {
         sender: &SenderKey,
         number: TransmissionNumber,
     ) -> Result<Option<Vec<Verdict>>, StoreFault> {
-        if self.failures == u64::MAX {
-            return Err(StoreFault::Refused);
-        }
+        self.counts_on()?;
         let answer = verdicts_of(alloc, &mut self.conn, sender.as_bytes(), number);
-        told(&mut self.failures, answer)
+        store_answer(&mut self.failures, answer)
     }
 
     fn known_return(&mut self, key: &ReturnKey, body: &[u8]) -> Result<Known, StoreFault> {
-        if self.failures == u64::MAX {
-            return Err(StoreFault::Refused);
-        }
+        self.counts_on()?;
         let answer = known_return_of(&mut self.conn, key, body);
-        told(&mut self.failures, answer)
+        store_answer(&mut self.failures, answer)
     }
 
     fn payment(&mut self, key: &ReturnKey) -> Result<Payment, StoreFault> {
-        if self.failures == u64::MAX {
-            return Err(StoreFault::Refused);
-        }
+        self.counts_on()?;
         let answer = payment_of(&mut self.conn, key);
-        told(&mut self.failures, answer)
+        store_answer(&mut self.failures, answer)
     }
 
     fn known_pool(&mut self, pool: PoolNumber, order: &PoolOrder) -> Result<Known, StoreFault> {
-        if self.failures == u64::MAX {
-            return Err(StoreFault::Refused);
-        }
+        self.counts_on()?;
         let answer = known_pool_of(&mut self.conn, pool.value(), order);
-        told(&mut self.failures, answer)
+        store_answer(&mut self.failures, answer)
     }
 
     fn credits(
@@ -162,19 +143,15 @@ impl<S: Alter> Store for Tables<S> {
         alloc: Global,
         pool: PoolNumber,
     ) -> Result<Option<Vec<Credit>>, StoreFault> {
-        if self.failures == u64::MAX {
-            return Err(StoreFault::Refused);
-        }
+        self.counts_on()?;
         let answer = pool_credits(alloc, &mut self.conn, pool.value());
-        told(&mut self.failures, answer)
+        store_answer(&mut self.failures, answer)
     }
 
     fn balance(&mut self, alloc: Global, account: &Account) -> Result<u64, StoreFault> {
-        if self.failures == u64::MAX {
-            return Err(StoreFault::Refused);
-        }
+        self.counts_on()?;
         let answer = balance_of(alloc, &mut self.conn, account);
-        told(&mut self.failures, answer)
+        store_answer(&mut self.failures, answer)
     }
 
     fn add_transmission(
@@ -183,9 +160,7 @@ impl<S: Alter> Store for Tables<S> {
         number: TransmissionNumber,
         reader: FileReader,
     ) -> Result<Place, StoreFault> {
-        if self.failures == u64::MAX {
-            return Err(StoreFault::Refused);
-        }
+        self.counts_on()?;
         let answer = arrive(
             alloc,
             &mut self.conn,
@@ -194,7 +169,7 @@ impl<S: Alter> Store for Tables<S> {
             number,
             reader.body(),
         );
-        told(&mut self.failures, answer)
+        store_answer(&mut self.failures, answer)
     }
 
     fn add_end(
@@ -203,11 +178,9 @@ impl<S: Alter> Store for Tables<S> {
         sender: &SenderKey,
         end: &SegmentEnd,
     ) -> Result<u32, StoreFault> {
-        if self.failures == u64::MAX {
-            return Err(StoreFault::Refused);
-        }
+        self.counts_on()?;
         let answer = state_end(alloc, &mut self.conn, &self.office, sender, end);
-        told(&mut self.failures, answer)
+        store_answer(&mut self.failures, answer)
     }
 
     fn add_return(
@@ -216,16 +189,14 @@ impl<S: Alter> Store for Tables<S> {
         key: &ReturnKey,
         body: &[u8],
     ) -> Result<(), StoreFault> {
-        if self.failures == u64::MAX {
-            return Err(StoreFault::Refused);
-        }
+        self.counts_on()?;
         let row = ReturnRow {
             reporter: key.reporter.as_bytes(),
             number: key.number.value(),
             body,
         };
         let answer = write_return(&mut self.conn, &row);
-        told(&mut self.failures, answer)
+        store_answer(&mut self.failures, answer)
     }
 
     fn add_pool(
@@ -234,17 +205,27 @@ impl<S: Alter> Store for Tables<S> {
         pool: PoolNumber,
         order: &PoolOrder,
     ) -> Result<(), StoreFault> {
-        if self.failures == u64::MAX {
-            return Err(StoreFault::Refused);
-        }
+        self.counts_on()?;
         let answer = close(alloc, &mut self.conn, &self.office, pool, order);
-        told(&mut self.failures, answer)
+        store_answer(&mut self.failures, answer)
     }
 
     ghost laws = { λ t. is_state t.office (state S.Store.own t.conn) t.failures (λ db is_open left. S.settled t.conn.store db is_open left) t.rests };
 }
 
 impl<S: Alter> Tables<S> {
+    // Refused where the store has counted all the failures that it can.
+    fn counts_on(&self) -> Result<(), StoreFault>
+        ensures room { IfOk result (λ _. self.now.failures < 2 ^ 64 - 1) }
+        ensures refused { IfErr result (λ fault. (fault ≡ Refused) × (self.now.failures ≡ 2 ^ 64 - 1)) }
+    {
+        if self.failures == u64::MAX {
+            Err(StoreFault::Refused)
+        } else {
+            Ok(())
+        }
+    }
+
     /// The connection that the tables lie behind; it is in no transaction. That of a clean store is open, shows what the last
     /// commit left, and has layout 3 with the store's book and what is derived from it.
     pub fn into_connection(self) -> Connection<S>

@@ -22,7 +22,7 @@ use Rattle.share_rules.specs.Office.{IsOfficeOf}
 use Rattle.share_rules.specs.declared.office.Office.{Office}
 use Rattle.society_arguments.specs.Words.{Asked, AsksAudit, AsksToReplay, AsksHelp, AsksReplay, AsksServe, AsksToAudit, AsksToServe, Serving, WantsAudit, WantsReplay, WantsServing, HasBadName, HasBadWords, IsReadAs, IsRefusedAs, IsWrong, at_office, number_given, number_spelled, serving_of}
 use Rattle.society_arguments.specs.declared.words.Database.{Database}
-use Rattle.society_arguments.specs.declared.words.Place.{Place}
+use Rattle.society_arguments.specs.declared.words.Listening.{Listening}
 use Rattle.society_arguments.specs.declared.words.Words.{Words}
 use Rattle.society_arguments.specs.declared.words.Words.TheVariants as words
 
@@ -89,7 +89,7 @@ asks_for HasBadName office reads = absurd reads
 asks_for HasBadWords office reads = absurd reads
 
 -- words that are read so as to serve ask for it
-pub asks_to_serve : (a : Asked) (database : Database) (place : Place) (office : Office) → IsReadAs a (words.Serve database place office)
+pub asks_to_serve : (a : Asked) (database : Database) (place : Listening) (office : Office) → IsReadAs a (words.Serve database place office)
     → AsksToServe a (serving_of database place office)
 asks_to_serve (AsksServe path existing there society territory name) database place office reads = (reads.0.0, reads.0.1, reads.1, reads.2)
 asks_to_serve (AsksReplay society territory name) database place office reads = absurd reads
@@ -177,7 +177,7 @@ not_wrong HasBadWords words.BadName reads wrong = absurd reads
 pub replay_not_wrong : (a : Asked) (office : Office) → IsReadAs a (words.Replay office) → IsWrong a → ⊥
 replay_not_wrong a office reads wrong = elim (not_wrong a (words.Replay office) reads wrong) [ inl is ↦ cc | inr is ↦ cc ]
 
-pub serve_not_wrong : (a : Asked) (database : Database) (place : Place) (office : Office) → IsReadAs a (words.Serve database place office) → IsWrong a → ⊥
+pub serve_not_wrong : (a : Asked) (database : Database) (place : Listening) (office : Office) → IsReadAs a (words.Serve database place office) → IsWrong a → ⊥
 serve_not_wrong a database place office reads wrong = elim (not_wrong a (words.Serve database place office) reads wrong) [ inl is ↦ cc | inr is ↦ cc ]
 
 pub audit_not_wrong : (a : Asked) (path : Bor Text) (office : Office) → IsReadAs a (words.Audit path office) → IsWrong a → ⊥

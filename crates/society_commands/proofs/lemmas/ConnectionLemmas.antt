@@ -16,7 +16,7 @@ use Rattle.society_core.specs.Requests.{Reply}
 use Rattle.society_core.specs.State.{Rises, State}
 use Rattle.sqlite.specs.State as connection
 use Rattle.share_rules.specs.declared.office.Office.{Office}
-use Rattle.society_arguments.specs.declared.words.Place.{Place}
+use Rattle.society_arguments.specs.declared.words.Listening.{Listening}
 use Rattle.society_commands.specs.Doors.{CameIn}
 use Rattle.society_commands.specs.declared.host.Listen.{Ghosts as Listens}
 use Rattle.society_commands.specs.Connections.{ServesOne, Connection, IsCounted, IsOver, Prints, ServesConnections, ServesDatabase, ServesStore, StopsServingDatabase, StopsServingStore, connection_line, connection_lines, parts_brought, replies_given, requests_of}
@@ -147,7 +147,7 @@ serves_store net state desk new_desk contents first out new_out port count faile
 
 -- a store over a database was served, from where it was opened to where it is left
 module _ {N S W : Type 0} (net : Listens N) (opened begun ended last : S) (state : S → State) (office : Office) (existing : Bool) (found : connection.State) (over : IsOver office existing found (state opened)) (same : begun ≡ opened) (stays : last ≡ ended)
-    (contents : W → Option (List ℕ)) (out new_out : Counted W) (place : Place) where
+    (contents : W → Option (List ℕ)) (out new_out : Counted W) (place : Listening) where
   pub serves_database : ServesStore net state begun ended contents out new_out place.port place.connections false → ServesDatabase net state office existing found last contents out new_out place
   serves_database s = (
     opened,

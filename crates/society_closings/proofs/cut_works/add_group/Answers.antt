@@ -13,8 +13,8 @@ use Rattle.society_core.specs.Pools.{holders_of}
 
 pub loop-index-preserved : goal.loop-index-preserved
 loop-index-preserved c =
-    let o = c.args.office.now in
-    let of_these = is_tallied c.args.tally.now in
+    let o = c.args.weighing.now.office.now in
+    let of_these = is_tallied c.args.weighing.now.tally.now in
     let chosen = c.args.chosen.now in
     let s = c.args.sender.now in
     let n = c.args.number in
@@ -30,9 +30,9 @@ loop-index-preserved c =
     ap (works_chosen chosen s n first) next
     ∙ where_push s passes first so_far t
     ∙ ap (λ (k : ℕ). works_chosen chosen s n first so_far ++ work_where (is_chosen chosen n k (number_of_work t)) s t) place in
-    subst (λ (ws : List CutWork). AddsCandidates (holders_of c.args.kind o) of_these ws c.args.candidates.now.items c.add_transaction.new.candidates.items) (sym step)
-    (adds_then (holders_of c.args.kind o) of_these (works_chosen chosen s n first so_far) (work_where (is_chosen chosen n c.in_ok-place.place (number_of_work t)) s t) c.args.candidates.now.items c.loop-index.candidates.items c.add_transaction.new.candidates.items c.loop-index.invariant c.in_ok-add_transaction.ensures)
+    subst (λ (ws : List CutWork). AddsCandidates (holders_of c.args.weighing.now.kind o) of_these ws c.args.candidates.now.items c.add_transaction.new.candidates.items) (sym step)
+    (adds_then (holders_of c.args.weighing.now.kind o) of_these (works_chosen chosen s n first so_far) (work_where (is_chosen chosen n c.in_ok-place.place (number_of_work t)) s t) c.args.candidates.now.items c.loop-index.candidates.items c.add_transaction.new.candidates.items c.loop-index.invariant c.in_ok-add_transaction.ensures)
 
 pub returns : goal.returns
 returns c =
-    subst (λ (ts : List Transaction). AddsCandidates (holders_of c.args.kind c.args.office.now) (is_tallied c.args.tally.now) (works_chosen c.args.chosen.now c.args.sender.now c.args.number c.args.first ts) c.args.candidates.now.items c.loop-index.candidates.items) (take_all c.loop-index.index c.args.transactions.now c.loop-index-test.false) c.loop-index.invariant
+    subst (λ (ts : List Transaction). AddsCandidates (holders_of c.args.weighing.now.kind c.args.weighing.now.office.now) (is_tallied c.args.weighing.now.tally.now) (works_chosen c.args.chosen.now c.args.sender.now c.args.number c.args.first ts) c.args.candidates.now.items c.loop-index.candidates.items) (take_all c.loop-index.index c.args.transactions.now c.loop-index-test.false) c.loop-index.invariant

@@ -7,4 +7,4 @@ use Rattle.society_core.specs.Pools.{holders_of}
 
 -- the transactions so far are added
 abbrev pub invariant-loop-index : goal.invariant-loop-index
-invariant-loop-index l = AddsCandidates (holders_of l.kind l.office) (is_tallied l.tally) (works_chosen l.chosen l.sender l.number l.first (take l.index l.transactions)) l.initial.candidates.items l.candidates.items
+invariant-loop-index l = AddsCandidates (holders_of l.weighing.kind l.weighing.office.now) (is_tallied l.weighing.tally.now) (works_chosen l.chosen l.sender l.number l.first (take l.index l.transactions)) l.initial.candidates.items l.candidates.items

@@ -15,8 +15,8 @@ use Rattle.society_core.specs.Pools.{holders_of}
 
 pub loop-group-preserved : goal.loop-group-preserved
 loop-group-preserved c =
-    let o = c.args.office.now in
-    let of_these = is_tallied c.args.tally.now in
+    let o = c.args.weighing.now.office.now in
+    let of_these = is_tallied c.args.weighing.now.tally.now in
     let chosen = c.args.chosen.now in
     let s = c.args.sender.now in
     let n = c.args.number in
@@ -37,6 +37,6 @@ loop-group-preserved c =
     ∙ ap (λ (k : ℕ). works_chosen chosen s n 0 so_far ++ works_chosen chosen s n k ts) place in
     record {
       place = c.in_ok-place.ensures ∙ ap (λ (k : ℕ). k + length ts) c.loop-group.invariant.place ∙ sym (ap (λ (l : List Transaction). length l) next ∙ length-append so_far ts);
-      adds = subst (λ (ws : List CutWork). AddsCandidates (holders_of c.args.kind o) of_these ws c.args.candidates.now.items c.add_group.new.candidates.items) (sym step)
-          (adds_then (holders_of c.args.kind o) of_these (works_chosen chosen s n 0 so_far) (works_chosen chosen s n c.loop-group.place ts) c.args.candidates.now.items c.loop-group.candidates.items c.add_group.new.candidates.items c.loop-group.invariant.adds c.in_ok-add_group.ensures);
+      adds = subst (λ (ws : List CutWork). AddsCandidates (holders_of c.args.weighing.now.kind o) of_these ws c.args.candidates.now.items c.add_group.new.candidates.items) (sym step)
+          (adds_then (holders_of c.args.weighing.now.kind o) of_these (works_chosen chosen s n 0 so_far) (works_chosen chosen s n c.loop-group.place ts) c.args.candidates.now.items c.loop-group.candidates.items c.add_group.new.candidates.items c.loop-group.invariant.adds c.in_ok-add_group.ensures);
     }

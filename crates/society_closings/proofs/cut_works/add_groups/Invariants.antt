@@ -9,5 +9,5 @@ use Rattle.society_core.specs.Pools.{holders_of}
 abbrev pub invariant-loop-group : goal.invariant-loop-group
 invariant-loop-group l = record {
   place : l.place ≡ length (flat_map (λ g. g.transactions) (take l.group-index l.group-items));
-  adds : AddsCandidates (holders_of l.kind l.office) (is_tallied l.tally) (works_chosen l.chosen l.sender l.number 0 (flat_map (λ g. g.transactions) (take l.group-index l.group-items))) l.initial.candidates.items l.candidates.items;
+  adds : AddsCandidates (holders_of l.weighing.kind l.weighing.office.now) (is_tallied l.weighing.tally.now) (works_chosen l.chosen l.sender l.number 0 (flat_map (λ g. g.transactions) (take l.group-index l.group-items))) l.initial.candidates.items l.candidates.items;
 }

@@ -14,6 +14,6 @@ returns c =
     let chosen : is_chosen c.args.chosen.now c.args.number c.args.place (number_of_work t) ≡ true =
     ap (is_chosen c.args.chosen.now c.args.number c.args.place) numbered ∙ sym c.is_at.ensures ∙ c.if-not-is_at.false in
     subst
-    (λ (b : Bool). OnOk c.add_candidates.result (AddsWorks c.args.kind c.args.office.now c.args.tally.now (work_where b c.args.sender.now t) c.args.candidates.now.items c.add_candidates.new.candidates.items))
+    (λ (b : Bool). OnOk c.add_candidates.result (AddsWorks c.args.weighing.now (work_where b c.args.sender.now t) c.args.candidates.now.items c.add_candidates.new.candidates.items))
     (sym chosen)
-    (as_numbered (holders_of c.args.kind c.args.office.now) (is_tallied c.args.tally.now) c.args.sender.now c.in-Some.work t c.args.candidates.now.items c.add_candidates.new.candidates.items c.add_candidates.result numbered c.add_candidates.ensures)
+    (as_numbered (holders_of c.args.weighing.now.kind c.args.weighing.now.office.now) (is_tallied c.args.weighing.now.tally.now) c.args.sender.now c.in-Some.work t c.args.candidates.now.items c.add_candidates.new.candidates.items c.add_candidates.result numbered c.add_candidates.ensures)

@@ -13,9 +13,9 @@ use Rattle.society_core.specs.Pools.{holders_of}
 
 pub loop-number-preserved : goal.loop-number-preserved
 loop-number-preserved g c =
-    let o = c.args.office.now in
+    let o = c.args.weighing.now.office.now in
     let key = c.args.key.now in
-    let of_these = is_tallied c.args.tally.now in
+    let of_these = is_tallied c.args.weighing.now.tally.now in
     let all = c.as_slice-number-items.result.now in
     let i = c.loop-number.number-index in
     let n = c.number-item.result in
@@ -29,14 +29,14 @@ loop-number-preserved g c =
           (λ y first second b holds right.
           let f = λ (k : ℕ). versions_of_transmission o b key k (transactions_sent b key.sender k) in
           let within = listed_within o b key of_these c.args.chosen.now right all i n (c.as_slice-number-items.ensures.value ∙ c.in_ok-numbers.ensures.numbers) c.number-item.is c.loop-number-test.true in
-          subst (λ (ws : List CutWork). AddsCandidates (holders_of c.args.kind o) of_these ws first_list new_list)
+          subst (λ (ws : List CutWork). AddsCandidates (holders_of c.args.weighing.now.kind o) of_these ws first_list new_list)
           (ap (λ (ws : List CutWork). versions_in o b key (take i all) ++ ws) (sym (append-nil (f n))) ∙ sym (ap (versions_in o b key) next ∙ flat_map-append f (take i all) (n ∷ [])))
-          (adds_then (holders_of c.args.kind o) of_these (versions_in o b key (take i all)) (f n) first_list mid_list new_list (first b holds right) (second b holds within right)));
+          (adds_then (holders_of c.args.weighing.now.kind o) of_these (versions_in o b key (take i all)) (f n) first_list mid_list new_list (first b holds right) (second b holds within right)));
     }
 
 pub returns-clause-looks : goal.returns-clause-looks
 returns-clause-looks g c =
-    let o = c.args.office.now in
+    let o = c.args.weighing.now.office.now in
     let key = c.args.key.now in
     let all = c.as_slice-number-items.result.now in
     let old_list = c.args.candidates.now.items in
@@ -44,5 +44,5 @@ returns-clause-looks g c =
     let named : take c.loop-number.number-index all ≡ c.args.chosen.now.transmissions.keys = take_all c.loop-number.number-index all c.loop-number-test.false ∙ c.as_slice-number-items.ensures.value ∙ c.in_ok-numbers.ensures.numbers in
     looks_as (state g.S.Store c.args.tx.now.conn.now) (state g.S.Store c.loop-number.tx.conn.now) tt (Ok tt) _ _ c.loop-number.invariant.looks
     (λ first b holds right.
-    set_adds (holders_of c.args.kind o) o b key (is_tallied c.args.tally.now) c.args.chosen.now right c.transmissions.ensures.ordered old_list new_list
-    (subst (λ (ns : List ℕ). AddsCandidates (holders_of c.args.kind o) (is_tallied c.args.tally.now) (versions_in o b key ns) old_list new_list) named (first b holds right)))
+    set_adds (holders_of c.args.weighing.now.kind o) o b key (is_tallied c.args.weighing.now.tally.now) c.args.chosen.now right c.transmissions.ensures.ordered old_list new_list
+    (subst (λ (ns : List ℕ). AddsCandidates (holders_of c.args.weighing.now.kind o) (is_tallied c.args.weighing.now.tally.now) (versions_in o b key ns) old_list new_list) named (first b holds right)))

@@ -15,6 +15,6 @@ abbrev pub invariant-loop-number : goal.invariant-loop-number
 invariant-loop-number g l = record {
   same_reference : l.tx.conn.ghost_name ≡ l.initial.tx.conn.ghost_name;
   looks : Looks {X = Unit {0}} (state g.S.Store l.initial.tx.conn.now) (state g.S.Store l.tx.conn.now) (Ok tt)
-      (λ db _. (book : Book) → HoldsWorks l.office book db → ChoosesNaming l.office book l.key (is_tallied l.tally) l.chosen
-      → AddsCandidates (holders_of l.kind l.office) (is_tallied l.tally) (versions_in l.office book l.key (take l.number-index l.number-items)) l.initial.candidates.items l.candidates.items);
+      (λ db _. (book : Book) → HoldsWorks l.weighing.office.now book db → ChoosesNaming l.weighing.office.now book l.key (is_tallied l.weighing.tally.now) l.chosen
+      → AddsCandidates (holders_of l.weighing.kind l.weighing.office.now) (is_tallied l.weighing.tally.now) (versions_in l.weighing.office.now book l.key (take l.number-index l.number-items)) l.initial.candidates.items l.candidates.items);
 }

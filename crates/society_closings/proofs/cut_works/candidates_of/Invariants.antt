@@ -18,5 +18,5 @@ invariant-loop-key g l = record {
   looks : Looks {X = Unit {0}} (state g.S.Store l.initial.tx.conn.now) (state g.S.Store l.tx.conn.now) (Ok tt)
       (λ db _. (book : Book) → HoldsWorks l.office book db → NotesRecordings db (is_tallied l.tally) l.named
       → list_all (λ key. notes_of_sender l.named key.sender) l.cut ≡ true → list_all (is_applied book) l.cut ≡ true
-      → StandFor (holders_of l.kind l.office) (is_tallied l.tally) (flat_map (versions_at_cut l.office book) (take l.key-index l.cut)) l.candidates.items);
+      → StandFor (holders_of l.fn.kind l.office) (is_tallied l.tally) (flat_map (versions_at_cut l.office book) (take l.key-index l.cut)) l.candidates.items);
 }

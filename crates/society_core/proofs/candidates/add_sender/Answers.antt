@@ -11,7 +11,7 @@ use Rattle.society_core.proofs.lemmas.Lines.{line_to}
 use Rattle.society_core.proofs.candidates.add_sender.Goals as goal
 
 pub add_versions-requires-clause-line : goal.add_versions-requires-clause-line
-add_versions-requires-clause-line c = c.in_ok-line.ensures.line ∙ ap (line_to c.args.office.now c.args.book.now c.args.key.now.sender) c.value.ensures.value
+add_versions-requires-clause-line c = c.in_ok-line.ensures.line ∙ ap (line_to c.args.weighing.now.office.now c.args.book.now c.args.key.now.sender) c.value.ensures.value
 
 pub add_versions-requires-clause-within : goal.add_versions-requires-clause-within
 add_versions-requires-clause-within c =
@@ -30,7 +30,7 @@ add_versions-requires-clause-there c =
 
 pub loop-number-preserved : goal.loop-number-preserved
 loop-number-preserved c =
-    let office = c.args.office.now in
+    let office = c.args.weighing.now.office.now in
     let book = c.args.book.now in
     let key = c.args.key.now in
     let ns = numbers_to book key.sender key.number in
@@ -38,17 +38,17 @@ loop-number-preserved c =
     let n = c.number-item.result in
     let same = c.deref-number-items.ensures.value ∙ c.in_ok-numbers.ensures ∙ ap (numbers_to book key.sender) c.value-2.ensures.value in
     let more = versions_of_transmission office book key n (transactions_sent book key.sender n) in
-    subst (λ (ws : List CutWork). AddsCandidates (holders_of c.args.kind office) (is_tallied c.args.tally.now) ws c.args.candidates.now.items c.add_versions.new.candidates.items)
+    subst (λ (ws : List CutWork). AddsCandidates (holders_of c.args.weighing.now.kind office) (is_tallied c.args.weighing.now.tally.now) ws c.args.candidates.now.items c.add_versions.new.candidates.items)
     (sym (ap (versions_over office book key) (listed_more c.deref-number-items.result.now ns i n same c.loop-number-test.true c.number-item.is) ∙ versions_over_push office book key (take i ns) n))
-    (adds_then (holders_of c.args.kind office) (is_tallied c.args.tally.now) (versions_over office book key (take i ns)) more c.args.candidates.now.items c.loop-number.candidates.items c.add_versions.new.candidates.items c.loop-number.invariant c.in_ok-add_versions.ensures)
+    (adds_then (holders_of c.args.weighing.now.kind office) (is_tallied c.args.weighing.now.tally.now) (versions_over office book key (take i ns)) more c.args.candidates.now.items c.loop-number.candidates.items c.add_versions.new.candidates.items c.loop-number.invariant c.in_ok-add_versions.ensures)
 
 pub returns : goal.returns
 returns c =
-    let office = c.args.office.now in
+    let office = c.args.weighing.now.office.now in
     let book = c.args.book.now in
     let key = c.args.key.now in
     let ns = numbers_to book key.sender key.number in
     let same = c.deref-number-items.ensures.value ∙ c.in_ok-numbers.ensures ∙ ap (numbers_to book key.sender) c.value-2.ensures.value in
     let long = ap (λ (l : List ℕ). length l) same in
     let all : take c.loop-number.number-index ns ≡ ns = take_all c.loop-number.number-index ns (omega (arith, long, c.loop-number-test.false)) in
-    subst (λ (l : List ℕ). AddsCandidates (holders_of c.args.kind office) (is_tallied c.args.tally.now) (versions_over office book key l) c.args.candidates.now.items c.loop-number.candidates.items) all c.loop-number.invariant
+    subst (λ (l : List ℕ). AddsCandidates (holders_of c.args.weighing.now.kind office) (is_tallied c.args.weighing.now.tally.now) (versions_over office book key l) c.args.candidates.now.items c.loop-number.candidates.items) all c.loop-number.invariant

@@ -13,6 +13,6 @@ returns c =
     let is_version : is_version_by c.args.line.now.transmissions c.args.key.now.number c.args.number c.args.place (number_of_work t) ≡ true =
     ap (is_version_by c.args.line.now.transmissions c.args.key.now.number c.args.number c.args.place) numbered ∙ sym c.is_version_at.ensures ∙ c.if-not-is_version_at.false in
     subst
-    (λ (b : Bool). OnOk c.add_candidates.result (AddsWorks c.args.kind c.args.office.now c.args.tally.now (work_where b c.args.key.now.sender t) c.args.candidates.now.items c.add_candidates.new.candidates.items))
+    (λ (b : Bool). OnOk c.add_candidates.result (AddsWorks c.args.weighing.now (work_where b c.args.key.now.sender t) c.args.candidates.now.items c.add_candidates.new.candidates.items))
     (sym is_version)
-    (as_numbered (holders_of c.args.kind c.args.office.now) (is_tallied c.args.tally.now) c.args.key.now.sender c.in-Some.work t c.args.candidates.now.items c.add_candidates.new.candidates.items c.add_candidates.result numbered c.add_candidates.ensures)
+    (as_numbered (holders_of c.args.weighing.now.kind c.args.weighing.now.office.now) (is_tallied c.args.weighing.now.tally.now) c.args.key.now.sender c.in-Some.work t c.args.candidates.now.items c.add_candidates.new.candidates.items c.add_candidates.result numbered c.add_candidates.ensures)

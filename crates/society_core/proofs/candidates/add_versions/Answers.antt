@@ -19,20 +19,20 @@ use Rattle.society_core.specs.Pools.{holders_of}
 
 pub unreachable-requires : goal.unreachable-requires
 unreachable-requires c =
-    let there = line_has_one c.args.office.now c.args.book.now c.args.key.now.sender c.args.key.now.number c.args.number c.requires.within in
+    let there = line_has_one c.args.weighing.now.office.now c.args.book.now c.args.key.now.sender c.args.key.now.number c.args.number c.requires.within in
     false≢true (sym c.in_default.ensures ∙ ap (has_number c.args.number) c.requires.line ∙ there)
 
 pub unreachable-requires-in_default-transaction : goal.unreachable-requires-in_default-transaction
 unreachable-requires-in_default-transaction c =
     let ts = transactions_sent c.args.book.now c.args.key.now.sender c.args.number in
     let told = c.in-Some.ensures.1 ∙ ap (λ (l : List JudgedTransmission). verdicts_at l c.args.number) c.requires.line in
-    let count : length c.in-Some.verdicts.now ≡ length ts = ap (λ vs. length vs) told ∙ verdicts_counted_in c.args.office.now c.args.book.now c.args.key.now.sender c.args.key.now.number c.args.number c.requires.within in
+    let count : length c.in-Some.verdicts.now ≡ length ts = ap (λ vs. length vs) told ∙ verdicts_counted_in c.args.weighing.now.office.now c.args.book.now c.args.key.now.sender c.args.key.now.number c.args.number c.requires.within in
     let below : c.loop-place.place < length ts = omega (arith, count, c.loop-place-test.true) in
     no_place ts c.loop-place.place below (ap (λ (t : Transmission). slice_get (transactions_of t) c.loop-place.place) (sym c.in_ok-transmission.ensures) ∙ sym c.in_default-transaction.ensures)
 
 pub loop-place-preserved : goal.loop-place-preserved
 loop-place-preserved c =
-    let office = c.args.office.now in
+    let office = c.args.weighing.now.office.now in
     let book = c.args.book.now in
     let key = c.args.key.now in
     let ts = transactions_sent book key.sender c.args.number in
@@ -48,14 +48,14 @@ loop-place-preserved c =
     ∙ ap (λ (n : ℕ). versions_of_transmission office book key c.args.number (take place ts) ++ work_where (is_version_at office book key c.args.number n (number_of_work t)) key.sender t) count in
     let same : is_version_by c.args.line.now.transmissions key.number c.args.number place (number_of_work t) ≡ is_version_at office book key c.args.number place (number_of_work t) =
     ap (λ (l : List JudgedTransmission). is_version_by l key.number c.args.number place (number_of_work t)) c.requires.line ∙ is_version_same office book key c.args.number place (number_of_work t) in
-    subst (λ (ws : List CutWork). AddsCandidates (holders_of c.args.kind office) (is_tallied c.args.tally.now) ws c.args.candidates.now.items c.add_transaction.new.candidates.items)
+    subst (λ (ws : List CutWork). AddsCandidates (holders_of c.args.weighing.now.kind office) (is_tallied c.args.weighing.now.tally.now) ws c.args.candidates.now.items c.add_transaction.new.candidates.items)
     (ap (λ (b : Bool). versions_of_transmission office book key c.args.number (take place ts) ++ work_where b key.sender t) same ∙ sym step)
-    (adds_then (holders_of c.args.kind office) (is_tallied c.args.tally.now) (versions_of_transmission office book key c.args.number (take place ts)) (work_where (is_version_by c.args.line.now.transmissions key.number c.args.number place (number_of_work t)) key.sender t) c.args.candidates.now.items c.loop-place.candidates.items c.add_transaction.new.candidates.items c.loop-place.invariant c.in_ok-add_transaction.ensures)
+    (adds_then (holders_of c.args.weighing.now.kind office) (is_tallied c.args.weighing.now.tally.now) (versions_of_transmission office book key c.args.number (take place ts)) (work_where (is_version_by c.args.line.now.transmissions key.number c.args.number place (number_of_work t)) key.sender t) c.args.candidates.now.items c.loop-place.candidates.items c.add_transaction.new.candidates.items c.loop-place.invariant c.in_ok-add_transaction.ensures)
 
 pub returns : goal.returns
 returns c =
     let ts = transactions_sent c.args.book.now c.args.key.now.sender c.args.number in
     let told = c.in-Some.ensures.1 ∙ ap (λ (l : List JudgedTransmission). verdicts_at l c.args.number) c.requires.line in
-    let count : length c.in-Some.verdicts.now ≡ length ts = ap (λ vs. length vs) told ∙ verdicts_counted_in c.args.office.now c.args.book.now c.args.key.now.sender c.args.key.now.number c.args.number c.requires.within in
+    let count : length c.in-Some.verdicts.now ≡ length ts = ap (λ vs. length vs) told ∙ verdicts_counted_in c.args.weighing.now.office.now c.args.book.now c.args.key.now.sender c.args.key.now.number c.args.number c.requires.within in
     let all : take c.loop-place.place ts ≡ ts = take_all c.loop-place.place ts (omega (arith, count, c.loop-place-test.false)) in
-    subst (λ (xs : List Transaction). AddsCandidates (holders_of c.args.kind c.args.office.now) (is_tallied c.args.tally.now) (versions_of_transmission c.args.office.now c.args.book.now c.args.key.now c.args.number xs) c.args.candidates.now.items c.loop-place.candidates.items) all c.loop-place.invariant
+    subst (λ (xs : List Transaction). AddsCandidates (holders_of c.args.weighing.now.kind c.args.weighing.now.office.now) (is_tallied c.args.weighing.now.tally.now) (versions_of_transmission c.args.weighing.now.office.now c.args.book.now c.args.key.now c.args.number xs) c.args.candidates.now.items c.loop-place.candidates.items) all c.loop-place.invariant

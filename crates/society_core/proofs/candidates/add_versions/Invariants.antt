@@ -6,4 +6,4 @@ use Rattle.society_core.proofs.candidates.add_versions.Given as goal
 use Rattle.society_core.specs.Pools.{holders_of}
 
 abbrev pub invariant-loop-place : goal.invariant-loop-place
-invariant-loop-place l = AddsCandidates (holders_of l.kind l.office) (is_tallied l.tally) (versions_of_transmission l.office l.book l.key l.number (take l.place (transactions_sent l.book l.key.sender l.number))) l.initial.candidates.items l.candidates.items
+invariant-loop-place l = AddsCandidates (holders_of l.weighing.kind l.weighing.office.now) (is_tallied l.weighing.tally.now) (versions_of_transmission l.weighing.office.now l.book l.key l.number (take l.place (transactions_sent l.book l.key.sender l.number))) l.initial.candidates.items l.candidates.items

@@ -6,4 +6,4 @@ use Rattle.society_core.proofs.candidates.candidates_of.Given as goal
 use Rattle.society_core.specs.Pools.{holders_of}
 
 abbrev pub invariant-loop-key : goal.invariant-loop-key
-invariant-loop-key l = StandFor (holders_of l.kind l.office) (is_tallied l.tally) (flat_map (versions_at_cut l.office l.book) (take l.key-index l.key-items)) l.candidates.items
+invariant-loop-key l = StandFor (holders_of l.fn.kind l.office) (is_tallied l.tally) (flat_map (versions_at_cut l.office l.book) (take l.key-index l.key-items)) l.candidates.items

@@ -1,6 +1,6 @@
 use Rattle.std.proofs.Common.{◌≡◌, option_map}
 use Rattle.society_core.specs.Book.{ack}
-use Rattle.society_tables.proofs.lemmas.StoreQuestions.{below_greatest, one_text, question_own, still_rests}
+use Rattle.society_tables.proofs.lemmas.StoreQuestions.{one_text, question_own, still_rests}
 use Rattle.society_tables.proofs.tables.TablesStore.ack.Goals as goal
 
 pub invariant_of-self-clause-rests : goal.invariant_of-self-clause-rests
@@ -8,5 +8,5 @@ invariant_of-self-clause-rests g c = still_rests _ _ _ _ _ c.args.self.now.rests
 
 pub returns : goal.returns
 returns g c =
-    question_own c.args.self.now.office (λ b text. option_map (λ bytes. bytes.items) text ≡ ack c.args.self.now.office b c.args.sender.now c.args.number) _ _ _ _ _ c.told.result c.args.self.now.rests
-    c.ack_of-answer.ensures.asked (λ b text. one_text _ _) (below_greatest _ c.args.self.now.small c.if-self.false) c.told.ensures
+    question_own c.args.self.now.office (λ b text. option_map (λ bytes. bytes.items) text ≡ ack c.args.self.now.office b c.args.sender.now c.args.number) _ _ _ _ _ c.store_answer.result c.args.self.now.rests
+    c.ack_of-answer.ensures.asked (λ b text. one_text _ _) (c.in_ok-counts_on.ensures.room) c.store_answer.ensures

@@ -6,7 +6,7 @@ use Rattle.society_core.specs.Ends.{place_stated}
 use Rattle.society_book.specs.BookRows.{book_of}
 use Rattle.society_book.specs.Steps.{StatesEnd, StatesEndTo}
 use Rattle.society_tables.proofs.lemmas.AddLemmas.{addition, rests_after}
-use Rattle.society_tables.proofs.lemmas.StoreQuestions.{below_greatest, one_number}
+use Rattle.society_tables.proofs.lemmas.StoreQuestions.{one_number}
 use Rattle.society_tables.proofs.tables.TablesStore.add_end.Goals as goal
 
 pub invariant_of-self-clause-rests : goal.invariant_of-self-clause-rests
@@ -28,4 +28,4 @@ returns g c =
     addition o _ _ (StatesEnd o s stated) (StatesEndTo o s stated) (with_end book s (place_stated stated) (end_stated stated)) c.state_end-answer.result c.state_end-answer.ensures.added
     (λ clean holds db states. states book holds (c.requires.free clean) (c.requires.above clean))
     (λ n. n ≡ front (with_end book s (place_stated stated) (end_stated stated)) s) (λ n. one_number n _) (λ clean holds n says. says book holds (c.requires.free clean) (c.requires.above clean))
-    _ _ c.told.result c.args.self.now.rests (below_greatest _ c.args.self.now.small c.if-self.false) c.told.ensures
+    _ _ c.store_answer.result c.args.self.now.rests (c.in_ok-counts_on.ensures.room) c.store_answer.ensures

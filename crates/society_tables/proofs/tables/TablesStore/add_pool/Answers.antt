@@ -4,7 +4,6 @@ use Rattle.society_core.specs.Book.{with_pool}
 use Rattle.society_book.specs.BookRows.{book_of}
 use Rattle.society_closings.specs.Closings.{ClosesPool}
 use Rattle.society_tables.proofs.lemmas.AddLemmas.{addition, one_truth, rests_after}
-use Rattle.society_tables.proofs.lemmas.StoreQuestions.{below_greatest}
 use Rattle.society_tables.proofs.tables.TablesStore.add_pool.Goals as goal
 
 pub invariant_of-self-clause-rests : goal.invariant_of-self-clause-rests
@@ -21,4 +20,4 @@ returns g c =
     addition _ _ _ (ClosesPool c.args.self.now.office c.args.pool c.args.order.now) (λ _ _. ⊤) (with_pool book c.args.pool c.args.order.now) c.close-answer.result
     c.close-answer.ensures.added
     (λ clean holds db closes. closes book holds (c.requires.free clean) (c.requires.right clean))
-    (λ _. ⊤) (λ _. one_truth) (λ clean holds x told. tt) _ _ c.told.result c.args.self.now.rests (below_greatest _ c.args.self.now.small c.if-self.false) c.told.ensures
+    (λ _. ⊤) (λ _. one_truth) (λ clean holds x told. tt) _ _ c.store_answer.result c.args.self.now.rests (c.in_ok-counts_on.ensures.room) c.store_answer.ensures

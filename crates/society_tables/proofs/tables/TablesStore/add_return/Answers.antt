@@ -8,7 +8,6 @@ use Rattle.society_book.specs.BookRows.{book_of, return_row}
 use Rattle.society_book.specs.Shown.{Comes}
 use Rattle.society_tables.proofs.lemmas.AddLemmas.{addition, any_told, one_truth, rests_after}
 use Rattle.society_book.proofs.lemmas.rows_alike.KeyRows.{refilled_by}
-use Rattle.society_tables.proofs.lemmas.StoreQuestions.{below_greatest}
 use Rattle.society_tables.proofs.lemmas.ReturnAdds.{return_added}
 use Rattle.society_tables.proofs.tables.TablesStore.add_return.Goals as goal
 
@@ -42,4 +41,4 @@ returns g c =
     (λ clean holds db comes. return_added _ _ c.args.key.now c.args.body.now _ db holds (c.requires.free clean)
     (return_entry c.args.key.now _ c.args.body.now c.as_bytes.ensures.bytes c.as_bytes.ensures.back c.value.ensures.limits.0 c.value.ensures.limits.1 c.requires.right)
     (refilled_by c.args.key.now.reporter _ c.as_bytes.ensures.bytes c.as_bytes.ensures.back) comes.rows comes.others)
-    (λ _. ⊤) (λ _. one_truth) (λ clean holds x told. tt) _ _ c.told.result c.args.self.now.rests (below_greatest _ c.args.self.now.small c.if-self.false) c.told.ensures
+    (λ _. ⊤) (λ _. one_truth) (λ clean holds x told. tt) _ _ c.store_answer.result c.args.self.now.rests (c.in_ok-counts_on.ensures.room) c.store_answer.ensures

@@ -5,7 +5,7 @@ use Rattle.society_core.specs.Book.{with_transmission}
 use Rattle.society_book.specs.BookRows.{book_of}
 use Rattle.society_book.specs.Steps.{Arrives, ArrivesTo}
 use Rattle.society_tables.proofs.lemmas.AddLemmas.{addition, rests_after}
-use Rattle.society_tables.proofs.lemmas.StoreQuestions.{below_greatest, one_place}
+use Rattle.society_tables.proofs.lemmas.StoreQuestions.{one_place}
 use Rattle.society_tables.proofs.tables.TablesStore.add_transmission.Goals as goal
 
 pub invariant_of-self-clause-rests : goal.invariant_of-self-clause-rests
@@ -29,4 +29,4 @@ returns g c =
     (rw (c.sender.ensures, c.body.ensures) at c.arrive-answer.ensures.added)
     (λ clean holds db arrives. arrives book holds (c.requires.free clean) (c.requires.within clean))
     (λ place. place ≡ place_in_book (with_transmission book s c.args.number body) s c.args.number) (λ place. one_place place _) (λ clean holds place says. says book holds (c.requires.free clean) (c.requires.within clean))
-    _ _ c.told.result c.args.self.now.rests (below_greatest _ c.args.self.now.small c.if-self.false) c.told.ensures
+    _ _ c.store_answer.result c.args.self.now.rests (c.in_ok-counts_on.ensures.room) c.store_answer.ensures

@@ -1,6 +1,6 @@
 use Rattle.std.proofs.Common.{◌∙◌, refl, sym}
 use Rattle.society_book.proofs.lemmas.shown.AskLemmas.{clean_is}
-use Rattle.society_audit.proofs.money.answered.Goals as goal
+use Rattle.society_audit.proofs.money.ask_memory.Goals as goal
 
 pub returns-clause-rows : goal.returns-clause-rows
 returns-clause-rows c = c.ask.ensures.asked.found (clean_is _ refl)

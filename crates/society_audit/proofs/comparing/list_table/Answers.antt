@@ -10,7 +10,7 @@ use Rattle.society_rows.proofs.lemmas.readings.AskedRows.{asks_by}
 use Rattle.society_rows.proofs.lemmas.readings.Queries.{reads_where}
 use Rattle.society_audit.proofs.lemmas.opened.Failing.{errs_by}
 use Rattle.society_rows.specs.Effects.{ErrsByMedium}
-use Rattle.society_audit.proofs.comparing.listed.Goals as goal
+use Rattle.society_audit.proofs.comparing.list_table.Goals as goal
 
 pub returns-clause-asked : goal.returns-clause-asked
 returns-clause-asked g c =
