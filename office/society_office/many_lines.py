@@ -3,6 +3,7 @@
 import collections
 import concurrent.futures
 import dataclasses
+import gc
 import operator
 from collections.abc import Iterator, Mapping
 from typing import Any, TextIO
@@ -26,19 +27,21 @@ class ManyLines(Lines):
     def write(self, out: TextIO) -> Sums:
         """Writes them as CSV with a header; answers their number and the sums by pool. The rows are read beside what looks the works up."""
         sums, heads = Sums(), Heads(self.claims, self.works, account=self.account)
+        # All that is made lives until the last line: looking for what does not would take a tenth of the time.
+        gc.disable()
         out.write(",".join(COLUMNS) + "\n")
         with concurrent.futures.ThreadPoolExecutor(AT_ONCE) as threads:
-            for pool, isrcs, units in self.columns(threads):
+            for pool, isrcs, units, total in self.columns(threads):
                 heads.move(self.cuts[pool])
                 sums.count += len(units)
-                sums.by_pool[pool, self.rights[pool]] = sum(map(int, units))
+                sums.by_pool[pool, self.rights[pool]] = total
                 start = f"{pool},{self.rights[pool]},"
                 out.write(start + f"\n{start}".join(map(operator.add, map(heads.__getitem__, isrcs), units)) + "\n")
         return sums
 
-    def columns(self, threads: concurrent.futures.Executor) -> Iterator[tuple[int, list[str], list[str]]]:
-        """Each pool that credited the account, with the recordings and the units of its lines, which SQLite joins: faster than rows."""
-        question = """SELECT group_concat(isrc), group_concat(units) FROM
+    def columns(self, threads: concurrent.futures.Executor) -> Iterator[tuple[int, list[str], list[str], int]]:
+        """Each pool that credited the account: recordings and units of its lines, joined by SQLite, faster than rows; their sum."""
+        question = """SELECT group_concat(isrc), group_concat(units), sum(units) FROM
           (SELECT isrc, units FROM credits WHERE pool = ? AND +account = ? ORDER BY line)"""
         asked = collections.deque[tuple[int, concurrent.futures.Future[list[Any]]]]()
         waiting = iter([it for it in self.cuts if it >= self.since])
@@ -48,9 +51,9 @@ class ManyLines(Lines):
             if not asked:
                 return
             pool, answer = asked.popleft()
-            [(isrcs, units)] = answer.result()
+            [(isrcs, units, total)] = answer.result()
             if units is not None:
-                yield pool, isrcs.split(","), units.split(",")
+                yield pool, isrcs.split(","), units.split(","), total
 
     def read(self) -> tuple[list[Credit], Sums]:
         """The first of them, no more than are held, and the sums of all. What is summed up is asked for beside what is read meanwhile."""
