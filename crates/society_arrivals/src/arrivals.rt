@@ -51,7 +51,7 @@ fn run_from<S: Alter>(
     ensures looks { within S.Store tx.old tx.new Looks result (ArrivesBy office.now sender.now number body.now front) }
 {
     if number.value() - 1 != front {
-        return Ok(Run::new(alloc, office, sender, front));
+        return Ok(Run::new(alloc, office, front));
     }
     run_with(alloc, tx, office, sender, number, body)
 }

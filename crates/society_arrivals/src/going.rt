@@ -1,7 +1,9 @@
 //! How a run goes on: from number to number, and over the ends of segments.
 ghost use Rattle.std.specs.Prelude.{◌≡◌, ◌≤◌};
 ghost use Rattle.society_rows.specs.Between.{within};
+ghost use Rattle.society_rows.specs.Effects.{Errs};
 ghost use Rattle.society_book.specs.Going.{IsWholeIn, RunsOn, RunsOver};
+ghost use Rattle.society_book.specs.RightRows.{KeepsUnsound};
 ghost use Rattle.society_book.specs.Steps.{Looks, LooksOpen};
 
 use share_rules::Office;
@@ -19,6 +21,7 @@ pub(crate) fn go_on<S: Alter>(
 ) -> Result<(), RowFault>
     ensures same_reference { tx.new.conn.ghost_name ≡ tx.old.conn.ghost_name }
     ensures looks { within S.Store tx.old tx.new Looks result (λ db _. RunsOn sender.now run.old run.new db) }
+    ensures errs { within S.Store tx.old tx.new (Errs KeepsUnsound) result }
 {
     match run.reached().checked_add(1) {
         Some(next) => fold_run(tx, sender.as_bytes(), next, run),
@@ -37,6 +40,7 @@ pub(crate) fn go_over<S: Alter>(
     requires { begun ≤ 1999999 }
     ensures same_reference { tx.new.conn.ghost_name ≡ tx.old.conn.ghost_name }
     ensures looks { within S.Store tx.old tx.new Looks result (λ db _. RunsOver sender.now ends.now begun run.old run.new db) }
+    ensures errs { within S.Store tx.old tx.new (Errs KeepsUnsound) result }
 {
     // The rank from which the last numbers were read: it rises also where a disk lies of what stands behind it.
     let mut rank = begun;
@@ -57,9 +61,10 @@ pub fn whole_run<S: Alter>(
 ) -> Result<Run, RowFault>
     ensures same_reference { tx.new.conn.ghost_name ≡ tx.old.conn.ghost_name }
     ensures looks { within S.Store tx.old tx.new LooksOpen result (IsWholeIn office.now sender.now) }
+    ensures errs { within S.Store tx.old tx.new (Errs KeepsUnsound) result }
 {
     let ends = ends_in(tx, sender.as_bytes())?;
-    let mut run = Run::new(alloc, office, sender, 0);
+    let mut run = Run::new(alloc, office, 0);
     go_on(tx, sender, &mut run)?;
     go_over(tx, sender, &ends, 0, &mut run)?;
     Ok(run)

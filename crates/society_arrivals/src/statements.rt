@@ -34,7 +34,7 @@ fn run_behind<S: Alter>(
     if front > GREATEST_RANK {
         return Err(RowFault::Unread);
     }
-    let mut run = Run::new(alloc, office, sender, front);
+    let mut run = Run::new(alloc, office, front);
     go_over(tx, sender, &ends, front, &mut run)?;
     Ok(run)
 }

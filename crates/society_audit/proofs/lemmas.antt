@@ -1,5 +1,4 @@
 -- What is proved of the definitions, for the proofs of functions.
-pub mod audit
 pub mod anew
 pub mod alike
 pub mod opened

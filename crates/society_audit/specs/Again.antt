@@ -11,7 +11,7 @@ use Rattle.society_book.specs.Columns.{HasRows, whole_number_at}
 use Rattle.society_audit.specs.InMemory.{memory_book}
 use Rattle.society_audit.specs.OwnRows.{AreLines, AreOwn, ArePools}
 use Rattle.society_audit.specs.Rebuilding.{AllReported, AllSent, AllStated, ClosedOn, IsClosed, IsReported, IsSent, IsStated, IsUpToPools, IsWithin, Passes, ReportedOn, SentOn, StatedOn, lines_alone, without_pools}
-use Rattle.society_audit.specs.declared.audit_fault.AuditFault.{AuditFault}
+use Rattle.book_audit.specs.declared.audit_fault.AuditFault.{AuditFault}
 use Rattle.society_audit.specs.declared.own_rows.LineRows.{LineRows}
 use Rattle.society_audit.specs.declared.own_rows.OwnRows.{OwnRows}
 use Rattle.society_audit.specs.declared.own_rows.PoolRows.{PoolRows}

@@ -1,11 +1,8 @@
 pub mod Again
-pub mod Auditing
 pub mod InMemory
-pub mod LineSteps
 pub mod Older
 pub mod Opening
 pub mod OrderParts
 pub mod OwnRows
-pub mod Reached
 pub mod Rebuilding
 pub mod TakingOver

@@ -1,28 +1,25 @@
 -- What questions find that open a database, and which tables they compare.
 use Rattle.std.specs.Prelude.{◌≡◌, List, [], ◌∷◌, Result, IsTrue, IsPermutation, OnOk, IfOk, IfErr}
 use Rattle.std.specs.List.{AllByRecursion}
-use Rattle.share_rules.specs.declared.office.Office.{Office}
 use Rattle.sqlite_trees.specs.Tree.{Trees}
 use Rattle.sqlite.specs.State as connection
 use Rattle.society_rows.specs.Effects.{MayFail}
-use Rattle.society_rows.specs.Layout as layout
-use Rattle.society_rows.specs.Stored.{AreNumbered, HasLayout, rows_in}
+use Rattle.society_rows.specs.Stored.{HasLayout, rows_in}
 use Rattle.society_rows.specs.TableNames.{table_called}
 use Rattle.society_rows.specs.declared.fault.RowFault.{RowFault}
 use Rattle.society_rows.specs.declared.fault.RowFault.TheVariants as row
 use Rattle.society_rows.specs.declared.tables.TableName.{TableName}
 use Rattle.society_rows.specs.declared.tables.TableName.TheVariants as name
-use Rattle.society_audit.specs.Older.{HoldsOne}
-use Rattle.society_audit.specs.declared.audit_fault.AuditFault.{AuditFault}
-use Rattle.society_audit.specs.declared.audit_fault.AuditFault.TheVariants as audit
+use Rattle.book_audit.specs.declared.audit_fault.AuditFault.{AuditFault}
+use Rattle.book_audit.specs.declared.audit_fault.AuditFault.TheVariants as audit
 
--- want of memory, or else that the database failed
-abbrev pub audit_fault_by : RowFault → AuditFault
-audit_fault_by row.Memory = audit.Memory
-audit_fault_by row.Schema = audit.Store
-audit_fault_by row.Unread = audit.Store
-audit_fault_by row.Overflow = audit.Store
-audit_fault_by (row.Refused error) = audit.Store
+-- what a reading's fault is told as where older tables are taken over: want of memory, or else that the database failed
+abbrev pub reading_fault_by : RowFault → AuditFault
+reading_fault_by row.Memory = audit.Memory
+reading_fault_by row.Schema = audit.Store
+reading_fault_by row.Unread = audit.Store
+reading_fault_by row.Overflow = audit.Store
+reading_fault_by (row.Refused error) = audit.Store
 
 -- the tables after the first, that of the office
 abbrev pub other_names : List TableName
@@ -55,11 +52,3 @@ pub record Inspects {X E : Type 0} (old new : connection.State) (result : Result
 -- shut or has a limit of steps.
 abbrev pub TellsFailure : {X E : Type 0} → E → connection.State → connection.State → Result X E → Type 0
 TellsFailure told old new result = connection.HasCleanDisk new → HasLayout old.now → IfErr result (λ e. e ≡ told → MayFail old new)
-
--- what is put over another row has a whole number as its rowid
-abbrev pub IsNumbered : Trees → Type 0
-IsNumbered db = AreNumbered layout.fronts db × AreNumbered layout.balances db
-
--- where that is so, they hold one
-abbrev pub HoldsNumbered : Office → Trees → Type 0
-HoldsNumbered office db = IsNumbered db → HoldsOne office db

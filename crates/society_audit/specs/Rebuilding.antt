@@ -16,8 +16,8 @@ use Rattle.society_book.specs.BookRows.{segment_key_of, end_of, end_row, pool_ro
 use Rattle.share_rules.specs.declared.office.Office.{Office}
 use Rattle.society_book.specs.Kept.{HoldsBook}
 use Rattle.society_book.specs.Columns.{blob_at, whole_number_at, text_at}
-use Rattle.society_audit.specs.declared.audit_fault.AuditFault.{AuditFault}
-use Rattle.society_audit.specs.declared.audit_fault.AuditFault.TheVariants as audit
+use Rattle.book_audit.specs.declared.audit_fault.AuditFault.{AuditFault}
+use Rattle.book_audit.specs.declared.audit_fault.AuditFault.TheVariants as audit
 
 -- a fault that says nothing of the rows: memory or the database failed
 abbrev pub IsAside : AuditFault → Type 0

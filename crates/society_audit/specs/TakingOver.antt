@@ -19,9 +19,10 @@ use Rattle.society_book.specs.BookRows.{AreOfBook}
 use Rattle.society_book.specs.Kept.{HoldsBook, office_row}
 use Rattle.society_audit.specs.InMemory.{FromMemory}
 use Rattle.society_audit.specs.Older.{HoldsOne, Takes, office_row_under}
-use Rattle.society_audit.specs.Opening.{Agree, AgreesAt, IsNumbered, every_name}
+use Rattle.book_audit.specs.Audited.{IsNumbered}
+use Rattle.society_audit.specs.Opening.{Agree, AgreesAt, every_name}
 use Rattle.society_audit.specs.Rebuilding.{Passes}
-use Rattle.society_audit.specs.declared.audit_fault.AuditFault.{AuditFault}
+use Rattle.book_audit.specs.declared.audit_fault.AuditFault.{AuditFault}
 
 -- Statements in a transaction: where the database was of a kind, an answer says this of it before and after; nothing is committed, and a
 -- crash leaves what it left before.

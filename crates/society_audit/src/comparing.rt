@@ -1,17 +1,14 @@
-//! Tables beside those of another database.
-ghost use Rattle.std.specs.Prelude.{◌∷◌, ◌≡◌, IfErr, IfOk, IsTrue, false, true};
+//! The rows of tables, and those of tables in memory beside them.
+ghost use Rattle.std.specs.Prelude.{◌≡◌, IfErr, IfOk, IsTrue};
+ghost use Rattle.book_audit.specs.declared.audit_fault.AuditFault.TheVariants.{Memory};
+ghost use Rattle.society_rows.specs.Between.{between};
 ghost use Rattle.society_rows.specs.Effects.{ErrsByMedium};
+ghost use Rattle.society_rows.specs.Listings.{ListsAll};
 ghost use Rattle.society_rows.specs.Questions.{Asks};
 ghost use Rattle.society_rows.specs.Stored.{HasLayout};
-ghost use Rattle.society_rows.specs.declared.tables.TableName.TheVariants as name;
-ghost use Rattle.society_audit.specs.Opening.{Agree, Inspects, TellsFailure, every_name, AgreesAt};
-ghost use Rattle.society_audit.specs.declared.audit_fault.AuditFault.TheVariants.{Memory, Store};
-ghost use Rattle.society_audit.specs.Rebuilding.{IsAside};
-ghost use Rattle.society_rows.specs.Between.{between};
-ghost use Rattle.society_audit.specs.InMemory.{FromMemory, in_memory, PassesBeside};
-ghost use Rattle.society_rows.specs.Listings.{ListsAll};
+ghost use Rattle.society_audit.specs.InMemory.{in_memory};
 
-use crate::audit_fault::AuditFault;
+use book_audit::AuditFault;
 use memory_store::MemoryStore;
 use society_rows::{Idle, RowFault, TableName, all_rows};
 use sqlite::{Alter, Row};
@@ -46,18 +43,6 @@ pub fn list_table<S: Alter>(conn: &mut Idle<S>, table: TableName) -> Result<Vec<
     rows
 }
 
-/// All rows of a table, by its key.
-pub(crate) fn rows_of_table<S: Alter>(
-    conn: &mut Idle<S>,
-    table: TableName,
-) -> Result<Vec<Row>, AuditFault>
-    ensures asked { between S.Store conn.old conn.new Inspects result (λ db rows. ListsAll table db rows.items) }
-    ensures aside { IfErr result IsAside }
-    ensures failed { between S.Store conn.old conn.new (TellsFailure Store) result }
-{
-    Ok(list_table(conn, table)?)
-}
-
 /// All rows of a table in memory, by its key; the database stays as it is. `Memory` where memory was refused.
 pub fn rows_in_memory(
     memory: &mut Idle<MemoryStore>,
@@ -67,7 +52,7 @@ pub fn rows_in_memory(
     ensures memory { IfErr result (λ e. e ≡ Memory) }
     ensures same { in_memory memory.new ≡ in_memory memory.old }
 {
-    match rows_of_table(memory, table) {
+    match list_table(memory, table) {
         Ok(rows) => Ok(rows),
         // Tables in memory fail by want of memory alone.
         Err(_) => Err(AuditFault::Memory),
@@ -107,55 +92,4 @@ pub fn are_same_rows(rows: &[Row], others: &[Row]) -> bool
         }
     }
     true
-}
-
-/// That a table has the rows that it has in memory; else `Damaged`.
-pub(crate) fn table_agrees<S: Alter>(
-    conn: &mut Idle<S>,
-    memory: &mut Idle<MemoryStore>,
-    table: TableName,
-) -> Result<(), AuditFault>
-    ensures agree { between S.Store conn.old conn.new Inspects result (FromMemory (AgreesAt table) (in_memory memory.old)) }
-    ensures same { in_memory memory.new ≡ in_memory memory.old }
-    ensures passes { between S.Store conn.old conn.new (PassesBeside (in_memory memory.old)) result }
-    ensures failed { between S.Store conn.old conn.new (TellsFailure Store) result }
-{
-    let rows = rows_of_table(conn, table)?;
-    let others = rows_in_memory(memory, table)?;
-    if are_same_rows(rows.as_slice(), others.as_slice()) {
-        Ok(())
-    } else {
-        Err(AuditFault::Damaged)
-    }
-}
-
-/// That the table of the office and these have the rows that they have in memory; else `Damaged`, and `Memory` or `Store` where memory or
-/// the database failed.
-pub fn named_agree<S: Alter>(
-    conn: &mut Idle<S>,
-    memory: &mut Idle<MemoryStore>,
-    tables: &[TableName],
-) -> Result<(), AuditFault>
-    ensures agree { between S.Store conn.old conn.new Inspects result (FromMemory (Agree (name.Office ∷ tables.now)) (in_memory memory.old)) }
-    ensures same { in_memory memory.new ≡ in_memory memory.old }
-    ensures passes { between S.Store conn.old conn.new (PassesBeside (in_memory memory.old)) result }
-    ensures failed { between S.Store conn.old conn.new (TellsFailure Store) result }
-{
-    table_agrees(conn, memory, TableName::Office)?;
-    for table in tables {
-        table_agrees(conn, memory, *table)?;
-    }
-    Ok(())
-}
-
-/// That each table has the rows that it has in memory; else `Damaged`, and `Memory` or `Store` where memory or the database failed.
-pub fn tables_agree<S: Alter>(
-    conn: &mut Idle<S>,
-    memory: &mut Idle<MemoryStore>,
-) -> Result<(), AuditFault>
-    ensures agree { between S.Store conn.old conn.new Inspects result (FromMemory (Agree every_name) (in_memory memory.old)) }
-    ensures passes { between S.Store conn.old conn.new (PassesBeside (in_memory memory.old)) result }
-    ensures failed { between S.Store conn.old conn.new (TellsFailure Store) result }
-{
-    named_agree(conn, memory, &OTHER_TABLES)
 }

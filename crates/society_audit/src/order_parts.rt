@@ -4,11 +4,11 @@ ghost use Rattle.std.specs.BTreeSet.{contains};
 ghost use Rattle.std.specs.List.{AllByRecursion, list_any};
 ghost use Rattle.std.specs.Ordering.{nat_cmp};
 ghost use Rattle.society_book.specs.BookRows.{is_of_pool};
-ghost use Rattle.society_audit.specs.declared.audit_fault.AuditFault.TheVariants.{Store};
+ghost use Rattle.book_audit.specs.declared.audit_fault.AuditFault.TheVariants.{Store};
 ghost use Rattle.society_audit.specs.OrderParts.{ArePartsOf, cut_kept, item_at, items_kept, kind_kept, returns_kept};
 ghost use Rattle.society_audit.specs.Rebuilding.{IsCut, IsMark, IsPaid, Passes, cut_pair, paid_pair};
 
-use crate::audit_fault::AuditFault;
+use book_audit::AuditFault;
 use share_rules::Kind;
 use society_rows::{MechanicalPoolRow, PoolCutRow, PoolReturnRow};
 use sqlite::Row;

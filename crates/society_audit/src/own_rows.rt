@@ -1,11 +1,9 @@
 //! The rows of a database that are of the book itself, from which all else is derived.
 ghost use Rattle.std.specs.Prelude.{◌≡◌};
-ghost use Rattle.society_rows.specs.Between.{between, within};
-ghost use Rattle.society_rows.specs.Effects.{ErrsByMedium};
-ghost use Rattle.society_rows.specs.Questions.{Asks};
+ghost use Rattle.society_rows.specs.Between.{within};
 ghost use Rattle.society_audit.specs.OwnRows.{Gets, ListLines, ListOwn, ListPools};
 
-use society_rows::{Idle, RowFault, TableName, all_rows};
+use society_rows::{RowFault, TableName, all_rows};
 use sqlite::{Alter, Row, Transaction};
 
 /// The rows of transmissions and of the ends of segments.
@@ -75,16 +73,4 @@ pub fn own_rows<S: Alter>(tx: &mut Transaction<'_, S>) -> Result<OwnRows, RowFau
         returns,
         pools,
     })
-}
-
-/// The rows that are of the book itself, read in a transaction that is rolled back; its fault is that of the reading.
-pub fn listed_own<S: Alter>(conn: &mut Idle<S>) -> Result<OwnRows, RowFault>
-    ensures asked { between S.Store conn.old conn.new Asks result ListOwn }
-    ensures medium { between S.Store conn.old conn.new ErrsByMedium result }
-{
-    conn.see_last_commit();
-    let mut tx = conn.connection.transaction();
-    let rows = own_rows(&mut tx);
-    tx.rollback();
-    rows
 }

@@ -4,16 +4,16 @@ ghost use Rattle.sqlite_value.specs.Order.{Row as SqlRow};
 ghost use Rattle.society_core.specs.Book.{Book, IsSound};
 ghost use Rattle.society_core.specs.Orders.{order_fault, order_of};
 ghost use Rattle.society_core.specs.declared.refusal.Refusal.TheVariants.{Unavailable};
-ghost use Rattle.society_audit.specs.declared.audit_fault.AuditFault.TheVariants.{Store};
+ghost use Rattle.book_audit.specs.declared.audit_fault.AuditFault.TheVariants.{Store};
 ghost use Rattle.society_audit.specs.OwnRows.{AreOwn};
 ghost use Rattle.society_audit.specs.OrderParts.{ArePartsOf};
 ghost use Rattle.society_audit.specs.Rebuilding.{IsAside, Passes};
 ghost use Rattle.society_audit.specs.InMemory.{memory_book};
 ghost use Rattle.society_audit.specs.Again.{PassesSent, PassesStated, PassesReported, PassesClosed, PassesOrder, PassesPool, PassesAllSent, PassesAllStated, PassesAllReported, PassesPools, PassesLines, PassesOwn, PassesOwnPools};
 
-use crate::audit_fault::AuditFault;
 use crate::order_parts::OrderParts;
 use crate::own_rows::{LineRows, OwnRows, PoolRows};
+use book_audit::AuditFault;
 use memory_store::MemoryStore;
 use share_rules::{Kind, Office};
 use society_core::{Desk, OrderError, PoolOrder, Refusal, ReturnKey, Store};
@@ -139,8 +139,8 @@ fn close_with(
     }
 }
 
-/// The number of a pool and its order, out of its row and of what the orders of pools say.
-pub(crate) fn pool_of_row(
+// The number of a pool and its order, out of its row and of what the orders of pools say.
+fn pool_of_row(
     alloc: Global,
     row: &Row,
     parts: &OrderParts,

@@ -4,11 +4,13 @@ pub mod BookRows
 pub mod Columns
 pub mod DerivedRows
 pub mod EndLists
+pub mod Errors
 pub mod Going
 pub mod Items
 pub mod Kept
 pub mod OrderShown
 pub mod Outcomes
+pub mod RightRows
 pub mod Runs
 pub mod Shown
 pub mod Sources

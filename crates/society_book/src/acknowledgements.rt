@@ -1,11 +1,13 @@
 //! The acknowledgement of a transmission.
-ghost use Rattle.std.specs.Prelude.{◌≡◌, ◌⊎◌, List, ℕ, Option, Some, IfErr, IfOk};
+ghost use Rattle.std.specs.Prelude.{◌≡◌, ◌⊎◌, List, ℕ, None, Option, Some, IfErr, IfOk};
 ghost use Rattle.cwr_files.specs.Contents.{transmission_in};
+ghost use Rattle.cwr_files.specs.FileFault.{file_fault};
 ghost use Rattle.society_core.specs.Book.{ack, body_at};
 ghost use Rattle.society_rows.specs.Questions.{Asks};
 ghost use Rattle.society_rows.specs.declared.fault.RowFault.TheVariants.{Memory, Unread};
 ghost use Rattle.society_book.specs.Shown.{ByBook, ByOwnBook, ShowBody};
 ghost use Rattle.society_rows.specs.Between.{between};
+ghost use Rattle.society_book.specs.Errors.{Blames};
 ghost use Rattle.society_book.specs.Items.{items_of};
 ghost use Rattle.society_book.specs.AnswersShown.{IsAcknowledged};
 
@@ -27,6 +29,7 @@ pub fn read_body<'a>(
 ) -> Result<Transmission<'a>, RowFault>
     ensures reads { IfOk result (λ transmission. transmission ≡ transmission_in body.now) }
     ensures fault { IfErr result (λ fault. (fault ≡ Memory) ⊎ (fault ≡ Unread)) }
+    ensures blames { IfErr result (Blames (file_fault sender.now body.now ≡ None → ⊥)) }
 {
     match read_transmission(alloc, body, sender) {
         Ok(transmission) => Ok(transmission),

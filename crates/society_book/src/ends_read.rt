@@ -1,13 +1,17 @@
 //! How the ends that a sender stated are read.
-ghost use Rattle.std.specs.Prelude.{◌≡◌, IfOk};
+ghost use Rattle.std.specs.Prelude.{◌≡◌, IfErr, IfOk};
+ghost use Rattle.std.specs.List.{AllByRecursion};
 ghost use Rattle.sender_segments.specs.Ways.{end_stated};
 ghost use Rattle.society_core.specs.Ends.{place_stated};
 ghost use Rattle.society_rows.specs.Between.{between, within};
+ghost use Rattle.society_rows.specs.Effects.{Errs};
 ghost use Rattle.society_rows.specs.Questions.{Asks};
 ghost use Rattle.society_book.specs.BookRows.{end_of};
 ghost use Rattle.society_book.specs.Columns.{segment_place_at};
 ghost use Rattle.society_book.specs.EndLists.{end_listed, end_shown};
+ghost use Rattle.society_book.specs.Errors.{Blames};
 ghost use Rattle.society_book.specs.Going.{ReadsEnds};
+ghost use Rattle.society_book.specs.RightRows.{IsRightStated, KeepsUnsound};
 ghost use Rattle.society_book.specs.Steps.{LooksOpen};
 
 use crate::sender_ends::SenderEnds;
@@ -18,7 +22,8 @@ use work_ids::SegmentEnd;
 
 // The end that a row says; `Unread` where it says none.
 fn end_in(row: &Row) -> Result<SegmentEnd, RowFault>
-    ensures { IfOk result (λ end. (place_stated end ≡ segment_place_at 1 row.now) × (end_stated end ≡ end_of row.now)) }
+    ensures reads { IfOk result (λ end. (place_stated end ≡ segment_place_at 1 row.now) × (end_stated end ≡ end_of row.now)) }
+    ensures blames { IfErr result (Blames (IsRightStated row.now → ⊥)) }
 {
     let row = SegmentEndRow::from_row(row)?;
     match SegmentEnd::new(row.segment, u64::from(row.last), u64::from(row.next)) {
@@ -29,7 +34,8 @@ fn end_in(row: &Row) -> Result<SegmentEnd, RowFault>
 
 // The ends that rows say.
 fn ends_shown(alloc: Global, rows: &[Row]) -> Result<SenderEnds, RowFault>
-    ensures { IfOk result (λ ends. end_listed ends ≡ end_shown rows.now) }
+    ensures shows { IfOk result (λ ends. end_listed ends ≡ end_shown rows.now) }
+    ensures blames { IfErr result (Blames (AllByRecursion IsRightStated rows.now → ⊥)) }
 {
     let mut ends = SenderEnds::new(alloc);
     for row in rows {
@@ -42,6 +48,7 @@ fn ends_shown(alloc: Global, rows: &[Row]) -> Result<SenderEnds, RowFault>
 pub fn ends_in<S: Alter>(tx: &mut Transaction<'_, S>, sender: &[u8]) -> Result<SenderEnds, RowFault>
     ensures same_reference { tx.new.conn.ghost_name ≡ tx.old.conn.ghost_name }
     ensures looks { within S.Store tx.old tx.new LooksOpen result (ReadsEnds sender.now) }
+    ensures errs { within S.Store tx.old tx.new (Errs KeepsUnsound) result }
 {
     let rows = answer(tx, Question::Ends(sender))?;
     ends_shown(*rows.allocator(), rows.as_slice())

@@ -1,10 +1,11 @@
 //! What is noted of the transmissions with which a sender's front goes on.
-ghost use Rattle.std.specs.Prelude.{◌≡◌, ◌∷◌, ◌++◌, ◌⊎◌, [], None, flat_map, map, option_map, IfOk, OnOk};
+ghost use Rattle.std.specs.Prelude.{◌≡◌, ◌∷◌, ◌++◌, [], None, flat_map, map, option_map, IfOk, OnOk};
 ghost use Rattle.std.specs.BTreeSet.{IsFromIterResult};
 ghost use Rattle.std.specs.List.{slice_get};
 ghost use Rattle.cwr_files.specs.FileFault.{file_fault};
 ghost use Rattle.society_core.specs.Keys.{ascending, bytes_cmp};
-ghost use Rattle.society_rows.specs.declared.fault.RowFault.TheVariants.{Memory, Unread};
+ghost use Rattle.society_book.specs.Errors.{Blames};
+ghost use Rattle.society_book.specs.RightRows.{IsRightSent};
 ghost use Rattle.society_book.specs.Runs.{clean_works, notes_in, notes_of, take_row};
 ghost use Rattle.works_core.specs.Recordings.{isrcs_of};
 
@@ -171,7 +172,6 @@ impl Noted {
 pub struct Run {
     alloc: Global,
     office: Office,
-    sender: SenderKey,
     reached: u32,
     noted: Vec<Noted>,
 }
@@ -186,13 +186,12 @@ impl Model for Run {
 
 impl Run {
     /// A run of no transmission, at a number.
-    pub fn new(alloc: Global, office: &Office, sender: &SenderKey, reached: u32) -> Run
+    pub fn new(alloc: Global, office: &Office, reached: u32) -> Run
         ensures { result ≡ record { office = office.now; reached = reached; notes = [] } }
     {
         Run {
             alloc,
             office: *office,
-            sender: *sender,
             reached,
             noted: Vec::new(alloc),
         }
@@ -216,7 +215,6 @@ impl Run {
         Ok(Run {
             alloc,
             office: *office,
-            sender: *sender,
             reached: number.value(),
             noted: list,
         })
@@ -247,14 +245,17 @@ impl Run {
 impl RowFold for Run {
     ghost step = { take_row };
 
-    ghost refusal = { λ _ _ fault. (fault ≡ Memory) ⊎ (fault ≡ Unread) };
+    ghost refusal = { λ _ row fault. Blames (IsRightSent row → ⊥) fault };
 
     fn take(&mut self, row: &Row) -> Result<(), RowFault> {
         let row = TransmissionRow::from_row(row)?;
         let Some(number) = TransmissionNumber::from_u32(row.number) else {
             return Err(RowFault::Unread);
         };
-        let transmission = read_body(self.alloc, row.body, &self.sender)?;
+        let Ok(sender) = SenderKey::from_bytes(row.sender) else {
+            return Err(RowFault::Unread);
+        };
+        let transmission = read_body(self.alloc, row.body, &sender)?;
         let noted = Noted::of(self.alloc, number, &transmission, &self.office)?;
         self.noted.push(noted)?;
         self.reached = row.number;

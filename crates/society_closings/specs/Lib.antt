@@ -1,3 +1,5 @@
+pub mod Blamed
 pub mod Choosing
 pub mod Closings
 pub mod CutWorks
+pub mod Readable

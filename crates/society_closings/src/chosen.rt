@@ -1,5 +1,5 @@
 //! The versions that works have at a sender's cut.
-ghost use Rattle.std.specs.Prelude.{◌==◌, ◌≡◌, ◌||◌, List, Some, ℕ, false, IfOk, OnOk, bytes_eq, find, nat_le, option_map, reverse, if◌then◌else◌};
+ghost use Rattle.std.specs.Prelude.{◌==◌, ◌≡◌, ◌||◌, List, Some, ℕ, false, IfErr, IfOk, OnOk, bytes_eq, find, nat_le, option_map, reverse, if◌then◌else◌};
 ghost use Rattle.std.specs.BTreeSet.{contains};
 ghost use Rattle.std.specs.List.Sorted.{IsStrictlySortedBy};
 ghost use Rattle.std.specs.Ordering.{nat_cmp};
@@ -12,21 +12,47 @@ ghost use Rattle.society_closings.specs.CutWorks.{Chooses, chosen_at};
 ghost use Rattle.society_book.specs.Shown.{version_shown};
 ghost use Rattle.society_book.specs.Steps.{Looks};
 ghost use Rattle.society_rows.specs.Between.{within};
+ghost use Rattle.society_rows.specs.Effects.{Errs};
+ghost use Rattle.society_book.specs.Errors.{Blames};
+ghost use Rattle.society_closings.specs.Blamed.{HoldNoWorks};
+ghost use Rattle.society_closings.specs.Readable.{IsVersionRow};
+ghost use Rattle.std.specs.List.{AllByRecursion};
 ghost use Rattle.society_closings.specs.Choosing.{ChoosesMore, ChoosesWork, ChoosesWorks, IsVersionAtCut};
 
-use society_book::version_of;
 use society_core::TransmissionKey;
-use society_rows::{Question, RowFault, answer};
+use society_rows::{Question, RowFault, VersionRow, answer};
 use sqlite::{Alter, Row, Transaction};
 use std::alloc::{AllocError, Global};
 use std::collections::{BTreeMap, BTreeSet};
 use work_ids::{TransmissionNumber, WorkNumber};
 use works_core::WorkVersion;
 
+// The version that a row is; `Unread` where it is none, and only there.
+fn version_of(row: &Row) -> Result<WorkVersion, RowFault>
+    ensures version { IfOk result (λ version. version ≡ version_shown row.now) }
+    ensures blames { IfErr result (Blames (IsVersionRow row.now → ⊥)) }
+{
+    let row = VersionRow::from_row(row)?;
+    let Some(transmission) = TransmissionNumber::from_u32(row.number) else {
+        return Err(RowFault::Unread);
+    };
+    let (Ok(ordinal), Ok(revision)) = (u64::try_from(row.ordinal), u64::try_from(row.revision))
+    else {
+        return Err(RowFault::Unread);
+    };
+    Ok(WorkVersion {
+        transmission,
+        place: row.place as usize,
+        ordinal,
+        revision,
+    })
+}
+
 // The last of the versions that rows show whose transmission is up to a cut, none where all are above it; `Unread` where a
 // row shows none.
 fn last_up_to(rows: &[Row], cut: TransmissionNumber) -> Result<Option<WorkVersion>, RowFault>
-    ensures { IfOk result (λ version. version ≡ option_map version_shown (find (λ row. nat_le (whole_number_at 3 row) cut) (reverse rows.now))) }
+    ensures version { IfOk result (λ version. version ≡ option_map version_shown (find (λ row. nat_le (whole_number_at 3 row) cut) (reverse rows.now))) }
+    ensures blames { IfErr result (Blames (AllByRecursion IsVersionRow rows.now → ⊥)) }
 {
     let mut last = None;
     for row in rows {
@@ -46,6 +72,7 @@ fn version_at<S: Alter>(
 ) -> Result<Option<WorkVersion>, RowFault>
     ensures same_reference { tx.new.conn.ghost_name ≡ tx.old.conn.ghost_name }
     ensures looks { within S.Store tx.old tx.new Looks result (IsVersionAtCut key.now work.now) }
+    ensures errs { within S.Store tx.old tx.new (Errs HoldNoWorks) result }
 {
     let rows = answer(
         tx,
@@ -121,6 +148,7 @@ fn choose_work<S: Alter>(
 ) -> Result<(), RowFault>
     ensures same_reference { tx.new.conn.ghost_name ≡ tx.old.conn.ghost_name }
     ensures looks { within S.Store tx.old tx.new Looks result (λ db _. ChoosesWork key.now work.now chosen.old chosen.new db) }
+    ensures errs { within S.Store tx.old tx.new (Errs HoldNoWorks) result }
 {
     let version = version_at(tx, key, work)?;
     chosen.choose(*work, version)?;
@@ -136,6 +164,7 @@ pub(crate) fn chosen_of<S: Alter>(
 ) -> Result<Chosen, RowFault>
     ensures same_reference { tx.new.conn.ghost_name ≡ tx.old.conn.ghost_name }
     ensures looks { within S.Store tx.old tx.new Looks result (ChoosesWorks key.now works.now) }
+    ensures errs { within S.Store tx.old tx.new (Errs HoldNoWorks) result }
 {
     let mut chosen = Chosen::new(alloc);
     for work in works {

@@ -62,8 +62,8 @@ fn paid_rows<'a>(
     Ok(rows)
 }
 
-// The texts of the accounts of some credits.
-fn texts_of(alloc: Global, credits: &[Credit]) -> Result<Vec<Vec<u8>>, RowFault>
+/// The texts of the accounts of some credits, one after another; `Memory` where memory was refused.
+pub fn texts_of(alloc: Global, credits: &[Credit]) -> Result<Vec<Vec<u8>>, RowFault>
     ensures { IfOk result (λ texts. bytes_of_each texts.items ≡ account_texts credits.now) }
 {
     let mut texts = Vec::with_capacity(alloc, credits.len())?;
@@ -107,8 +107,9 @@ fn append_line<'a>(
     Ok(rows.push(row)?)
 }
 
-// The rows of a pool's credits, each at its line, under the texts of their accounts.
-fn line_rows<'a>(
+/// The rows of a pool's credits, each at its line, under the texts of their accounts; `Memory` where memory was refused, `Overflow` where
+/// a line or units have no room in a row, and `Unread` where there are fewer texts than credits.
+pub fn line_rows<'a>(
     alloc: Global,
     pool: u32,
     credits: &'a [Credit],

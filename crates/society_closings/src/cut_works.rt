@@ -1,16 +1,21 @@
 //! The candidates for the recordings of a pool, out of the tables: the works of its cut, each by the version that it has there.
-ghost use Rattle.std.specs.Prelude.{◌≡◌, ◌+◌, IfOk, OnOk};
-ghost use Rattle.cwr_files.specs.Contents.{transactions_of};
+ghost use Rattle.std.specs.Prelude.{◌≡◌, ◌+◌, None, IfErr, IfOk, OnOk};
+ghost use Rattle.cwr_files.specs.Contents.{transactions_of, transmission_in};
+ghost use Rattle.cwr_files.specs.FileFault.{file_fault};
 ghost use Rattle.society_closings.specs.CutWorks.{works_chosen};
+ghost use Rattle.society_book.specs.Errors.{Blames};
 ghost use Rattle.society_book.specs.Steps.{Looks};
+ghost use Rattle.society_core.specs.Points.{is_tallied};
 ghost use Rattle.society_rows.specs.Between.{within};
+ghost use Rattle.society_rows.specs.Effects.{Errs};
+ghost use Rattle.society_closings.specs.Blamed.{LackChosen, LackCut, LackNumber, LackSender, LackSenders};
+ghost use Rattle.society_closings.specs.Readable.{ShowTransmission};
 ghost use Rattle.society_closings.specs.Choosing.{AddsWorks, AddsOfTransmission, AddsChosen, AddsOfSender, AreForCut, AreForOrder, AddsShown, work_chosen};
 
 use crate::chosen::{Chosen, chosen_of};
 use crate::named_works::{NamedWorks, named_works};
-use cwr_files::{Transaction, Transmission};
+use cwr_files::{ReadFault, Transaction, Transmission, read_transmission};
 use share_rules::{Kind, Office};
-use society_book::read_body;
 use society_core::{Candidate, PoolOrder, Tally, TransmissionKey, Weighing, add_candidates};
 use society_rows::{Question, RowFault, TransmissionRow, answer};
 use sqlite::{Alter, Row};
@@ -40,7 +45,8 @@ fn add_transaction(
 
 // The place behind so many transactions; `Overflow` where it has no room.
 fn place_after(place: usize, count: usize) -> Result<usize, RowFault>
-    ensures { IfOk result (λ after. after ≡ place + count) }
+    ensures after { IfOk result (λ after. after ≡ place + count) }
+    ensures blames { IfErr result (Blames ⊥) }
 {
     match place.checked_add(count) {
         Some(after) => Ok(after),
@@ -58,7 +64,8 @@ fn add_group(
     transactions: &[Transaction<'_>],
     candidates: &mut Vec<Candidate>,
 ) -> Result<(), RowFault>
-    ensures { OnOk result (AddsWorks weighing.now (works_chosen chosen.now sender.now number first transactions.now) candidates.old.items candidates.new.items) }
+    ensures adds { OnOk result (AddsWorks weighing.now (works_chosen chosen.now sender.now number first transactions.now) candidates.old.items candidates.new.items) }
+    ensures blames { IfErr result (Blames ⊥) }
 {
     for (index, transaction) in transactions.iter().enumerate() {
         let place = place_after(first, index)?;
@@ -84,7 +91,8 @@ fn add_groups(
     transmission: &Transmission<'_>,
     candidates: &mut Vec<Candidate>,
 ) -> Result<(), RowFault>
-    ensures { OnOk result (AddsWorks weighing.now (works_chosen chosen.now sender.now number 0 (transactions_of transmission.now)) candidates.old.items candidates.new.items) }
+    ensures adds { OnOk result (AddsWorks weighing.now (works_chosen chosen.now sender.now number 0 (transactions_of transmission.now)) candidates.old.items candidates.new.items) }
+    ensures blames { IfErr result (Blames ⊥) }
 {
     let mut place: usize = 0;
     for group in transmission.groups.as_slice() {
@@ -103,6 +111,22 @@ fn add_groups(
     Ok(())
 }
 
+// The transmission that a body is; `Unread` where it is none of the sender, and only there.
+fn transmission_of<'a>(
+    alloc: Global,
+    body: &'a [u8],
+    sender: &SenderKey,
+) -> Result<Transmission<'a>, RowFault>
+    ensures reads { IfOk result (λ transmission. transmission ≡ transmission_in body.now) }
+    ensures blames { IfErr result (Blames (file_fault sender.now body.now ≡ None → ⊥)) }
+{
+    match read_transmission(alloc, body, sender) {
+        Ok(transmission) => Ok(transmission),
+        Err(ReadFault::Memory) => Err(RowFault::Memory),
+        Err(ReadFault::File(_)) => Err(RowFault::Unread),
+    }
+}
+
 // Adds the candidates of the transmission that rows show; `Unread` where they are not one row, or its body is no transmission
 // of the sender.
 fn add_shown(
@@ -113,13 +137,14 @@ fn add_shown(
     rows: &[Row],
     candidates: &mut Vec<Candidate>,
 ) -> Result<(), RowFault>
-    ensures { AddsShown weighing.now rows.now sender.now number chosen.now candidates.old.items candidates.new.items result }
+    ensures adds { AddsShown weighing.now rows.now sender.now number chosen.now candidates.old.items candidates.new.items result }
+    ensures blames { IfErr result (Blames (ShowTransmission sender.now rows.now → ⊥)) }
 {
     let [row] = rows else {
         return Err(RowFault::Unread);
     };
     let row = TransmissionRow::from_row(row)?;
-    let transmission = read_body(weighing.alloc, row.body, sender)?;
+    let transmission = transmission_of(weighing.alloc, row.body, sender)?;
     add_groups(weighing, sender, chosen, number, &transmission, candidates)
 }
 
@@ -134,6 +159,7 @@ fn add_transmission<S: Alter>(
 ) -> Result<(), RowFault>
     ensures same_reference { tx.new.conn.ghost_name ≡ tx.old.conn.ghost_name }
     ensures looks { within S.Store tx.old tx.new Looks result (λ db _. AddsOfTransmission weighing.now key.now number chosen.now candidates.old.items candidates.new.items db) }
+    ensures errs { within S.Store tx.old tx.new (Errs (LackNumber weighing.now.office.now key.now number)) result }
 {
     let rows = answer(
         tx,
@@ -160,6 +186,7 @@ fn add_transmissions<S: Alter>(
 ) -> Result<(), RowFault>
     ensures same_reference { tx.new.conn.ghost_name ≡ tx.old.conn.ghost_name }
     ensures looks { within S.Store tx.old tx.new Looks result (λ db _. AddsChosen weighing.now key.now chosen.now candidates.old.items candidates.new.items db) }
+    ensures errs { within S.Store tx.old tx.new (Errs (LackChosen weighing.now.office.now key.now (is_tallied weighing.now.tally.now) chosen.now)) result }
 {
     let numbers = chosen.transmissions(weighing.alloc)?;
     for number in numbers.as_slice() {
@@ -178,6 +205,7 @@ fn add_sender<S: Alter>(
 ) -> Result<(), RowFault>
     ensures same_reference { tx.new.conn.ghost_name ≡ tx.old.conn.ghost_name }
     ensures looks { within S.Store tx.old tx.new Looks result (λ db _. AddsOfSender weighing.now key.now named.now candidates.old.items candidates.new.items db) }
+    ensures errs { within S.Store tx.old tx.new (Errs (LackSender weighing.now.office.now key.now (is_tallied weighing.now.tally.now) named.now)) result }
 {
     let works = named.works_of(weighing.alloc, &key.sender)?;
     let chosen = chosen_of(weighing.alloc, tx, key, works.as_slice())?;
@@ -196,6 +224,7 @@ fn candidates_of<S: Alter>(
 ) -> Result<Vec<Candidate>, RowFault>
     ensures same_reference { tx.new.conn.ghost_name ≡ tx.old.conn.ghost_name }
     ensures looks { within S.Store tx.old tx.new Looks result (λ db candidates. AreForCut kind office.now tally.now cut.now named.now db candidates.items) }
+    ensures errs { within S.Store tx.old tx.new (Errs (LackSenders office.now cut.now (is_tallied tally.now) named.now)) result }
 {
     let weighing = Weighing {
         alloc,
@@ -221,6 +250,7 @@ pub fn candidates_in<S: Alter>(
 ) -> Result<Vec<Candidate>, RowFault>
     ensures same_reference { tx.new.conn.ghost_name ≡ tx.old.conn.ghost_name }
     ensures looks { within S.Store tx.old tx.new Looks result (λ db candidates. AreForOrder kind office.now tally.now order.now db candidates.items) }
+    ensures errs { within S.Store tx.old tx.new (Errs (LackCut office.now order.now)) result }
 {
     let recordings = tally.recordings(alloc)?;
     let named = named_works(alloc, tx, recordings.as_slice(), order.cut())?;

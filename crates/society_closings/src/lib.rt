@@ -12,6 +12,6 @@ mod named_works;
 mod paying;
 mod totals;
 
-pub use closings::write_pool;
+pub use closings::{line_rows, texts_of, write_pool};
 pub use cut_works::candidates_in;
 pub use paying::{close, credits_in};

@@ -1,5 +1,5 @@
 //! The works that name some recordings, in whichever of their versions.
-ghost use Rattle.std.specs.Prelude.{◌≡◌, List, ℕ, true, IfOk, OnOk, bytes_eq};
+ghost use Rattle.std.specs.Prelude.{◌≡◌, List, ℕ, true, IfErr, IfOk, OnOk, bytes_eq};
 ghost use Rattle.std.specs.BTreeSet.{IsFromIterResult, contains};
 ghost use Rattle.std.specs.List.{AllByRecursion, list_any};
 ghost use Rattle.society_core.specs.Keys.{bytes_cmp};
@@ -7,6 +7,10 @@ ghost use Rattle.society_rows.specs.Rows.{recording_values};
 ghost use Rattle.society_closings.specs.CutWorks.{IsNoted, NotesMore, NotesSenders, NotesWanted, is_noted, notes_of_sender};
 ghost use Rattle.society_book.specs.Steps.{Looks};
 ghost use Rattle.society_rows.specs.Between.{within};
+ghost use Rattle.society_rows.specs.Effects.{Errs};
+ghost use Rattle.society_book.specs.Errors.{Blames};
+ghost use Rattle.society_closings.specs.Blamed.{HoldNoWorks};
+ghost use Rattle.society_closings.specs.Readable.{IsRecordingRow, NamesWork};
 ghost use Rattle.society_closings.specs.Choosing.{NotesCut};
 
 use society_book::distinct_isrcs;
@@ -50,6 +54,7 @@ impl NamedWorks {
     fn note_recording(&mut self, row: &RecordingRow<'_>) -> Result<(), RowFault>
         ensures more { OnOk result (NotesMore self.old self.new) }
         ensures noted { OnOk result (IsNoted self.new (recording_values row.now)) }
+        ensures blames { IfErr result (Blames (NamesWork (recording_values row.now) → ⊥)) }
     {
         let Ok(sender) = SenderKey::from_bytes(row.sender) else {
             return Err(RowFault::Unread);
@@ -65,6 +70,7 @@ impl NamedWorks {
     fn note_row(&mut self, row: &Row, wanted: &BTreeSet<Isrc>) -> Result<(), RowFault>
         ensures more { OnOk result (NotesMore self.old self.new) }
         ensures noted { OnOk result (NotesWanted wanted.now self.new row.now) }
+        ensures blames { IfErr result (Blames (IsRecordingRow row.now → ⊥)) }
     {
         let row = RecordingRow::from_row(row)?;
         if !may_be(wanted, row.isrc) {
@@ -77,6 +83,7 @@ impl NamedWorks {
     fn note_rows(&mut self, rows: &[Row], wanted: &BTreeSet<Isrc>) -> Result<(), RowFault>
         ensures more { OnOk result (NotesMore self.old self.new) }
         ensures noted { OnOk result (AllByRecursion (NotesWanted wanted.now self.new) rows.now) }
+        ensures blames { IfErr result (Blames (AllByRecursion IsRecordingRow rows.now → ⊥)) }
     {
         for row in rows {
             self.note_row(row, wanted)?;
@@ -127,6 +134,7 @@ fn note_sender<S: Alter>(
     ensures same_reference { tx.new.conn.ghost_name ≡ tx.old.conn.ghost_name }
     ensures more { OnOk result (NotesMore named.old named.new) }
     ensures looks { within S.Store tx.old tx.new Looks result (λ db _. NotesSenders (bytes_eq sender.now) wanted.now named.new db) }
+    ensures errs { within S.Store tx.old tx.new (Errs HoldNoWorks) result }
 {
     let rows = sender_recordings(tx, sender.as_bytes())?;
     named.note_rows(rows.as_slice(), wanted)?;
@@ -144,6 +152,7 @@ fn note_senders<S: Alter>(
     ensures more { OnOk result (NotesMore named.old named.new) }
     ensures looks { within S.Store tx.old tx.new Looks result
         (λ db _. NotesSenders (λ sender. list_any (λ key. bytes_eq key.sender sender) cut.now) wanted.now named.new db) }
+    ensures errs { within S.Store tx.old tx.new (Errs HoldNoWorks) result }
 {
     for key in cut {
         note_sender(tx, &key.sender, wanted, named)?;
@@ -160,6 +169,7 @@ pub(crate) fn named_works<S: Alter>(
 ) -> Result<NamedWorks, RowFault>
     ensures same_reference { tx.new.conn.ghost_name ≡ tx.old.conn.ghost_name }
     ensures looks { within S.Store tx.old tx.new Looks result (NotesCut cut.now recordings.now) }
+    ensures errs { within S.Store tx.old tx.new (Errs HoldNoWorks) result }
 {
     let mut named = NamedWorks::of_cut(alloc, cut)?;
     if recordings.is_empty() {

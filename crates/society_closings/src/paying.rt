@@ -1,11 +1,15 @@
 //! What a pool pays, worked out of the tables, and its closing in a transaction of its own.
-ghost use Rattle.std.specs.Prelude.{◌≡◌, ◌≤◌, [], List, ℕ, Option, length, unwrap_or, OnOk, ⊤};
+ghost use Rattle.std.specs.Prelude.{◌≡◌, ◌≤◌, [], List, ℕ, Option, length, unwrap_or, IfErr, OnOk, ⊤};
 ghost use Rattle.perf_returns.specs.Returns.{performances_in};
 ghost use Rattle.society_core.specs.Orders.{IsOrder};
 ghost use Rattle.society_closings.specs.Closings.{ClosesPool, PaysBy};
+ghost use Rattle.society_book.specs.Errors.{Blames};
 ghost use Rattle.society_book.specs.Shown.{AddsAlone, ShowBody};
 ghost use Rattle.society_book.specs.Steps.{DoesOpen, Looks};
 ghost use Rattle.society_rows.specs.Between.{between, within};
+ghost use Rattle.society_rows.specs.Effects.{Errs};
+ghost use Rattle.society_closings.specs.Blamed.{BelongNowhere, CannotPay, LackReturn, LackReturns};
+ghost use Rattle.society_closings.specs.Readable.{ShowReturn};
 ghost use Rattle.society_closings.specs.Choosing.{TalliesReturn, TalliesReturns, PaysByTally, TalliesKept};
 
 use crate::closings::write_pool;
@@ -24,6 +28,7 @@ use work_ids::PoolNumber;
 fn add_performances(alloc: Global, rows: &[Row], tally: &mut Tally) -> Result<(), RowFault>
     ensures counted { TalliesKept rows.now tally.old tally.new result }
     ensures limit { (kept : Option (List ℕ)) → ShowBody kept rows.now → OnOk result (length (performances_in (unwrap_or kept [])) ≤ 10000) }
+    ensures blames { IfErr result (Blames (ShowReturn rows.now → ⊥)) }
 {
     let [row] = rows else {
         return Err(RowFault::Unread);
@@ -45,6 +50,7 @@ fn add_return<S: Alter>(
 ) -> Result<(), RowFault>
     ensures same_reference { tx.new.conn.ghost_name ≡ tx.old.conn.ghost_name }
     ensures looks { within S.Store tx.old tx.new Looks result (λ db _. TalliesReturn key.now tally.old tally.new db) }
+    ensures errs { within S.Store tx.old tx.new (Errs (LackReturn key.now)) result }
 {
     let rows = answer(
         tx,
@@ -61,6 +67,7 @@ fn tally_of<S: Alter>(
 ) -> Result<Tally, RowFault>
     ensures same_reference { tx.new.conn.ghost_name ≡ tx.old.conn.ghost_name }
     ensures looks { within S.Store tx.old tx.new Looks result (TalliesReturns returns.now) }
+    ensures errs { within S.Store tx.old tx.new (Errs (LackReturns returns.now)) result }
 {
     let mut tally = Tally::new(alloc);
     for key in returns {
@@ -76,7 +83,8 @@ fn credits_by(
     candidates: &[Candidate],
     order: &PoolOrder,
 ) -> Result<Vec<Credit>, RowFault>
-    ensures { PaysByTally tally.now candidates.now order.now result }
+    ensures pays { PaysByTally tally.now candidates.now order.now result }
+    ensures blames { IfErr result (Blames (BelongNowhere tally.now candidates.now order.now)) }
 {
     let points = tally.points_by_recording(alloc)?;
     let claims = claims(alloc, &points, candidates)?;
@@ -86,7 +94,8 @@ fn credits_by(
     Ok(credits(alloc, order.amount(), &claims)?)
 }
 
-/// What an order pays by the tables.
+/// What an order pays by the tables. Where the disk told the truth, an error says that memory ran out, that a count has no
+/// room, that the medium may have failed, or that no book whose works the tables have can pay the order.
 pub fn credits_in<S: Alter>(
     alloc: Global,
     tx: &mut Transaction<'_, S>,
@@ -95,6 +104,7 @@ pub fn credits_in<S: Alter>(
 ) -> Result<Vec<Credit>, RowFault>
     ensures same_reference { tx.new.conn.ghost_name ≡ tx.old.conn.ghost_name }
     ensures looks { within S.Store tx.old tx.new Looks result (λ db credits. PaysBy office.now order.now db credits.items) }
+    ensures errs { within S.Store tx.old tx.new (Errs (CannotPay office.now order.now)) result }
     ensures kept { IsOrder order.now }
 {
     let tally = tally_of(alloc, tx, order.returns())?;

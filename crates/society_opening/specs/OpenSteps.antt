@@ -10,7 +10,8 @@ use Rattle.society_rows.specs.declared.older.OlderLayout.{OlderLayout}
 use Rattle.society_audit.specs.Older.{HoldsOne, IsTakenOver, HoldsOlder, Takes}
 use Rattle.society_opening.specs.Opening.{IsOpenable, ShowsAs, TellsDatabase, TellsOfficeIn}
 use Rattle.society_audit.specs.Rebuilding.{Passes, ShowsBook}
-use Rattle.society_audit.specs.declared.audit_fault.AuditFault.{AuditFault}
+use Rattle.book_audit.specs.declared.audit_fault.AuditFault.{AuditFault}
+use Rattle.book_audit.specs.declared.audit_fault.AuditFault.TheVariants as audit
 use Rattle.society_opening.specs.declared.open_fault.OpenFault.{OpenFault}
 use Rattle.society_opening.specs.declared.open_fault.OpenFault.TheVariants as fault
 use Rattle.society_audit.specs.TakingOver.{TakesOffice}
@@ -27,6 +28,10 @@ PassesNumbered table result old new =
 -- tables that hold this book of this office pass
 abbrev pub PassesBook : {X : Type 0} → Office → Book → Result X AuditFault → State → State → Type 0
 PassesBook office book result old new = HasCleanDisk new → ShowsBook office book old → Passes result (λ _. ⊤)
+
+-- what is answered, or told as damage, comes from an open connection alone
+abbrev pub JudgesOpen : {X : Type 0} → Result X AuditFault → State → State → Type 0
+JudgesOpen result old new = HasCleanDisk new → OnOk result (IsTrue old.is_open) × IfErr result (λ e. e ≡ audit.Damaged → IsTrue old.is_open)
 
 -- tables that hold a sound book of this office pass
 abbrev pub PassesOffice : {X : Type 0} → Office → Result X AuditFault → State → State → Type 0

@@ -16,8 +16,8 @@ use Rattle.society_core.specs.Book.{empty_book}
 use Rattle.society_book.specs.BookRows.{book_of}
 use Rattle.society_book.specs.Kept.{HoldsOwnBook, Rests, office_row}
 use Rattle.society_audit.specs.Older.{HoldsOlder, HoldsOne, IsTakenOver, Takes, office_row_under}
-use Rattle.society_audit.specs.declared.audit_fault.AuditFault.{AuditFault}
-use Rattle.society_audit.specs.declared.audit_fault.AuditFault.TheVariants as audit
+use Rattle.book_audit.specs.declared.audit_fault.AuditFault.{AuditFault}
+use Rattle.book_audit.specs.declared.audit_fault.AuditFault.TheVariants as audit
 use Rattle.society_opening.specs.declared.open_fault.OpenFault.{OpenFault}
 use Rattle.society_opening.specs.declared.open_fault.OpenFault.TheVariants as fault
 

@@ -1,10 +1,11 @@
 //! Why a database is not opened.
 ghost use Rattle.std.specs.Prelude.{◌≡◌};
 ghost use Rattle.society_rows.specs.Faults.{fault_of_error};
-ghost use Rattle.society_audit.specs.Opening.{audit_fault_by};
+ghost use Rattle.society_audit.specs.Opening.{reading_fault_by};
 ghost use Rattle.society_opening.specs.Opening.{open_fault_by};
 
-use society_audit::AuditFault;
+use book_audit::AuditFault;
+use society_audit::fault_of_reading;
 use society_rows::RowFault;
 use sqlite::Error;
 
@@ -32,15 +33,15 @@ pub enum OpenFault {
 }
 
 impl From<RowFault> for OpenFault {
-    ghost from_gives = { λ fault told. told ≡ open_fault_by (audit_fault_by fault) };
+    ghost from_gives = { λ fault told. told ≡ open_fault_by (reading_fault_by fault) };
 
     fn from(fault: RowFault) -> OpenFault {
-        OpenFault::from(AuditFault::from(fault))
+        OpenFault::from(fault_of_reading(fault))
     }
 }
 
 impl From<Error> for OpenFault {
-    ghost from_gives = { λ error told. told ≡ open_fault_by (audit_fault_by (fault_of_error error)) };
+    ghost from_gives = { λ error told. told ≡ open_fault_by (reading_fault_by (fault_of_error error)) };
 
     fn from(error: Error) -> OpenFault {
         OpenFault::from(RowFault::from(error))

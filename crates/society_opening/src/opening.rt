@@ -14,27 +14,28 @@ ghost use Rattle.society_rows.specs.TableNames.{table_called};
 ghost use Rattle.society_book.specs.Kept.{HoldsOwnBook, office_row};
 ghost use Rattle.society_opening.specs.Existing.{FailsByStore, FindsOffice, SparesCommitted, SparesOlder, SurvivesTaking, WhenOpen};
 ghost use Rattle.society_audit.specs.Older.{HoldsOne, office_row_under};
-ghost use Rattle.society_audit.specs.Opening.{Inspects, TellsFailure, IsNumbered, HoldsNumbered};
+ghost use Rattle.book_audit.specs.Audited.{IsNumbered, IsRegistered};
+ghost use Rattle.book_audit.specs.Examining.{Examines, HoldsNot};
+ghost use Rattle.society_audit.specs.Opening.{Inspects, TellsFailure};
 ghost use Rattle.society_opening.specs.Opening.{IsOutside, Opens, ShowsAs, SurvivesOpening, TellsOffice};
-ghost use Rattle.society_audit.specs.declared.audit_fault.AuditFault.TheVariants as audit;
+ghost use Rattle.book_audit.specs.declared.audit_fault.AuditFault.TheVariants as audit;
 ghost use Rattle.society_opening.specs.declared.open_fault.OpenFault.TheVariants as fault;
 ghost use Rattle.society_opening.specs.declared.open_fault.OpenFault.TheVariants.{Damaged, Empty};
-ghost use Rattle.society_rows.specs.Between.{between};
-ghost use Rattle.society_audit.specs.InMemory.{memory_book};
-ghost use Rattle.society_opening.specs.OpenSteps.{TellsOfOffice, PassesNumbered, PassesBook, PassesOffice, AuditsOffice, TakesCommitted, WasOpenable, TellsCommitted, ShowsCommitted};
+ghost use Rattle.society_rows.specs.Between.{between, within};
+ghost use Rattle.society_opening.specs.OpenSteps.{TellsOfOffice, JudgesOpen, PassesNumbered, PassesBook, PassesOffice, AuditsOffice, TakesCommitted, WasOpenable, TellsCommitted, ShowsCommitted};
 
 use crate::OpenFault;
 use crate::taking_over::take_over;
-use memory_store::MemoryStore;
+use book_audit::AuditFault;
 use share_rules::Office;
-use society_audit::own_rows::listed_own;
-use society_audit::{AuditFault, confirm, list_table, rebuild, tables_agree};
+use society_audit::{fault_of_reading, list_table};
 use society_core::Store;
 use society_rows::{
-    Found, Idle, LAYOUT, OfficeRow, RowFault, TableName, are_numbered, create, layout_found,
+    Found, Idle, LAYOUT, OfficeRow, RowFault, TableName, all_rows, are_numbered, create,
+    layout_found,
 };
 use society_tables::Tables;
-use sqlite::{Alter, Connection, Row};
+use sqlite::{Alter, Connection, Row, Transaction};
 use std::alloc::Global;
 
 /// That the rows of offices are the one row of this office under a layout; `Schema` where it cannot be read.
@@ -91,10 +92,10 @@ fn check_numbers<S: Alter>(conn: &mut Idle<S>, table: TableName) -> Result<(), A
     ensures passes { between S.Store conn.old conn.new (PassesNumbered (table_called table) result) }
     ensures failed { between S.Store conn.old conn.new (TellsFailure audit.Store) result }
 {
-    if is_numbered(conn, table)? {
-        Ok(())
-    } else {
-        Err(AuditFault::Damaged)
+    match is_numbered(conn, table) {
+        Ok(true) => Ok(()),
+        Ok(false) => Err(AuditFault::Damaged),
+        Err(fault) => Err(fault_of_reading(fault)),
     }
 }
 
@@ -108,54 +109,43 @@ fn fronts_and_balances_numbered<S: Alter>(conn: &mut Idle<S>) -> Result<(), Audi
     check_numbers(conn, TableName::Balances)
 }
 
-// That the tables hold what these tables in memory hold.
-fn agrees_with<S: Alter>(conn: &mut Idle<S>, tables: Tables<MemoryStore>) -> Result<(), AuditFault>
-    ensures agree { between S.Store conn.old conn.new Inspects result (λ db _. HoldsNumbered tables.office db) }
-    ensures passes { between S.Store conn.old conn.new (PassesBook tables.office (memory_book tables.conn) result) }
-    ensures failed { between S.Store conn.old conn.new (TellsFailure audit.Store) result }
-{
-    let mut memory = Idle {
-        connection: tables.into_connection(),
-    };
-    tables_agree(conn, &mut memory)
-}
-
-// That the tables hold what their own rows make of an empty book, worked out with all of it in memory.
-fn check_rebuilt<S: Alter>(
+// What an audit finds of the tables in a transaction. The office is read first: what is answered, or told as damage, comes from an open
+// connection alone.
+fn examine<S: Alter>(
     alloc: Global,
-    conn: &mut Idle<S>,
+    tx: &mut Transaction<'_, S>,
     office: &Office,
 ) -> Result<(), AuditFault>
-    ensures agree { between S.Store conn.old conn.new Inspects result (λ db _. HoldsNumbered office.now db) }
-    ensures passes { between S.Store conn.old conn.new (PassesOffice office.now result) }
-    ensures failed { between S.Store conn.old conn.new (TellsFailure audit.Store) result }
+    ensures same_reference { tx.new.conn.ghost_name ≡ tx.old.conn.ghost_name }
+    ensures examined { within S.Store tx.old tx.new (Examines (HoldsNot office.now)) result (λ db _. IsRegistered office.now db → IsNumbered db → HoldsOwnBook office.now db) }
+    ensures judged { within S.Store tx.old tx.new (JudgesOpen result) }
 {
-    let rows = listed_own(conn)?;
-    let tables = rebuild(alloc, office, &rows)?;
-    agrees_with(conn, tables)
-}
-
-// That the tables hold what their own rows make of an empty book: confirmed with one body in memory at a time, and where that
-// confirms nothing, worked out anew, so that damage is told as damage whatever stopped the confirmation.
-fn check_own<S: Alter>(alloc: Global, conn: &mut Idle<S>, office: &Office) -> Result<(), AuditFault>
-    ensures agree { between S.Store conn.old conn.new Inspects result (λ db _. HoldsNumbered office.now db) }
-    ensures passes { between S.Store conn.old conn.new (PassesOffice office.now result) }
-    ensures failed { between S.Store conn.old conn.new (TellsFailure audit.Store) result }
-{
-    match confirm(alloc, conn, office) {
-        Ok(()) => Ok(()),
-        Err(AuditFault::Memory) => Err(AuditFault::Memory),
-        Err(AuditFault::Damaged | AuditFault::Store) => check_rebuilt(alloc, conn, office),
+    if let Err(fault) = all_rows(tx, TableName::Office) {
+        return Err(fault_of_reading(fault));
     }
+    book_audit::audit(alloc, tx, office)
 }
 
-// That the tables hold what their own rows make of an empty book, and can be written.
+// That the tables hold the book that they stand for, audited in a transaction that is rolled back.
+fn check_own<S: Alter>(alloc: Global, conn: &mut Idle<S>, office: &Office) -> Result<(), AuditFault>
+    ensures agree { between S.Store conn.old conn.new Inspects result (λ db _. IsRegistered office.now db → IsNumbered db → HoldsOwnBook office.now db) }
+    ensures passes { between S.Store conn.old conn.new (PassesOffice office.now result) }
+    ensures failed { between S.Store conn.old conn.new (TellsFailure audit.Store) result }
+{
+    conn.see_last_commit();
+    let mut tx = conn.connection.transaction();
+    let found = examine(alloc, &mut tx, office);
+    tx.rollback();
+    found
+}
+
+// That the tables of an office, whose row they have, hold the book that they stand for, and can be written.
 fn check_whole<S: Alter>(
     alloc: Global,
     conn: &mut Idle<S>,
     office: &Office,
 ) -> Result<(), AuditFault>
-    ensures whole { between S.Store conn.old conn.new Inspects result (λ db _. HoldsOne office.now db) }
+    ensures whole { between S.Store conn.old conn.new Inspects result (λ db _. IsRegistered office.now db → HoldsOne office.now db) }
     ensures passes { between S.Store conn.old conn.new (PassesOffice office.now result) }
     ensures failed { between S.Store conn.old conn.new (TellsFailure audit.Store) result }
 {

@@ -7,7 +7,8 @@ ghost use Rattle.society_rows.specs.Stored.{AreNumbered, HasLayout};
 ghost use Rattle.society_rows.specs.TableNames.{table_called};
 ghost use Rattle.society_audit.specs.InMemory.{FromMemory, in_memory, memory_book};
 ghost use Rattle.society_audit.specs.Older.{HoldsOlder};
-ghost use Rattle.society_audit.specs.Opening.{Agree, AgreesAt, IsNumbered, every_name};
+ghost use Rattle.book_audit.specs.Audited.{IsNumbered};
+ghost use Rattle.society_audit.specs.Opening.{Agree, AgreesAt, every_name};
 ghost use Rattle.society_audit.specs.Rebuilding.{IsAside};
 ghost use Rattle.society_audit.specs.TakingOver.{AreFilledFrom, AreSame, CanComplete, Completes, DoesOver, Fills, IsFilledFrom, PassesAnew, PassesIn, PassesLike, Sees, IsOffice, TakesIn, TakesOffice, derived_names, filled_names};
 ghost use Rattle.society_opening.specs.OpenSteps.{IsDamagedIn, TakesOver, TellsOfOlder};
@@ -15,10 +16,11 @@ ghost use Rattle.society_opening.specs.declared.open_fault.OpenFault.TheVariants
 
 use crate::OpenFault;
 use crate::opening::check_office;
+use book_audit::AuditFault;
 use memory_store::MemoryStore;
 use share_rules::Office;
 use society_audit::own_rows::own_rows;
-use society_audit::{AuditFault, OTHER_TABLES, are_same_rows, rebuild, rows_in_memory};
+use society_audit::{OTHER_TABLES, are_same_rows, fault_of_reading, rebuild, rows_in_memory};
 use society_rows::{
     Idle, OlderLayout, TableName, add_derived_rows, all_rows, are_numbered, raise_inside,
 };
@@ -48,8 +50,10 @@ fn fill_table<S: Alter>(
     ensures aside { IfErr result IsAside }
 {
     let rows = rows_in_memory(memory, table)?;
-    add_derived_rows(tx, table, rows.as_slice())?;
-    Ok(())
+    match add_derived_rows(tx, table, rows.as_slice()) {
+        Ok(()) => Ok(()),
+        Err(fault) => Err(fault_of_reading(fault)),
+    }
 }
 
 // Adds to the tables of what is derived the rows that they have in memory.
@@ -96,7 +100,10 @@ fn table_agrees_inside<S: Alter>(
     ensures same { in_memory memory.new ≡ in_memory memory.old }
     ensures passes { within S.Store tx.old tx.new (PassesLike (in_memory memory.old)) result }
 {
-    let rows = all_rows(tx, table)?;
+    let rows = match all_rows(tx, table) {
+        Ok(rows) => rows,
+        Err(fault) => return Err(fault_of_reading(fault)),
+    };
     let others = rows_in_memory(memory, table)?;
     if are_same_rows(rows.as_slice(), others.as_slice()) {
         Ok(())
@@ -130,10 +137,10 @@ fn check_numbers_inside<S: Alter>(
     ensures numbered { within S.Store tx.old tx.new Sees result (λ db _. AreNumbered (table_called table) db) }
     ensures passes { within S.Store tx.old tx.new (PassesIn (λ db. HasLayout db × AreNumbered (table_called table) db.trees)) result (λ _. ⊤) }
 {
-    if are_numbered(tx, table)? {
-        Ok(())
-    } else {
-        Err(AuditFault::Damaged)
+    match are_numbered(tx, table) {
+        Ok(true) => Ok(()),
+        Ok(false) => Err(AuditFault::Damaged),
+        Err(fault) => Err(fault_of_reading(fault)),
     }
 }
 
@@ -171,8 +178,10 @@ fn rebuilt_inside<S: Alter>(
     ensures office { IfOk result (λ t. t.office ≡ office.now) }
     ensures passes { within S.Store tx.old tx.new PassesAnew result (λ b t. memory_book t.conn ≡ b) }
 {
-    let rows = own_rows(tx)?;
-    rebuild(alloc, office, &rows)
+    match own_rows(tx) {
+        Ok(rows) => rebuild(alloc, office, &rows),
+        Err(fault) => Err(fault_of_reading(fault)),
+    }
 }
 
 // Makes tables that were raised hold what these in memory hold, where they can; else `Damaged`.
@@ -218,8 +227,10 @@ fn take_inside<S: Alter>(
     ensures does { within S.Store tx.old tx.new (DoesOver (HasOlder layout)) result (TakesIn office.now layout) }
     ensures passes { within S.Store tx.old tx.new (PassesIn (λ db. HasOlder layout db × HoldsOlder office.now layout db.trees)) result (λ _. ⊤) }
 {
-    raise_inside(tx, layout)?;
-    complete_own(alloc, tx, office, layout)
+    match raise_inside(tx, layout) {
+        Ok(()) => complete_own(alloc, tx, office, layout),
+        Err(fault) => Err(fault_of_reading(fault)),
+    }
 }
 
 // That the tables are those of this office, under their layout.

@@ -6,7 +6,9 @@ use Rattle.sqlite.specs.declared.error.Error.{Error}
 use Rattle.sqlite.specs.Effect.{Database}
 use Rattle.sqlite.specs.State.{State, HasCleanDisk, IsUnchanged, IsRolledBack, KeepsCommit, Survives, ExecutesInside}
 use Rattle.society_rows.specs.declared.fault.RowFault.{RowFault}
+use Rattle.society_rows.specs.declared.fault.RowFault.TheVariants as fault
 use Rattle.society_rows.specs.declared.fault.RowFault.TheVariants.{Memory}
+use Rattle.sqlite_trees.specs.Tree.{Trees}
 use Rattle.society_rows.specs.Faults.{fault_of_error, IsFailure}
 use Rattle.society_rows.specs.Stored.{HasLayout}
 
@@ -41,6 +43,19 @@ ErrsByMediumOver Was old new result = HasCleanDisk new → Was old.now → IfErr
 -- the same over layout 3
 abbrev pub ErrsByMedium : {X : Type 0} → State → State → Result X RowFault → Type 0
 ErrsByMedium = ErrsByMediumOver HasLayout
+
+-- What a fault of readings says: want of memory, and a count that has no room, nothing; a failure that SQLite told that the medium may have
+-- failed; a row that cannot be read, or a schema, that the rows are such.
+abbrev pub FaultSays : (Trees → Type 0) → State → State → RowFault → Type 0
+FaultSays Wrong old new fault.Memory = Unit {0}
+FaultSays Wrong old new fault.Schema = Wrong old.now.trees
+FaultSays Wrong old new fault.Unread = Wrong old.now.trees
+FaultSays Wrong old new fault.Overflow = Unit {0}
+FaultSays Wrong old new (fault.Refused error) = MayFail old new
+
+-- in a transaction over layout 3, and where the disk told the truth, an error says so
+abbrev pub Errs : {X : Type 0} → (Trees → Type 0) → State → State → Result X RowFault → Type 0
+Errs Wrong old new result = HasCleanDisk new → IsTrue old.in_transaction → HasLayout old.now → IfErr result (FaultSays Wrong old new)
 
 -- the statement ran, or its error is told
 abbrev pub RanAs : List ℕ → Row → State → State → Result (Unit {0}) RowFault → Type 0

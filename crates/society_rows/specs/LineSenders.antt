@@ -8,7 +8,7 @@ use Rattle.society_rows.specs.declared.fault.RowFault.{RowFault}
 use Rattle.society_rows.specs.declared.line_senders.LineTable.{LineTable}
 use Rattle.society_rows.specs.declared.line_senders.LineTable.TheVariants as name
 use Rattle.society_rows.specs.Folds.{AreFirst, StopsOver}
-use Rattle.society_rows.specs.Layout.{fronts, verdicts, versions, recordings}
+use Rattle.society_rows.specs.Layout.{fronts, verdicts, versions, recordings, credits_table}
 use Rattle.society_rows.specs.Stored.{HasLayout, rows_in}
 
 -- the table of that name
@@ -17,13 +17,15 @@ line_table name.Fronts = fronts
 line_table name.Verdicts = verdicts
 line_table name.Versions = versions
 line_table name.Recordings = recordings
+line_table name.Credits = credits_table
 
--- the query that shows the sender of every row, in any order
+-- the query that shows the first column of every row, the sender or the pool, in any order
 abbrev pub senders_text : LineTable → List ℕ
 senders_text name.Fronts = codes "SELECT sender FROM fronts"
 senders_text name.Verdicts = codes "SELECT sender FROM verdicts"
 senders_text name.Versions = codes "SELECT sender FROM versions"
 senders_text name.Recordings = codes "SELECT sender FROM recordings"
+senders_text name.Credits = codes "SELECT pool FROM credits"
 
 -- a row's first column alone
 abbrev pub first_of : Row → Row

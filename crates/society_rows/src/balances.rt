@@ -5,7 +5,7 @@ ghost use Rattle.sqlite_value.specs.declared.value.Value.TheVariants.{Text};
 ghost use Rattle.sqlite.specs.State.{HasCleanDisk};
 ghost use Rattle.society_rows.specs.declared.fault.RowFault.TheVariants.{Unread};
 ghost use Rattle.society_rows.specs.Balances.{HasUnits, AddsUnits, HidesUnits, RefusesUnits};
-ghost use Rattle.society_rows.specs.Effects.{Writes, IsAllOrNothing, OnlyFails};
+ghost use Rattle.society_rows.specs.Effects.{ErrsByMedium, IsAllOrNothing, OnlyFails, Writes};
 ghost use Rattle.society_rows.specs.Folds.{ReadsInside};
 ghost use Rattle.society_rows.specs.Forms.{IsRead, balance_forms};
 ghost use Rattle.society_rows.specs.Layout.{balances};
@@ -91,6 +91,7 @@ pub(crate) fn balance_at<S: Alter>(
     ensures read { within S.Store tx.old tx.new Reads result
         (λ db rows. Lists balances (has_key (Text account.now ∷ [])) 1 db rows.items) }
     ensures told { within S.Store tx.old tx.new OnlyFails result }
+    ensures medium { within S.Store tx.old tx.new ErrsByMedium result }
 {
     select(
         tx,

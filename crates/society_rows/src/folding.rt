@@ -1,9 +1,11 @@
 //! Rows that are gone over one at a time, so that no answer is kept.
-ghost use Rattle.std.specs.Prelude.{◌≡◌, [], false, true, length, IfErr, OnOk};
+ghost use Rattle.std.specs.Prelude.{◌≡◌, ◌⊎◌, [], false, true, length, IfErr, OnOk};
 ghost use Rattle.sqlite_value.specs.Order.{Row as SqlRow};
 ghost use Rattle.sqlite.specs.State.{Shown};
 ghost use Rattle.sqlite.specs.Values.{bound};
-ghost use Rattle.society_rows.specs.Folds.{HasTaken, IsRun, ReadsInside, ReadsShown, StopsRun, StopsShowing};
+ghost use Rattle.society_rows.specs.Effects.{ErrsByMedium};
+ghost use Rattle.society_rows.specs.Folds.{AreFirstOfRun, HasTaken, IsNoRun, IsRun, ReadsInside, ReadsShown, RefusesRow, StopsRun, StopsShowing};
+ghost use Rattle.society_rows.specs.declared.fault.RowFault.TheVariants.{Unread};
 ghost use Rattle.society_rows.specs.Between.{between, within};
 
 use crate::RowFault;
@@ -63,6 +65,8 @@ pub fn fold_run<S: Alter, F: RowFold>(
         (λ db _. HasTaken F.step (IsRun sender.now first db) into.old into.new) }
     ensures told { IfErr result
         (within S.Store tx.old tx.new (StopsRun F.step F.refusal) sender.now first into.old) }
+    ensures medium { within S.Store tx.old tx.new (λ old new. ErrsByMedium old new result ⊎ IfErr result (λ fault.
+        RefusesRow F.step F.refusal (AreFirstOfRun old new sender.now first) into.old fault ⊎ ((fault ≡ Unread) × IsNoRun old new sender.now first))) }
 {
     for number in first..=u32::MAX {
         let rows = transmission_at(tx, sender, number)?;

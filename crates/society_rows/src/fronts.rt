@@ -2,7 +2,7 @@
 ghost use Rattle.std.specs.Prelude.{◌≡◌, [], ◌∷◌, IfOk, IfErr};
 ghost use Rattle.sqlite_value.specs.declared.value.Value.TheVariants.{Text};
 ghost use Rattle.society_rows.specs.declared.fault.RowFault.TheVariants.{Unread};
-ghost use Rattle.society_rows.specs.Effects.{Writes, IsAllOrNothing, OnlyFails};
+ghost use Rattle.society_rows.specs.Effects.{ErrsByMedium, IsAllOrNothing, OnlyFails, Writes};
 ghost use Rattle.society_rows.specs.Forms.{IsRead, front_forms};
 ghost use Rattle.society_rows.specs.Layout.{fronts};
 ghost use Rattle.society_rows.specs.Reads.{Lists, Reads, has_key};
@@ -94,6 +94,7 @@ pub(crate) fn front_at<S: Alter>(
     ensures read { within S.Store tx.old tx.new Reads result
         (λ db rows. Lists fronts (has_key (Text sender.now ∷ [])) 1 db rows.items) }
     ensures told { within S.Store tx.old tx.new OnlyFails result }
+    ensures medium { within S.Store tx.old tx.new ErrsByMedium result }
 {
     select(
         tx,

@@ -7,6 +7,7 @@
 #![tactic(auto)]
 
 mod balances;
+mod body_keys;
 mod copying;
 mod credits;
 mod entries;
@@ -40,6 +41,7 @@ mod verdicts;
 mod versions;
 
 pub use balances::{BalanceRow, add_units, put_balance};
+pub use body_keys::{BodyTable, all_keys};
 pub use copying::add_derived_rows;
 pub use credits::{CreditRow, add_credits};
 pub use entries::{EntryTable, fold_entries};
@@ -50,7 +52,7 @@ pub use fronts::{FrontRow, put_front};
 pub use idle::Idle;
 pub use keys::keys_are_values;
 pub use layout::create;
-pub use line_senders::{LineTable, fold_senders};
+pub use line_senders::{LineTable, fold_senders, owners};
 pub use mechanical_pools::{MechanicalPoolRow, add_mechanical_pool};
 pub use numbering::are_numbered;
 pub use office::{LAYOUT, OfficeRow};

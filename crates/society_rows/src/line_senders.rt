@@ -1,12 +1,15 @@
 //! The senders of the rows of what is derived of their lines, gone over one at a time.
 ghost use Rattle.std.specs.Prelude.{◌≡◌, IfErr};
-ghost use Rattle.society_rows.specs.Between.{between};
+ghost use Rattle.society_rows.specs.Between.{between, within};
+ghost use Rattle.society_rows.specs.Effects.{ErrsByMedium, OnlyFails};
+ghost use Rattle.society_rows.specs.Reads.{Reads};
 ghost use Rattle.society_rows.specs.Folds.{HasTaken, ReadsAlone};
 ghost use Rattle.society_rows.specs.LineSenders.{ListsSenders, StopsSenders, senders_text};
 
 use crate::folding::fold_shown;
+use crate::statement::select;
 use crate::{Idle, RowFault, RowFold};
-use sqlite::Alter;
+use sqlite::{Alter, Row, Transaction};
 
 /// A table of what is derived of senders' lines; its first column is the sender.
 #[derive(Clone, Copy)]
@@ -15,6 +18,7 @@ pub enum LineTable {
     Verdicts,
     Versions,
     Recordings,
+    Credits,
 }
 
 // The query that shows the sender of every row of a table.
@@ -26,6 +30,7 @@ fn senders(table: LineTable) -> &'static str
         LineTable::Verdicts => "SELECT sender FROM verdicts",
         LineTable::Versions => "SELECT sender FROM versions",
         LineTable::Recordings => "SELECT sender FROM recordings",
+        LineTable::Credits => "SELECT pool FROM credits",
     }
 }
 
@@ -41,4 +46,14 @@ pub fn fold_senders<S: Alter, F: RowFold>(
     ensures told { IfErr result (between S.Store conn.old conn.new (StopsSenders F.step F.refusal table into.old)) }
 {
     fold_shown(&mut conn.connection, senders(table), &[], into)
+}
+
+/// The senders of all rows of a table, the pools where it is that of credits: each as a row of that one column, in any order.
+pub fn owners<S: Alter>(tx: &mut Transaction<'_, S>, table: LineTable) -> Result<Vec<Row>, RowFault>
+    ensures same_reference { tx.new.conn.ghost_name ≡ tx.old.conn.ghost_name }
+    ensures read { within S.Store tx.old tx.new Reads result (λ db rows. ListsSenders table db rows.items) }
+    ensures told { within S.Store tx.old tx.new OnlyFails result }
+    ensures medium { within S.Store tx.old tx.new ErrsByMedium result }
+{
+    select(tx, senders(table), &[])
 }

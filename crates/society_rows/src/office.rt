@@ -1,7 +1,7 @@
 //! The table of the office, which has one row.
 ghost use Rattle.std.specs.Prelude.{◌≡◌, [], ◌∷◌, true, IfOk, IfErr};
 ghost use Rattle.society_rows.specs.declared.fault.RowFault.TheVariants.{Unread};
-ghost use Rattle.society_rows.specs.Effects.{Writes, OnlyFails};
+ghost use Rattle.society_rows.specs.Effects.{ErrsByMedium, OnlyFails, Writes};
 ghost use Rattle.society_rows.specs.Forms.{IsRead, office_forms, office_forms_under};
 ghost use Rattle.society_rows.specs.Layout.{office};
 ghost use Rattle.society_rows.specs.Reads.{Lists, Reads};
@@ -86,6 +86,7 @@ pub(crate) fn all_offices<S: Alter>(tx: &mut Transaction<'_, S>) -> Result<Vec<R
     ensures read { within S.Store tx.old tx.new Reads result
         (λ db rows. Lists office (λ _. true) 1 db rows.items) }
     ensures told { within S.Store tx.old tx.new OnlyFails result }
+    ensures medium { within S.Store tx.old tx.new ErrsByMedium result }
 {
     all_rows(tx, TableName::Office)
 }

@@ -2,7 +2,7 @@
 ghost use Rattle.std.specs.Prelude.{◌≡◌, map, take, [], ◌∷◌, pos, IfOk, IfErr};
 ghost use Rattle.sqlite_value.specs.declared.value.Value.TheVariants.{Int};
 ghost use Rattle.society_rows.specs.declared.fault.RowFault.TheVariants.{Unread};
-ghost use Rattle.society_rows.specs.Effects.{Writes, IsAllOrNothing, LeavesFirst, OnlyFails, OnlyFailsInside};
+ghost use Rattle.society_rows.specs.Effects.{ErrsByMedium, IsAllOrNothing, LeavesFirst, OnlyFails, OnlyFailsInside, Writes};
 ghost use Rattle.society_rows.specs.Forms.{IsRead, pool_cut_forms};
 ghost use Rattle.society_rows.specs.Layout.{pool_cuts};
 ghost use Rattle.society_rows.specs.Reads.{Lists, Reads, has_key};
@@ -92,6 +92,7 @@ pub(crate) fn cuts_of<S: Alter>(
     ensures read { within S.Store tx.old tx.new Reads result
         (λ db rows. Lists pool_cuts (has_key (Int (pos pool) ∷ [])) 2 db rows.items) }
     ensures told { within S.Store tx.old tx.new OnlyFails result }
+    ensures medium { within S.Store tx.old tx.new ErrsByMedium result }
 {
     select(
         tx,

@@ -2,7 +2,7 @@
 ghost use Rattle.std.specs.Prelude.{◌≡◌, map, take, [], ◌∷◌, pos, IfOk, IfErr};
 ghost use Rattle.sqlite_value.specs.declared.value.Value.TheVariants.{Int, Text};
 ghost use Rattle.society_rows.specs.declared.fault.RowFault.TheVariants.{Unread};
-ghost use Rattle.society_rows.specs.Effects.{Writes, IsAllOrNothing, LeavesFirst, OnlyFails, OnlyFailsInside};
+ghost use Rattle.society_rows.specs.Effects.{ErrsByMedium, IsAllOrNothing, LeavesFirst, OnlyFails, OnlyFailsInside, Writes};
 ghost use Rattle.society_rows.specs.Forms.{IsRead, pool_return_forms};
 ghost use Rattle.society_rows.specs.Layout.{pool_returns};
 ghost use Rattle.society_rows.specs.Reads.{Lists, Reads, has_key, has_at};
@@ -93,6 +93,7 @@ pub(crate) fn pool_return_at<S: Alter>(
     ensures read { within S.Store tx.old tx.new Reads result
         (λ db rows. Lists pool_returns (has_key (Text reporter.now ∷ Int (pos number) ∷ [])) 2 db rows.items) }
     ensures told { within S.Store tx.old tx.new OnlyFails result }
+    ensures medium { within S.Store tx.old tx.new ErrsByMedium result }
 {
     select(
         tx,
@@ -110,6 +111,7 @@ pub(crate) fn returns_of_pool<S: Alter>(
     ensures read { within S.Store tx.old tx.new Reads result
         (λ db rows. Lists pool_returns (has_at 2 (Int (pos pool))) 2 db rows.items) }
     ensures told { within S.Store tx.old tx.new OnlyFails result }
+    ensures medium { within S.Store tx.old tx.new ErrsByMedium result }
 {
     select(
         tx,

@@ -1,8 +1,9 @@
 //! The table of pools.
-ghost use Rattle.std.specs.Prelude.{◌≡◌, [], ◌∷◌, pos, IfOk, IfErr};
+ghost use Rattle.std.specs.Prelude.{◌≡◌, [], ◌∷◌, pos, IfOk, IfErr, FitsSigned};
+ghost use Rattle.std.specs.Int.{w64};
 ghost use Rattle.sqlite_value.specs.declared.value.Value.TheVariants.{Int};
 ghost use Rattle.society_rows.specs.declared.fault.RowFault.TheVariants.{Unread};
-ghost use Rattle.society_rows.specs.Effects.{Writes, IsAllOrNothing, OnlyFails};
+ghost use Rattle.society_rows.specs.Effects.{ErrsByMedium, IsAllOrNothing, OnlyFails, Writes};
 ghost use Rattle.society_rows.specs.Forms.{IsRead, pool_forms};
 ghost use Rattle.society_rows.specs.Layout.{pools};
 ghost use Rattle.society_rows.specs.Reads.{Lists, Reads, has_key};
@@ -27,6 +28,7 @@ impl PoolRow {
     /// The row that these values are, in the order of the columns; else `Unread`.
     pub fn from_row(row: &Row) -> Result<PoolRow, RowFault>
         ensures value { IfOk result (λ x. pool_values x ≡ row.now) }
+        ensures range { IfOk result (λ x. FitsSigned w64 x.amount) }
         ensures read { IsRead pool_forms row.now result }
         ensures fault { IfErr result (λ e. e ≡ Unread) }
     {
@@ -64,6 +66,7 @@ pub(crate) fn pool_at<S: Alter>(
     ensures read { within S.Store tx.old tx.new Reads result
         (λ db rows. Lists pools (has_key (Int (pos pool) ∷ [])) 1 db rows.items) }
     ensures told { within S.Store tx.old tx.new OnlyFails result }
+    ensures medium { within S.Store tx.old tx.new ErrsByMedium result }
 {
     select(
         tx,

@@ -1,6 +1,6 @@
 //! Questions that are asked on a connection at rest.
 ghost use Rattle.std.specs.Prelude.{◌≡◌};
-ghost use Rattle.society_rows.specs.Effects.{OnlyFails};
+ghost use Rattle.society_rows.specs.Effects.{ErrsByMedium, OnlyFails};
 ghost use Rattle.society_rows.specs.Questions.{RowsAnswer, Asks};
 ghost use Rattle.society_rows.specs.Reads.{Reads};
 ghost use Rattle.society_rows.specs.Between.{between, within};
@@ -77,6 +77,7 @@ pub fn answer<S: Alter>(
     ensures read { within S.Store tx.old tx.new Reads result
         (λ db rows. RowsAnswer question.entry db rows.items) }
     ensures told { within S.Store tx.old tx.new OnlyFails result }
+    ensures medium { within S.Store tx.old tx.new ErrsByMedium result }
 {
     match question {
         Question::Office => all_offices(tx),

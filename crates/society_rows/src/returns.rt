@@ -2,7 +2,7 @@
 ghost use Rattle.std.specs.Prelude.{◌≡◌, map, take, [], ◌∷◌, pos, IfOk, IfErr};
 ghost use Rattle.sqlite_value.specs.declared.value.Value.TheVariants.{Int, Text};
 ghost use Rattle.society_rows.specs.declared.fault.RowFault.TheVariants.{Unread};
-ghost use Rattle.society_rows.specs.Effects.{Writes, IsAllOrNothing, LeavesFirst, OnlyFails, OnlyFailsInside};
+ghost use Rattle.society_rows.specs.Effects.{ErrsByMedium, IsAllOrNothing, LeavesFirst, OnlyFails, OnlyFailsInside, Writes};
 ghost use Rattle.society_rows.specs.Forms.{IsRead, return_forms};
 ghost use Rattle.society_rows.specs.Layout.{returns};
 ghost use Rattle.society_rows.specs.Reads.{Lists, ListsKeys, Reads, has_key};
@@ -93,6 +93,7 @@ pub(crate) fn return_at<S: Alter>(
     ensures read { within S.Store tx.old tx.new Reads result
         (λ db rows. Lists returns (has_key (Text reporter.now ∷ Int (pos number) ∷ [])) 2 db rows.items) }
     ensures told { within S.Store tx.old tx.new OnlyFails result }
+    ensures medium { within S.Store tx.old tx.new ErrsByMedium result }
 {
     select(
         tx,
@@ -111,6 +112,7 @@ pub(crate) fn return_known<S: Alter>(
     ensures read { within S.Store tx.old tx.new Reads result
         (λ db rows. ListsKeys returns (has_key (Text reporter.now ∷ Int (pos number) ∷ [])) 2 db rows.items) }
     ensures told { within S.Store tx.old tx.new OnlyFails result }
+    ensures medium { within S.Store tx.old tx.new ErrsByMedium result }
 {
     select(
         tx,

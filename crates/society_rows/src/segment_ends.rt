@@ -3,7 +3,7 @@ ghost use Rattle.std.specs.Prelude.{◌≡◌, ◌≤◌, [], ◌∷◌, FitsSig
 ghost use Rattle.std.specs.Int.{w64};
 ghost use Rattle.sqlite_value.specs.declared.value.Value.TheVariants.{Text};
 ghost use Rattle.society_rows.specs.declared.fault.RowFault.TheVariants.{Unread};
-ghost use Rattle.society_rows.specs.Effects.{Writes, IsAllOrNothing, OnlyFails};
+ghost use Rattle.society_rows.specs.Effects.{ErrsByMedium, IsAllOrNothing, OnlyFails, Writes};
 ghost use Rattle.society_rows.specs.Forms.{IsRead, segment_end_forms};
 ghost use Rattle.society_rows.specs.Layout.{segment_ends};
 ghost use Rattle.society_rows.specs.Reads.{Lists, Reads, has_key};
@@ -95,6 +95,7 @@ pub(crate) fn ends_of<S: Alter>(
     ensures read { within S.Store tx.old tx.new Reads result
         (λ db rows. Lists segment_ends (has_key (Text sender.now ∷ [])) 2 db rows.items) }
     ensures told { within S.Store tx.old tx.new OnlyFails result }
+    ensures medium { within S.Store tx.old tx.new ErrsByMedium result }
 {
     select(
         tx,

@@ -2,7 +2,7 @@
 ghost use Rattle.std.specs.Prelude.{◌≡◌, map, take, [], ◌∷◌, pos, IfOk, IfErr};
 ghost use Rattle.sqlite_value.specs.declared.value.Value.TheVariants.{Int, Text};
 ghost use Rattle.society_rows.specs.declared.fault.RowFault.TheVariants.{Unread};
-ghost use Rattle.society_rows.specs.Effects.{Writes, IsAllOrNothing, LeavesFirst, OnlyFails, OnlyFailsInside};
+ghost use Rattle.society_rows.specs.Effects.{ErrsByMedium, IsAllOrNothing, LeavesFirst, OnlyFails, OnlyFailsInside, Writes};
 ghost use Rattle.society_rows.specs.Forms.{IsRead, transmission_forms, transmission_key_forms};
 ghost use Rattle.society_rows.specs.Layout.{transmissions};
 ghost use Rattle.society_rows.specs.Reads.{Lists, ListsKeys, Reads, has_key, is_above, is_above_and_below};
@@ -117,6 +117,7 @@ pub(crate) fn transmission_at<S: Alter>(
     ensures read { within S.Store tx.old tx.new Reads result
         (λ db rows. Lists transmissions (has_key (Text sender.now ∷ Int (pos number) ∷ [])) 2 db rows.items) }
     ensures told { within S.Store tx.old tx.new OnlyFails result }
+    ensures medium { within S.Store tx.old tx.new ErrsByMedium result }
 {
     select(
         tx,
@@ -135,6 +136,7 @@ pub(crate) fn numbers_above<S: Alter>(
     ensures read { within S.Store tx.old tx.new Reads result
         (λ db rows. ListsKeys transmissions (is_above (Text sender.now) (Int (pos number))) 2 db rows.items) }
     ensures told { within S.Store tx.old tx.new OnlyFails result }
+    ensures medium { within S.Store tx.old tx.new ErrsByMedium result }
 {
     select(
         tx,
@@ -154,6 +156,7 @@ pub(crate) fn numbers_between<S: Alter>(
     ensures read { within S.Store tx.old tx.new Reads result
         (λ db rows. ListsKeys transmissions (is_above_and_below (Text sender.now) (Int (pos above)) (Int (pos below))) 2 db rows.items) }
     ensures told { within S.Store tx.old tx.new OnlyFails result }
+    ensures medium { within S.Store tx.old tx.new ErrsByMedium result }
 {
     select(
         tx,

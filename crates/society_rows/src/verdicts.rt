@@ -2,7 +2,7 @@
 ghost use Rattle.std.specs.Prelude.{◌≡◌, map, take, [], ◌∷◌, pos, IfOk, IfErr};
 ghost use Rattle.sqlite_value.specs.declared.value.Value.TheVariants.{Int, Text};
 ghost use Rattle.society_rows.specs.declared.fault.RowFault.TheVariants.{Unread};
-ghost use Rattle.society_rows.specs.Effects.{Writes, IsAllOrNothing, LeavesFirst, OnlyFails, OnlyFailsInside};
+ghost use Rattle.society_rows.specs.Effects.{ErrsByMedium, IsAllOrNothing, LeavesFirst, OnlyFails, OnlyFailsInside, Writes};
 ghost use Rattle.society_rows.specs.Forms.{IsRead, verdict_forms};
 ghost use Rattle.society_rows.specs.Layout.{verdicts};
 ghost use Rattle.society_rows.specs.Reads.{Lists, Reads, has_key};
@@ -150,6 +150,7 @@ pub(crate) fn verdicts_of<S: Alter>(
     ensures read { within S.Store tx.old tx.new Reads result
         (λ db rows. Lists verdicts (has_key (Text sender.now ∷ Int (pos number) ∷ [])) 3 db rows.items) }
     ensures told { within S.Store tx.old tx.new OnlyFails result }
+    ensures medium { within S.Store tx.old tx.new ErrsByMedium result }
 {
     select(
         tx,
@@ -167,6 +168,7 @@ pub(crate) fn sender_verdicts<S: Alter>(
     ensures read { within S.Store tx.old tx.new Reads result
         (λ db rows. Lists verdicts (has_key (Text sender.now ∷ [])) 3 db rows.items) }
     ensures told { within S.Store tx.old tx.new OnlyFails result }
+    ensures medium { within S.Store tx.old tx.new ErrsByMedium result }
 {
     select(
         tx,

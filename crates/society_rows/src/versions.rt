@@ -2,7 +2,7 @@
 ghost use Rattle.std.specs.Prelude.{◌≡◌, map, take, [], ◌∷◌, IfOk, IfErr};
 ghost use Rattle.sqlite_value.specs.declared.value.Value.TheVariants.{Text};
 ghost use Rattle.society_rows.specs.declared.fault.RowFault.TheVariants.{Unread};
-ghost use Rattle.society_rows.specs.Effects.{Writes, IsAllOrNothing, LeavesFirst, OnlyFails, OnlyFailsInside};
+ghost use Rattle.society_rows.specs.Effects.{ErrsByMedium, IsAllOrNothing, LeavesFirst, OnlyFails, OnlyFailsInside, Writes};
 ghost use Rattle.society_rows.specs.Forms.{IsRead, version_forms};
 ghost use Rattle.society_rows.specs.Layout.{versions};
 ghost use Rattle.society_rows.specs.Reads.{Lists, Reads, IsFirstOf, has_key};
@@ -150,6 +150,7 @@ pub(crate) fn versions_of<S: Alter>(
     ensures read { within S.Store tx.old tx.new Reads result
         (λ db rows. Lists versions (has_key (Text sender.now ∷ Text work.now ∷ [])) 3 db rows.items) }
     ensures told { within S.Store tx.old tx.new OnlyFails result }
+    ensures medium { within S.Store tx.old tx.new ErrsByMedium result }
 {
     select(
         tx,
@@ -168,6 +169,7 @@ pub(crate) fn last_version_of<S: Alter>(
     ensures read { within S.Store tx.old tx.new Reads result
         (λ db rows. IsFirstOf versions (has_key (Text sender.now ∷ Text work.now ∷ [])) 3 db rows.items) }
     ensures told { within S.Store tx.old tx.new OnlyFails result }
+    ensures medium { within S.Store tx.old tx.new ErrsByMedium result }
 {
     select(
         tx,
@@ -185,6 +187,7 @@ pub(crate) fn sender_versions<S: Alter>(
     ensures read { within S.Store tx.old tx.new Reads result
         (λ db rows. Lists versions (has_key (Text sender.now ∷ [])) 3 db rows.items) }
     ensures told { within S.Store tx.old tx.new OnlyFails result }
+    ensures medium { within S.Store tx.old tx.new ErrsByMedium result }
 {
     select(
         tx,

@@ -1,12 +1,12 @@
-//! Databases in memory that are confirmed, and stores that are found again.
+//! Databases in memory that are audited, and stores that are found again.
 use crate::checks::told;
 use crate::left::{
     CLOSED_AT_A_CUT, ONE_WAITS, Opened, REVISIONS, YEAR_BEGUN, left_by, office, opened,
 };
-use society_audit::{AuditFault, confirm};
+use book_audit::{AuditFault, audit};
 use society_core::Store;
 use society_opening::{open_after_crash, reopen};
-use society_rows::Idle;
+use society_rows::{FrontRow, Idle, put_front};
 use sqlite::{Alter, Connection};
 use std::alloc::Global;
 use std::process::Abort;
@@ -31,9 +31,25 @@ fn check_front<S: Alter + Drop>(
     Ok(())
 }
 
-/// Whether a database is confirmed with a body in memory at a time.
-fn is_confirmed<S: Alter>(alloc: Global, conn: &mut Idle<S>, society: u16) -> Result<bool, Fail> {
-    match confirm(alloc, conn, &office(society)?) {
+/// What an audit in a transaction says of a database, and what it says once a row of a sender that sent nothing is there.
+fn audited<S: Alter>(alloc: Global, conn: &mut Idle<S>) -> Result<(bool, bool), Fail> {
+    let office = office(900)?;
+    let stray = FrontRow {
+        sender: b"PB999999999",
+        front: 1,
+        works: 0,
+    };
+    let mut tx = conn.connection.transaction();
+    let before = is_sound(audit(alloc, &mut tx, &office))?;
+    put_front(&mut tx, &stray)?;
+    let after = is_sound(audit(alloc, &mut tx, &office))?;
+    tx.rollback();
+    Ok((before, after))
+}
+
+/// Whether an audit passed; a failure of the reading fails the test.
+fn is_sound(found: Result<(), AuditFault>) -> Result<bool, Fail> {
+    match found {
         Ok(()) => Ok(true),
         Err(AuditFault::Damaged) => Ok(false),
         Err(AuditFault::Memory | AuditFault::Store) => Err(Fail::new("a reading")),
@@ -41,24 +57,10 @@ fn is_confirmed<S: Alter>(alloc: Global, conn: &mut Idle<S>, society: u16) -> Re
 }
 
 #[test]
-fn a_sound_database_is_confirmed_with_a_body_in_memory_at_a_time(
-    rt: HostRuntime,
-) -> Result<(), Fail> {
-    let alloc = rt.alloc();
-    let Ok(mut conn) = Idle::new(left_by(alloc, ONE_WAITS)?) else {
-        return Err(Fail::new("no transaction"));
-    };
-    for (society, wanted) in [(900, true), (901, false), (900, true)] {
-        let seen = is_confirmed(alloc, &mut conn, society)?;
-        told(&rt, "whether it is confirmed", &seen, &wanted);
-    }
-    Ok(())
-}
-
-#[test]
-fn lines_of_each_kind_are_confirmed(rt: HostRuntime) -> Result<(), Fail> {
+fn a_sound_database_passes_an_audit_and_a_stray_row_is_damage(rt: HostRuntime) -> Result<(), Fail> {
     let alloc = rt.alloc();
     for (row, steps) in [
+        ("a number waits", ONE_WAITS),
         ("files without works, a pool", CLOSED_AT_A_CUT),
         ("a number of a year", YEAR_BEGUN),
         ("revisions of one and of two digits", REVISIONS),
@@ -66,8 +68,7 @@ fn lines_of_each_kind_are_confirmed(rt: HostRuntime) -> Result<(), Fail> {
         let Ok(mut conn) = Idle::new(left_by(alloc, steps)?) else {
             return Err(Fail::new("no transaction"));
         };
-        let seen = is_confirmed(alloc, &mut conn, 900)?;
-        told(&rt, row, &seen, &true);
+        told(&rt, row, &audited(alloc, &mut conn)?, &(true, false));
     }
     Ok(())
 }

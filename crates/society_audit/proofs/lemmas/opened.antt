@@ -1,4 +1,3 @@
 -- Questions that open a database, and why one is told as a failure of the store.
 pub mod OpenLemmas
-pub mod Passing
 pub mod Failing

@@ -9,5 +9,6 @@ pub mod RunTables
 pub mod RunLines
 pub mod OutcomeLemmas
 pub mod RunWrites
+pub mod RightRows
 pub mod RunBooks
 pub mod ArrivedRuns

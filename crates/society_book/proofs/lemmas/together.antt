@@ -1,3 +1,4 @@
 -- Statements of one transaction, together.
 pub mod StepLemmas
 pub mod AloneLemmas
+pub mod ErrLemmas

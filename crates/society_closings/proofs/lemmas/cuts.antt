@@ -6,3 +6,6 @@ pub mod CutCandidates
 pub mod CutNotes
 pub mod CutChoices
 pub mod WorksHeld
+pub mod ReadRows
+pub mod BodyRows
+pub mod FaultLemmas

@@ -2,5 +2,6 @@
 pub mod OpenTold
 pub mod OpenedLemmas
 pub mod FailedOpenings
+pub mod Examined
 pub mod AuditedLemmas
 pub mod Reopening

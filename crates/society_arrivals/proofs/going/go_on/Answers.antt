@@ -1,5 +1,6 @@
-use Rattle.std.proofs.Common.{◌≡◌, ◌∙◌, ◌+◌, ℕ, ap}
+use Rattle.std.proofs.Common.{◌≡◌, ◌∙◌, ◌+◌, ℕ, ap, arith}
 use Rattle.sqlite.specs.Held.{state}
+use Rattle.society_book.proofs.lemmas.lines.RightRows.{run_errs}
 use Rattle.society_book.proofs.lemmas.lines.RunFolds.{taken_runs}
 use Rattle.society_book.proofs.lemmas.together.StepLemmas.{does_also, looks_inside}
 use Rattle.society_arrivals.proofs.going.go_on.Goals as goal
@@ -13,3 +14,8 @@ returns-in-Some-clause-looks g c =
     let at : c.in-Some.next ≡ run.reached + 1 = c.in-Some.ensures.1 ∙ ap (λ (k : ℕ). k + 1) c.reached.ensures in
     does_also old new c.fold_run.result _ _ (looks_inside old new c.fold_run.result _ (rw c.as_bytes.ensures.bytes at c.fold_run.ensures.taken))
     (λ x both. (both.0, taken_runs s c.in-Some.next run c.fold_run.new.into old.now.trees at both.1))
+
+pub returns-in-Some-clause-errs : goal.returns-in-Some-clause-errs
+returns-in-Some-clause-errs g c =
+    run_errs c.args.sender.now c.in-Some.next c.args.run.now (state g.S.Store c.args.tx.now.conn.now) (state g.S.Store c.fold_run.new.tx.conn.now) c.fold_run.result (omega arith)
+    (rw c.as_bytes.ensures.bytes at c.fold_run.ensures.told) (rw c.as_bytes.ensures.bytes at c.fold_run.ensures.medium)

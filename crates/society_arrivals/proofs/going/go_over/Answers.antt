@@ -1,8 +1,10 @@
-use Rattle.std.proofs.Common.{◌≡◌, ◌∙◌, ℕ, Ok, Some, ap, arith, refl, sym}
+use Rattle.std.proofs.Common.{◌≡◌, ◌∙◌, ℕ, Err, Ok, Some, ap, arith, refl, sym}
 use Rattle.sqlite.specs.Held.{state}
 use Rattle.society_book.specs.EndLists.{behind_end, end_listed}
 use Rattle.society_book.specs.Going.{RunsOn, RunsPast}
 use Rattle.society_book.proofs.lemmas.lines.SegmentEnds.{past_all, past_more, past_none}
+use Rattle.society_book.specs.RightRows.{KeepsUnsound}
+use Rattle.society_book.proofs.lemmas.together.ErrLemmas.{errs_on, errs_then}
 use Rattle.society_book.proofs.lemmas.together.StepLemmas.{looks_as, looks_then, nothing}
 use Rattle.society_arrivals.proofs.going.go_over.Goals as goal
 use Rattle.work_ids.specs.Segments.{base_of, segment_of}
@@ -53,3 +55,12 @@ returns-clause-looks g c =
     looks_as (state g.S.Store c.args.tx.now.conn.now) (state g.S.Store c.segments.tx.conn.now) tt (Ok tt) _ _ c.segments.invariant.looks
     (past_all c.args.sender.now ends c.args.begun c.args.run.now rank run _
     (ap (λ (k : ℕ). behind_end (base_of (segment_of rank)) k (end_listed ends (segment_of rank))) (sym c.reached.ensures) ∙ sym c.behind.ensures.value ∙ c.in_default.is))
+
+pub returns-in_err-go_on-clause-errs : goal.returns-in_err-go_on-clause-errs
+returns-in_err-go_on-clause-errs g c =
+    let old = state g.S.Store c.args.tx.now.conn.now in
+    let mid = state g.S.Store c.segments.tx.conn.now in
+    let new = state g.S.Store c.go_on.new.tx.conn.now in
+    errs_on (Unit {0}) KeepsUnsound KeepsUnsound old new c.in_err-go_on.field-0.0 c.from_residual.result
+    (errs_then {X = Unit {0}} {Y = Unit {0}} KeepsUnsound KeepsUnsound old mid new tt (Err c.in_err-go_on.field-0.0) (λ db _. RunsPast c.args.sender.now c.args.ends.now c.args.begun c.args.run.now c.segments.rank c.segments.run db) c.segments.invariant.looks c.in_err-go_on.ensures.looks.survives c.in_err-go_on.ensures.errs (λ found wrong. wrong))
+    c.from_residual.ensures.1 (λ wrong. wrong)

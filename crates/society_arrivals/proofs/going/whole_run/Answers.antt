@@ -1,9 +1,12 @@
-use Rattle.std.proofs.Common.{Ok, ◌≡◌, ◌∙◌, subst}
+use Rattle.std.proofs.Common.{Err, Ok, ◌≡◌, ◌∙◌, subst}
 use Rattle.sqlite.specs.Effect.{Database}
 use Rattle.sqlite.specs.Held.{state}
-use Rattle.society_book.specs.Going.{RunsOn, RunsOver}
+use Rattle.society_book.specs.Going.{ReadsEnds, RunsOn, RunsOver}
+use Rattle.society_book.specs.RightRows.{KeepsUnsound}
+use Rattle.society_book.specs.declared.sender_ends.SenderEnds.{SenderEnds}
+use Rattle.society_book.proofs.lemmas.together.ErrLemmas.{errs_on, errs_then}
 use Rattle.society_book.proofs.lemmas.lines.ArrivedRuns.{whole_by}
-use Rattle.society_book.proofs.lemmas.together.StepLemmas.{does_open_then, looks_as, looks_then}
+use Rattle.society_book.proofs.lemmas.together.StepLemmas.{does_open_then, looks_as, looks_then, survives_on}
 use Rattle.society_arrivals.proofs.going.whole_run.Goals as goal
 
 pub returns-clause-looks : goal.returns-clause-looks
@@ -25,3 +28,31 @@ returns-clause-looks g c =
     (λ y one two.
     let both = subst (λ (db : Database). RunsOn s begun on db.trees × RunsOver s ends 0 on y db.trees) one.0 two.1 in
     (two.0 ∙ one.0, whole_by o s begun on y ends old.now.trees c.new-run.ensures one.1 both.0 both.1))
+
+pub returns-in_err-ends-clause-errs : goal.returns-in_err-ends-clause-errs
+returns-in_err-ends-clause-errs g c =
+    errs_on SenderEnds KeepsUnsound KeepsUnsound (state g.S.Store c.args.tx.now.conn.now) (state g.S.Store c.ends_in.new.tx.conn.now) c.in_err-ends.field-0.0 c.from_residual.result c.in_err-ends.ensures.errs c.from_residual.ensures.1 (λ wrong. wrong)
+
+pub returns-in_err-go_on-clause-errs : goal.returns-in_err-go_on-clause-errs
+returns-in_err-go_on-clause-errs g c =
+    let s = c.args.sender.now in
+    let old = state g.S.Store c.args.tx.now.conn.now in
+    let first = state g.S.Store c.ends_in.new.tx.conn.now in
+    let new = state g.S.Store c.go_on.new.tx.conn.now in
+    errs_on (Unit {0}) KeepsUnsound KeepsUnsound old new c.in_err-go_on.field-0.0 c.from_residual-in_err-go_on.result
+    (errs_then {Y = Unit {0}} KeepsUnsound KeepsUnsound old first new c.in_ok-ends.ends (Err c.in_err-go_on.field-0.0) (ReadsEnds s) (rw c.as_bytes.ensures.bytes at c.in_ok-ends.ensures.looks).does c.in_err-go_on.ensures.looks.survives c.in_err-go_on.ensures.errs (λ found wrong. wrong))
+    c.from_residual-in_err-go_on.ensures.1 (λ wrong. wrong)
+
+pub returns-in_err-go_over-clause-errs : goal.returns-in_err-go_over-clause-errs
+returns-in_err-go_over-clause-errs g c =
+    let s = c.args.sender.now in
+    let old = state g.S.Store c.args.tx.now.conn.now in
+    let first = state g.S.Store c.ends_in.new.tx.conn.now in
+    let mid = state g.S.Store c.go_on.new.tx.conn.now in
+    let new = state g.S.Store c.go_over.new.tx.conn.now in
+    errs_on (Unit {0}) KeepsUnsound KeepsUnsound old new c.in_err-go_over.field-0.0 c.from_residual-in_err-go_over.result
+    (errs_then {Y = Unit {0}} KeepsUnsound KeepsUnsound old first new c.in_ok-ends.ends (Err c.in_err-go_over.field-0.0) (ReadsEnds s) (rw c.as_bytes.ensures.bytes at c.in_ok-ends.ensures.looks).does
+    (survives_on first mid new c.in_ok-go_on.ensures.looks.survives c.in_err-go_over.ensures.looks.survives)
+    (errs_then {X = Unit {0}} {Y = Unit {0}} KeepsUnsound KeepsUnsound first mid new tt (Err c.in_err-go_over.field-0.0) (λ db _. RunsOn s c.new-run.result c.go_on.new.run db) c.in_ok-go_on.ensures.looks c.in_err-go_over.ensures.looks.survives c.in_err-go_over.ensures.errs (λ found wrong. wrong))
+    (λ found wrong. wrong))
+    c.from_residual-in_err-go_over.ensures.1 (λ wrong. wrong)

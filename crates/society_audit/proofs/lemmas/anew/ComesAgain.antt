@@ -18,25 +18,25 @@ use Rattle.society_book.specs.BookRows.{end_rows, is_end_row, is_return_row, is_
 use Rattle.society_book.specs.Columns.{HasRows}
 use Rattle.share_rules.specs.declared.office.Office.{Office}
 use Rattle.society_book.specs.Kept.{HoldsBook}
-use Rattle.society_audit.specs.Opening.{Inspects, audit_fault_by}
+use Rattle.society_audit.specs.Opening.{Inspects, reading_fault_by}
 use Rattle.society_audit.specs.Rebuilding.{AllReported, AllSent, AllStated, IsAside, IsWithin, Passes, ShowsBook, lines_alone, sent_alone, without_pools}
-use Rattle.society_audit.specs.declared.audit_fault.AuditFault.{AuditFault}
+use Rattle.book_audit.specs.declared.audit_fault.AuditFault.{AuditFault}
 use Rattle.std.specs.Prelude.{⊤}
-use Rattle.society_audit.specs.declared.audit_fault.AuditFault.TheVariants as audit
+use Rattle.book_audit.specs.declared.audit_fault.AuditFault.TheVariants as audit
 use Rattle.society_audit.proofs.lemmas.anew.MapsWithin.{none_within}
 use Rattle.society_audit.proofs.lemmas.anew.EndsAgain.{all_stated_alone}
 use Rattle.society_audit.proofs.lemmas.anew.RowsAgain.{all_sent_alone, without_pools_whole}
 use Rattle.society_audit.proofs.lemmas.alike.SameTables.{all_pass}
 
 -- a statement's fault is aside
-pub failed_aside : (f : RowFault) → IsAside (audit_fault_by f)
+pub failed_aside : (f : RowFault) → IsAside (reading_fault_by f)
 failed_aside row.Memory = tt
 failed_aside row.Schema = tt
 failed_aside row.Unread = tt
 failed_aside row.Overflow = tt
 failed_aside (row.Refused error) = tt
 
-pub fails_aside : {X : Type 0} (f : RowFault) (r : Result X AuditFault) → IsErrAnd r (λ e. e ≡ audit_fault_by f) → IfErr r IsAside
+pub fails_aside : {X : Type 0} (f : RowFault) (r : Result X AuditFault) → IsErrAnd r (λ e. e ≡ reading_fault_by f) → IfErr r IsAside
 fails_aside f (Ok x) h = tt
 fails_aside f (Err e) h = subst IsAside (sym h) (failed_aside f)
 

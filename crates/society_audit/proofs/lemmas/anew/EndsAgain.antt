@@ -30,7 +30,6 @@ use Rattle.society_book.proofs.lemmas.rows_alike.KeyRows.{both_same}
 use Rattle.society_book.proofs.lemmas.rows_alike.RowLemmas.{all_rows, one_else}
 use Rattle.society_rows.specs.Forms.{IsOfForms, segment_end_forms}
 use Rattle.society_rows.specs.SegmentColumns.{segment_column}
-use Rattle.society_audit.specs.Auditing.{IsAbove}
 use Rattle.society_audit.specs.Rebuilding.{AllStated, Brings, HasStated, IsStated, IsWithin, StatedOn, lines_alone, sent_alone}
 use Rattle.society_audit.proofs.lemmas.anew.MapsWithin.{brings_again, brings_new, within_both}
 use Rattle.society_audit.proofs.lemmas.anew.PutAgain.{IsTaken, is_refused, key_reads, no_err, taken, the_ok, the_some}
@@ -242,22 +241,6 @@ module _ (sender : List ℕ) (place last year : ℕ) (row : Row) (values : (Text
 
   pub year_read : year + 1 ≡ segment_place_at 3 row
   year_read = let e : year + 1 ≡ suc year = omega arith in e ∙ ap (segment_place_at 3) values
-
--- the end that was made of numbers has these
-made_of : (segment : Segment) (last next : ℕ) (fault : Option SegmentFault) (r : Result StatedEnd SegmentFault) (end : StatedEnd) → r ≡ stated_end segment last next fault → r ≡ Ok end → end ≡ record { segment = segment; last = last; next = next }
-made_of segment last next None r end by is = the_ok r (record { segment = segment; last = last; next = next }) end by is
-made_of segment last next (Some fault) r end by is = absurd (no_err r end fault is by)
-
--- above the end that was made of a row no number is there
-pub above_row : (row : Row) (sender : List ℕ) (segment : Segment) (last next : ℕ) → (Text sender ∷ Int (segment_column (index_of segment)) ∷ Int (pos last) ∷ Int (pos next) ∷ []) ≡ row
-    → (book : Book) (end : StatedEnd) (r : Result StatedEnd SegmentFault) → r ≡ stated_end segment last next (segment_fault segment last next) → r ≡ Ok end → number_past book sender (place_stated end) end.last ≡ None → IsAbove book row
-above_row row sender segment last next values book end r by is none =
-    let read = made_of segment last next (segment_fault segment last next) r end by is in
-    let place : place_stated end ≡ segment_place_at 1 row = ap place_stated read ∙ place_read sender (index_of segment) last next row values in
-    let count : end.last ≡ whole_number_at 2 row = ap (λ (e : StatedEnd). e.last) read ∙ last_read sender (index_of segment) last next row values in
-    subst (λ (n : ℕ). number_past book (text_at 0 row) (segment_place_at 1 row) n ≡ None) count
-    (subst (λ (g : ℕ). number_past book (text_at 0 row) g end.last ≡ None) place
-    (subst (λ (t : List ℕ). number_past book t (place_stated end) end.last ≡ None) (sender_read sender (index_of segment) last next row values) none))
 
 -- the end of a row, by the values that were read of it
 module _ (b : Book) (row : Row) (sound : IsSound b) (is : IsStated b row) (segment : Segment) (sender : List ℕ) (last year : ℕ) (values : (Text sender ∷ Int (segment_column (index_of segment)) ∷ Int (pos last) ∷ Int (pos year) ∷ []) ≡ row) where

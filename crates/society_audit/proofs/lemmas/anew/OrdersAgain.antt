@@ -34,7 +34,7 @@ use Rattle.work_ids.specs.declared.fault.IdFault.TheVariants.{Character, Length}
 use Rattle.society_book.specs.BookRows.{cut_row, cut_rows, is_of_pool, kind_marked, marks_by, marks_of, mechanical_rows, paid_row, paid_rows, pool_row, rows_of_order}
 use Rattle.society_book.specs.Columns.{HasRows, whole_number_at}
 use Rattle.society_audit.specs.Rebuilding.{IsAside, IsCut, IsMark, IsPaid, Passes, cut_pair, paid_pair}
-use Rattle.society_audit.specs.declared.audit_fault.AuditFault.{AuditFault}
+use Rattle.book_audit.specs.declared.audit_fault.AuditFault.{AuditFault}
 use Rattle.society_book.proofs.lemmas.rows_alike.BookLemmas.{IsRefilled, kind_back, one_ascent, third_holds}
 use Rattle.society_book.proofs.lemmas.rows_alike.RowLemmas.{all_rows}
 

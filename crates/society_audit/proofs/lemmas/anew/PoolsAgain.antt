@@ -29,7 +29,7 @@ use Rattle.society_core.proofs.lemmas.KeyOrders.{exact_numbers}
 use Rattle.society_core.proofs.lemmas.PoolLemmas.{IsPool, each_pool}
 use Rattle.work_ids.specs.Numbers.{is_pool_number}
 use Rattle.society_audit.specs.Rebuilding.{ClosedOn, IsUpToPools, Passes}
-use Rattle.society_audit.specs.declared.audit_fault.AuditFault.{AuditFault}
+use Rattle.book_audit.specs.declared.audit_fault.AuditFault.{AuditFault}
 use Rattle.society_book.proofs.lemmas.rows_alike.BookLemmas.{third_holds}
 use Rattle.society_audit.proofs.lemmas.anew.MapsWithin.{brings_again, brings_new}
 use Rattle.society_audit.proofs.lemmas.anew.PutAgain.{IsTaken}

@@ -1,8 +1,7 @@
 -- The transmissions and the returns of a book come again row by row, until all of them are there.
-use Rattle.std.proofs.Common.{◌≡◌, ◌∙◌, ◌+◌, ◌<◌, ℕ, zero, suc, true, List, [], ◌∷◌, Option, Some, None, is_some, Result, Ok, Err, IfErr, IsErr, filter, get_or, length, take, arith, ap, refl, sym, subst, IsPermutation}
+use Rattle.std.proofs.Common.{◌≡◌, ◌∙◌, ◌+◌, ◌<◌, ℕ, zero, suc, true, List, [], ◌∷◌, Option, Some, None, is_some, Result, Ok, Err, filter, get_or, length, take, arith, ap, refl, sym, subst, IsPermutation}
 use Rattle.std.specs.FinMap as finite
 use Rattle.std.specs.Result.{IsErrAnd}
-use Rattle.std.proofs.lemmas.Bool.{false≢true}
 use Rattle.std.specs.List.{AllByRecursion}
 use Rattle.std.proofs.lemmas.List.{take_more}
 use Rattle.sqlite_keyed.proofs.ListLemmas.{all-append, all-filter, all_weaker}
@@ -16,7 +15,7 @@ use Rattle.society_book.specs.BookRows.{is_return_row, is_transmission_row, retu
 use Rattle.society_book.specs.Columns.{HasRows, blob_at, whole_number_at, text_at}
 use Rattle.society_audit.specs.Rebuilding.{AllReported, AllSent, HasReported, HasSent, IsAside, IsReported, IsSent, IsWithin, Passes, ReportedOn, SentOn, lines_alone, sent_alone, without_pools}
 use Rattle.work_ids.specs.Blanks.{fill, without_trailing_blanks}
-use Rattle.society_audit.specs.declared.audit_fault.AuditFault.{AuditFault}
+use Rattle.book_audit.specs.declared.audit_fault.AuditFault.{AuditFault}
 use Rattle.society_book.proofs.lemmas.rows_alike.BookLemmas.{refilled}
 use Rattle.society_book.proofs.lemmas.rows_alike.KeyRows.{both_same}
 use Rattle.society_audit.proofs.lemmas.anew.MapsWithin.{within_both}
@@ -32,11 +31,6 @@ all_here P (row ∷ rows) (suc i) d within all = all_here P rows i d (omega (wit
 pub aside_told : {X : Type 0} (Found : X → Type 0) (f : AuditFault) (r : Result X AuditFault) → IsErrAnd r (λ e. e ≡ f) → IsAside f → Passes r Found
 aside_told Found f (Ok x) h aside = absurd h
 aside_told Found f (Err e) h aside = subst IsAside (sym h) aside
-
--- and so passes
-pub passes_err : {X : Type 0} (Found : X → Type 0) (r : Result X AuditFault) → IsErr r → IfErr r IsAside → Passes r Found
-passes_err Found (Ok x) never aside = absurd (false≢true never)
-passes_err Found (Err e) is aside = aside
 
 -- ends that are as they were are within those of a book as before
 pub ends_before : (b : Book) (first old : Ends) → old ≡ first → IsWithin first b.ends → IsWithin old b.ends

@@ -7,19 +7,17 @@ use Rattle.sqlite.specs.State.{HasCleanDisk, State, Survives}
 use Rattle.sqlite_trees.specs.Tree.{Trees}
 use Rattle.sqlite_trees.specs.declared.store.Store.{Ghosts}
 use Rattle.society_rows.specs.Effects.{ErrsByMedium, MayFail}
-use Rattle.society_rows.specs.Questions.{Asks}
 use Rattle.society_rows.specs.Stored.{HasLayout}
 use Rattle.society_rows.specs.declared.fault.RowFault.{RowFault}
 use Rattle.society_rows.specs.declared.fault.RowFault.TheVariants as row
-use Rattle.society_audit.specs.Opening.{Inspects, TellsFailure, audit_fault_by}
-use Rattle.society_audit.specs.declared.audit_fault.AuditFault.{AuditFault}
-use Rattle.society_audit.specs.declared.audit_fault.AuditFault.TheVariants as audit
+use Rattle.society_audit.specs.Opening.{Inspects, TellsFailure, reading_fault_by}
+use Rattle.book_audit.specs.declared.audit_fault.AuditFault.TheVariants as audit
 
 pub of_memory : audit.Memory ≢ audit.Store
 of_memory is = cc
 
 -- what may fail in a part may fail in the whole
-may_later : (old mid new : State) → mid.faults ≤ new.faults → MayFail old mid → MayFail old new
+pub may_later : (old mid new : State) → mid.faults ≤ new.faults → MayFail old mid → MayFail old new
 may_later old mid new up (inl more) = inl (omega (arith, up, more))
 may_later old mid new up (inr why) = inr why
 
@@ -44,14 +42,9 @@ errs_by g {X} old mid new result errs survives clean has = on result (errs early
     on (Err f) h = ⊎_elim (λ (m : f ≡ row.Memory). inl m) (λ (may : MayFail begun mid). inr (may_later (state g old) mid new survives.counts may)) h
 
 -- a fault of rows, told as one of an audit
-pub by_row : (old new : State) (f : RowFault) → (f ≡ row.Memory) ⊎ MayFail old new → audit_fault_by f ≡ audit.Store → MayFail old new
-by_row old new f (inl memory) is = absurd (of_memory (sym (ap audit_fault_by memory) ∙ is))
+pub by_row : (old new : State) (f : RowFault) → (f ≡ row.Memory) ⊎ MayFail old new → reading_fault_by f ≡ audit.Store → MayFail old new
+by_row old new f (inl memory) is = absurd (of_memory (sym (ap reading_fault_by memory) ∙ is))
 by_row old new f (inr may) is = may
-
-pub failed_row : {X Y : Type 0} (old new : State) (f : RowFault) (r : Result Y AuditFault) (Found : Trees → X → Type 0) → Asks old new (Err f) Found
-    → (HasCleanDisk new → HasLayout old.now → (f ≡ row.Memory) ⊎ MayFail old new) → IsErrAnd r (λ e. e ≡ audit_fault_by f) → TellsFailure audit.Store old new r
-failed_row old new f (Ok y) Found asked errs is clean has = tt
-failed_row old new f (Err e) Found asked errs is clean has = λ told. by_row old new f (errs clean has) (sym is ∙ told)
 
 -- a fault that is passed on
 pub failed_passed : {X Y E : Type 0} (told : E) (old new : State) (f : E) (r : Result Y E) (Found : Trees → X → Type 0) → Inspects old new (Err f) Found
@@ -63,10 +56,6 @@ failed_passed told old new f (Err e) Found asked errs is clean has = λ here. er
 pub failed_never : {X Y D E : Type 0} (told : E) (old new : State) (q : Result X D) (r : Result Y E) (Found : Trees → X → Type 0) → Inspects old new q Found → IfErr r (λ e. e ≢ told) → TellsFailure told old new r
 failed_never told old new q (Ok y) Found asked never clean has = tt
 failed_never told old new q (Err e) Found asked never clean has = λ here. absurd (never here)
-
-pub by_memory : {Y : Type 0} (f : AuditFault) (r : Result Y AuditFault) → IsErrAnd r (λ e. e ≡ f) → f ≡ audit.Memory → IfErr r (λ e. e ≢ audit.Store)
-by_memory f (Ok y) is memory = tt
-by_memory f (Err e) is memory = λ here. of_memory (sym memory ∙ (sym is ∙ here))
 
 -- questions after others, whatever these came to
 pub failed_then : {X Y D E : Type 0} (told : E) (old mid new : State) (q : Result X D) (r : Result Y E) (Found : Trees → X → Type 0) → Inspects old mid q Found

@@ -1,12 +1,11 @@
 -- Questions that open a database, one after another, and what is said of it at the end.
-use Rattle.std.proofs.Common.{◌≡◌, ◌∙◌, inl, Result, Ok, Err, IsTrue, IfOk, OnOk, refl, sym, subst, arith}
+use Rattle.std.proofs.Common.{◌≡◌, ◌∙◌, Result, Ok, Err, IsTrue, IfOk, OnOk, sym, subst, arith}
 use Rattle.sqlite.proofs.StateLemmas.{survives_then}
 use Rattle.sqlite.specs.Effect.{Database}
 use Rattle.sqlite.specs.State.{HasCleanDisk, State}
 use Rattle.sqlite_trees.specs.Tree.{Trees}
 use Rattle.society_rows.specs.Questions.{Asks}
 use Rattle.society_rows.specs.Stored.{HasLayout}
-use Rattle.society_rows.specs.declared.fault.RowFault.{RowFault}
 use Rattle.society_audit.specs.Opening.{Inspects}
 
 -- what is asked of the tables, with a fault as an opening tells it
@@ -15,16 +14,6 @@ inspects_of old new x Found asked = record {
   settled = asked.settled;
   found = asked.found;
   answered = asked.answered;
-  was_open = asked.was_open;
-  undone = asked.undone;
-  survives = asked.survives;
-}
-
-pub inspects_not : {X Y E : Type 0} (old new : State) (fault : RowFault) (told : E) (Found : Trees → X → Type 0) (IsFound : Trees → Y → Type 0) → Asks old new (Err fault) Found → Inspects {X = Y} old new (Err told) IsFound
-inspects_not old new fault told Found IsFound asked = record {
-  settled = asked.settled;
-  found = λ clean has. tt;
-  answered = λ clean. tt;
   was_open = asked.was_open;
   undone = asked.undone;
   survives = asked.survives;
@@ -44,28 +33,6 @@ then_inspected {X} {Y} {D} {E} old new x r Found IsFound first finds = record {
     on_ok : (z : Result Y E) → IsTrue old.is_open → OnOk z (IsTrue old.is_open)
     on_ok (Ok y) h = h
     on_ok (Err fault) h = tt
-
--- questions that failed
-pub failed_so : {X Y D E : Type 0} (old new : State) (fault : D) (told : E) (Found : Trees → X → Type 0) (IsFound : Trees → Y → Type 0) → Inspects {X = X} old new (Err fault) Found → Inspects {X = Y} old new (Err told) IsFound
-failed_so old new fault told Found IsFound first = record {
-  settled = first.settled;
-  found = λ clean has. tt;
-  answered = λ clean. tt;
-  was_open = first.was_open;
-  undone = first.undone;
-  survives = first.survives;
-}
-
--- a connection of which nothing was asked
-pub not_inspected : {X E : Type 0} (s : State) (fault : E) (Found : Trees → X → Type 0) → (IsTrue s.is_open → s.now ≡ s.committed) → Inspects {X = X} s s (Err fault) Found
-not_inspected s fault Found settled = record {
-  settled = settled;
-  found = λ clean has. tt;
-  answered = λ clean. tt;
-  was_open = λ clean is_open. is_open;
-  undone = λ clean is_open. (settled is_open, refl);
-  survives = record { clean = omega arith; shield = λ h. h; counts = omega arith; limit = refl; closes = λ clean is. inl is; crash = λ clean db h. inl h };
-}
 
 -- one question after another
 pub inspected_then : {X Y D E : Type 0} (old mid new : State) (x : X) (r : Result Y E) (Found : Trees → X → Type 0) (IsFound : Trees → Y → Type 0) (Then : Trees → Y → Type 0) → Inspects {E = D} old mid (Ok x) Found → Inspects mid new r IsFound → ((y : Y) → Found old.now.trees x → IsFound old.now.trees y → Then old.now.trees y) → Inspects old new r Then
@@ -97,38 +64,6 @@ inspected_then {X} {Y} {D} {E} old mid new x r Found IsFound Then first second f
     on_answered : (z : Result Y E) → HasCleanDisk new → OnOk z (IsTrue mid.is_open) → OnOk z (IsTrue old.is_open)
     on_answered (Ok y) clean is_open = first.was_open (clean_mid clean) is_open
     on_answered (Err fault) clean h = tt
-
--- a question after others, whatever these came to
-pub inspected_after : {X Y D E : Type 0} (old mid new : State) (q : Result X D) (r : Result Y E) (Found : Trees → X → Type 0) (IsFound : Trees → Y → Type 0) → Inspects old mid q Found → Inspects mid new r IsFound → Inspects old new r IsFound
-inspected_after {X} {Y} {D} {E} old mid new q r Found IsFound first second = record {
-  settled = first.settled;
-  found = λ clean has. on_found r clean has (second.answered clean) (second.found clean);
-  answered = λ clean. on_answered r clean (second.answered clean);
-  was_open = λ clean is_open. first.was_open (clean_mid clean) (second.was_open clean is_open);
-  undone = λ clean is_open.
-      let before = first.undone (clean_mid clean) (second.was_open clean is_open) in
-      let after = second.undone clean is_open in
-      (after.0 ∙ before.1, after.1 ∙ before.1);
-  survives = survives_then old mid new (λ _. ⊥) (λ _. ⊥) (λ _. ⊥) (λ clean db never. never) (λ clean db never. never) first.survives second.survives;
-}
-  where
-    clean_mid : HasCleanDisk new → HasCleanDisk mid
-    clean_mid clean = (let fell = second.survives.clean in omega (clean, fell, arith))
-
-    on_found : (z : Result Y E) → HasCleanDisk new → HasLayout old.now → OnOk z (IsTrue mid.is_open) → (HasLayout mid.now → IfOk z (IsFound mid.now.trees)) → IfOk z (IsFound old.now.trees)
-    on_found (Ok y) clean has is_open found =
-        let same : mid.now ≡ old.now = (first.undone (clean_mid clean) is_open).0 ∙ sym (first.settled (first.was_open (clean_mid clean) is_open)) in
-        subst (λ (db : Database). IsFound db.trees y) same (found (subst HasLayout (sym same) has))
-    on_found (Err fault) clean has is_open found = tt
-
-    on_answered : (z : Result Y E) → HasCleanDisk new → OnOk z (IsTrue mid.is_open) → OnOk z (IsTrue old.is_open)
-    on_answered (Ok y) clean is_open = first.was_open (clean_mid clean) is_open
-    on_answered (Err fault) clean h = tt
-
--- what is found says also what follows from it
-pub as_inspected : {X E : Type 0} (old new : State) (r : Result X E) (Found IsFound : Trees → X → Type 0) → Inspects old new r Found → ((x : X) → Found old.now.trees x → IsFound old.now.trees x) → Inspects old new r IsFound
-as_inspected old new (Ok x) Found IsFound first finds = then_inspected old new x (Ok x) Found IsFound first (finds x)
-as_inspected old new (Err fault) Found IsFound first finds = failed_so old new fault fault Found IsFound first
 
 -- an answer is told alike, whatever a fault would be
 pub same_answer : {X D E : Type 0} (old new : State) (x : X) (Found : Trees → X → Type 0) → Inspects {E = D} old new (Ok x) Found → Inspects {E = E} old new (Ok x) Found

@@ -15,7 +15,7 @@ use Rattle.society_book.proofs.lemmas.together.StepLemmas.{more, still}
 use Rattle.society_audit.proofs.lemmas.anew.ComesAgain.{clean_before}
 use Rattle.society_audit.specs.Rebuilding.{IsAside, Passes}
 use Rattle.society_audit.specs.TakingOver.{DoesOver, Sees}
-use Rattle.society_audit.specs.declared.audit_fault.AuditFault.{AuditFault}
+use Rattle.book_audit.specs.declared.audit_fault.AuditFault.{AuditFault}
 
 survives_on : (old mid new : State) → Survives old mid (λ _. ⊥) → Survives mid new (λ _. ⊥) → Survives old new (λ _. ⊥)
 survives_on old mid new = survives_then old mid new (λ _. ⊥) (λ _. ⊥) (λ _. ⊥) (λ clean db never. never) (λ clean db never. never)

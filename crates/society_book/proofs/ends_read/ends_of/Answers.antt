@@ -9,5 +9,5 @@ pub returns : goal.returns
 returns g c = record {
   asked =
       then_asked _ _ _ c.ends_shown.result _ _ c.in_ok-rows.ensures.asked
-      (λ lists. more c.ends_shown.result (λ ends is book has. is ∙ ap end_shown c.as_slice.ensures.value ∙ ends_found book _ has c.args.sender.now _ lists) c.ends_shown.ensures);
+      (λ lists. more c.ends_shown.result (λ ends is book has. is ∙ ap end_shown c.as_slice.ensures.value ∙ ends_found book _ has c.args.sender.now _ lists) c.ends_shown.ensures.shows);
 }

@@ -12,5 +12,5 @@ loop-row-preserved c =
     let row = c.row-item.result in
     let next : take (i + 1) rows ≡ take i rows ++ row ∷ [] = take_more rows i row (omega (arith, c.loop-row-test.true)) ∙ ap (λ (r : Row). take i rows ++ r ∷ []) (sym c.row-item.is) in
     ap end_listed c.in_ok-push.ensures
-    ∙ listed_shown c.loop-row.ends (take i rows) c.in_ok-end_in.field-0 row c.loop-row.invariant c.in_ok-end_in.ensures.0 c.in_ok-end_in.ensures.1
+    ∙ listed_shown c.loop-row.ends (take i rows) c.in_ok-end_in.field-0 row c.loop-row.invariant c.in_ok-end_in.ensures.reads.0 c.in_ok-end_in.ensures.reads.1
     ∙ ap end_shown (sym next)

@@ -1,11 +1,13 @@
 use Rattle.std.proofs.Common.{refl, ◌∙◌, ◌||◌, ◌+◌, List, ℕ, Ok, ap, arith, bytes_eq, sym, subst, take}
-use Rattle.std.proofs.lemmas.List.{take_all}
 use Rattle.std.proofs.lemmas.List.Folds.{list_any_more}
+use Rattle.std.proofs.lemmas.List.{take_all}
 use Rattle.std.specs.List.{list_any}
-use Rattle.sqlite.specs.Held.{state}
-use Rattle.society_closings.specs.CutWorks.{Chooses}
-use Rattle.society_closings.proofs.lemmas.cuts.CutChoices.{chooses_as}
 use Rattle.society_book.proofs.lemmas.together.StepLemmas.{looks_as, looks_then, nothing}
+use Rattle.society_closings.proofs.lemmas.cuts.CutChoices.{chooses_as}
+use Rattle.society_closings.proofs.lemmas.cuts.FaultLemmas.{errs_passed}
+use Rattle.society_closings.specs.Blamed.{HoldNoWorks}
+use Rattle.society_closings.specs.CutWorks.{Chooses}
+use Rattle.sqlite.specs.Held.{state}
 use Rattle.society_closings.proofs.chosen.chosen_of.Goals as goal
 
 pub loop-work-init : goal.loop-work-init
@@ -35,3 +37,8 @@ returns-clause-looks g c =
     let all = c.args.works.now in
     looks_as (state g.S.Store c.args.tx.now.conn.now) (state g.S.Store c.loop-work.tx.conn.now) tt (Ok c.loop-work.chosen) _ _ c.loop-work.invariant.looks
     (λ first o b holds within. subst (λ (xs : List (List ℕ)). Chooses o b c.args.key.now (λ q. list_any (bytes_eq q) xs) c.loop-work.chosen) (take_all c.loop-work.work-index all c.loop-work-test.false) (first o b holds within))
+
+pub returns-in_err-choose_work-clause-errs : goal.returns-in_err-choose_work-clause-errs
+returns-in_err-choose_work-clause-errs g c =
+    errs_passed (Unit {0}) HoldNoWorks HoldNoWorks (state g.S.Store c.args.tx.now.conn.now) (state g.S.Store c.loop-work.tx.conn.now) (state g.S.Store c.choose_work.new.tx.conn.now) tt _ c.from_residual.result _ _
+    c.loop-work.invariant.looks c.in_err-choose_work.ensures.looks c.in_err-choose_work.ensures.errs c.from_residual.ensures.1 (λ first no. no)

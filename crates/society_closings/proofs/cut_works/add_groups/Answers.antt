@@ -4,14 +4,14 @@ use Rattle.std.proofs.lemmas.List.{append-nil, take_more}
 use Rattle.cwr_files.specs.Transaction.{number_of_work}
 use Rattle.cwr_files.specs.declared.transmission.Group.{Group}
 use Rattle.cwr_files.specs.declared.transmission.Transaction.{Transaction}
+use Rattle.society_closings.proofs.lemmas.cuts.CutCandidates.{where_append}
+use Rattle.society_closings.specs.CutWorks.{is_chosen, works_chosen}
 use Rattle.society_core.proofs.lemmas.CandidateLemmas.{adds_then}
 use Rattle.society_core.specs.Candidates.{AddsCandidates}
 use Rattle.society_core.specs.Owners.{CutWork}
 use Rattle.society_core.specs.Points.{is_tallied}
-use Rattle.society_closings.specs.CutWorks.{is_chosen, works_chosen}
-use Rattle.society_closings.proofs.lemmas.cuts.CutCandidates.{where_append}
-use Rattle.society_closings.proofs.cut_works.add_groups.Goals as goal
 use Rattle.society_core.specs.Pools.{holders_of}
+use Rattle.society_closings.proofs.cut_works.add_groups.Goals as goal
 
 pub loop-group-preserved : goal.loop-group-preserved
 loop-group-preserved c =
@@ -36,7 +36,7 @@ loop-group-preserved c =
     ∙ where_append s passes 0 so_far ts
     ∙ ap (λ (k : ℕ). works_chosen chosen s n 0 so_far ++ works_chosen chosen s n k ts) place in
     record {
-      place = c.in_ok-place.ensures ∙ ap (λ (k : ℕ). k + length ts) c.loop-group.invariant.place ∙ sym (ap (λ (l : List Transaction). length l) next ∙ length-append so_far ts);
+      place = c.in_ok-place.ensures.after ∙ ap (λ (k : ℕ). k + length ts) c.loop-group.invariant.place ∙ sym (ap (λ (l : List Transaction). length l) next ∙ length-append so_far ts);
       adds = subst (λ (ws : List CutWork). AddsCandidates (holders_of c.args.weighing.now.kind o) of_these ws c.args.candidates.now.items c.add_group.new.candidates.items) (sym step)
-          (adds_then (holders_of c.args.weighing.now.kind o) of_these (works_chosen chosen s n 0 so_far) (works_chosen chosen s n c.loop-group.place ts) c.args.candidates.now.items c.loop-group.candidates.items c.add_group.new.candidates.items c.loop-group.invariant.adds c.in_ok-add_group.ensures);
+          (adds_then (holders_of c.args.weighing.now.kind o) of_these (works_chosen chosen s n 0 so_far) (works_chosen chosen s n c.loop-group.place ts) c.args.candidates.now.items c.loop-group.candidates.items c.add_group.new.candidates.items c.loop-group.invariant.adds c.in_ok-add_group.ensures.adds);
     }

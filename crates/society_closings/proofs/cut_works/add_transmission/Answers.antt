@@ -1,17 +1,25 @@
-use Rattle.std.proofs.Common.{[], List, ℕ, Ok, Option, subst, sym, unwrap_or}
+use Rattle.std.proofs.Common.{[], List, ℕ, Ok, Option, subst, sym, unwrap_or, Err}
+use Rattle.std.specs.Prelude.{Vec}
+use Rattle.std.specs.declared.alloc.Global.{Global}
 use Rattle.cwr_files.specs.Contents.{transactions_of, transmission_in}
-use Rattle.sqlite.specs.Held.{state}
+use Rattle.society_book.proofs.lemmas.rows_alike.KeyRows.{transmission_shows_by}
+use Rattle.society_book.proofs.lemmas.together.ErrLemmas.{errs_as, errs_of, errs_on}
+use Rattle.society_book.proofs.lemmas.together.StepLemmas.{looks_as, looks_of, more}
+use Rattle.society_book.specs.Shown.{ShowBody}
+use Rattle.society_closings.proofs.lemmas.cuts.BodyRows.{transmission_shown}
+use Rattle.society_closings.proofs.lemmas.cuts.CutCandidates.{chosen_adds, shown_all}
+use Rattle.society_closings.proofs.lemmas.cuts.FaultLemmas.{blames_where}
+use Rattle.society_closings.specs.Blamed.{LackNumber}
+use Rattle.society_closings.specs.CutWorks.{works_chosen}
+use Rattle.society_closings.specs.Readable.{ShowTransmission}
 use Rattle.society_core.specs.Book.{body_at}
 use Rattle.society_core.specs.Candidates.{AddsCandidates}
 use Rattle.society_core.specs.Keys.{transmission_key}
 use Rattle.society_core.specs.Points.{is_tallied}
-use Rattle.society_closings.specs.CutWorks.{works_chosen}
-use Rattle.society_book.specs.Shown.{ShowBody}
-use Rattle.society_closings.proofs.lemmas.cuts.CutCandidates.{chosen_adds, shown_all}
-use Rattle.society_book.proofs.lemmas.rows_alike.KeyRows.{transmission_shows_by}
-use Rattle.society_book.proofs.lemmas.together.StepLemmas.{looks_as, looks_of, more}
-use Rattle.society_closings.proofs.cut_works.add_transmission.Goals as goal
 use Rattle.society_core.specs.Pools.{holders_of}
+use Rattle.sqlite.specs.Held.{state}
+use Rattle.sqlite_value.specs.Order.{Row}
+use Rattle.society_closings.proofs.cut_works.add_transmission.Goals as goal
 
 pub returns-clause-looks : goal.returns-clause-looks
 returns-clause-looks g c =
@@ -28,4 +36,23 @@ returns-clause-looks g c =
     (λ lists. more c.add_shown.result
     (λ y adds b holds within right. chosen_adds o b key of_these chosen right (holders_of c.args.weighing.now.kind o) n old_list new_list within
     (adds (body_at b key.sender n) (subst (ShowBody (body_at b key.sender n)) (sym c.as_slice.ensures.value) (transmission_shows_by b _ holds.kept.transmissions (transmission_key key.sender n) _ lists))))
-    (shown_all c.add_shown.result rows P c.add_shown.ensures))
+    (shown_all c.add_shown.result rows P c.add_shown.ensures.adds))
+
+pub returns-in_err-rows-clause-errs : goal.returns-in_err-rows-clause-errs
+returns-in_err-rows-clause-errs g c =
+    let Wrong = LackNumber c.args.weighing.now.office.now c.args.key.now c.args.number in
+    let old = state g.S.Store c.args.tx.now.conn.now in
+    let new = state g.S.Store c.answer.new.tx.conn.now in
+    errs_on (Vec Row Global) Wrong Wrong old new _ c.from_residual.result (errs_of {X = Vec Row Global} Wrong old new (Err _) c.in_err-rows.ensures.told c.in_err-rows.ensures.medium) c.from_residual.ensures.1 (λ h. h)
+
+pub returns-clause-errs : goal.returns-clause-errs
+returns-clause-errs g c =
+    let o = c.args.weighing.now.office.now in
+    let key = c.args.key.now in
+    let n = c.args.number in
+    let rows = c.as_slice.result.now in
+    let old = state g.S.Store c.args.tx.now.conn.now in
+    let new = state g.S.Store c.answer.new.tx.conn.now in
+    errs_as (LackNumber o key n) old new _ c.add_shown.result _ (looks_of old new (Ok _) _ (rw (c.as_bytes.ensures.bytes, c.value.ensures.value) at c.in_ok-rows.ensures.read))
+    (λ lists. blames_where (ShowTransmission key.sender rows → ⊥) (LackNumber o key n old.now.trees) c.add_shown.result c.add_shown.ensures.blames
+    (λ no b holds up_to. no (transmission_shown o b old.now.trees holds key.sender key.number n up_to _ rows lists c.as_slice.ensures.value)))

@@ -1,12 +1,14 @@
 use Rattle.std.proofs.Common.{◌∙◌, ◌||◌, ◌+◌, List, ℕ, Ok, ap, arith, bytes_eq, refl, sym, subst, take}
-use Rattle.std.proofs.lemmas.List.{take_all}
 use Rattle.std.proofs.lemmas.List.Folds.{list_any_more}
+use Rattle.std.proofs.lemmas.List.{take_all}
 use Rattle.std.specs.List.{list_any}
-use Rattle.sqlite.specs.Held.{state}
-use Rattle.society_core.specs.declared.transmission_key.TransmissionKey.{TransmissionKey}
-use Rattle.society_closings.specs.CutWorks.{NotesSenders}
-use Rattle.society_closings.proofs.lemmas.cuts.CutNotes.{no_senders, notes_still, notes_then, one_sender_more}
 use Rattle.society_book.proofs.lemmas.together.StepLemmas.{looks_as, looks_then, nothing}
+use Rattle.society_closings.proofs.lemmas.cuts.CutNotes.{no_senders, notes_still, notes_then, one_sender_more}
+use Rattle.society_closings.proofs.lemmas.cuts.FaultLemmas.{errs_passed}
+use Rattle.society_closings.specs.Blamed.{HoldNoWorks}
+use Rattle.society_closings.specs.CutWorks.{NotesSenders}
+use Rattle.society_core.specs.declared.transmission_key.TransmissionKey.{TransmissionKey}
+use Rattle.sqlite.specs.Held.{state}
 use Rattle.society_closings.proofs.named_works.note_senders.Goals as goal
 
 pub loop-key-init : goal.loop-key-init
@@ -38,3 +40,8 @@ returns-clause-looks g c =
     let named = c.loop-key.named in
     looks_as (state g.S.Store c.args.tx.now.conn.now) (state g.S.Store c.loop-key.tx.conn.now) tt (Ok tt) _ _ c.loop-key.invariant.looks
     (λ notes. subst (λ (keys : List TransmissionKey). NotesSenders (λ sender. list_any (λ key. bytes_eq key.sender sender) keys) c.args.wanted.now named (state g.S.Store c.args.tx.now.conn.now).now.trees) (take_all c.loop-key.key-index cut c.loop-key-test.false) notes)
+
+pub returns-in_err-note_sender-clause-errs : goal.returns-in_err-note_sender-clause-errs
+returns-in_err-note_sender-clause-errs g c =
+    errs_passed (Unit {0}) HoldNoWorks HoldNoWorks (state g.S.Store c.args.tx.now.conn.now) (state g.S.Store c.loop-key.tx.conn.now) (state g.S.Store c.note_sender.new.tx.conn.now) tt _ c.from_residual.result _ _
+    c.loop-key.invariant.looks c.in_err-note_sender.ensures.looks c.in_err-note_sender.ensures.errs c.from_residual.ensures.1 (λ first no. no)

@@ -1,11 +1,15 @@
-use Rattle.std.proofs.Common.{◌≡◌, ◌∙◌, ◌≤◌, List, Ok, ap, arith, flat_map, length, length-append, subst, sym, take}
+use Rattle.std.proofs.Common.{◌≡◌, ◌∙◌, ◌≤◌, List, Ok, ap, arith, flat_map, length, length-append, subst, sym, take, is_some}
 use Rattle.std.proofs.lemmas.List.{take_all}
-use Rattle.sqlite.specs.Held.{state}
+use Rattle.society_book.proofs.lemmas.together.StepLemmas.{looks_as, looks_then, nothing}
+use Rattle.society_closings.proofs.lemmas.cuts.FaultLemmas.{errs_passed}
+use Rattle.society_closings.proofs.lemmas.money.Payments.{rows_next}
+use Rattle.society_closings.specs.Blamed.{LackReturn, LackReturns}
+use Rattle.society_core.proofs.lemmas.CandidateLemmas.{all_at}
+use Rattle.society_core.specs.Book.{return_at}
 use Rattle.society_core.specs.Candidates.{rows_of_return}
 use Rattle.society_core.specs.Points.{Tallies}
 use Rattle.society_core.specs.declared.return_key.ReturnKey.{ReturnKey}
-use Rattle.society_closings.proofs.lemmas.money.Payments.{rows_next}
-use Rattle.society_book.proofs.lemmas.together.StepLemmas.{looks_as, looks_then, nothing}
+use Rattle.sqlite.specs.Held.{state}
 use Rattle.society_closings.proofs.paying.tally_of.Goals as goal
 
 pub loop-key-init : goal.loop-key-init
@@ -46,3 +50,12 @@ returns-clause-looks g c =
       subst (λ (ks : List ReturnKey). Tallies c.loop-key.tally (flat_map (rows_of_return b) ks)) whole it.0,
       omega (arith, ap (λ (ks : List ReturnKey). length (flat_map (rows_of_return b) ks)) whole, it.1, few, c.loop-key.auto.key-index-end),
     ))
+
+pub returns-in_err-add_return-clause-errs : goal.returns-in_err-add_return-clause-errs
+returns-in_err-add_return-clause-errs g c =
+    let keys = c.args.returns.now in
+    let i = c.loop-key.key-index in
+    let key = c.key-item.result in
+    errs_passed (Unit {0}) (LackReturn key) (LackReturns keys) (state g.S.Store c.args.tx.now.conn.now) (state g.S.Store c.loop-key.tx.conn.now) (state g.S.Store c.add_return.new.tx.conn.now) tt _ c.from_residual.result _ _
+    c.loop-key.invariant.looks c.in_err-add_return.ensures.looks c.in_err-add_return.ensures.errs c.from_residual.ensures.1
+    (λ first no o b holds there. no o b holds (ap (λ (k : ReturnKey). is_some (return_at b k)) c.key-item.is ∙ all_at (λ (k : ReturnKey). is_some (return_at b k)) keys i key there (omega (arith, c.loop-key-test.true))))

@@ -22,12 +22,12 @@ use Rattle.society_rows.specs.declared.fault.RowFault.{RowFault}
 use Rattle.society_rows.specs.declared.fault.RowFault.TheVariants as row
 use Rattle.society_book.specs.Kept.{HoldsOwnBook}
 use Rattle.society_audit.specs.Older.{HoldsOlder, HoldsOne, office_row_under}
-use Rattle.society_audit.specs.Opening.{audit_fault_by}
+use Rattle.society_audit.specs.Opening.{reading_fault_by}
 use Rattle.society_opening.specs.Opening.{IsDamagedOlder, IsOneOffice, IsOutside, TellsDatabase, TellsOffice, TellsOfficeIn, open_fault_by}
 use Rattle.society_audit.specs.Rebuilding.{IsAside}
 use Rattle.society_rows.proofs.lemmas.definitions.FirstTables.{first_long, has_tables}
-use Rattle.society_audit.specs.declared.audit_fault.AuditFault.{AuditFault}
-use Rattle.society_audit.specs.declared.audit_fault.AuditFault.TheVariants as audit
+use Rattle.book_audit.specs.declared.audit_fault.AuditFault.{AuditFault}
+use Rattle.book_audit.specs.declared.audit_fault.AuditFault.TheVariants as audit
 use Rattle.society_opening.specs.declared.open_fault.OpenFault.{OpenFault}
 use Rattle.society_opening.specs.declared.open_fault.OpenFault.TheVariants as fault
 use Rattle.society_book.proofs.lemmas.shown.AskLemmas.{first_true, second_true}
@@ -36,7 +36,7 @@ use Rattle.society_audit.proofs.lemmas.anew.ComesAgain.{failed_aside}
 use Rattle.society_book.proofs.lemmas.rows_alike.RowLemmas.{one_else}
 
 -- a failed statement says nothing of the office
-pub failed_office : (n : ℕ) (o : Office) (rows : List Row) (e : RowFault) → TellsOffice n o rows (open_fault_by (audit_fault_by e))
+pub failed_office : (n : ℕ) (o : Office) (rows : List Row) (e : RowFault) → TellsOffice n o rows (open_fault_by (reading_fault_by e))
 failed_office n o rows row.Memory = tt
 failed_office n o rows row.Schema = tt
 failed_office n o rows row.Unread = tt
@@ -44,7 +44,7 @@ failed_office n o rows row.Overflow = tt
 failed_office n o rows (row.Refused error) = tt
 
 -- nor of the database
-pub failed_outside : (e : RowFault) → IsOutside (open_fault_by (audit_fault_by e))
+pub failed_outside : (e : RowFault) → IsOutside (open_fault_by (reading_fault_by e))
 failed_outside row.Memory = tt
 failed_outside row.Schema = tt
 failed_outside row.Unread = tt
@@ -117,7 +117,7 @@ told_listed n o db rows width (Ok x) lists told = tt
 told_listed n o db rows width (Err e) lists told = told_likewise n o (rows_in layout.office db) rows e (any_order db rows width lists) told
 
 -- what is said of the office when a statement fails, and when rows do not pass
-pub told_failed : (n : ℕ) (o : Office) (rows : List Row) (f : RowFault) (r : Result (Unit {0}) OpenFault) → IsErrAnd r (λ e. e ≡ open_fault_by (audit_fault_by f)) → IfErr r (TellsOffice n o rows)
+pub told_failed : (n : ℕ) (o : Office) (rows : List Row) (f : RowFault) (r : Result (Unit {0}) OpenFault) → IsErrAnd r (λ e. e ≡ open_fault_by (reading_fault_by f)) → IfErr r (TellsOffice n o rows)
 told_failed n o rows f (Ok x) h = tt
 told_failed n o rows f (Err e) h = subst (TellsOffice n o rows) (sym h) (failed_office n o rows f)
 
@@ -238,9 +238,9 @@ not_damaged audit.Memory aside is = absurd (false≢true (ap is_damage is))
 not_damaged audit.Store aside is = absurd (false≢true (ap is_damage is))
 not_damaged audit.Damaged aside is = absurd aside
 
-pub failed_not_damaged : (f : RowFault) (r : Result (Unit {0}) OpenFault) → IsErrAnd r (λ e. e ≡ open_fault_by (audit_fault_by f)) → IfErr r (λ e. e ≢ fault.Damaged)
+pub failed_not_damaged : (f : RowFault) (r : Result (Unit {0}) OpenFault) → IsErrAnd r (λ e. e ≡ open_fault_by (reading_fault_by f)) → IfErr r (λ e. e ≢ fault.Damaged)
 failed_not_damaged f (Ok x) h = tt
-failed_not_damaged f (Err e) h = λ is. not_damaged (audit_fault_by f) (failed_aside f) (sym h ∙ is)
+failed_not_damaged f (Err e) h = λ is. not_damaged (reading_fault_by f) (failed_aside f) (sym h ∙ is)
 
 -- damage is told where the rows do not hold what they should
 pub damaged_so : (H : Type 0) (f : AuditFault) (r : Result (Unit {0}) OpenFault) → IsErrAnd r (λ e. e ≡ open_fault_by f) → (H → IsAside f) → IfErr r (λ e. e ≡ fault.Damaged → ¬ H)

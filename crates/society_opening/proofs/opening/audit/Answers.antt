@@ -1,5 +1,5 @@
 use Rattle.std.proofs.Common.{Ok}
-use Rattle.society_audit.specs.declared.audit_fault.AuditFault.{AuditFault}
+use Rattle.book_audit.specs.declared.audit_fault.AuditFault.{AuditFault}
 use Rattle.society_audit.proofs.lemmas.opened.OpenLemmas.{inspected_then, same_answer}
 use Rattle.society_audit.proofs.lemmas.anew.ComesAgain.{clean_before, shows_still}
 use Rattle.society_opening.proofs.lemmas.opened.OpenTold.{damaged_so, told_judged, undamaged}
@@ -12,7 +12,7 @@ use Rattle.society_opening.proofs.opening.audit.Goals as goal
 pub returns-clause-whole : goal.returns-clause-whole
 returns-clause-whole g c =
     same_answer {D = AuditFault} _ _ _ _
-    (inspected_then _ _ _ _ (Ok tt) _ _ _ c.in_ok-office_agrees.ensures.asked c.in_ok-check_whole.ensures.whole (λ y a b. b))
+    (inspected_then _ _ _ _ (Ok tt) _ _ _ c.in_ok-office_agrees.ensures.asked c.in_ok-check_whole.ensures.whole (λ y registered whole. whole registered))
 
 pub returns-in_err-check_whole-clause-told : goal.returns-in_err-check_whole-clause-told
 returns-in_err-check_whole-clause-told g c clean has =

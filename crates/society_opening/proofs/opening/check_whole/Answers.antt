@@ -2,12 +2,12 @@ use Rattle.society_audit.proofs.lemmas.opened.OpenLemmas.{inspected_then}
 use Rattle.society_audit.proofs.lemmas.anew.ComesAgain.{clean_before, shows_still}
 use Rattle.society_audit.proofs.lemmas.anew.RowsAgain.{aside_told}
 use Rattle.society_audit.proofs.lemmas.opened.Failing.{failed_passed, failed_then}
-use Rattle.society_audit.specs.declared.audit_fault.AuditFault.TheVariants.{Store}
+use Rattle.book_audit.specs.declared.audit_fault.AuditFault.TheVariants.{Store}
 use Rattle.society_opening.proofs.opening.check_whole.Goals as goal
 
 pub returns-clause-whole : goal.returns-clause-whole
 returns-clause-whole g c =
-    inspected_then _ _ _ _ c.check_own.result _ _ _ c.in_ok-fronts_and_balances_numbered.ensures.asked c.check_own.ensures.agree (λ y a b. b a)
+    inspected_then _ _ _ _ c.check_own.result _ _ _ c.in_ok-fronts_and_balances_numbered.ensures.asked c.check_own.ensures.agree (λ y numbered found registered. ∣ found registered numbered ∣₁)
 
 pub returns-clause-passes : goal.returns-clause-passes
 returns-clause-passes g c b clean sound shows =

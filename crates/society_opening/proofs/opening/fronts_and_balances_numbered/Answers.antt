@@ -2,7 +2,7 @@ use Rattle.society_audit.proofs.lemmas.opened.OpenLemmas.{inspected_then}
 use Rattle.society_audit.proofs.lemmas.anew.ComesAgain.{clean_before, shows_still}
 use Rattle.society_audit.proofs.lemmas.anew.RowsAgain.{aside_told}
 use Rattle.society_audit.proofs.lemmas.opened.Failing.{failed_passed, failed_then}
-use Rattle.society_audit.specs.declared.audit_fault.AuditFault.TheVariants.{Store}
+use Rattle.book_audit.specs.declared.audit_fault.AuditFault.TheVariants.{Store}
 use Rattle.society_opening.proofs.opening.fronts_and_balances_numbered.Goals as goal
 
 pub returns-clause-asked : goal.returns-clause-asked

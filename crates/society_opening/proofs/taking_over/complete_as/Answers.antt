@@ -7,7 +7,7 @@ use Rattle.memory_store.specs.declared.memory.MemoryStore.{MemoryStore}
 use Rattle.society_rows.specs.Stored.{HasLayout}
 use Rattle.society_book.specs.Kept.{HoldsOwnBook}
 use Rattle.society_audit.specs.TakingOver.{AreFilledFrom, AreSame, DoesOver, Fills, KeepsOlder, PassesLike, Sees, filled_names}
-use Rattle.society_audit.specs.declared.audit_fault.AuditFault.{AuditFault}
+use Rattle.book_audit.specs.declared.audit_fault.AuditFault.{AuditFault}
 use Rattle.society_audit.proofs.lemmas.alike.SameTables.{holds_likewise}
 use Rattle.society_audit.proofs.lemmas.anew.ComesAgain.{clean_before, passes_alone}
 use Rattle.society_audit.proofs.lemmas.anew.RowsAgain.{aside_told}

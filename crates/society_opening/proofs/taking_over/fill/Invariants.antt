@@ -4,7 +4,7 @@ use Rattle.sqlite.specs.Held.{state}
 use Rattle.memory_store.specs.Memory.{over_memory}
 use Rattle.society_rows.specs.Stored.{HasLayout}
 use Rattle.society_audit.specs.TakingOver.{AreFilledFrom, DoesOver, Fills, derived_names}
-use Rattle.society_audit.specs.declared.audit_fault.AuditFault.{AuditFault}
+use Rattle.book_audit.specs.declared.audit_fault.AuditFault.{AuditFault}
 use Rattle.society_opening.proofs.taking_over.fill.Given as goal
 
 abbrev pub invariant-loop-table : goal.invariant-loop-table

@@ -5,7 +5,7 @@ use Rattle.society_rows.specs.Stored.{HasLayout}
 use Rattle.society_rows.specs.declared.tables.TableName.TheVariants as name
 use Rattle.society_audit.specs.Opening.{Agree, other_names}
 use Rattle.society_audit.specs.TakingOver.{Sees}
-use Rattle.society_audit.specs.declared.audit_fault.AuditFault.{AuditFault}
+use Rattle.book_audit.specs.declared.audit_fault.AuditFault.{AuditFault}
 use Rattle.society_opening.proofs.taking_over.tables_agree_inside.Given as goal
 
 -- the tables so far agree, and the memory is as it was

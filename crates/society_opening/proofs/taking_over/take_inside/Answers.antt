@@ -1,32 +1,22 @@
-use Rattle.std.proofs.Common.{Ok, Err}
+use Rattle.std.proofs.Common.{Ok}
 use Rattle.sqlite.specs.Held.{state}
 use Rattle.society_rows.specs.Layouts.{HasOlder}
 use Rattle.society_rows.specs.Stored.{HasLayout}
 use Rattle.society_book.specs.BookRows.{book_of}
-use Rattle.society_audit.proofs.lemmas.anew.ComesAgain.{clean_before, failed_aside}
-use Rattle.society_audit.proofs.lemmas.anew.RowsAgain.{aside_told}
+use Rattle.society_audit.proofs.lemmas.anew.ComesAgain.{clean_before}
 use Rattle.society_audit.proofs.lemmas.taking.Completed.{can_complete, stand_for}
-use Rattle.society_audit.proofs.lemmas.taking.OverLemmas.{over_not, over_then, over_writes}
+use Rattle.society_audit.proofs.lemmas.taking.OverLemmas.{over_then, over_writes}
 use Rattle.society_opening.proofs.taking_over.take_inside.Goals as goal
 
-pub returns-clause-does : goal.returns-clause-does
-returns-clause-does g c =
+pub returns-in-Ok-clause-does : goal.returns-in-Ok-clause-does
+returns-in-Ok-clause-does g c =
     let old = state g.S.Store c.args.tx.now.conn.now in
     let mid = state g.S.Store c.raise_inside.new.tx.conn.now in
-    over_then (HasOlder c.args.layout) HasLayout old mid _ tt c.complete_own.result _ _ _ (over_writes (HasOlder c.args.layout) old mid (Ok tt) _ c.in_ok-raise_inside.ensures.raised) (λ has said. said.0)
+    over_then (HasOlder c.args.layout) HasLayout old mid _ tt c.complete_own.result _ _ _ (over_writes (HasOlder c.args.layout) old mid (Ok tt) _ c.in-Ok.ensures.raised) (λ has said. said.0)
     c.complete_own.ensures.does (λ y one two. (two.0, (stand_for c.args.layout _ _ _ one.1 two.1, two.2)))
 
-pub returns-in_err-raise_inside-clause-does : goal.returns-in_err-raise_inside-clause-does
-returns-in_err-raise_inside-clause-does g c =
-    let old = state g.S.Store c.args.tx.now.conn.now in
-    let mid = state g.S.Store c.raise_inside.new.tx.conn.now in
-    over_not (HasOlder c.args.layout) old mid c.in_err-raise_inside.field-0.0 c.from_residual.result _ _ (over_writes (HasOlder c.args.layout) old mid (Err c.in_err-raise_inside.field-0.0) _ c.in_err-raise_inside.ensures.raised) c.from_residual.ensures.0
-
-pub returns-clause-passes : goal.returns-clause-passes
-returns-clause-passes g c clean inside was =
+pub returns-in-Ok-clause-passes : goal.returns-in-Ok-clause-passes
+returns-in-Ok-clause-passes g c clean inside was =
     let before = clean_before _ _ c.complete_own.ensures.does.survives clean in
-    let raised = c.in_ok-raise_inside.ensures.raised.change before inside was.0 in
-    c.complete_own.ensures.passes (book_of was.1.new) clean (c.in_ok-raise_inside.ensures.raised.inside before inside) (raised.0, can_complete c.args.office.now c.args.layout _ _ raised.1 was.1)
-
-pub returns-in_err-raise_inside-clause-passes : goal.returns-in_err-raise_inside-clause-passes
-returns-in_err-raise_inside-clause-passes g c clean inside was = aside_told _ _ c.from_residual.result c.from_residual.ensures.1 (failed_aside c.in_err-raise_inside.field-0.0)
+    let raised = c.in-Ok.ensures.raised.change before inside was.0 in
+    c.complete_own.ensures.passes (book_of was.1.new) clean (c.in-Ok.ensures.raised.inside before inside) (raised.0, can_complete c.args.office.now c.args.layout _ _ raised.1 was.1)

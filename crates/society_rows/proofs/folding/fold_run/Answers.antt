@@ -1,8 +1,8 @@
-use Rattle.std.proofs.Common.{◌∙◌, ◌+◌, length, refl, sym, ap, arith}
+use Rattle.std.proofs.Common.{◌∙◌, ◌+◌, Err, IfErr, Result, Ok, ◌⊎◌, inl, inr, length, refl, sym, ap, arith}
 use Rattle.society_rows.specs.declared.fault.RowFault.TheVariants.{Unread}
 use Rattle.society_rows.proofs.lemmas.readings.RowFolds.{err_as}
 use Rattle.society_rows.proofs.lemmas.readings.Alike.{only_one}
-use Rattle.society_rows.proofs.lemmas.readings.RunFolds.{none_there, runs_to_first, runs_on, run_doubled, run_ends, run_fills, run_overflows, run_refused, run_stops, run_told}
+use Rattle.society_rows.proofs.lemmas.readings.RunFolds.{no_run_doubled, no_run_filled, none_there, runs_to_first, runs_on, run_by_medium, run_doubled, run_ends, run_fills, run_overflows, run_refused, run_refuses, run_stops, run_told}
 use Rattle.society_rows.proofs.folding.fold_run.Goals as goal
 
 pub loop-number-init : goal.loop-number-init
@@ -54,3 +54,37 @@ pub returns-in_err-take-in-len1-clause-taken : goal.returns-in_err-take-in-len1-
 returns-in_err-take-in-len1-clause-taken g c =
     run_stops g.S.Store g.F.RowFold.step c.args.sender.now c.args.tx.now.conn.now c.loop-number.tx.conn.now c.transmission_at.new.tx.conn.now c.args.first c.loop-number.number c.args.into.now c.loop-number.into
     c.loop-number.auto.number c.loop-number.invariant.taken c.in_ok-rows.rows c.in_ok-rows.ensures.read c.from_residual-in_err-take-in-len1.result c.from_residual-in_err-take-in-len1.ensures.0 _
+
+pub returns-in-empty-clause-medium : goal.returns-in-empty-clause-medium
+returns-in-empty-clause-medium g c = inl (λ clean has. tt)
+
+pub returns-in_err-rows-clause-medium : goal.returns-in_err-rows-clause-medium
+returns-in_err-rows-clause-medium g c =
+    inl (run_by_medium g.S.Store g.F.RowFold.step c.args.sender.now c.args.tx.now.conn.now c.loop-number.tx.conn.now c.transmission_at.new.tx.conn.now c.args.first c.loop-number.number c.args.into.now c.loop-number.into
+    c.loop-number.auto.number c.loop-number.invariant.taken c.in_err-rows.field-0.0 c.from_residual.result c.from_residual.ensures.1 c.in_err-rows.ensures.read.survives c.in_err-rows.ensures.medium)
+
+either : {X : Type 0} (P Q : X → Type 0) (r : Result (Unit {0}) X) → IfErr r P → IfErr r (λ x. P x ⊎ Q x)
+either P Q (Ok x) h = tt
+either P Q (Err x) h = inl h
+
+pub returns-in_err-take-in-len1-clause-medium : goal.returns-in_err-take-in-len1-clause-medium
+returns-in_err-take-in-len1-clause-medium g c =
+    inr (either _ _ c.from_residual-in_err-take-in-len1.result (run_refuses g.S.Store g.F.RowFold.step c.args.sender.now c.args.tx.now.conn.now c.loop-number.tx.conn.now c.transmission_at.new.tx.conn.now c.args.first c.loop-number.number c.args.into.now c.loop-number.into
+    c.loop-number.auto.number c.loop-number.invariant.taken c.in_ok-rows.rows c.in_ok-rows.ensures.read c.row-item.result g.F.RowFold.refusal c.from_residual-in_err-take-in-len1.result
+    (sym c.as_slice.ensures.value ∙ only_one _ c.row-item.result c.in-len1.len_at_least c.in-len1.len_below c.row-item.is)
+    (err_as c.from_residual-in_err-take-in-len1.result c.in_err-take-in-len1.field-0.0 _ c.from_residual-in_err-take-in-len1.ensures.1 c.in_err-take-in-len1.ensures.told)))
+
+pub returns-in_default-clause-medium : goal.returns-in_default-clause-medium
+returns-in_default-clause-medium g c =
+    inr (inr (
+      refl,
+      no_run_doubled g.S.Store g.F.RowFold.step c.args.sender.now c.args.tx.now.conn.now c.loop-number.tx.conn.now c.transmission_at.new.tx.conn.now c.args.first c.loop-number.number c.args.into.now c.loop-number.into
+          c.loop-number.auto.number c.loop-number.invariant.taken c.in_ok-rows.rows c.in_ok-rows.ensures.read (omega (arith, c.in_default.len_at_least, ap length c.as_slice.ensures.value)),
+    ))
+
+pub returns-in_ok-take-in-len1-clause-medium : goal.returns-in_ok-take-in-len1-clause-medium
+returns-in_ok-take-in-len1-clause-medium g c =
+    let on = runs_on g.S.Store g.F.RowFold.step c.args.sender.now c.args.tx.now.conn.now c.loop-number.tx.conn.now c.transmission_at.new.tx.conn.now c.args.first c.loop-number.number c.args.into.now c.loop-number.into
+    c.loop-number.auto.number c.loop-number.invariant.taken c.in_ok-rows.rows c.in_ok-rows.ensures.read c.row-item.result c.take.new.self
+    (sym c.as_slice.ensures.value ∙ only_one _ c.row-item.result c.in-len1.len_at_least c.in-len1.len_below c.row-item.is) c.in_ok-take-in-len1.ensures.taken in
+    inr (inr (refl, no_run_filled g.S.Store g.F.RowFold.step c.args.sender.now c.args.tx.now.conn.now c.transmission_at.new.tx.conn.now c.args.first (c.loop-number.number + 1) c.args.into.now c.take.new.self (omega (arith, c.loop-number-test.true, c.ranges.first.fits)) on))

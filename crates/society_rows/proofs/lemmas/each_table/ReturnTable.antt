@@ -64,7 +64,7 @@ pub all_returns_is : IsQuery 6 all_returns_text 0 (picked 3 ([]) project order) 
 unfolding understood everything written_out
 all_returns_is = record { few = lit≤ tt; under = λ cuts payments more indexes. record { command = refl; plain = (refl, refl); unlisted = refl; single = (refl, refl) } }
 
-all_returns_listing : IsListing returns ([]) project order ([]) (λ _. true) 2
+pub all_returns_listing : IsListing returns ([]) project order ([]) (λ _. true) 2
 unfolding written_out
 all_returns_listing = record { shows = λ r. refl; tests = λ r. refl; orders = λ a b. refl }
 

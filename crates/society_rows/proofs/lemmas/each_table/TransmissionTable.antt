@@ -66,7 +66,7 @@ pub all_transmissions_is : IsQuery 6 all_transmissions_text 0 (picked 1 ([]) pro
 unfolding understood everything written_out
 all_transmissions_is = record { few = lit≤ tt; under = λ cuts payments more indexes. record { command = refl; plain = (refl, refl); unlisted = refl; single = (refl, refl) } }
 
-all_transmissions_listing : IsListing transmissions ([]) project order ([]) (λ _. true) 2
+pub all_transmissions_listing : IsListing transmissions ([]) project order ([]) (λ _. true) 2
 unfolding written_out
 all_transmissions_listing = record { shows = λ r. refl; tests = λ r. refl; orders = λ a b. refl }
 

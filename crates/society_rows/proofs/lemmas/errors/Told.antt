@@ -4,6 +4,7 @@ use Rattle.std.proofs.lemmas.Bool.{cases_Bool, false≢true}
 use Rattle.std.specs.declared.alloc.Global.{Global}
 use Rattle.sqlite_value.specs.declared.keys.Key.{Key}
 use Rattle.sqlite_value.specs.Order.{Row}
+use Rattle.sqlite_sql.specs.Program.{ProgramOverflows}
 use Rattle.sqlite_sql.specs.Query.{Query}
 use Rattle.sqlite_sql.specs.Term.{Term}
 use Rattle.sqlite_typing.specs.Types.{accepts_program}
@@ -21,6 +22,7 @@ use Rattle.sqlite.specs.declared.error.ErrorCode.TheVariants as code
 use Rattle.sqlite.specs.Does.{Does}
 use Rattle.sqlite.specs.Effect.{Database, is_query}
 use Rattle.sqlite.specs.Listing.{understood}
+use Rattle.sqlite_trees.specs.Tree.{Trees}
 use Rattle.sqlite.specs.State.{State, HasCleanDisk, ExecutesInside, IsTooLate, Survives, is_pragma, mode_of}
 use Rattle.sqlite.proofs.Callers.{IsPlain, statement_of}
 use Rattle.society_rows.specs.declared.fault.RowFault.{RowFault}
@@ -31,7 +33,7 @@ use Rattle.society_rows.specs.Layouts.{HasTables, schema_from}
 use Rattle.society_rows.specs.Reads.{Selected}
 use Rattle.society_rows.specs.Stored.{HasLayout}
 use Rattle.society_rows.proofs.lemmas.errors.Failures.{IsCoded, IsSingle, failure_told, query_coded, query_reasons, statement_coded}
-use Rattle.society_rows.proofs.lemmas.readings.Answers.{picked}
+use Rattle.society_rows.proofs.lemmas.readings.Answers.{picked, picked_first}
 use Rattle.society_rows.proofs.lemmas.changes.Commands.{IsCommand, IsCommandOf, command_in}
 use Rattle.society_rows.proofs.lemmas.changes.Inserts.{IsSettled}
 use Rattle.society_rows.proofs.lemmas.readings.Queries.{IsQuery, laid, query_of}
@@ -57,30 +59,52 @@ pub query_tells : {tables : ℕ} {text : List ℕ} {count : ℕ} {query : Query}
     → (old new : State) (result : Result (Vec Row Global) RowFault) → (HasCleanDisk new → Selected text params old new result) → OnlyFails old new result
 query_tells is params long old new result selected clean has = query_tells_over is params long old new result selected clean (laid is old.now has)
 
--- a query of one table, which sums nothing
-pub query_reads : {tables : ℕ} {text : List ℕ} {tree : ℕ} {filters project : List Term} {order : List (Term × Key)} {names : List (List ℕ)} → IsQuery tables text 0 (picked tree filters project order) names
-    → ((cuts payments : List Reference) (more : List Table) (indexes : List Index) → accepts_program (schema_from tables cuts payments more indexes) [] (picked tree filters project order) [] ≡ true)
-    → (old new : State) (result : Result (Vec Row Global) RowFault) → (HasCleanDisk new → Selected text [] old new result) → ErrsByMediumOver (HasTables tables) old new result
-query_reads {tables} {text} {tree} {filters} {project} {order} {names} is typed old new result selected clean has = on result (selected clean)
+-- a query that is typed and sums nothing
+query_errs : {tables : ℕ} {text : List ℕ} {count : ℕ} {query : Query} {names : List (List ℕ)} → IsQuery tables text count query names → (params : Row) → length params ≡ count
+    → ((cuts payments : List Reference) (more : List Table) (indexes : List Index) → accepts_program (schema_from tables cuts payments more indexes) [] query params ≡ true)
+    → ((db : Trees) → ProgramOverflows db params [] [] query → ⊥)
+    → (old new : State) (result : Result (Vec Row Global) RowFault) → (HasCleanDisk new → Selected text params old new result) → ErrsByMediumOver (HasTables tables) old new result
+query_errs {tables} {text} {count} {query} {names} is params long typed sums old new result selected clean has = on result (selected clean)
   where
-    on : (r : Result (Vec Row Global) RowFault) → Selected text [] old new r → IfErr r (λ fault. (fault ≡ Memory) ⊎ MayFail old new)
+    on : (r : Result (Vec Row Global) RowFault) → Selected text params old new r → IfErr r (λ fault. (fault ≡ Memory) ⊎ MayFail old new)
     on (Ok rows) h = tt
     on (Err fault) h =
         let it = query_of is old.now has in
-        let takes : accepts_program old.now.schema [] (picked tree filters project order) [] ≡ true =
-        ap (λ s. accepts_program s [] (picked tree filters project order) []) has.is ∙ typed has.cuts has.payments has.more has.indexes in
+        let single = subst (λ n. IsSingle text n (understood old.now.schema text)) (sym long) it.single in
+        let takes : accepts_program old.now.schema [] query params ≡ true =
+        ap (λ s. accepts_program s [] query params) has.is ∙ typed has.cuts has.payments has.more has.indexes in
         elim h.2 [
-          | inl failed ↦ elim (query_reasons old.now.schema text [] old new refl it.plain it.single (record { lets = []; body = picked tree filters project order }) names it.command it.unlisted takes (λ db over. elim over [ inl none ↦ none | inr more ↦ more.4 ]) h.0 failed) [
+          | inl failed ↦ elim (query_reasons old.now.schema text params old new refl it.plain single (record { lets = []; body = query }) names it.command it.unlisted takes sums h.0 failed) [
             | inl memory ↦ inl (h.1 ∙ ap fault_of_error memory)
             | inr may ↦ inr may
           ]
           | inr late ↦ absurd (never late)
         ]
       where
-        never : IsTooLate text [] old new h.0 → ⊥
+        never : IsTooLate text params old new h.0 → ⊥
         never late =
             let bare = subst IsPlain late.1.is (query_of is old.now has).plain in
             false≢true (subst IsSome bare.0 late.2)
+
+-- a query of one table
+pub key_reads : {tables : ℕ} {text : List ℕ} {count : ℕ} {tree : ℕ} {filters project : List Term} {order : List (Term × Key)} {names : List (List ℕ)} → IsQuery tables text count (picked tree filters project order) names
+    → (params : Row) → length params ≡ count
+    → ((cuts payments : List Reference) (more : List Table) (indexes : List Index) → accepts_program (schema_from tables cuts payments more indexes) [] (picked tree filters project order) params ≡ true)
+    → (old new : State) (result : Result (Vec Row Global) RowFault) → (HasCleanDisk new → Selected text params old new result) → ErrsByMediumOver (HasTables tables) old new result
+key_reads is params long typed = query_errs is params long typed (λ db over. elim over [ inl none ↦ none | inr more ↦ more.4 ])
+
+-- the first row of one
+pub first_reads : {tables : ℕ} {text : List ℕ} {count : ℕ} {tree : ℕ} {filters project : List Term} {order : List (Term × Key)} {names : List (List ℕ)} → IsQuery tables text count (picked_first tree filters project order) names
+    → (params : Row) → length params ≡ count
+    → ((cuts payments : List Reference) (more : List Table) (indexes : List Index) → accepts_program (schema_from tables cuts payments more indexes) [] (picked_first tree filters project order) params ≡ true)
+    → (old new : State) (result : Result (Vec Row Global) RowFault) → (HasCleanDisk new → Selected text params old new result) → ErrsByMediumOver (HasTables tables) old new result
+first_reads is params long typed = query_errs is params long typed (λ db over. elim over [ inl none ↦ none | inr more ↦ more.4 ])
+
+-- one without parameters
+pub query_reads : {tables : ℕ} {text : List ℕ} {tree : ℕ} {filters project : List Term} {order : List (Term × Key)} {names : List (List ℕ)} → IsQuery tables text 0 (picked tree filters project order) names
+    → ((cuts payments : List Reference) (more : List Table) (indexes : List Index) → accepts_program (schema_from tables cuts payments more indexes) [] (picked tree filters project order) [] ≡ true)
+    → (old new : State) (result : Result (Vec Row Global) RowFault) → (HasCleanDisk new → Selected text [] old new result) → ErrsByMediumOver (HasTables tables) old new result
+query_reads is = key_reads is [] refl
 
 -- of a statement that shows no rows
 pub statement_tells : (Was : Database → Type 0) (text : List ℕ) (params : Row) (old new : State) (result : Result (Unit {0}) RowFault) → (old.in_transaction ≡ false → IfErr result IsFailure)

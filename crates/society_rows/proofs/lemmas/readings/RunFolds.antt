@@ -1,7 +1,7 @@
 -- The transmissions of a sender, one number after another.
-use Rattle.std.proofs.Common.{IsTrue, ◌≡◌, ◌∙◌, ℕ, suc, pos, ◌+◌, ◌^◌, ◌<◌, ◌≤◌, length, List, [], ◌∷◌, ◌++◌, Vec, Result, Ok, Err, IfErr, IsErr, IsErrAnd, sym, ap, subst, refl, inl, inr, arith}
+use Rattle.std.proofs.Common.{IsTrue, ◌≡◌, ◌∙◌, ℕ, suc, pos, ◌+◌, ◌^◌, ◌<◌, ◌≤◌, length, List, [], ◌∷◌, ◌++◌, Vec, Option, Result, Ok, Err, IfErr, IsErr, IsErrAnd, IsSome, true≢false, sym, ap, subst, refl, inl, inr, arith}
 use Rattle.std.specs.declared.alloc.Global.{Global}
-use Rattle.std.proofs.lemmas.Bool.{cases_lt}
+use Rattle.std.proofs.lemmas.Bool.{cases_Bool, cases_lt}
 use Rattle.std.proofs.lemmas.List.{length-append}
 use Rattle.sqlite_value.specs.declared.value.Value.TheVariants.{Int, Text}
 use Rattle.sqlite_value.specs.Order.{Row}
@@ -15,9 +15,9 @@ use Rattle.sqlite.proofs.InsideLemmas.{keeps_then}
 use Rattle.sqlite.proofs.StateLemmas.{survives_then}
 use Rattle.society_rows.specs.declared.fault.RowFault.{RowFault}
 use Rattle.society_rows.specs.declared.fault.RowFault.TheVariants.{Unread}
-use Rattle.society_rows.specs.Effects.{OnlyFails}
+use Rattle.society_rows.specs.Effects.{ErrsByMedium, MayFail, OnlyFails}
 use Rattle.society_rows.specs.Faults.{IsFailure}
-use Rattle.society_rows.specs.Folds.{ReadsInside, HasTaken, AreFirstOfRun, AreDoubled, AreFrom, IsRun, StopsRun}
+use Rattle.society_rows.specs.Folds.{ReadsInside, HasTaken, AreFirstOfRun, AreDoubled, AreFrom, IsNoRun, IsRun, RefusesRow, StopsRun}
 use Rattle.society_rows.specs.Layout.{transmissions}
 use Rattle.society_rows.specs.Reads.{Lists, Reads, has_key}
 use Rattle.society_rows.specs.Stored.{HasLayout}
@@ -77,6 +77,27 @@ module _ {S : Type 0} (g : Ghosts S) {F : Type 0} (step : F → Row → F) (send
     why = inl (λ clean has. subst IsFailure (sym is) (told clean (subst HasLayout (sym (seen_now (early survives clean) has)) has)));
   }
 
+  -- why a reading may fail after those before it
+  may_fail_on : Survives (state g mid) (state g new) (λ _. ⊥) → HasCleanDisk (state g new) → MayFail (state g mid) (state g new) → MayFail (state g old) (state g new)
+  may_fail_on survives clean (inl fails) = inl (let first_up = run.survives.counts in omega (arith, first_up, fails))
+  may_fail_on survives clean (inr (inr limit)) = inr (inr (subst (λ (l : Option ℕ). IsSome l) run.survives.limit limit))
+  may_fail_on survives clean (inr (inl shut)) = elim (cases_Bool (state g old).is_open) [
+    | inl was ↦ elim (run.survives.closes (early survives clean) was) [
+      | inl still ↦ absurd (true≢false (sym still ∙ shut))
+      | inr fails ↦ inl (let up = survives.counts in omega (arith, up, fails))
+    ]
+    | inr none ↦ inr (inl none)
+  ]
+
+  -- so the medium may have failed where it errs
+  pub run_by_medium : (fault : RowFault) (result : Result (Unit {0}) RowFault) → IsErrAnd result (λ e. e ≡ fault) → Survives (state g mid) (state g new) (λ _. ⊥)
+      → ErrsByMedium {X = Vec Row Global} (state g mid) (state g new) (Err fault) → ErrsByMedium (state g old) (state g new) result
+  run_by_medium fault (Ok x) is survives medium clean has = tt
+  run_by_medium fault (Err e) is survives medium clean has = elim (medium clean (subst HasLayout (sym (seen_now (early survives clean) has)) has)) [
+    | inl short ↦ inl (is ∙ short)
+    | inr may ↦ inr (may_fail_on survives clean may)
+  ]
+
   module _ (rows : Vec Row Global) (read : Reads (state g mid) (state g new) (Ok rows) Found) where
     -- what was found is what stands in the first state
     found_first : HasCleanDisk (state g new) → HasLayout (state g old).now → Found (state g old).now.trees rows
@@ -111,14 +132,17 @@ module _ {S : Type 0} (g : Ghosts S) {F : Type 0} (step : F → Row → F) (send
       gone = takes_row step _ _ begun now next row (λ given h. (omega (arith, length-append given (row ∷ []), h.0), run_more row one given h.0 h.1)) run.gone is;
     }
 
+    pub run_refuses : (row : Row) (refusal : F → Row → RowFault → Type 0) (result : Result (Unit {0}) RowFault) → rows.items ≡ row ∷ [] → IfErr result (refusal now row)
+        → IfErr result (RefusesRow step refusal (AreFirstOfRun (state g old) (state g new) sender first) begun)
+    run_refuses row refusal (Ok x) one told = tt
+    run_refuses row refusal (Err fault) one told =
+        let gone = run.gone in
+        record { before = gone.rows; row = row; first = run_more row one gone.rows gone.these.0 gone.these.1; refused = subst (λ f. refusal f row fault) gone.folded told }
+
     pub run_refused : (row : Row) (refusal : F → Row → RowFault → Type 0) (result : Result (Unit {0}) RowFault) → rows.items ≡ row ∷ [] → IfErr result (refusal now row)
         → IfErr result (StopsRun step refusal (state g old) (state g new) sender first begun)
     run_refused row refusal (Ok x) one told = tt
-    run_refused row refusal (Err fault) one told =
-        let gone = run.gone in
-        record {
-          why = inr (inl (record { before = gone.rows; row = row; first = run_more row one gone.rows gone.these.0 gone.these.1; refused = subst (λ f. refusal f row fault) gone.folded told }));
-        }
+    run_refused row refusal (Err fault) one told = record { why = inr (inl (run_refuses row refusal (Err fault) one told)) }
 
     -- what has gone over the rows took no more
     pub run_stops : (result : Result (Unit {0}) RowFault) → IsErr result → (Any : Trees → Unit {0} → Type 0) → ReadsInside (state g old) (state g new) result Any
@@ -132,8 +156,8 @@ module _ {S : Type 0} (g : Ghosts S) {F : Type 0} (step : F → Row → F) (send
       survives = survives_on read.survives;
     }
 
-    pub run_doubled : (refusal : F → Row → RowFault → Type 0) → 2 ≤ length rows.items → StopsRun step refusal (state g old) (state g new) sender first begun Unread
-    run_doubled refusal several =
+    pub no_run_doubled : 2 ≤ length rows.items → IsNoRun (state g old) (state g new) sender first
+    no_run_doubled several =
         let gone = run.gone in
         let there : HasCleanDisk (state g new) → HasLayout (state g old).now → AreDoubled sender first (state g old).now.trees =
         λ clean has. record {
@@ -143,7 +167,10 @@ module _ {S : Type 0} (g : Ghosts S) {F : Type 0} (step : F → Row → F) (send
           there = subst (λ n. Lists transmissions (has_key (Text sender ∷ Int (pos n) ∷ [])) 2 (state g old).now.trees rows.items) (sym gone.these.0) (found_first clean has);
           several = several;
         } in
-        record { why = inr (inr (refl, λ clean has. inl (there clean has))) }
+        λ clean has. inl (there clean has)
+
+    pub run_doubled : (refusal : F → Row → RowFault → Type 0) → 2 ≤ length rows.items → StopsRun step refusal (state g old) (state g new) sender first begun Unread
+    run_doubled refusal several = record { why = inr (inr (refl, no_run_doubled several)) }
 
     pub run_ends : rows.items ≡ [] → ReadsInside {X = Unit {0}} (state g old) (state g new) (Ok tt) (λ db _. HasTaken step (IsRun sender first db) begun now)
     run_ends none = record {
@@ -175,11 +202,16 @@ run_overflows g step sender old new first number begun now more run fault Any = 
 }
 
 -- every number from the first on is there
+pub no_run_filled : {S : Type 0} (g : Ghosts S) {F : Type 0} (step : F → Row → F) (sender : List ℕ) (old new : Held S) (first number : ℕ) (begun now : F) → number ≡ 2 ^ 32
+    → HasRunTo g step sender old new first number begun now → IsNoRun (state g old) (state g new) sender first
+no_run_filled g step sender old new first number begun now all run =
+    let gone = run.gone in
+    λ clean has. inr (record { rows = gone.rows; each = gone.these.1 clean has; full = gone.these.0 ∙ all })
+
 pub run_fills : {S : Type 0} (g : Ghosts S) {F : Type 0} (step : F → Row → F) (refusal : F → Row → RowFault → Type 0) (sender : List ℕ) (old new : Held S) (first number : ℕ) (begun now : F) → number ≡ 2 ^ 32
     → HasRunTo g step sender old new first number begun now → StopsRun step refusal (state g old) (state g new) sender first begun Unread
 run_fills g step refusal sender old new first number begun now all run =
-    let gone = run.gone in
-    record { why = inr (inr (refl, λ clean has. inr (record { rows = gone.rows; each = gone.these.1 clean has; full = gone.these.0 ∙ all }))) }
+    record { why = inr (inr (refl, no_run_filled g step sender old new first number begun now all run)) }
 
 -- no row
 

@@ -9,7 +9,13 @@ use Rattle.sqlite_schema.specs.declared.schema.Table.{Table}
 use Rattle.sqlite_tied.specs.Compute.{everything}
 use Rattle.sqlite.specs.Effect.{Database}
 use Rattle.sqlite.specs.Listing.{understood}
-use Rattle.sqlite.specs.State.{State, Begins, IsUnchanged, Shown}
+use Rattle.sqlite.specs.State.{HasCleanDisk, State, Begins, IsUnchanged, Shown}
+use Rattle.std.specs.Prelude.{Result, Vec}
+use Rattle.std.specs.declared.alloc.Global.{Global}
+use Rattle.society_rows.specs.Effects.{ErrsByMediumOver}
+use Rattle.society_rows.specs.Reads.{Selected}
+use Rattle.society_rows.specs.declared.fault.RowFault.{RowFault}
+use Rattle.society_rows.proofs.lemmas.errors.Told.{query_reads}
 use Rattle.society_rows.specs.declared.line_senders.LineTable.{LineTable}
 use Rattle.society_rows.specs.declared.line_senders.LineTable.TheVariants as name
 use Rattle.society_rows.specs.Folds.{IsAskedOf}
@@ -30,6 +36,10 @@ senders_of table = picked table.tree [] sender_only []
 abbrev shown_name : List (List ℕ)
 shown_name = codes "sender" ∷ []
 
+abbrev pub owner_names : LineTable → List (List ℕ)
+owner_names name.Credits = codes "pool" ∷ []
+owner_names _ = shown_name
+
 pub fronts_is : IsQuery 12 (senders_text name.Fronts) 0 (senders_of (line_table name.Fronts)) shown_name
 unfolding understood everything written_out
 fronts_is = record { few = lit≤ tt; under = λ cuts payments more indexes. record { command = refl; plain = (refl, refl); unlisted = refl; single = (refl, refl) } }
@@ -46,11 +56,16 @@ pub recordings_is : IsQuery 12 (senders_text name.Recordings) 0 (senders_of (lin
 unfolding understood everything written_out
 recordings_is = record { few = lit≤ tt; under = λ cuts payments more indexes. record { command = refl; plain = (refl, refl); unlisted = refl; single = (refl, refl) } }
 
-pub senders_are : (table : LineTable) → IsQuery 12 (senders_text table) 0 (senders_of (line_table table)) shown_name
+pub credits_is : IsQuery 12 (senders_text name.Credits) 0 (senders_of (line_table name.Credits)) (owner_names name.Credits)
+unfolding understood everything written_out
+credits_is = record { few = lit≤ tt; under = λ cuts payments more indexes. record { command = refl; plain = (refl, refl); unlisted = refl; single = (refl, refl) } }
+
+pub senders_are : (table : LineTable) → IsQuery 12 (senders_text table) 0 (senders_of (line_table table)) (owner_names table)
 senders_are name.Fronts = fronts_is
 senders_are name.Verdicts = verdicts_is
 senders_are name.Versions = versions_is
 senders_are name.Recordings = recordings_is
+senders_are name.Credits = credits_is
 
 -- the sender of a stored row is the first of its values
 first_is : (table : LineTable) (row : Row) → first_of (values_of (line_table table) row) ≡ column row 1 ∷ []
@@ -59,6 +74,7 @@ first_is name.Fronts row = refl
 first_is name.Verdicts row = refl
 first_is name.Versions row = refl
 first_is name.Recordings row = refl
+first_is name.Credits row = refl
 
 firsts_are : (table : LineTable) (rows : List Row) → map first_of (map (values_of (line_table table)) rows) ≡ map (λ r. column r 1 ∷ []) rows
 firsts_are table [] = refl
@@ -68,7 +84,7 @@ firsts_are table (row ∷ rows) = ap (λ r. r ∷ map first_of (map (values_of (
 pub shows_senders : (table : LineTable) (old new : State) (rows : List Row) → HasTables 12 old.now → Shown (senders_text table) [] old new rows → ListsSenders table old.now.trees rows
 shows_senders table old new rows has h =
     let stored = old.now.trees (line_table table).tree in
-    let found = answers_are (line_table table).tree [] sender_only [] old.now.trees [] rows (answer_of (senders_text table) (senders_of (line_table table)) shown_name (senders_are table) [] old new rows has h) in
+    let found = answers_are (line_table table).tree [] sender_only [] old.now.trees [] rows (answer_of (senders_text table) (senders_of (line_table table)) (owner_names table) (senders_are table) [] old new rows has h) in
     subst (λ (l : List Row). IsPermutation l rows) (sym (firsts_are table stored))
     (subst (λ (l : List Row). IsPermutation (map (λ r. column r 1 ∷ []) l) rows) (filter_all (passes_in [] []) stored (all_from _ stored (λ r has_it. refl))) found)
 
@@ -78,3 +94,12 @@ is_asked table db has = query_asked (senders_are table) db (laid (senders_are ta
 -- what it shows first is the first of what it shows
 pub first_shown : (table : LineTable) (old new : State) (rows : List Row) → HasLayout old.now → Begins (senders_text table) [] old rows × IsUnchanged old new → (after : List Row) × ListsSenders table old.now.trees (rows ++ after)
 first_shown table old new rows has = whole_listed (senders_are table) [] old new (ListsSenders table) (shows_senders table old new) rows (laid (senders_are table) old.now has)
+
+-- what it tells of an error
+pub senders_tell : (table : LineTable) (old new : State) (result : Result (Vec Row Global) RowFault) → (HasCleanDisk new → Selected (senders_text table) [] old new result) → ErrsByMediumOver (HasTables 12) old new result
+unfolding understood everything written_out
+senders_tell name.Fronts = query_reads fronts_is (λ cuts payments more indexes. refl)
+senders_tell name.Verdicts = query_reads verdicts_is (λ cuts payments more indexes. refl)
+senders_tell name.Versions = query_reads versions_is (λ cuts payments more indexes. refl)
+senders_tell name.Recordings = query_reads recordings_is (λ cuts payments more indexes. refl)
+senders_tell name.Credits = query_reads credits_is (λ cuts payments more indexes. refl)

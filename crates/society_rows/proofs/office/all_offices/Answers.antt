@@ -16,3 +16,6 @@ returns-clause-read g c =
 
 pub returns-clause-told : goal.returns-clause-told
 returns-clause-told g c = λ clean has. c.all_rows.ensures.told clean (has_table name.Office (state g.S.Store c.args.tx.now.conn.now).now has)
+
+pub returns-clause-medium : goal.returns-clause-medium
+returns-clause-medium g c = λ clean has. c.all_rows.ensures.medium clean (has_table name.Office (state g.S.Store c.args.tx.now.conn.now).now has)

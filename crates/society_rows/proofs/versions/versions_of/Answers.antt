@@ -1,11 +1,13 @@
+use Rattle.sqlite_tied.specs.Compute.{everything}
+use Rattle.sqlite.specs.Listing.{understood}
 use Rattle.std.proofs.Common.{[], ◌∷◌, refl}
 use Rattle.sqlite_value.specs.declared.value.Value.TheVariants.{Text}
 use Rattle.sqlite.specs.Held.{state}
-use Rattle.society_rows.specs.Layout.{versions}
+use Rattle.society_rows.specs.Layout.{versions, written_out}
 use Rattle.society_rows.specs.Reads.{Lists, has_key}
-use Rattle.society_rows.proofs.lemmas.readings.Queries.{reads_laid}
+use Rattle.society_rows.proofs.lemmas.readings.Queries.{laid, reads_laid}
 use Rattle.society_rows.proofs.lemmas.each_table.VersionTable.{versions_of_is, versions_of_lists}
-use Rattle.society_rows.proofs.lemmas.errors.Told.{query_tells}
+use Rattle.society_rows.proofs.lemmas.errors.Told.{key_reads, query_tells}
 use Rattle.society_rows.proofs.versions.versions_of.Goals as goal
 
 pub returns-clause-read : goal.returns-clause-read
@@ -20,3 +22,10 @@ returns-clause-told g c =
     let old = state g.S.Store c.args.tx.now.conn.now in
     let new = state g.S.Store c.select.new.tx.conn.now in
     query_tells versions_of_is (Text c.args.sender.now ∷ Text c.args.work.now ∷ []) refl old new c.select.result c.select.ensures.selected
+
+pub returns-clause-medium : goal.returns-clause-medium
+unfolding understood everything written_out
+returns-clause-medium g c =
+    let old = state g.S.Store c.args.tx.now.conn.now in
+    let new = state g.S.Store c.select.new.tx.conn.now in
+    λ clean has. key_reads versions_of_is (Text c.args.sender.now ∷ Text c.args.work.now ∷ []) refl (λ cuts payments more indexes. refl) old new c.select.result c.select.ensures.selected clean (laid versions_of_is old.now has)

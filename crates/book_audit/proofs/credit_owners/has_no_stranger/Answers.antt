@@ -1,0 +1,34 @@
+use Rattle.std.proofs.Common.{◌∙◌, Err, Ok, Vec, subst, sym}
+use Rattle.std.proofs.lemmas.Bool.{false≢true}
+use Rattle.std.specs.List.{AllByRecursion}
+use Rattle.std.specs.declared.alloc.Global.{Global}
+use Rattle.sqlite.specs.Held.{state}
+use Rattle.sqlite_value.specs.Order.{Row}
+use Rattle.society_rows.specs.LineSenders.{ListsSenders}
+use Rattle.society_rows.specs.declared.line_senders.LineTable.TheVariants.{Credits}
+use Rattle.book_audit.specs.Examining.{Never}
+use Rattle.book_audit.specs.declared.audit_fault.AuditFault.TheVariants.{Damaged}
+use Rattle.book_audit.proofs.lemmas.Examinations.{examines_as}
+use Rattle.book_audit.specs.Credits.{AreCreditsOf, IsCreditOf, IsNot}
+use Rattle.book_audit.proofs.lemmas.credits.FirstColumns.{listed_these, these_listed}
+use Rattle.book_audit.proofs.credit_owners.has_no_stranger.Goals as goal
+
+pub returns-then-are_of_these-clause-examined : goal.returns-then-are_of_these-clause-examined
+returns-then-are_of_these-clause-examined g c =
+    let pools = c.args.pools.now in
+    let rows = c.in_ok-rows.rows in
+    let old = state g.S.Store c.args.tx.now.conn.now in
+    let P = IsCreditOf pools in
+    examines_as {X = Vec Row Global} {Y = Unit {0}} Never (IsNot (AreCreditsOf pools)) old (state g.S.Store c.owners_of.new.tx.conn.now) rows (Ok tt) (λ db found. ListsSenders Credits db found.items) (λ db _. AreCreditsOf pools db) c.in_ok-rows.ensures.examined
+    (λ lists. these_listed pools old.now.trees rows.items lists (subst (AllByRecursion P) c.as_slice.ensures.value (c.are_of_these.ensures.0 c.if-are_of_these.true)))
+    (λ lists. tt)
+
+pub returns-clause-examined : goal.returns-clause-examined
+returns-clause-examined g c =
+    let pools = c.args.pools.now in
+    let rows = c.in_ok-rows.rows in
+    let old = state g.S.Store c.args.tx.now.conn.now in
+    let P = IsCreditOf pools in
+    examines_as {X = Vec Row Global} {Y = Unit {0}} Never (IsNot (AreCreditsOf pools)) old (state g.S.Store c.owners_of.new.tx.conn.now) rows (Err Damaged) (λ db found. ListsSenders Credits db found.items) (λ db _. AreCreditsOf pools db) c.in_ok-rows.ensures.examined
+    (λ lists. tt)
+    (λ lists these. false≢true (sym c.if-are_of_these.false ∙ c.are_of_these.ensures.1 (subst (AllByRecursion P) (sym c.as_slice.ensures.value) (listed_these pools old.now.trees rows.items lists these))))

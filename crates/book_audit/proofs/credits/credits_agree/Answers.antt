@@ -1,0 +1,61 @@
+use Rattle.std.proofs.Common.{◌≡◌, Ok, Vec, refl, subst, sym}
+use Rattle.std.specs.declared.alloc.Global.{Global}
+use Rattle.sqlite.specs.Held.{state}
+use Rattle.sqlite_trees.specs.Tree.{Trees}
+use Rattle.pool_split.specs.declared.claim.Credit.{Credit}
+use Rattle.society_closings.specs.Blamed.{CannotPay}
+use Rattle.society_closings.specs.Closings.{PaysBy}
+use Rattle.book_audit.proofs.lemmas.Examinations.{examines_as, examines_not, examines_then}
+use Rattle.book_audit.specs.Credits.{FindsCredits, HasCredits, HasNoPool, IsNot, credit_lines}
+use Rattle.book_audit.specs.CreditSteps.{ListsOnly}
+use Rattle.book_audit.proofs.lemmas.credits.Finding.{has_pool, no_pool}
+use Rattle.book_audit.proofs.lemmas.credits.Payable.{payable}
+use Rattle.book_audit.proofs.credits.credits_agree.Goals as goal
+
+pub returns-in_err-credits-clause-examined : goal.returns-in_err-credits-clause-examined
+returns-in_err-credits-clause-examined g c =
+    let o = c.args.office.now in
+    let pool = c.args.pool in
+    let order = c.args.order.now in
+    let old = state g.S.Store c.args.tx.now.conn.now in
+    examines_not {X = Vec Credit Global} {Y = Vec Credit Global} (CannotPay o order) (HasNoPool o pool order) old (state g.S.Store c.paid_by.new.tx.conn.now) c.in_err-credits.field-0.0 c.from_residual.result (λ db credits. PaysBy o order db credits.items) (FindsCredits o pool order)
+    c.in_err-credits.ensures.examined c.from_residual.ensures.1
+    (λ cannot b holds is. let can = payable o b old.now.trees holds pool order is in cannot b can.0 can.2)
+
+pub returns-in_err-lines_agree-clause-examined : goal.returns-in_err-lines_agree-clause-examined
+returns-in_err-lines_agree-clause-examined g c =
+    let o = c.args.office.now in
+    let pool = c.args.pool in
+    let order = c.args.order.now in
+    let number = c.value.result in
+    let credits = c.as_slice.result.now in
+    let paid = c.in_ok-credits.credits in
+    let old = state g.S.Store c.args.tx.now.conn.now in
+    let mid = state g.S.Store c.paid_by.new.tx.conn.now in
+    let new = state g.S.Store c.lines_agree.new.tx.conn.now in
+    let result = c.from_residual-in_err-lines_agree.result in
+    let Others : Trees → Type 0 = IsNot (ListsOnly number (credit_lines number credits)) in
+    examines_then {X = Vec Credit Global} {Y = Vec Credit Global} (CannotPay o order) Others (HasNoPool o pool order) old mid new paid result (λ db found. PaysBy o order db found.items) (FindsCredits o pool order) (FindsCredits o pool order)
+    c.in_ok-credits.ensures.examined
+    (examines_not {X = Unit {0}} {Y = Vec Credit Global} Others Others mid new c.in_err-lines_agree.field-0.0 result (λ db _. HasCredits number credits db) (FindsCredits o pool order) c.in_err-lines_agree.ensures.examined c.from_residual-in_err-lines_agree.ensures.1 (λ no. no))
+    (λ y pays found. found)
+    (no_pool o old.now.trees pool order number credits paid.items c.value.ensures.value c.as_slice.ensures.value)
+
+pub returns-clause-examined : goal.returns-clause-examined
+returns-clause-examined g c =
+    let o = c.args.office.now in
+    let pool = c.args.pool in
+    let order = c.args.order.now in
+    let number = c.value.result in
+    let credits = c.as_slice.result.now in
+    let paid = c.in_ok-credits.credits in
+    let old = state g.S.Store c.args.tx.now.conn.now in
+    let mid = state g.S.Store c.paid_by.new.tx.conn.now in
+    let new = state g.S.Store c.lines_agree.new.tx.conn.now in
+    let Others : Trees → Type 0 = IsNot (ListsOnly number (credit_lines number credits)) in
+    let Shows : Trees → Vec Credit Global → Type 0 = λ db found. (found ≡ paid) × HasCredits number credits db in
+    examines_then {X = Vec Credit Global} {Y = Vec Credit Global} (CannotPay o order) Others (HasNoPool o pool order) old mid new paid (Ok paid) (λ db found. PaysBy o order db found.items) Shows (FindsCredits o pool order)
+    c.in_ok-credits.ensures.examined
+    (examines_as {X = Unit {0}} {Y = Vec Credit Global} Others Others mid new tt (Ok paid) (λ db _. HasCredits number credits db) Shows c.in_ok-lines_agree.ensures.examined (λ has. (refl, has)) (λ has. tt))
+    (λ y pays found. subst (λ (list : Vec Credit Global). FindsCredits o pool order old.now.trees list) (sym found.0) (has_pool o old.now.trees pool order number credits paid.items c.value.ensures.value c.as_slice.ensures.value found.1, pays))
+    (no_pool o old.now.trees pool order number credits paid.items c.value.ensures.value c.as_slice.ensures.value)

@@ -1,0 +1,11 @@
+pub mod Among
+pub mod Examinations
+pub mod OwnPools
+pub mod Paid
+pub mod Whole
+pub mod balances
+pub mod credits
+pub mod entries
+pub mod lines
+pub mod orders
+pub mod gathered

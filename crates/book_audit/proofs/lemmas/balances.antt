@@ -1,0 +1,5 @@
+pub mod Agreement
+pub mod BalanceRows
+pub mod Comings
+pub mod TakenRows
+pub mod TextKeys

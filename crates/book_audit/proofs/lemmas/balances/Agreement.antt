@@ -1,0 +1,48 @@
+-- What rows of balances that agree say of the table, by the credits.
+use Rattle.std.proofs.Common.{◌≡◌, true, List, [], ◌∷◌, ap, refl, Result, Ok, Err, IfErr, IfOk, OnOk, filter, subst, sym, IsPermutation}
+use Rattle.std.proofs.lemmas.List.Sorted.{IsPermutation-sym}
+use Rattle.book_audit.specs.Examining.{Judges}
+use Rattle.book_audit.specs.declared.audit_fault.AuditFault.{AuditFault}
+use Rattle.book_audit.specs.declared.audit_fault.AuditFault.TheVariants as audit
+use Rattle.pool_split.specs.declared.claim.Credit.{Credit}
+use Rattle.sqlite_trees.specs.Tree.{Trees}
+use Rattle.sqlite_value.specs.Order.{Row}
+use Rattle.society_rows.specs.Layout as layout
+use Rattle.society_rows.specs.Listings.{ListsAll}
+use Rattle.society_rows.specs.Stored.{rows_in}
+use Rattle.society_rows.specs.declared.tables.TableName.TheVariants.{Balances}
+use Rattle.society_book.specs.Columns.{HasRows}
+use Rattle.society_book.specs.DerivedRows.{is_named}
+use Rattle.book_audit.specs.Balances.{ComesTo, HasBalances, row_by_units, row_of_account}
+use Rattle.book_audit.specs.declared.totals.Totals.{Totals}
+use Rattle.book_audit.proofs.lemmas.balances.BalanceRows.{in_order}
+
+all_kept : (rows : List Row) → filter (λ _. true) rows ≡ rows
+all_kept [] = refl
+all_kept (row ∷ rows) = ap (λ (l : List Row). row ∷ l) (all_kept rows)
+
+module _ (totals : Totals) (db : Trees) (rows : List Row) (lists : ListsAll Balances db rows) where
+  listed : IsPermutation (rows_in layout.balances db) rows
+  listed = subst (λ (l : List Row). IsPermutation l rows) (all_kept (rows_in layout.balances db)) lists.rows
+
+  in_table : HasRows is_named (row_by_units totals.units) rows → (credits : List Credit) → ComesTo totals credits → HasBalances credits db
+  in_table has credits comes q =
+      subst (λ (l : List Row). IsPermutation l (filter (is_named q) (rows_in layout.balances db))) (comes q)
+      (in_order (row_by_units totals.units) rows (rows_in layout.balances db) (IsPermutation-sym (rows_in layout.balances db) rows listed) has q)
+
+  as_listed : (credits : List Credit) → ComesTo totals credits → HasBalances credits db → HasRows is_named (row_by_units totals.units) rows
+  as_listed credits comes has q =
+      subst (λ (l : List Row). IsPermutation l (filter (is_named q) rows)) (sym (comes q)) (in_order (row_of_account credits) (rows_in layout.balances db) rows listed has q)
+
+  pub agreed : (r : Result (Unit {0}) AuditFault) → OnOk r (HasRows is_named (row_by_units totals.units) rows) → IfOk r (λ _. (credits : List Credit) → ComesTo totals credits → HasBalances credits db)
+  agreed (Ok x) has = in_table has
+  agreed (Err e) has = tt
+
+  told : (fault : AuditFault) → Judges (HasRows is_named (row_by_units totals.units) rows → ⊥) fault → Judges ((credits : List Credit) → ComesTo totals credits → HasBalances credits db → ⊥) fault
+  told audit.Memory judges = tt
+  told audit.Store judges = judges
+  told audit.Damaged judges = λ credits comes has. judges (as_listed credits comes has)
+
+  pub judged : (r : Result (Unit {0}) AuditFault) → IfErr r (Judges (HasRows is_named (row_by_units totals.units) rows → ⊥)) → IfErr r (Judges ((credits : List Credit) → ComesTo totals credits → HasBalances credits db → ⊥))
+  judged (Ok x) judges = tt
+  judged (Err fault) judges = told fault judges

@@ -1,0 +1,4 @@
+pub mod CreditLines
+pub mod Finding
+pub mod FirstColumns
+pub mod Payable

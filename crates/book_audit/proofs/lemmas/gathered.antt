@@ -1,0 +1,4 @@
+pub mod EntryBooks
+pub mod EntrySenders
+pub mod KeptRows
+pub mod SenderLines

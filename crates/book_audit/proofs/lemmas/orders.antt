@@ -1,0 +1,9 @@
+pub mod Closings
+pub mod Judging
+pub mod KnownRows
+pub mod Lines
+pub mod OrdersAgain
+pub mod OwnOrders
+pub mod PaidOnce
+pub mod Parts
+pub mod Steps

@@ -1,0 +1,15 @@
+-- The pools of the marks so far, each of which stands once.
+use Rattle.std.proofs.Common.{◌≡◌, ◌≤◌, ℕ, filter, length, take}
+use Rattle.std.specs.BTreeSet.{contains}
+use Rattle.std.specs.List.{AllByRecursion, list_any}
+use Rattle.std.specs.Ordering.{nat_cmp}
+use Rattle.society_book.specs.BookRows.{is_of_pool}
+use Rattle.book_audit.specs.OrderParts.{SaysMark}
+use Rattle.book_audit.proofs.order_parts.marked_in.Given as goal
+
+abbrev pub invariant-loop-row : goal.invariant-loop-row
+invariant-loop-row l = record {
+  each : AllByRecursion (SaysMark l.pools) (take l.row-index l.rows);
+  once : (pool : ℕ) → length (filter (is_of_pool 0 pool) (take l.row-index l.rows)) ≤ 1;
+  kept : (pool : ℕ) → contains nat_cmp l.marked pool ≡ list_any (is_of_pool 0 pool) (take l.row-index l.rows);
+}

@@ -1,0 +1,48 @@
+-- What an audit finds of the lines of pools' credits.
+use Rattle.std.specs.Prelude.{ℕ, pos, ◌≡◌, ◌<◌, ◌^◌, true, List, [], ◌∷◌, Some, Vec, map}
+use Rattle.std.specs.BTreeSet.{BTreeSet, contains}
+use Rattle.std.specs.List.{AllByRecursion, enumerate_from}
+use Rattle.std.specs.Ordering.{nat_cmp}
+use Rattle.std.specs.declared.alloc.Global.{Global}
+use Rattle.pool_split.specs.declared.claim.Credit.{Credit}
+use Rattle.share_rules.specs.declared.office.Office.{Office}
+use Rattle.sqlite_trees.specs.Tree.{Trees}
+use Rattle.sqlite_value.specs.declared.value.Value.TheVariants.{Int}
+use Rattle.sqlite_value.specs.Order.{Row, column}
+use Rattle.society_core.specs.Book.{Book, order_at}
+use Rattle.society_core.specs.Orders.{Order}
+use Rattle.society_rows.specs.Layout as layout
+use Rattle.society_rows.specs.Reads.{Lists, has_key}
+use Rattle.society_rows.specs.Stored.{rows_in}
+use Rattle.society_book.specs.Columns.{whole_number_at}
+use Rattle.society_book.specs.DerivedRows.{credit_row}
+use Rattle.society_book.specs.Kept.{HoldsBook}
+use Rattle.society_closings.specs.Closings.{PaysBy}
+
+-- the tables hold no book of this office in which this order closes a pool
+abbrev pub HasNoPool : Office → ℕ → Order → Trees → Type 0
+HasNoPool office pool order db = (book : Book) → HoldsBook office book db → order_at book pool ≡ Some order → ⊥
+
+-- the lines of a pool's credits, from 0 on
+abbrev pub credit_lines : ℕ → List Credit → List Row
+credit_lines pool credits = map (λ line. credit_row pool line.0 line.1) (enumerate_from 0 credits)
+
+-- the rows that the table of credits has of a pool are just the lines of these credits
+abbrev pub HasCredits : ℕ → List Credit → Trees → Type 0
+HasCredits pool credits db = (rows : List Row) × Lists layout.credits_table (has_key (Int (pos pool) ∷ [])) 2 db rows × (rows ≡ credit_lines pool credits)
+
+-- so are they, and these are the credits that the pool pays by the tables
+abbrev pub FindsCredits : Office → ℕ → Order → Trees → Vec Credit Global → Type 0
+FindsCredits office pool order db credits = HasCredits pool credits.items db × PaysBy office order db credits.items
+
+-- the row begins with a whole number from 0, of 32 bits, that is the number of one of these pools
+abbrev pub IsCreditOf : BTreeSet ℕ → Row → Type 0
+IsCreditOf pools row = (column row 0 ≡ Int (pos (whole_number_at 0 row))) × (contains nat_cmp pools (whole_number_at 0 row) ≡ true) × (whole_number_at 0 row < 2 ^ 32)
+
+-- so does each line of credits
+abbrev pub AreCreditsOf : BTreeSet ℕ → Trees → Type 0
+AreCreditsOf pools db = AllByRecursion (IsCreditOf pools) (rows_in layout.credits_table db)
+
+-- this is not so
+abbrev pub IsNot : (Trees → Type 0) → Trees → Type 0
+IsNot Says db = Says db → ⊥

@@ -1,0 +1,14 @@
+pub mod Alike
+pub mod Audited
+pub mod Auditing
+pub mod Balances
+pub mod CreditSteps
+pub mod Credits
+pub mod Entries
+pub mod Examining
+pub mod Judging
+pub mod LineSteps
+pub mod OrderParts
+pub mod Paying
+pub mod Pools
+pub mod Standing

@@ -1,0 +1,54 @@
+//! Whether the lines of pools' credits are of these pools alone.
+ghost use Rattle.std.specs.Prelude.{◌≡◌, ◌↔◌, IsTrue};
+ghost use Rattle.std.specs.List.{AllByRecursion};
+ghost use Rattle.book_audit.specs.Examining.{Examines};
+ghost use Rattle.book_audit.specs.Credits.{AreCreditsOf, IsCreditOf, IsNot};
+ghost use Rattle.society_rows.specs.Between.{within};
+
+use crate::AuditFault;
+use crate::reading::owners_of;
+use society_rows::LineTable;
+use sqlite::{Alter, Row, Transaction};
+use sqlite_value::value::ValueRef;
+use std::collections::BTreeSet;
+
+// Whether a row begins with the number of one of these pools.
+fn is_of_one(pools: &BTreeSet<u32>, row: &Row) -> bool
+    ensures { IsTrue result ↔ IsCreditOf pools.now row.now }
+{
+    let Ok(ValueRef::Int(number)) = row.get_ref(0) else {
+        return false;
+    };
+    match u32::try_from(number) {
+        Ok(number) => pools.contains(&number),
+        Err(_) => false,
+    }
+}
+
+// Whether each row begins with the number of one of these pools.
+fn are_of_these(pools: &BTreeSet<u32>, rows: &[Row]) -> bool
+    ensures { IsTrue result ↔ AllByRecursion (IsCreditOf pools.now) rows.now }
+{
+    for row in rows {
+        if !is_of_one(pools, row) {
+            return false;
+        }
+    }
+    true
+}
+
+/// That each line of credits is of one of these pools; else `Damaged`, and `Memory` or `Store` where memory or the database failed.
+pub fn has_no_stranger<S: Alter>(
+    tx: &mut Transaction<'_, S>,
+    pools: &BTreeSet<u32>,
+) -> Result<(), AuditFault>
+    ensures same_reference { tx.new.conn.ghost_name ≡ tx.old.conn.ghost_name }
+    ensures examined { within S.Store tx.old tx.new (Examines (IsNot (AreCreditsOf pools.now))) result (λ db _. AreCreditsOf pools.now db) }
+{
+    let rows = owners_of(tx, LineTable::Credits)?;
+    if are_of_these(pools, rows.as_slice()) {
+        Ok(())
+    } else {
+        Err(AuditFault::Damaged)
+    }
+}

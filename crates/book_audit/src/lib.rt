@@ -1,0 +1,28 @@
+//! An audit of a book's tables in one transaction, exact both ways: where it passes they hold the book that they stand for, with exactly
+//! what is derived of it, and where it tells of damage they hold no such book.
+#![tactic(auto)]
+
+mod alike;
+mod audit_fault;
+mod auditing;
+mod balances;
+mod credit_owners;
+mod credits;
+mod entries;
+mod lines;
+mod order_parts;
+mod paying;
+mod pool_orders;
+mod pool_tables;
+mod reached;
+mod reading;
+mod reported;
+mod returns;
+mod sent;
+mod standing;
+mod stated;
+mod strangers;
+mod totals;
+
+pub use audit_fault::AuditFault;
+pub use auditing::audit;

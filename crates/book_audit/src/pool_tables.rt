@@ -1,0 +1,36 @@
+//! The rows of pools, and of what their orders say.
+ghost use Rattle.std.specs.Prelude.{◌≡◌};
+ghost use Rattle.book_audit.specs.Examining.{Examines, Never};
+ghost use Rattle.book_audit.specs.Pools.{ListPools};
+ghost use Rattle.society_rows.specs.Between.{within};
+
+use crate::AuditFault;
+use crate::reading::list_of;
+use society_rows::TableName;
+use sqlite::{Alter, Row, Transaction};
+
+/// The rows of pools, of their cuts, of the returns that they pay, and of their marks.
+#[derive(Drop)]
+pub(crate) struct PoolRows {
+    pub pools: Vec<Row>,
+    pub cuts: Vec<Row>,
+    pub paid: Vec<Row>,
+    pub marks: Vec<Row>,
+}
+
+/// The rows of pools, and of what their orders say; `Memory` or `Store` where memory or the database failed.
+pub(crate) fn pool_rows<S: Alter>(tx: &mut Transaction<'_, S>) -> Result<PoolRows, AuditFault>
+    ensures same_reference { tx.new.conn.ghost_name ≡ tx.old.conn.ghost_name }
+    ensures examined { within S.Store tx.old tx.new (Examines Never) result ListPools }
+{
+    let pools = list_of(tx, TableName::Pools)?;
+    let cuts = list_of(tx, TableName::PoolCuts)?;
+    let paid = list_of(tx, TableName::PoolReturns)?;
+    let marks = list_of(tx, TableName::MechanicalPools)?;
+    Ok(PoolRows {
+        pools,
+        cuts,
+        paid,
+        marks,
+    })
+}

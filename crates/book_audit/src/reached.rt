@@ -1,0 +1,141 @@
+//! How far the senders of cuts came, each read once.
+ghost use Rattle.std.specs.Prelude.{◌≡◌, ◌<◌, ◌^◌, ℕ, pos, Some, true};
+ghost use Rattle.sqlite_value.specs.Order.{column};
+ghost use Rattle.sqlite_value.specs.declared.value.Value.TheVariants.{Int};
+ghost use Rattle.book_audit.specs.Examining.{Examines};
+ghost use Rattle.book_audit.specs.Standing.{HoldsNoLines, IsKnown, IsReach, KnowsReach, Learns, OfLines, TellsCut};
+ghost use Rattle.society_core.specs.Book.{front, is_applied};
+ghost use Rattle.society_book.specs.Going.{ReadsEnds};
+ghost use Rattle.society_rows.specs.Between.{within};
+ghost use Rattle.sqlite_trees.specs.Tree.{Trees};
+
+use crate::AuditFault;
+use crate::reading::ask;
+use society_book::{SenderEnds, ends_in};
+use society_core::TransmissionKey;
+use society_rows::Question;
+use sqlite::{Alter, Row, Transaction};
+use sqlite_value::value::ValueRef;
+use std::alloc::Global;
+use std::collections::BTreeMap;
+use work_ids::SenderKey;
+
+/// How far a sender came: its front, and the ends that it stated.
+#[derive(Drop)]
+pub(crate) struct Reach {
+    front: u32,
+    ends: SenderEnds,
+}
+
+/// How far some senders came.
+#[derive(Drop)]
+pub(crate) struct Reached {
+    by_sender: BTreeMap<SenderKey, Reach>,
+}
+
+// The front that the row of a sender says, none where it says no number of that size.
+fn front_of(row: &Row) -> Option<u32>
+    ensures { (n : ℕ) → n < 2 ^ 32 → column row.now 1 ≡ Int (pos n) → result ≡ Some n }
+{
+    let Ok(ValueRef::Int(front)) = row.get_ref(1) else {
+        return None;
+    };
+    match u32::try_from(front) {
+        Ok(front) => Some(front),
+        Err(_) => None,
+    }
+}
+
+// A sender's front; `Damaged` where its rows do not say one.
+fn front_in<S: Alter>(tx: &mut Transaction<'_, S>, sender: &SenderKey) -> Result<u32, AuditFault>
+    ensures same_reference { tx.new.conn.ghost_name ≡ tx.old.conn.ghost_name }
+    ensures examined { within S.Store tx.old tx.new (Examines HoldsNoLines) result (λ db n. OfLines (λ book. n ≡ front book sender.now) db) }
+{
+    let rows = ask(tx, Question::Front(sender.as_bytes()))?;
+    match rows.as_slice() {
+        [] => Ok(0),
+        [row] => match front_of(row) {
+            Some(front) => Ok(front),
+            None => Err(AuditFault::Damaged),
+        },
+        _ => Err(AuditFault::Damaged),
+    }
+}
+
+// The ends that a sender stated; `Damaged` where its rows do not say them.
+fn ends_of<S: Alter>(
+    tx: &mut Transaction<'_, S>,
+    sender: &SenderKey,
+) -> Result<SenderEnds, AuditFault>
+    ensures same_reference { tx.new.conn.ghost_name ≡ tx.old.conn.ghost_name }
+    ensures examined { within S.Store tx.old tx.new (Examines HoldsNoLines) result (ReadsEnds sender.now) }
+{
+    Ok(ends_in(tx, sender.as_bytes())?)
+}
+
+// How far a sender came.
+fn reach_of<S: Alter>(tx: &mut Transaction<'_, S>, sender: &SenderKey) -> Result<Reach, AuditFault>
+    ensures same_reference { tx.new.conn.ghost_name ≡ tx.old.conn.ghost_name }
+    ensures examined { within S.Store tx.old tx.new (Examines HoldsNoLines) result (IsReach sender.now) }
+{
+    let ends = ends_of(tx, sender)?;
+    let front = front_in(tx, sender)?;
+    Ok(Reach { front, ends })
+}
+
+impl Reached {
+    /// No sender.
+    pub(crate) fn new(alloc: Global) -> Reached
+        ensures { (db : Trees) → KnowsReach db result }
+    {
+        Reached {
+            by_sender: BTreeMap::new(alloc),
+        }
+    }
+
+    // Reads how far a sender came, where it is not known.
+    fn learn<S: Alter>(
+        &mut self,
+        tx: &mut Transaction<'_, S>,
+        sender: &SenderKey,
+    ) -> Result<(), AuditFault>
+        ensures same_reference { tx.new.conn.ghost_name ≡ tx.old.conn.ghost_name }
+        ensures examined { within S.Store tx.old tx.new (Examines HoldsNoLines) result (λ db _. Learns sender.now self.old self.new db) }
+    {
+        if self.by_sender.contains_key(sender) {
+            return Ok(());
+        }
+        let reach = reach_of(tx, sender)?;
+        self.by_sender.insert(*sender, reach)?;
+        Ok(())
+    }
+
+    // Whether a number is in its sender's line, where it is known how far that came.
+    fn is_in_line(&self, key: &TransmissionKey) -> bool
+        ensures { (db : Trees) → KnowsReach db self.now → IsKnown key.now.sender self.now → OfLines (λ book. result ≡ is_applied book key.now) db }
+    {
+        match self.by_sender.get(&key.sender) {
+            Some(reach) => reach.ends.is_in_line(reach.front, key.number),
+            None => false,
+        }
+    }
+
+    /// Whether each number of a cut is in its sender's line; `Damaged` where the tables do not say how far a sender came.
+    pub(crate) fn are_in_line<S: Alter>(
+        &mut self,
+        tx: &mut Transaction<'_, S>,
+        cut: &[TransmissionKey],
+    ) -> Result<bool, AuditFault>
+        ensures same_reference { tx.new.conn.ghost_name ≡ tx.old.conn.ghost_name }
+        ensures examined { within S.Store tx.old tx.new (Examines HoldsNoLines) result
+            (λ db told. KnowsReach db self.old → KnowsReach db self.new × TellsCut cut.now db told) }
+    {
+        for key in cut {
+            self.learn(tx, &key.sender)?;
+            if !self.is_in_line(key) {
+                return Ok(false);
+            }
+        }
+        Ok(true)
+    }
+}

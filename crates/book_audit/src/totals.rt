@@ -1,0 +1,60 @@
+//! What accounts have come to by credits.
+ghost use Rattle.std.specs.Prelude.{◌++◌, [], List, IfErr, OnOk};
+ghost use Rattle.book_audit.specs.Balances.{AddsUnits, ComesTo};
+ghost use Rattle.book_audit.specs.Examining.{Judges};
+ghost use Rattle.pool_split.specs.declared.claim.Credit.{Credit as CreditValue};
+
+use crate::AuditFault;
+use pool_split::Credit;
+use society_book::text_of;
+use std::alloc::Global;
+use std::collections::BTreeMap;
+
+/// What accounts have come to by some credits, by the accounts' texts, in units of money.
+#[derive(Drop)]
+pub struct Totals {
+    alloc: Global,
+    pub(crate) units: BTreeMap<Vec<u8>, u64>,
+}
+
+// Adds units to those of an account; `Memory` where memory was refused, or the units do not fit.
+fn add_units(
+    units: &mut BTreeMap<Vec<u8>, u64>,
+    account: Vec<u8>,
+    more: u64,
+) -> Result<(), AuditFault>
+    ensures added { OnOk result (AddsUnits account.items more units.old units.new) }
+    ensures judged { IfErr result (Judges ⊥) }
+{
+    let had = units.get(account.as_slice()).copied().unwrap_or(0);
+    let Some(sum) = had.checked_add(more) else {
+        // No book's credits come to as much.
+        return Err(AuditFault::Memory);
+    };
+    units.insert(account, sum)?;
+    Ok(())
+}
+
+impl Totals {
+    /// No credit.
+    pub fn new(alloc: Global) -> Totals
+        ensures { ComesTo result [] }
+    {
+        Totals {
+            alloc,
+            units: BTreeMap::new(alloc),
+        }
+    }
+
+    /// Adds some credits; `Memory` where memory was refused, or an account's units do not fit, which those of no book reach.
+    pub fn add(&mut self, credits: &[Credit]) -> Result<(), AuditFault>
+        ensures added { OnOk result ((done : List CreditValue) → ComesTo self.old done → ComesTo self.new (done ++ credits.now)) }
+        ensures judged { IfErr result (Judges ⊥) }
+    {
+        for credit in credits {
+            let account = text_of(self.alloc, &credit.account)?;
+            add_units(&mut self.units, account, credit.units)?;
+        }
+        Ok(())
+    }
+}

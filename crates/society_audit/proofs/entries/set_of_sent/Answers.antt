@@ -1,9 +1,0 @@
-use Rattle.std.proofs.Common.{◌∙◌}
-use Rattle.std.proofs.lemmas.Iterator.Adapters.{YieldsList-from_vec, fact_from_collect}
-use Rattle.std.specs.BTreeSet.{IsFromIterResult}
-use Rattle.society_core.specs.Keys.{transmission_cmp}
-use Rattle.society_audit.proofs.entries.set_of_sent.Goals as goal
-
-pub returns : goal.returns
-returns c =
-    fact_from_collect (IsFromIterResult transmission_cmp) c.collect.result c.collect.ensures.ran (YieldsList-from_vec c.args.keys.items c.into_iter.ensures.rest (c.into_iter.ensures.len ∙ c.args.keys.ok.0))

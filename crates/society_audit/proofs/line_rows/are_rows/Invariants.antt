@@ -1,6 +1,0 @@
-use Rattle.std.proofs.Common.{◌≡◌, ◌<◌, [], ℕ, get_or, map}
-use Rattle.society_audit.proofs.line_rows.are_rows.Given as goal
-
--- the rows so far are those
-abbrev pub invariant-loop-at : goal.invariant-loop-at
-invariant-loop-at g l = (k : ℕ) → k < l.at → get_or l.rows k [] ≡ get_or (map g.R.ToldRow.values l.wanted) k []

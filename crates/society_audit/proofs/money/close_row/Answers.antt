@@ -1,1 +1,0 @@
--- the row is read, and the connection is as it was

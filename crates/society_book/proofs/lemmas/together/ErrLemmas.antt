@@ -1,0 +1,94 @@
+-- What errors of readings say, one reading after another.
+use Rattle.std.proofs.Common.{◌≡◌, ◌⊎◌, ◌∙◌, ◌≤◌, ℕ, Option, Result, Ok, Err, IfErr, IsSome, arith, inl, inr, subst, sym, true≢false}
+use Rattle.std.proofs.lemmas.Bool.{cases_Bool}
+use Rattle.std.specs.Result.{IsErrAnd}
+use Rattle.sqlite.specs.Effect.{Database}
+use Rattle.sqlite.specs.State.{HasCleanDisk, State, Survives}
+use Rattle.sqlite_trees.specs.Tree.{Trees}
+use Rattle.society_rows.specs.Effects.{Errs, ErrsByMedium, FaultSays, MayFail, OnlyFails}
+use Rattle.society_rows.specs.Faults.{IsFailure}
+use Rattle.society_rows.specs.Stored.{HasLayout}
+use Rattle.society_rows.specs.declared.fault.RowFault.{RowFault}
+use Rattle.society_rows.specs.declared.fault.RowFault.TheVariants as row
+use Rattle.society_book.specs.Errors.{Blames}
+use Rattle.society_book.specs.Steps.{Looks}
+use Rattle.sqlite.specs.declared.error.Error.TheVariants.{SqliteFailure}
+
+was_clean : (mid new : State) → Survives mid new (λ _. ⊥) → HasCleanDisk new → HasCleanDisk mid
+was_clean mid new survives clean = (let fell = survives.clean in omega (clean, fell, arith))
+
+-- why a reading may fail after others
+pub may_on : (old mid new : State) → Survives old mid (λ _. ⊥) → HasCleanDisk mid → mid.faults ≤ new.faults → MayFail mid new → MayFail old new
+may_on old mid new first clean up (inl fails) = inl (let fell = first.counts in omega (arith, fell, fails))
+may_on old mid new first clean up (inr (inr limit)) = inr (inr (subst (λ (l : Option ℕ). IsSome l) first.limit limit))
+may_on old mid new first clean up (inr (inl shut)) = elim (cases_Bool old.is_open) [
+  | inl was ↦ elim (first.closes clean was) [ inl still ↦ absurd (true≢false (sym still ∙ shut)) | inr fails ↦ inl (let fell = up in omega (arith, fell, fails)) ]
+  | inr none ↦ inr (inl none)
+]
+
+-- what a statement tells of an error
+pub errs_of : {X : Type 0} (Wrong : Trees → Type 0) (old new : State) (r : Result X RowFault) → OnlyFails old new r → ErrsByMedium old new r → Errs Wrong old new r
+errs_of Wrong old new (Ok x) told medium clean inside has = tt
+errs_of Wrong old new (Err fault) told medium clean inside has = by_fault fault (told clean has) (medium clean has)
+  where
+    by_fault : (f : RowFault) → IsFailure f → (f ≡ row.Memory) ⊎ MayFail old new → FaultSays Wrong old new f
+    by_fault row.Memory fails may = tt
+    by_fault row.Schema (inl is) may = absurd (let no : row.Schema ≡ row.Memory → ⊥ = λ e. cc in no is)
+    by_fault row.Schema (inr is) may = absurd (let no : row.Schema ≡ row.Refused (SqliteFailure is.0) → ⊥ = λ e. cc in no is.1)
+    by_fault row.Unread (inl is) may = absurd (let no : row.Unread ≡ row.Memory → ⊥ = λ e. cc in no is)
+    by_fault row.Unread (inr is) may = absurd (let no : row.Unread ≡ row.Refused (SqliteFailure is.0) → ⊥ = λ e. cc in no is.1)
+    by_fault row.Overflow fails may = tt
+    by_fault (row.Refused error) fails (inl is) = absurd (let no : row.Refused error ≡ row.Memory → ⊥ = λ e. cc in no is)
+    by_fault (row.Refused error) fails (inr may) = may
+
+-- a fault of a later reading
+says_on : (Wrong Later : Trees → Type 0) (old mid new : State) (fault : RowFault) → Survives old mid (λ _. ⊥) → HasCleanDisk mid → mid.faults ≤ new.faults → mid.now ≡ old.now → (Later old.now.trees → Wrong old.now.trees) → FaultSays Later mid new fault → FaultSays Wrong old new fault
+says_on Wrong Later old mid new row.Memory first clean up same also says = tt
+says_on Wrong Later old mid new row.Schema first clean up same also says = also (subst (λ (db : Database). Later db.trees) same says)
+says_on Wrong Later old mid new row.Unread first clean up same also says = also (subst (λ (db : Database). Later db.trees) same says)
+says_on Wrong Later old mid new row.Overflow first clean up same also says = tt
+says_on Wrong Later old mid new (row.Refused error) first clean up same also says = may_on old mid new first clean up says
+
+-- a fault that says more
+says_where : (Wrong First : Trees → Type 0) (old new : State) (fault : RowFault) → (First old.now.trees → Wrong old.now.trees) → FaultSays First old new fault → FaultSays Wrong old new fault
+says_where Wrong First old new row.Memory also says = tt
+says_where Wrong First old new row.Schema also says = also says
+says_where Wrong First old new row.Unread also says = also says
+says_where Wrong First old new row.Overflow also says = tt
+says_where Wrong First old new (row.Refused error) also says = says
+
+-- one of what is worked out
+says_judged : (Wrong : Trees → Type 0) (old new : State) (fault : RowFault) → Blames (Wrong old.now.trees) fault → FaultSays Wrong old new fault
+says_judged Wrong old new row.Memory blames = tt
+says_judged Wrong old new row.Schema blames = blames
+says_judged Wrong old new row.Unread blames = blames
+says_judged Wrong old new row.Overflow blames = tt
+says_judged Wrong old new (row.Refused error) blames = absurd blames
+
+-- an error of a reading after others: what it blames is wrong by what these found
+pub errs_then : {X Y : Type 0} (Later Wrong : Trees → Type 0) (old mid new : State) (x : X) (r : Result Y RowFault) (A : Trees → X → Type 0) → Looks old mid (Ok x) A → Survives mid new (λ _. ⊥) → Errs Later mid new r → (A old.now.trees x → Later old.now.trees → Wrong old.now.trees) → Errs Wrong old new r
+errs_then {X} {Y} Later Wrong old mid new x r A first survives errs denies clean inside has =
+    let one = first.says (was clean) inside has in
+    on r clean one (errs clean (first.inside (was clean) inside) (subst HasLayout (sym one.0) has))
+  where
+    was : HasCleanDisk new → HasCleanDisk mid
+    was = was_clean mid new survives
+
+    on : (z : Result Y RowFault) → HasCleanDisk new → (mid.now ≡ old.now) × A old.now.trees x → IfErr z (FaultSays Later mid new) → IfErr z (FaultSays Wrong old new)
+    on (Ok y) clean one h = tt
+    on (Err e) clean one h = says_on Wrong Later old mid new e first.survives (was clean) survives.counts one.0 (denies one.1) h
+
+-- an error that is handed on
+pub errs_on : (X : Type 0) {Y : Type 0} (First Wrong : Trees → Type 0) (old new : State) (fault : RowFault) (r : Result Y RowFault) → Errs {X = X} First old new (Err fault) → IsErrAnd r (λ e. e ≡ fault) → (First old.now.trees → Wrong old.now.trees) → Errs Wrong old new r
+errs_on X First Wrong old new fault (Ok y) errs is also clean inside has = tt
+errs_on X First Wrong old new fault (Err e) errs is also clean inside has = subst (FaultSays Wrong old new) (sym is) (says_where Wrong First old new fault also (errs clean inside has))
+
+-- what is said of the rows follows
+pub errs_where : {X : Type 0} (First Wrong : Trees → Type 0) (old new : State) (r : Result X RowFault) → Errs First old new r → (First old.now.trees → Wrong old.now.trees) → Errs Wrong old new r
+errs_where First Wrong old new (Ok x) errs also clean inside has = tt
+errs_where First Wrong old new (Err e) errs also clean inside has = says_where Wrong First old new e also (errs clean inside has)
+
+-- an error of what is worked out of what was read
+pub errs_as : {X Y : Type 0} (Wrong : Trees → Type 0) (old new : State) (x : X) (r : Result Y RowFault) (A : Trees → X → Type 0) → Looks old new (Ok x) A → (A old.now.trees x → IfErr r (Blames (Wrong old.now.trees))) → Errs Wrong old new r
+errs_as Wrong old new x (Ok y) A first blames clean inside has = tt
+errs_as Wrong old new x (Err e) A first blames clean inside has = says_judged Wrong old new e (blames (first.says clean inside has).1)
