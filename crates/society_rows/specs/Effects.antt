@@ -1,5 +1,5 @@
 -- What a call within a transaction does, whatever table it is on.
-use Rattle.std.specs.Prelude.{◌≡◌, ◌⊎◌, ℕ, List, Result, Ok, Err, IsTrue, false, IfErr, IsSome, OnOk, OnErr, MatchResult}
+use Rattle.std.specs.Prelude.{◌≡◌, ◌⊎◌, ℕ, List, Result, Ok, Err, IsTrue, true, false, IfErr, IsSome, OnOk, OnErr, MatchResult}
 use Rattle.sqlite_disk.specs.Disk.{MoreFaults}
 use Rattle.sqlite_value.specs.Order.{Row}
 use Rattle.sqlite.specs.declared.error.Error.{Error}
@@ -9,7 +9,7 @@ use Rattle.society_rows.specs.declared.fault.RowFault.{RowFault}
 use Rattle.society_rows.specs.declared.fault.RowFault.TheVariants as fault
 use Rattle.society_rows.specs.declared.fault.RowFault.TheVariants.{Memory}
 use Rattle.sqlite_trees.specs.Tree.{Trees}
-use Rattle.society_rows.specs.Faults.{fault_of_error, IsFailure}
+use Rattle.society_rows.specs.Faults.{fault_of_error, is_of_medium, IsFailure}
 use Rattle.society_rows.specs.Stored.{HasLayout}
 
 -- where the database was of a kind and the disk told the truth, the fault is such a failure
@@ -43,6 +43,18 @@ ErrsByMediumOver Was old new result = HasCleanDisk new → Was old.now → IfErr
 -- the same over layout 3
 abbrev pub ErrsByMedium : {X : Type 0} → State → State → Result X RowFault → Type 0
 ErrsByMedium = ErrsByMediumOver HasLayout
+
+-- a fault that tells of the medium comes only where the medium may have failed
+abbrev pub TellsOfMedium : {X : Type 0} → State → State → Result X RowFault → Type 0
+TellsOfMedium old new result = IfErr result (λ fault. is_of_medium fault ≡ true → MayFail old new)
+
+-- the same of a call in a transaction over a database of a kind, where the disk told the truth
+abbrev pub BlamesMediumOver : {X : Type 0} → (Database → Type 0) → State → State → Result X RowFault → Type 0
+BlamesMediumOver Was old new result = HasCleanDisk new → IsTrue old.in_transaction → Was old.now → TellsOfMedium old new result
+
+-- the same over layout 3
+abbrev pub BlamesMedium : {X : Type 0} → State → State → Result X RowFault → Type 0
+BlamesMedium = BlamesMediumOver HasLayout
 
 -- What a fault of readings says: want of memory, and a count that has no room, nothing; a failure that SQLite told that the medium may have
 -- failed; a row that cannot be read, or a schema, that the rows are such.

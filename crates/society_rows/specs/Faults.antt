@@ -1,7 +1,7 @@
 -- What is told of an error of SQLite.
-use Rattle.std.specs.Prelude.{◌≡◌, ◌⊎◌}
+use Rattle.std.specs.Prelude.{◌≡◌, ◌⊎◌, Bool, true, false}
 use Rattle.sqlite.specs.declared.error.ErrorCode.{ErrorCode}
-use Rattle.sqlite.specs.declared.error.ErrorCode.TheVariants.{OutOfMemory}
+use Rattle.sqlite.specs.declared.error.ErrorCode.TheVariants.{OutOfMemory, OperationInterrupted, DatabaseCorrupt, SystemIoFailure, DiskFull, Closed}
 use Rattle.sqlite.specs.declared.error.Error.{Error}
 use Rattle.sqlite.specs.declared.error.Error.TheVariants.{SqliteFailure, SqlInputError, InvalidParameterCount, ExecuteReturnedResults, InvalidQuery, MultipleStatement, QueryReturnedNoRows, InvalidColumnIndex, InvalidColumnType, IntegralValueOutOfRange, Utf8Error}
 use Rattle.society_rows.specs.declared.fault.RowFault.{RowFault}
@@ -25,3 +25,17 @@ fault_of_error (Utf8Error at) = Unread
 -- want of memory, or what SQLite told as a failure
 abbrev pub IsFailure : RowFault → Type 0
 IsFailure fault = (fault ≡ Memory) ⊎ ((code : ErrorCode) × (fault ≡ Refused (SqliteFailure code)))
+
+-- whether a failure tells of the database's files, of a connection that was shut, or of a limit of steps
+abbrev pub is_medium_code : ErrorCode → Bool
+is_medium_code SystemIoFailure = true
+is_medium_code DatabaseCorrupt = true
+is_medium_code DiskFull = true
+is_medium_code Closed = true
+is_medium_code OperationInterrupted = true
+is_medium_code _ = false
+
+-- whether a fault is such a failure, so that it tells of the medium
+abbrev pub is_of_medium : RowFault → Bool
+is_of_medium (Refused (SqliteFailure code)) = is_medium_code code
+is_of_medium _ = false

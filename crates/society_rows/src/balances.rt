@@ -5,7 +5,7 @@ ghost use Rattle.sqlite_value.specs.declared.value.Value.TheVariants.{Text};
 ghost use Rattle.sqlite.specs.State.{HasCleanDisk};
 ghost use Rattle.society_rows.specs.declared.fault.RowFault.TheVariants.{Unread};
 ghost use Rattle.society_rows.specs.Balances.{HasUnits, AddsUnits, HidesUnits, RefusesUnits};
-ghost use Rattle.society_rows.specs.Effects.{ErrsByMedium, IsAllOrNothing, OnlyFails, Writes};
+ghost use Rattle.society_rows.specs.Effects.{BlamesMedium, ErrsByMedium, IsAllOrNothing, OnlyFails, Writes};
 ghost use Rattle.society_rows.specs.Folds.{ReadsInside};
 ghost use Rattle.society_rows.specs.Forms.{IsRead, balance_forms};
 ghost use Rattle.society_rows.specs.Layout.{balances};
@@ -47,7 +47,7 @@ impl<'a> BalanceRow<'a> {
 }
 
 /// Adds a balance, whose key has to be free.
-pub(crate) fn add_balance<S: Alter>(
+pub fn add_balance<S: Alter>(
     tx: &mut Transaction<'_, S>,
     row: &BalanceRow<'_>,
 ) -> Result<(), RowFault>
@@ -56,6 +56,7 @@ pub(crate) fn add_balance<S: Alter>(
         (Adds balances (balance_values row.now ∷ [])) }
     ensures whole { within S.Store tx.old tx.new IsAllOrNothing result }
     ensures told { within S.Store tx.old tx.new OnlyFails result }
+    ensures blamed { within S.Store tx.old tx.new BlamesMedium result }
 {
     run(
         tx,

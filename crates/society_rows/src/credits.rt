@@ -2,7 +2,7 @@
 ghost use Rattle.std.specs.Prelude.{◌≡◌, map, take, [], ◌∷◌, pos, IfOk, IfErr};
 ghost use Rattle.sqlite_value.specs.declared.value.Value.TheVariants.{Int};
 ghost use Rattle.society_rows.specs.declared.fault.RowFault.TheVariants.{Unread};
-ghost use Rattle.society_rows.specs.Effects.{ErrsByMedium, IsAllOrNothing, LeavesFirst, OnlyFails, OnlyFailsInside, Writes};
+ghost use Rattle.society_rows.specs.Effects.{BlamesMedium, ErrsByMedium, IsAllOrNothing, LeavesFirst, OnlyFails, OnlyFailsInside, Writes};
 ghost use Rattle.society_rows.specs.Forms.{IsRead, credit_forms};
 ghost use Rattle.society_rows.specs.Layout.{credits_table};
 ghost use Rattle.society_rows.specs.Reads.{Lists, Reads, has_key};
@@ -58,6 +58,7 @@ pub(crate) fn add_credit<S: Alter>(
         (Adds credits_table (credit_values row.now ∷ [])) }
     ensures whole { within S.Store tx.old tx.new IsAllOrNothing result }
     ensures told { within S.Store tx.old tx.new OnlyFails result }
+    ensures blamed { within S.Store tx.old tx.new BlamesMedium result }
 {
     run(
         tx,
@@ -83,6 +84,7 @@ fn add_pair<S: Alter>(
         (Adds credits_table (credit_values one.now ∷ credit_values two.now ∷ [])) }
     ensures whole { within S.Store tx.old tx.new IsAllOrNothing result }
     ensures told { within S.Store tx.old tx.new OnlyFails result }
+    ensures blamed { within S.Store tx.old tx.new BlamesMedium result }
 {
     run(
         tx,
@@ -131,6 +133,7 @@ pub fn add_credits<S: Alter>(
     ensures left { within S.Store tx.old tx.new LeavesFirst result
         (λ count. Adds credits_table (map credit_values (take count rows.now))) }
     ensures told { within S.Store tx.old tx.new (OnlyFailsInside HasLayout) result }
+    ensures blamed { within S.Store tx.old tx.new BlamesMedium result }
 {
     add_all(tx, rows)
 }

@@ -1,6 +1,6 @@
 //! Why a statement gave no rows or wrote none.
 ghost use Rattle.std.specs.Prelude.{◌≡◌};
-ghost use Rattle.society_rows.specs.Faults.{fault_of_error};
+ghost use Rattle.society_rows.specs.Faults.{fault_of_error, is_of_medium};
 ghost use Rattle.society_rows.specs.declared.fault.RowFault.TheVariants.{Memory};
 
 use sqlite::{Error, ErrorCode};
@@ -21,6 +21,24 @@ pub enum RowFault {
     Overflow,
     #[error("the database refused")]
     Refused(Error),
+}
+
+impl RowFault {
+    /// Whether the fault tells of the medium: of the database's files, of a connection that was shut, or of a limit of steps.
+    pub fn is_of_medium(&self) -> bool
+        ensures { result ≡ is_of_medium self.now }
+    {
+        matches!(
+            self,
+            RowFault::Refused(Error::SqliteFailure(
+                ErrorCode::SystemIoFailure
+                    | ErrorCode::DatabaseCorrupt
+                    | ErrorCode::DiskFull
+                    | ErrorCode::Closed
+                    | ErrorCode::OperationInterrupted
+            ))
+        )
+    }
 }
 
 impl From<Error> for RowFault {

@@ -2,7 +2,7 @@
 ghost use Rattle.std.specs.Prelude.{◌≡◌, [], ◌∷◌, IfOk, IfErr};
 ghost use Rattle.sqlite_value.specs.declared.value.Value.TheVariants.{Text};
 ghost use Rattle.society_rows.specs.declared.fault.RowFault.TheVariants.{Unread};
-ghost use Rattle.society_rows.specs.Effects.{ErrsByMedium, IsAllOrNothing, OnlyFails, Writes};
+ghost use Rattle.society_rows.specs.Effects.{BlamesMedium, ErrsByMedium, IsAllOrNothing, OnlyFails, Writes};
 ghost use Rattle.society_rows.specs.Forms.{IsRead, front_forms};
 ghost use Rattle.society_rows.specs.Layout.{fronts};
 ghost use Rattle.society_rows.specs.Reads.{Lists, Reads, has_key};
@@ -73,6 +73,7 @@ pub fn put_front<S: Alter>(tx: &mut Transaction<'_, S>, row: &FrontRow<'_>) -> R
         (Puts fronts (front_values row.now)) }
     ensures whole { within S.Store tx.old tx.new IsAllOrNothing result }
     ensures told { within S.Store tx.old tx.new OnlyFails result }
+    ensures blamed { within S.Store tx.old tx.new BlamesMedium result }
 {
     run(
         tx,

@@ -3,7 +3,7 @@ ghost use Rattle.std.specs.Prelude.{◌≡◌, ℕ, List, map, false, IsTrue, If
 ghost use Rattle.std.specs.Borrow.{Bor};
 ghost use Rattle.sqlite.specs.Held.{state};
 ghost use Rattle.sqlite.specs.State.{HasCleanDisk, Survives};
-ghost use Rattle.society_rows.specs.Effects.{WritesOver, OnlyFailsInside};
+ghost use Rattle.society_rows.specs.Effects.{BlamesMediumOver, TellsOfMedium, WritesOver, OnlyFailsInside};
 ghost use Rattle.society_rows.specs.Faults.{IsFailure};
 ghost use Rattle.society_rows.specs.NewBook.{IsBare, IsEmptyBook, IsNewBook, Begins};
 ghost use Rattle.society_rows.specs.Rows.{office_values};
@@ -40,6 +40,7 @@ fn make_tables<S: Alter>(tx: &mut Transaction<'_, S>, texts: &[&str]) -> Result<
     ensures made { within S.Store tx.old tx.new (WritesOver IsBare) result
         (λ _. IsEmptyBook) }
     ensures told { within S.Store tx.old tx.new (OnlyFailsInside IsBare) result }
+    ensures blamed { within S.Store tx.old tx.new (BlamesMediumOver IsBare) result }
 {
     for text in texts {
         run(tx, text, &[])?;
@@ -53,6 +54,7 @@ pub(crate) fn lay_out<S: Alter>(tx: &mut Transaction<'_, S>) -> Result<(), RowFa
     ensures made { within S.Store tx.old tx.new (WritesOver IsBare) result
         (λ _. IsEmptyBook) }
     ensures told { within S.Store tx.old tx.new (OnlyFailsInside IsBare) result }
+    ensures blamed { within S.Store tx.old tx.new (BlamesMediumOver IsBare) result }
 {
     make_tables(tx, &TABLES)
 }
@@ -63,6 +65,7 @@ fn begin_book<S: Alter>(tx: &mut Transaction<'_, S>, office: &OfficeRow<'_>) -> 
     ensures begun { within S.Store tx.old tx.new (WritesOver IsBare) result
         (λ _. Begins (office_values office.now)) }
     ensures told { within S.Store tx.old tx.new (OnlyFailsInside IsBare) result }
+    ensures blamed { within S.Store tx.old tx.new (BlamesMediumOver IsBare) result }
 {
     lay_out(tx)?;
     add_office(tx, office)
@@ -76,6 +79,7 @@ pub fn create<S: Alter>(conn: &mut Idle<S>, office: &OfficeRow<'_>) -> Result<()
     ensures neither { between S.Store conn.old conn.new (λ old new. HasCleanDisk new → IsTrue new.is_open → OnErr result ((new.now ≡ old.committed) × (new.committed ≡ old.committed))) }
     ensures crash { between S.Store conn.old conn.new Survives (IsNewBook (office_values office.now)) }
     ensures told { HasCleanDisk (state S.Store conn.new) → IfErr result IsFailure }
+    ensures blamed { between S.Store conn.old conn.new (λ old new. HasCleanDisk new → TellsOfMedium old new result) }
 {
     let mut tx = conn.connection.transaction();
     begin_book(&mut tx, office)?;

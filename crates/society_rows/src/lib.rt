@@ -40,7 +40,7 @@ mod transmissions;
 mod verdicts;
 mod versions;
 
-pub use balances::{BalanceRow, add_units, put_balance};
+pub use balances::{BalanceRow, add_balance, add_units, put_balance};
 pub use body_keys::{BodyTable, all_keys};
 pub use copying::add_derived_rows;
 pub use credits::{CreditRow, add_credits};

@@ -1,7 +1,7 @@
 //! The table of the office, which has one row.
 ghost use Rattle.std.specs.Prelude.{◌≡◌, [], ◌∷◌, true, IfOk, IfErr};
 ghost use Rattle.society_rows.specs.declared.fault.RowFault.TheVariants.{Unread};
-ghost use Rattle.society_rows.specs.Effects.{ErrsByMedium, OnlyFails, Writes};
+ghost use Rattle.society_rows.specs.Effects.{BlamesMedium, ErrsByMedium, OnlyFails, Writes};
 ghost use Rattle.society_rows.specs.Forms.{IsRead, office_forms, office_forms_under};
 ghost use Rattle.society_rows.specs.Layout.{office};
 ghost use Rattle.society_rows.specs.Reads.{Lists, Reads};
@@ -68,6 +68,7 @@ pub(crate) fn add_office<S: Alter>(
     ensures written { within S.Store tx.old tx.new Writes result
         (Adds office (office_values row.now ∷ [])) }
     ensures told { within S.Store tx.old tx.new OnlyFails result }
+    ensures blamed { within S.Store tx.old tx.new BlamesMedium result }
 {
     run(
         tx,

@@ -1,6 +1,6 @@
 //! Lists of rows that are written two a statement.
 ghost use Rattle.std.specs.Prelude.{◌≡◌, ◌≤◌, map, take, [], ◌∷◌, length};
-ghost use Rattle.society_rows.specs.Effects.{FailsWhole, IsAllOrNothing, LeavesFirst, OnlyFails, OnlyFailsInside, Writes};
+ghost use Rattle.society_rows.specs.Effects.{BlamesMedium, FailsWhole, IsAllOrNothing, LeavesFirst, OnlyFails, OnlyFailsInside, Writes};
 ghost use Rattle.society_rows.specs.Stored.{Adds, HasLayout};
 ghost use Rattle.society_rows.specs.Between.{within};
 
@@ -23,7 +23,8 @@ pub(crate) trait PairedRow {
         ensures same_reference { tx.new.conn.ghost_name ≡ tx.old.conn.ghost_name }
         ensures written { within S.Store tx.old tx.new Writes result (Adds table (values row.now ∷ [])) }
         ensures whole { within S.Store tx.old tx.new IsAllOrNothing result }
-        ensures told { within S.Store tx.old tx.new OnlyFails result };
+        ensures told { within S.Store tx.old tx.new OnlyFails result }
+        ensures blamed { within S.Store tx.old tx.new BlamesMedium result };
 
     /// Adds two rows by one statement: both, or neither.
     fn add_two<S: Alter>(
@@ -34,7 +35,8 @@ pub(crate) trait PairedRow {
         ensures same_reference { tx.new.conn.ghost_name ≡ tx.old.conn.ghost_name }
         ensures written { within S.Store tx.old tx.new Writes result (Adds table (values one.now ∷ values two.now ∷ [])) }
         ensures whole { within S.Store tx.old tx.new IsAllOrNothing result }
-        ensures told { within S.Store tx.old tx.new OnlyFails result };
+        ensures told { within S.Store tx.old tx.new OnlyFails result }
+        ensures blamed { within S.Store tx.old tx.new BlamesMedium result };
 }
 
 // Adds up to two rows, all or none.
@@ -44,6 +46,7 @@ fn add_part<S: Alter, R: PairedRow>(tx: &mut Transaction<'_, S>, part: &[R]) -> 
     ensures written { within S.Store tx.old tx.new Writes result (Adds R.table (map R.values part.now)) }
     ensures whole { within S.Store tx.old tx.new FailsWhole result }
     ensures told { within S.Store tx.old tx.new OnlyFails result }
+    ensures blamed { within S.Store tx.old tx.new BlamesMedium result }
 {
     match part {
         [] => Ok(()),
@@ -61,6 +64,7 @@ pub(crate) fn add_all<S: Alter, R: PairedRow>(
     ensures written { within S.Store tx.old tx.new Writes result (Adds R.table (map R.values rows.now)) }
     ensures left { within S.Store tx.old tx.new LeavesFirst result (λ count. Adds R.table (map R.values (take count rows.now))) }
     ensures told { within S.Store tx.old tx.new (OnlyFailsInside HasLayout) result }
+    ensures blamed { within S.Store tx.old tx.new BlamesMedium result }
 {
     // Two rows a statement have nearly all that many would gain, for one more text that is kept compiled.
     for part in rows.chunks(2) {

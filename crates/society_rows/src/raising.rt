@@ -2,7 +2,7 @@
 ghost use Rattle.std.specs.Prelude.{◌≡◌, ◌≤◌, ℕ, List, length, map};
 ghost use Rattle.std.specs.Borrow.{Bor};
 ghost use Rattle.sqlite.specs.Held.{state};
-ghost use Rattle.society_rows.specs.Effects.{OnlyFails, OnlyFailsInside, Writes, WritesOver};
+ghost use Rattle.society_rows.specs.Effects.{BlamesMedium, BlamesMediumOver, OnlyFails, OnlyFailsInside, Writes, WritesOver};
 ghost use Rattle.society_rows.specs.Layouts.{HasFirst, HasOlder};
 ghost use Rattle.society_rows.specs.Raising.{BecomesNewest, Extends, Renames};
 ghost use Rattle.society_rows.specs.Texts.{all_texts};
@@ -28,6 +28,7 @@ fn make_missing<S: Alter>(
     ensures made { within S.Store tx.old tx.new (WritesOver (HasFirst from)) result
         (Extends from) }
     ensures told { within S.Store tx.old tx.new (OnlyFailsInside (HasFirst from)) result }
+    ensures blamed { within S.Store tx.old tx.new (BlamesMediumOver (HasFirst from)) result }
 {
     for at in from..texts.len() {
         run(tx, texts[at], &[])?;
@@ -40,6 +41,7 @@ fn rename<S: Alter>(tx: &mut Transaction<'_, S>) -> Result<(), RowFault>
     ensures same_reference { tx.new.conn.ghost_name ≡ tx.old.conn.ghost_name }
     ensures renamed { within S.Store tx.old tx.new Writes result Renames }
     ensures told { within S.Store tx.old tx.new OnlyFails result }
+    ensures blamed { within S.Store tx.old tx.new BlamesMedium result }
 {
     run(tx, "UPDATE office SET layout = ?1", &[LAYOUT.to_sql()])
 }
@@ -54,6 +56,7 @@ pub fn raise_inside<S: Alter>(
     ensures raised { within S.Store tx.old tx.new (WritesOver (HasOlder from)) result
         (BecomesNewest from) }
     ensures told { within S.Store tx.old tx.new (OnlyFailsInside (HasOlder from)) result }
+    ensures blamed { within S.Store tx.old tx.new (BlamesMediumOver (HasOlder from)) result }
 {
     make_missing(tx, &TABLES, from.table_count())?;
     rename(tx)

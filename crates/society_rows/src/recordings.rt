@@ -2,7 +2,7 @@
 ghost use Rattle.std.specs.Prelude.{◌≡◌, map, take, [], ◌∷◌, IfOk, IfErr};
 ghost use Rattle.sqlite_value.specs.declared.value.Value.TheVariants.{Text};
 ghost use Rattle.society_rows.specs.declared.fault.RowFault.TheVariants.{Unread};
-ghost use Rattle.society_rows.specs.Effects.{ErrsByMedium, IsAllOrNothing, LeavesFirst, OnlyFails, OnlyFailsInside, Writes};
+ghost use Rattle.society_rows.specs.Effects.{BlamesMedium, ErrsByMedium, IsAllOrNothing, LeavesFirst, OnlyFails, OnlyFailsInside, Writes};
 ghost use Rattle.society_rows.specs.Forms.{IsRead, recording_forms};
 ghost use Rattle.society_rows.specs.Layout.{recordings};
 ghost use Rattle.society_rows.specs.Reads.{Lists, Reads, has_key};
@@ -56,6 +56,7 @@ pub(crate) fn add_recording<S: Alter>(
         (Adds recordings (recording_values row.now ∷ [])) }
     ensures whole { within S.Store tx.old tx.new IsAllOrNothing result }
     ensures told { within S.Store tx.old tx.new OnlyFails result }
+    ensures blamed { within S.Store tx.old tx.new BlamesMedium result }
 {
     run(
         tx,
@@ -80,6 +81,7 @@ fn add_pair<S: Alter>(
         (Adds recordings (recording_values one.now ∷ recording_values two.now ∷ [])) }
     ensures whole { within S.Store tx.old tx.new IsAllOrNothing result }
     ensures told { within S.Store tx.old tx.new OnlyFails result }
+    ensures blamed { within S.Store tx.old tx.new BlamesMedium result }
 {
     run(
         tx,
@@ -126,6 +128,7 @@ pub fn add_recordings<S: Alter>(
     ensures left { within S.Store tx.old tx.new LeavesFirst result
         (λ count. Adds recordings (map recording_values (take count rows.now))) }
     ensures told { within S.Store tx.old tx.new (OnlyFailsInside HasLayout) result }
+    ensures blamed { within S.Store tx.old tx.new BlamesMedium result }
 {
     add_all(tx, rows)
 }

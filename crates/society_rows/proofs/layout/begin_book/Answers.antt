@@ -6,6 +6,7 @@ use Rattle.society_rows.specs.Rows.{office_values}
 use Rattle.society_rows.specs.Stored.{HasLayout, Adds}
 use Rattle.society_rows.proofs.lemmas.changes.Effects.{writes_then}
 use Rattle.society_rows.proofs.lemmas.each_table.OfficeTable.{begins}
+use Rattle.society_rows.proofs.lemmas.errors.Blamed.{blames_then}
 use Rattle.society_rows.proofs.lemmas.errors.Told.{tells_then}
 use Rattle.society_rows.proofs.layout.begin_book.Goals as goal
 
@@ -19,3 +20,8 @@ pub returns-clause-told : goal.returns-clause-told
 returns-clause-told g c =
     tells_then IsBare HasLayout (state g.S.Store c.args.tx.now.conn.now) (state g.S.Store c.lay_out.new.tx.conn.now) (state g.S.Store c.add_office.new.tx.conn.now) c.in_ok-lay_out.ensures.made (λ d e h. h.layout)
     c.add_office.result c.add_office.ensures.written.survives c.add_office.ensures.told
+
+pub returns-clause-blamed : goal.returns-clause-blamed
+returns-clause-blamed g c =
+    blames_then IsBare HasLayout (state g.S.Store c.args.tx.now.conn.now) (state g.S.Store c.lay_out.new.tx.conn.now) (state g.S.Store c.add_office.new.tx.conn.now) c.in_ok-lay_out.ensures.made (λ d e h. h.layout)
+    c.add_office.result c.add_office.ensures.written.survives c.add_office.ensures.blamed

@@ -4,7 +4,8 @@ use Rattle.sqlite.specs.Held.{state}
 use Rattle.society_rows.specs.NewBook.{IsBare, HasEmpty, IsEmptyBook}
 use Rattle.society_rows.specs.Texts.{all_texts}
 use Rattle.society_rows.proofs.lemmas.changes.Effects.{writes_none, writes_by, writes_then, writes_fail, writes_as}
-use Rattle.society_rows.proofs.lemmas.definitions.NewBooks.{first_tables, next_table, next_tells, last_tables}
+use Rattle.society_rows.proofs.lemmas.definitions.NewBooks.{first_tables, next_table, next_blames, next_tells, last_tables}
+use Rattle.society_rows.proofs.lemmas.errors.Blamed.{blames_after}
 use Rattle.society_rows.proofs.lemmas.errors.Told.{tells_after}
 use Rattle.society_rows.proofs.layout.make_tables.Goals as goal
 
@@ -51,3 +52,15 @@ returns-in_err-run-clause-told g c =
     let within : i < length all_texts = subst (λ l. i < length l) c.requires (omega (arith, c.loop-text-test.true, length-map c.args.texts.now (λ (t : Bor (List ℕ)). t.now))) in
     tells_after IsBare (HasEmpty i) first old new c.loop-text.invariant.made (λ d e h. h) c.in_err-run.field-0.0 c.from_residual.result c.from_residual.ensures.1 c.in_err-run.ensures.survives
     (next_tells i within text.now is old new (Err c.in_err-run.field-0.0) c.in_err-run.ensures.ended c.in_err-run.ensures.ran)
+
+pub returns-in_err-run-clause-blamed : goal.returns-in_err-run-clause-blamed
+returns-in_err-run-clause-blamed g c =
+    let i = c.loop-text.text-index in
+    let first = state g.S.Store c.args.tx.now.conn.now in
+    let old = state g.S.Store c.loop-text.tx.conn.now in
+    let new = state g.S.Store c.run.new.tx.conn.now in
+    let text = get_or c.args.texts.now i (record { ref_ptr = (0, 0); now = [] }) in
+    let is : text.now ≡ get_or all_texts i [] = sym (get_or-map (λ (t : Bor (List ℕ)). t.now) c.args.texts.now i (record { ref_ptr = (0, 0); now = [] }) [] c.loop-text-test.true) ∙ ap (λ l. get_or l i []) c.requires in
+    let within : i < length all_texts = subst (λ l. i < length l) c.requires (omega (arith, c.loop-text-test.true, length-map c.args.texts.now (λ (t : Bor (List ℕ)). t.now))) in
+    blames_after IsBare (HasEmpty i) first old new c.loop-text.invariant.made (λ d e h. h) c.in_err-run.field-0.0 c.from_residual.result c.from_residual.ensures.1 c.in_err-run.ensures.survives
+    (next_blames i within text.now is old new (Err c.in_err-run.field-0.0) c.in_err-run.ensures.ran)

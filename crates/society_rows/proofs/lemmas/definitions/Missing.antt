@@ -12,7 +12,7 @@ use Rattle.sqlite_rules.proofs.ListLemmas.{all_has, all_from, has_either, has_le
 use Rattle.sqlite.specs.Effect.{Database}
 use Rattle.sqlite.specs.State.{State, HasCleanDisk, ExecutesInside}
 use Rattle.society_rows.specs.declared.fault.RowFault.{RowFault}
-use Rattle.society_rows.specs.Effects.{OnlyFailsOver, RanAs}
+use Rattle.society_rows.specs.Effects.{BlamesMediumOver, OnlyFailsOver, RanAs}
 use Rattle.society_rows.specs.Faults.{IsFailure}
 use Rattle.society_rows.specs.Layout.{all_tables, no_schema, office, tables_with, written_out}
 use Rattle.society_rows.specs.Layouts.{HasFirst, schema_to}
@@ -22,7 +22,7 @@ use Rattle.society_rows.proofs.lemmas.definitions.Creates.{IsDefinition, IsMade,
 use Rattle.society_rows.proofs.lemmas.definitions.FirstTables.{IsOrdered, first_of, ordered, tables_are}
 use Rattle.society_rows.proofs.lemmas.definitions.NewBooks.{defined_at}
 use Rattle.society_rows.proofs.lemmas.definitions.Texts.{AreDefinitionsFrom, later_are}
-use Rattle.society_rows.proofs.lemmas.errors.ToldTables.{create_tells}
+use Rattle.society_rows.proofs.lemmas.errors.ToldTables.{create_blames, create_tells}
 
 defined_from : (n : ℕ) (before : Schema) (texts : List (List ℕ)) (tables : List Table) (d : Table) → AreDefinitionsFrom n before texts tables → (i : ℕ) → n ≤ i → i < length texts
     → IsDefinition (fold created before (take i tables)) (get_or texts i []) (get_or tables i d)
@@ -97,6 +97,13 @@ pub next_made_tells : (i : ℕ) → 6 ≤ i → i < length all_texts → (text :
 next_made_tells i book within text is old new result ended ran clean first_ones =
     let has = ordered first_ones in
     create_tells _ _ _ (later_at has.cuts has.payments i book within) old new result ended (λ clean inside. subst (λ t. RanAs t [] old new result) is (ran clean inside)) clean has.is
+
+-- when the next text tells of the medium
+pub next_made_blames : (i : ℕ) → 6 ≤ i → i < length all_texts → (text : List ℕ) → text ≡ get_or all_texts i [] → (old new : State) (result : Result (Unit {0}) RowFault)
+    → (HasCleanDisk new → IsTrue old.in_transaction → RanAs text [] old new result) → BlamesMediumOver (HasFirst i) old new result
+next_made_blames i book within text is old new result ran clean inside first_ones =
+    let has = ordered first_ones in
+    create_blames _ _ _ (later_at has.cuts has.payments i book within) old new result (λ clean inside. subst (λ t. RanAs t [] old new result) is (ran clean inside)) clean inside has.is
 
 -- ---- the tables by their trees
 

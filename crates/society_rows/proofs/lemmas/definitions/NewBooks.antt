@@ -10,7 +10,7 @@ use Rattle.sqlite_rules.proofs.ListLemmas.{all_has, all_from, has_either}
 use Rattle.sqlite.specs.Effect.{Database}
 use Rattle.sqlite.specs.State.{State, HasCleanDisk, ExecutesInside}
 use Rattle.society_rows.specs.declared.fault.RowFault.{RowFault}
-use Rattle.society_rows.specs.Effects.{OnlyFailsOver, RanAs}
+use Rattle.society_rows.specs.Effects.{BlamesMediumOver, OnlyFailsOver, RanAs}
 use Rattle.society_rows.specs.Faults.{IsFailure}
 use Rattle.society_rows.specs.Layout.{layout, all_tables, no_schema, office, written_out}
 use Rattle.society_rows.specs.Layouts.{IsFirst}
@@ -18,7 +18,7 @@ use Rattle.society_rows.specs.NewBook.{IsBare, HasEmpty, IsEmptyBook}
 use Rattle.society_rows.specs.Texts.{all_texts}
 use Rattle.society_rows.proofs.lemmas.definitions.Creates.{IsDefinition, IsMade, creates}
 use Rattle.society_rows.proofs.lemmas.definitions.Texts.{AreDefinitions, all_are, layout_is}
-use Rattle.society_rows.proofs.lemmas.errors.ToldTables.{create_tells}
+use Rattle.society_rows.proofs.lemmas.errors.ToldTables.{create_blames, create_tells}
 
 pub defined_at : (before : Schema) (texts : List (List ℕ)) (tables : List Table) (d : Table) → AreDefinitions before texts tables → (i : ℕ) → i < length texts
     → IsDefinition (fold created before (take i tables)) (get_or texts i []) (get_or tables i d)
@@ -62,6 +62,12 @@ pub next_tells : (i : ℕ) → i < length all_texts → (text : List ℕ) → te
     → (HasCleanDisk new → IsTrue old.in_transaction → RanAs text [] old new result) → OnlyFailsOver (HasEmpty i) old new result
 next_tells i within text is old new result ended ran clean has =
     create_tells _ _ _ (defined_at no_schema all_texts all_tables office all_are i within) old new result ended (λ clean inside. subst (λ t. RanAs t [] old new result) is (ran clean inside)) clean has.schema
+
+-- when the next text tells of the medium
+pub next_blames : (i : ℕ) → i < length all_texts → (text : List ℕ) → text ≡ get_or all_texts i [] → (old new : State) (result : Result (Unit {0}) RowFault)
+    → (HasCleanDisk new → IsTrue old.in_transaction → RanAs text [] old new result) → BlamesMediumOver (HasEmpty i) old new result
+next_blames i within text is old new result ran clean inside has =
+    create_blames _ _ _ (defined_at no_schema all_texts all_tables office all_are i within) old new result (λ clean inside. subst (λ t. RanAs t [] old new result) is (ran clean inside)) clean inside has.schema
 
 -- no table yet
 pub first_tables : (d : Database) → IsBare d → HasEmpty 0 d

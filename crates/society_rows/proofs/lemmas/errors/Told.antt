@@ -8,23 +8,20 @@ use Rattle.sqlite_sql.specs.Program.{ProgramOverflows}
 use Rattle.sqlite_sql.specs.Query.{Query}
 use Rattle.sqlite_sql.specs.Term.{Term}
 use Rattle.sqlite_typing.specs.Types.{accepts_program}
-use Rattle.sqlite_schema.specs.declared.command.Command.{Command}
 use Rattle.sqlite_schema.specs.declared.command.Command.TheVariants.{Insert, InsertOr, Update}
 use Rattle.sqlite_schema.specs.declared.command.Conflict.{Conflict}
 use Rattle.sqlite_schema.specs.declared.command.Source.{Source}
 use Rattle.sqlite_schema.specs.declared.program.Program.{Program}
 use Rattle.sqlite_schema.specs.declared.schema.Index.{Index}
 use Rattle.sqlite_schema.specs.declared.schema.Reference.{Reference}
-use Rattle.sqlite_schema.specs.declared.schema.Schema.{Schema}
 use Rattle.sqlite_schema.specs.declared.schema.Table.{Table}
 use Rattle.sqlite.specs.declared.error.Error.{Error}
 use Rattle.sqlite.specs.declared.error.ErrorCode.TheVariants as code
-use Rattle.sqlite.specs.Does.{Does}
 use Rattle.sqlite.specs.Effect.{Database, is_query}
 use Rattle.sqlite.specs.Listing.{understood}
 use Rattle.sqlite_trees.specs.Tree.{Trees}
-use Rattle.sqlite.specs.State.{State, HasCleanDisk, ExecutesInside, IsTooLate, Survives, is_pragma, mode_of}
-use Rattle.sqlite.proofs.Callers.{IsPlain, statement_of}
+use Rattle.sqlite.specs.State.{State, HasCleanDisk, ExecutesInside, IsTooLate, Survives}
+use Rattle.sqlite.proofs.Callers.{IsPlain}
 use Rattle.society_rows.specs.declared.fault.RowFault.{RowFault}
 use Rattle.society_rows.specs.Effects.{ErrsByMediumOver, MayFail, OnlyFails, OnlyFailsInside, OnlyFailsOver, RanAs, WritesOver}
 use Rattle.society_rows.specs.Faults.{fault_of_error, IsFailure}
@@ -32,12 +29,12 @@ use Rattle.society_rows.specs.declared.fault.RowFault.TheVariants.{Memory}
 use Rattle.society_rows.specs.Layouts.{HasTables, schema_from}
 use Rattle.society_rows.specs.Reads.{Selected}
 use Rattle.society_rows.specs.Stored.{HasLayout}
-use Rattle.society_rows.proofs.lemmas.errors.Failures.{IsCoded, IsSingle, failure_told, query_coded, query_reasons, statement_coded}
+use Rattle.society_rows.proofs.lemmas.errors.Failures.{IsCoded, IsSingle, failure_told, query_coded, query_reasons, unblamed}
 use Rattle.society_rows.proofs.lemmas.readings.Answers.{picked, picked_first}
-use Rattle.society_rows.proofs.lemmas.changes.Commands.{IsCommand, IsCommandOf, command_in}
+use Rattle.society_rows.proofs.lemmas.changes.Commands.{IsCommand}
 use Rattle.society_rows.proofs.lemmas.changes.Inserts.{IsSettled}
 use Rattle.society_rows.proofs.lemmas.readings.Queries.{IsQuery, laid, query_of}
-use Rattle.society_rows.proofs.lemmas.errors.Refusals.{insert_coded, insert_or_coded, update_coded}
+use Rattle.society_rows.proofs.lemmas.errors.Writings.{insert_codes, insert_or_codes, update_codes}
 
 -- of a query, where its tables are there
 pub query_tells_over : {tables : ℕ} {text : List ℕ} {count : ℕ} {query : Query} {names : List (List ℕ)} → IsQuery tables text count query names → (params : Row) → length params ≡ count
@@ -51,7 +48,7 @@ query_tells_over {tables} {text} {count} is params long old new result selected 
         let single = subst (λ n. IsSingle text n (understood old.now.schema text)) (sym long) it.single in
         failure_told fault h.0 h.1 (elim h.2 [
           | inl failed ↦ query_coded old.now.schema text params old new refl it.plain single (ap is_query it.command) h.0 failed
-          | inr late ↦ (code.TransactionState, late.4)
+          | inr late ↦ (code.TransactionState, late.4, unblamed)
         ])
 
 -- the same over layout 3
@@ -108,7 +105,7 @@ query_reads is = key_reads is [] refl
 
 -- of a statement that shows no rows
 pub statement_tells : (Was : Database → Type 0) (text : List ℕ) (params : Row) (old new : State) (result : Result (Unit {0}) RowFault) → (old.in_transaction ≡ false → IfErr result IsFailure)
-    → (HasCleanDisk new → IsTrue old.in_transaction → RanAs text params old new result) → (Was old.now → (e : Error) → ExecutesInside 0 text params old new (Err e) → IsCoded e)
+    → (HasCleanDisk new → IsTrue old.in_transaction → RanAs text params old new result) → (Was old.now → (e : Error) → ExecutesInside 0 text params old new (Err e) → IsCoded (MayFail old new) e)
     → OnlyFailsOver Was old new result
 statement_tells Was text params old new result ended ran coded clean has = elim (cases_Bool old.in_transaction) [
   | inl inside ↦ on result (ran clean inside)
@@ -119,38 +116,21 @@ statement_tells Was text params old new result ended ran coded clean has = elim 
     on (Ok _) h = tt
     on (Err fault) h = failure_told fault h.0 h.1 (coded has h.0 h.2)
 
--- of a text that is this command under the schema
-pub statement_by : {text : List ℕ} {count : ℕ} (command : Command) {schema : Schema} → IsCommandOf schema text count command → (params : Row) → length params ≡ count → (old new : State) → old.now.schema ≡ schema
-    → is_query command ≡ false → is_pragma command ≡ false
-    → ((e : Error) → Does old.step_limit (mode_of old) params old.now (statement_of text (understood schema text)) None command (Err (Some e)) → IsCoded e)
-    → (e : Error) → ExecutesInside 0 text params old new (Err e) → IsCoded e
-statement_by {text} {count} command {schema} is params long old new has query pragma =
-    statement_coded schema text params old new has is.plain (subst (λ n. IsSingle text n (understood schema text)) (sym long) is.single) command is.command query pragma
-
 module _ (text : List ℕ) {count : ℕ} {table : Table} {at : ℕ} (settled : IsSettled table at) where
   -- of an INSERT
   pub insert_tells : {from : Source} → IsCommand text count (Insert at from) → (params : Row) → length params ≡ count → (old new : State) (result : Result (Unit {0}) RowFault)
       → (old.in_transaction ≡ false → IfErr result IsFailure) → (HasCleanDisk new → IsTrue old.in_transaction → RanAs text params old new result) → OnlyFails old new result
-  insert_tells {from} is params long old new result ended ran =
-      statement_tells HasLayout text params old new result ended ran
-      (λ has. statement_by (Insert at from) (command_in text count (Insert at from) is old.now.schema has) params long old new refl refl refl
-      (insert_coded table at settled old.step_limit (mode_of old) params old.now has (statement_of text (understood old.now.schema text)) from))
+  insert_tells is params long old new result ended ran = statement_tells HasLayout text params old new result ended ran (insert_codes text settled is params long old new)
 
   -- of one that updates where a row is in its way
   pub insert_or_tells : {from : Source} {way : Conflict} {clauses : _} → IsCommand text count (InsertOr at way from clauses) → (params : Row) → length params ≡ count → (old new : State) (result : Result (Unit {0}) RowFault)
       → (old.in_transaction ≡ false → IfErr result IsFailure) → (HasCleanDisk new → IsTrue old.in_transaction → RanAs text params old new result) → OnlyFails old new result
-  insert_or_tells {from} {way} {clauses} is params long old new result ended ran =
-      statement_tells HasLayout text params old new result ended ran
-      (λ has. statement_by (InsertOr at way from clauses) (command_in text count (InsertOr at way from clauses) is old.now.schema has) params long old new refl refl refl
-      (insert_or_coded table at settled old.step_limit (mode_of old) params old.now has (statement_of text (understood old.now.schema text)) way clauses from))
+  insert_or_tells is params long old new result ended ran = statement_tells HasLayout text params old new result ended ran (insert_or_codes text settled is params long old new)
 
   -- of an UPDATE
   pub update_tells : {q : Program} → IsCommand text count (Update at q) → (params : Row) → length params ≡ count → (old new : State) (result : Result (Unit {0}) RowFault)
       → (old.in_transaction ≡ false → IfErr result IsFailure) → (HasCleanDisk new → IsTrue old.in_transaction → RanAs text params old new result) → OnlyFails old new result
-  update_tells {q} is params long old new result ended ran =
-      statement_tells HasLayout text params old new result ended ran
-      (λ has. statement_by (Update at q) (command_in text count (Update at q) is old.now.schema has) params long old new refl refl refl
-      (update_coded table at settled old.step_limit (mode_of old) params old.now has (statement_of text (understood old.now.schema text)) q))
+  update_tells is params long old new result ended ran = statement_tells HasLayout text params old new result ended ran (update_codes text settled is params long old new)
 
 -- of a later call, after some that went through
 pub tells_then : {X Z : Type 0} (Was Is : Database → Type 0) (a b c : State) {x : X} {P : Database → Database → Type 0} → WritesOver Was a b (Ok x) P → ((d e : Database) → P d e → Is e) → (result : Result Z RowFault)

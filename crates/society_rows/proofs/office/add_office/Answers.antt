@@ -6,6 +6,7 @@ use Rattle.society_rows.specs.Rows.{office_values}
 use Rattle.society_rows.specs.Stored.{HasLayout, Adds}
 use Rattle.society_rows.proofs.lemmas.changes.Effects.{writes_by}
 use Rattle.society_rows.proofs.lemmas.each_table.OfficeTable.{insert_text, adds_office, settled, insert_is}
+use Rattle.society_rows.proofs.lemmas.errors.Blamed.{insert_blames}
 use Rattle.society_rows.proofs.lemmas.errors.Told.{insert_tells}
 use Rattle.society_rows.proofs.office.add_office.Goals as goal
 
@@ -24,3 +25,10 @@ returns-clause-told g c =
     let old = state g.S.Store c.args.tx.now.conn.now in
     let new = state g.S.Store c.run.new.tx.conn.now in
     insert_tells insert_text settled insert_is (Int (pos row.society) ∷ Int (pos row.territory) ∷ Text row.name.now ∷ []) refl old new c.run.result c.run.ensures.ended (λ clean inside. rw (c.to_sql.ensures, c.to_sql-2.ensures) at (c.run.ensures.ran clean inside))
+
+pub returns-clause-blamed : goal.returns-clause-blamed
+returns-clause-blamed g c =
+    let row = c.args.row.now in
+    let old = state g.S.Store c.args.tx.now.conn.now in
+    let new = state g.S.Store c.run.new.tx.conn.now in
+    insert_blames insert_text settled insert_is (Int (pos row.society) ∷ Int (pos row.territory) ∷ Text row.name.now ∷ []) refl old new c.run.result (λ clean inside. rw (c.to_sql.ensures, c.to_sql-2.ensures) at (c.run.ensures.ran clean inside))

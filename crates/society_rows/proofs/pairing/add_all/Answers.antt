@@ -2,6 +2,7 @@ use Rattle.std.proofs.Common.{◌∙◌, map, refl, rules}
 use Rattle.std.specs.Slice.Iter.{chunks_rest}
 use Rattle.sqlite.specs.Held.{state}
 use Rattle.society_rows.specs.Stored.{HasLayout}
+use Rattle.society_rows.proofs.lemmas.errors.Blamed.{blames_after}
 use Rattle.society_rows.proofs.lemmas.errors.Told.{tells_after}
 use Rattle.society_rows.proofs.lemmas.changes.ListWrites.{some_first, some_next, some_fails, some_left, some_all}
 use Rattle.society_rows.proofs.pairing.add_all.Goals as goal
@@ -39,6 +40,7 @@ returns-in_err-add_part g c =
       left = some_left g.R.PairedRow.table g.R.PairedRow.values c.args.rows.now _ old on new c.loop-part.invariant.some c.in_err-add_part.field-0.0 c.from_residual.result c.in_err-add_part.ensures.written.survives
           c.in_err-add_part.ensures.whole;
       told = tells_after HasLayout HasLayout old on new c.loop-part.invariant.some.written (λ d e h. h.layout) c.in_err-add_part.field-0.0 c.from_residual.result c.from_residual.ensures.1 c.in_err-add_part.ensures.written.survives c.in_err-add_part.ensures.told;
+      blamed = blames_after HasLayout HasLayout old on new c.loop-part.invariant.some.written (λ d e h. h.layout) c.in_err-add_part.field-0.0 c.from_residual.result c.from_residual.ensures.1 c.in_err-add_part.ensures.written.survives c.in_err-add_part.ensures.blamed;
     }
 
 pub returns-clause-written : goal.returns-clause-written

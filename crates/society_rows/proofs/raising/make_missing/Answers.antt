@@ -7,7 +7,8 @@ use Rattle.society_rows.specs.Raising.{Extends}
 use Rattle.society_rows.specs.Texts.{all_texts}
 use Rattle.society_rows.proofs.lemmas.changes.Effects.{writes_none, writes_by, writes_then, writes_fail, writes_as}
 use Rattle.society_rows.proofs.lemmas.definitions.FirstTables.{first_of}
-use Rattle.society_rows.proofs.lemmas.definitions.Missing.{Grows, none_made, next_made, next_made_tells, all_made}
+use Rattle.society_rows.proofs.lemmas.definitions.Missing.{Grows, none_made, next_made, next_made_blames, next_made_tells, all_made}
+use Rattle.society_rows.proofs.lemmas.errors.Blamed.{blames_after}
 use Rattle.society_rows.proofs.lemmas.errors.Told.{tells_after}
 use Rattle.society_rows.proofs.raising.make_missing.Goals as goal
 
@@ -63,3 +64,17 @@ returns-in_err-run-clause-told g c =
     let within : i < length all_texts = subst (λ l. i < length l) c.requires.all (omega (arith, c.loop-at-test.true, length-map c.args.texts.now (λ (t : Bor (List ℕ)). t.now))) in
     tells_after (HasFirst from) (HasFirst i) first old new c.loop-at.invariant.made (λ d e h. first_of h.first) c.in_err-run.field-0.0 c.from_residual.result c.from_residual.ensures.1 c.in_err-run.ensures.survives
     (next_made_tells i (omega (arith, c.requires.book, c.loop-at.auto.at)) within text.now is old new (Err c.in_err-run.field-0.0) c.in_err-run.ensures.ended c.in_err-run.ensures.ran)
+
+pub returns-in_err-run-clause-blamed : goal.returns-in_err-run-clause-blamed
+returns-in_err-run-clause-blamed g c =
+    let i = c.loop-at.at in
+    let from = c.args.from in
+    let first = state g.S.Store c.args.tx.now.conn.now in
+    let old = state g.S.Store c.loop-at.tx.conn.now in
+    let new = state g.S.Store c.run.new.tx.conn.now in
+    let none : Bor (List ℕ) = record { ref_ptr = (0, 0); now = [] } in
+    let text = get_or c.args.texts.now i none in
+    let is : text.now ≡ get_or all_texts i [] = sym (get_or-map (λ (t : Bor (List ℕ)). t.now) c.args.texts.now i none [] c.loop-at-test.true) ∙ ap (λ l. get_or l i []) c.requires.all in
+    let within : i < length all_texts = subst (λ l. i < length l) c.requires.all (omega (arith, c.loop-at-test.true, length-map c.args.texts.now (λ (t : Bor (List ℕ)). t.now))) in
+    blames_after (HasFirst from) (HasFirst i) first old new c.loop-at.invariant.made (λ d e h. first_of h.first) c.in_err-run.field-0.0 c.from_residual.result c.from_residual.ensures.1 c.in_err-run.ensures.survives
+    (next_made_blames i (omega (arith, c.requires.book, c.loop-at.auto.at)) within text.now is old new (Err c.in_err-run.field-0.0) c.in_err-run.ensures.ran)

@@ -4,6 +4,7 @@ use Rattle.society_rows.specs.Raising.{BecomesNewest, Extends, Renames}
 use Rattle.society_rows.specs.Stored.{HasLayout}
 use Rattle.society_rows.proofs.lemmas.changes.Effects.{writes_then}
 use Rattle.society_rows.proofs.lemmas.changes.Renaming.{becomes}
+use Rattle.society_rows.proofs.lemmas.errors.Blamed.{blames_then}
 use Rattle.society_rows.proofs.lemmas.errors.Told.{tells_then}
 use Rattle.society_rows.proofs.raising.raise_inside.Goals as goal
 
@@ -17,3 +18,8 @@ pub returns-clause-told : goal.returns-clause-told
 returns-clause-told g c =
     tells_then (HasOlder c.args.from) HasLayout (state g.S.Store c.args.tx.now.conn.now) (state g.S.Store c.make_missing.new.tx.conn.now) (state g.S.Store c.rename.new.tx.conn.now)
     (rw (c.table_count.ensures) at c.in_ok-make_missing.ensures.made) (λ d e h. h.layout) c.rename.result c.rename.ensures.renamed.survives c.rename.ensures.told
+
+pub returns-clause-blamed : goal.returns-clause-blamed
+returns-clause-blamed g c =
+    blames_then (HasOlder c.args.from) HasLayout (state g.S.Store c.args.tx.now.conn.now) (state g.S.Store c.make_missing.new.tx.conn.now) (state g.S.Store c.rename.new.tx.conn.now)
+    (rw (c.table_count.ensures) at c.in_ok-make_missing.ensures.made) (λ d e h. h.layout) c.rename.result c.rename.ensures.renamed.survives c.rename.ensures.blamed

@@ -5,6 +5,7 @@ use Rattle.society_rows.specs.Stored.{HasLayout}
 use Rattle.society_rows.proofs.lemmas.changes.Effects.{writes_by}
 use Rattle.society_rows.proofs.lemmas.changes.Renaming.{newest, renames, update_is, update_text}
 use Rattle.society_rows.proofs.lemmas.each_table.OfficeTable.{settled}
+use Rattle.society_rows.proofs.lemmas.errors.Blamed.{update_blames}
 use Rattle.society_rows.proofs.lemmas.errors.Told.{update_tells}
 use Rattle.society_rows.proofs.raising.rename.Goals as goal
 
@@ -19,3 +20,9 @@ returns-clause-told g c =
     let old = state g.S.Store c.args.tx.now.conn.now in
     let new = state g.S.Store c.run.new.tx.conn.now in
     update_tells update_text settled update_is newest refl old new c.run.result c.run.ensures.ended (λ clean inside. rw (c.to_sql.ensures) at (c.run.ensures.ran clean inside))
+
+pub returns-clause-blamed : goal.returns-clause-blamed
+returns-clause-blamed g c =
+    let old = state g.S.Store c.args.tx.now.conn.now in
+    let new = state g.S.Store c.run.new.tx.conn.now in
+    update_blames update_text settled update_is newest refl old new c.run.result (λ clean inside. rw (c.to_sql.ensures) at (c.run.ensures.ran clean inside))

@@ -5,6 +5,7 @@ use Rattle.society_rows.specs.Rows.{recording_values}
 use Rattle.society_rows.specs.Stored.{HasLayout, Adds}
 use Rattle.society_rows.proofs.lemmas.changes.Effects.{writes_by}
 use Rattle.society_rows.proofs.lemmas.each_table.RecordingTable.{pair_text, adds_pair, settled, pair_is}
+use Rattle.society_rows.proofs.lemmas.errors.Blamed.{insert_blames}
 use Rattle.society_rows.proofs.lemmas.errors.Told.{insert_tells}
 use Rattle.society_rows.proofs.recordings.add_pair.Goals as goal
 
@@ -24,3 +25,11 @@ returns-clause-told g c =
     let old = state g.S.Store c.args.tx.now.conn.now in
     let new = state g.S.Store c.run.new.tx.conn.now in
     insert_tells pair_text settled pair_is (recording_values one ++ recording_values two) refl old new c.run.result c.run.ensures.ended (λ clean inside. rw (c.to_sql.ensures, c.to_sql-2.ensures) at (c.run.ensures.ran clean inside))
+
+pub returns-clause-blamed : goal.returns-clause-blamed
+returns-clause-blamed g c =
+    let one = c.args.one.now in
+    let two = c.args.two.now in
+    let old = state g.S.Store c.args.tx.now.conn.now in
+    let new = state g.S.Store c.run.new.tx.conn.now in
+    insert_blames pair_text settled pair_is (recording_values one ++ recording_values two) refl old new c.run.result (λ clean inside. rw (c.to_sql.ensures, c.to_sql-2.ensures) at (c.run.ensures.ran clean inside))

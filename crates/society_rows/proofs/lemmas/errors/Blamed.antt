@@ -1,0 +1,98 @@
+-- When a call that failed tells of the medium.
+use Rattle.std.proofs.Common.{◌≡◌, ◌∙◌, ◌≤◌, ℕ, true, false, true≢false, List, length, Option, IsSome, Result, Ok, Err, IfErr, IsTrue, IsErrAnd, sym, subst, inl, inr, arith}
+use Rattle.std.proofs.lemmas.Bool.{cases_Bool}
+use Rattle.sqlite_value.specs.Order.{Row}
+use Rattle.sqlite_schema.specs.declared.command.Command.TheVariants.{Insert, InsertOr, Update}
+use Rattle.sqlite_schema.specs.declared.command.Conflict.{Conflict}
+use Rattle.sqlite_schema.specs.declared.command.Source.{Source}
+use Rattle.sqlite_schema.specs.declared.program.Program.{Program}
+use Rattle.sqlite_schema.specs.declared.schema.Table.{Table}
+use Rattle.sqlite.specs.declared.error.Error.{Error}
+use Rattle.sqlite.specs.declared.error.ErrorCode.TheVariants as code
+use Rattle.sqlite.specs.Effect.{Database}
+use Rattle.sqlite.specs.State.{State, ExecutesInside, HasCleanDisk, Survives}
+use Rattle.sqlite.specs.Steps.{FailsToCommit}
+use Rattle.society_rows.specs.declared.fault.RowFault.{RowFault}
+use Rattle.society_rows.specs.Effects.{BlamesMedium, BlamesMediumOver, MayFail, RanAs, TellsOfMedium, WritesOver}
+use Rattle.society_rows.specs.Faults.{fault_of_error, is_of_medium}
+use Rattle.society_rows.specs.Stored.{HasLayout}
+use Rattle.society_rows.proofs.lemmas.changes.Commands.{IsCommand}
+use Rattle.society_rows.proofs.lemmas.changes.Inserts.{IsSettled}
+use Rattle.society_rows.proofs.lemmas.errors.Failures.{IsCoded, fails_coded, medium_told, unblamed}
+use Rattle.society_rows.proofs.lemmas.errors.Writings.{insert_codes, insert_or_codes, update_codes}
+
+-- ---- several calls
+
+-- the medium may have failed in a later call of several: so it may in all
+pub may_on : (old mid new : State) → Survives old mid (λ _. ⊥) → HasCleanDisk mid → mid.faults ≤ new.faults → MayFail mid new → MayFail old new
+may_on old mid new first clean up (inl fails) = inl (let fell = first.counts in omega (arith, fell, fails))
+may_on old mid new first clean up (inr (inr limit)) = inr (inr (subst (λ (l : Option ℕ). IsSome l) first.limit limit))
+may_on old mid new first clean up (inr (inl shut)) = elim (cases_Bool old.is_open) [
+  | inl was ↦ elim (first.closes clean was) [ inl still ↦ absurd (true≢false (sym still ∙ shut)) | inr fails ↦ inl (let fell = up in omega (arith, fell, fails)) ]
+  | inr none ↦ inr (inl none)
+]
+
+-- in an earlier one
+pub may_up : (old mid new : State) → mid.faults ≤ new.faults → MayFail old mid → MayFail old new
+may_up old mid new up (inl fails) = inl (omega (arith, up, fails))
+may_up old mid new up (inr more) = inr more
+
+tells_on : {X : Type 0} (old mid new : State) (result : Result X RowFault) → Survives old mid (λ _. ⊥) → HasCleanDisk mid → mid.faults ≤ new.faults → TellsOfMedium mid new result → TellsOfMedium old new result
+tells_on old mid new (Ok x) first clean up h = tt
+tells_on old mid new (Err fault) first clean up h = λ tells. may_on old mid new first clean up (h tells)
+
+-- of a later call, after some that went through
+pub blames_then : {X Z : Type 0} (Was Is : Database → Type 0) (a b c : State) {x : X} {P : Database → Database → Type 0} → WritesOver Was a b (Ok x) P → ((d e : Database) → P d e → Is e) → (result : Result Z RowFault)
+    → Survives b c (λ _. ⊥) → BlamesMediumOver Is b c result → BlamesMediumOver Was a c result
+blames_then Was Is a b c before holds result survives blamed clean inside was =
+    let early : HasCleanDisk b = omega (arith, survives.clean) in
+    tells_on a b c result before.survives early survives.counts (blamed clean (before.inside early inside) (holds a.now b.now (before.change early inside was)))
+
+-- the same of a fault that is handed on
+pub blames_after : {X Z : Type 0} (Was Is : Database → Type 0) (a b c : State) {x : X} {P : Database → Database → Type 0} → WritesOver Was a b (Ok x) P → ((d e : Database) → P d e → Is e) → (fault : RowFault)
+    (result : Result Z RowFault) → IsErrAnd result (λ e. e ≡ fault) → Survives b c (λ _. ⊥) → BlamesMediumOver {X = Unit {0}} Is b c (Err fault) → BlamesMediumOver Was a c result
+blames_after Was Is a b c before holds fault (Ok y) is survives blamed clean inside was = tt
+blames_after Was Is a b c before holds fault (Err e) is survives blamed clean inside was =
+    subst (λ f. is_of_medium f ≡ true → MayFail a c) (sym is) (blames_then {Z = Unit {0}} Was Is a b c before holds (Err fault) survives blamed clean inside was)
+
+-- the same of a fault of a call that is the first
+pub blames_on : (X : Type 0) {Z : Type 0} (old mid new : State) (fault : RowFault) (result : Result Z RowFault) → IsErrAnd result (λ e. e ≡ fault) → mid.faults ≤ new.faults → TellsOfMedium {X = X} old mid (Err fault) → TellsOfMedium old new result
+blames_on X old mid new fault (Ok y) is up h = tt
+blames_on X old mid new fault (Err e) is up h = subst (λ f. is_of_medium f ≡ true → MayFail old new) (sym is) (λ tells. may_up old mid new up (h tells))
+
+-- of a commit, after writes that went through
+pub commit_blames : {Z : Type 0} (old mid new : State) → Survives old mid (λ _. ⊥) → HasCleanDisk mid → mid.faults ≤ new.faults → (e : Error) → FailsToCommit mid new e → (result : Result Z RowFault) → IsErrAnd result (λ f. f ≡ fault_of_error e)
+    → TellsOfMedium old new result
+commit_blames old mid new first clean up e fails (Ok y) is = tt
+commit_blames old mid new first clean up e fails (Err fault) is = λ tells. may_on old mid new first clean up (medium_told fault e is (coded fails) tells)
+  where
+    coded : FailsToCommit mid new e → IsCoded (MayFail mid new) e
+    coded (inl h) = fails_coded mid new ⊥ e h
+    coded (inr h) = (code.TransactionState, h.0, unblamed)
+
+-- ---- one statement
+
+-- of a statement that shows no rows
+pub statement_blames : (Was : Database → Type 0) (text : List ℕ) (params : Row) (old new : State) (result : Result (Unit {0}) RowFault) → (HasCleanDisk new → IsTrue old.in_transaction → RanAs text params old new result)
+    → (Was old.now → (e : Error) → ExecutesInside 0 text params old new (Err e) → IsCoded (MayFail old new) e) → BlamesMediumOver Was old new result
+statement_blames Was text params old new result ran coded clean inside has = on result (ran clean inside)
+  where
+    on : (r : Result (Unit {0}) RowFault) → RanAs text params old new r → TellsOfMedium old new r
+    on (Ok _) h = tt
+    on (Err fault) h = medium_told fault h.0 h.1 (coded has h.0 h.2)
+
+module _ (text : List ℕ) {count : ℕ} {table : Table} {at : ℕ} (settled : IsSettled table at) where
+  -- of an INSERT
+  pub insert_blames : {from : Source} → IsCommand text count (Insert at from) → (params : Row) → length params ≡ count → (old new : State) (result : Result (Unit {0}) RowFault)
+      → (HasCleanDisk new → IsTrue old.in_transaction → RanAs text params old new result) → BlamesMedium old new result
+  insert_blames is params long old new result ran = statement_blames HasLayout text params old new result ran (insert_codes text settled is params long old new)
+
+  -- of one that updates where a row is in its way
+  pub insert_or_blames : {from : Source} {way : Conflict} {clauses : _} → IsCommand text count (InsertOr at way from clauses) → (params : Row) → length params ≡ count → (old new : State) (result : Result (Unit {0}) RowFault)
+      → (HasCleanDisk new → IsTrue old.in_transaction → RanAs text params old new result) → BlamesMedium old new result
+  insert_or_blames is params long old new result ran = statement_blames HasLayout text params old new result ran (insert_or_codes text settled is params long old new)
+
+  -- of an UPDATE
+  pub update_blames : {q : Program} → IsCommand text count (Update at q) → (params : Row) → length params ≡ count → (old new : State) (result : Result (Unit {0}) RowFault)
+      → (HasCleanDisk new → IsTrue old.in_transaction → RanAs text params old new result) → BlamesMedium old new result
+  update_blames is params long old new result ran = statement_blames HasLayout text params old new result ran (update_codes text settled is params long old new)
