@@ -12,13 +12,9 @@ use Rattle.sqlite_trees.specs.Tree.{Trees}
 use Rattle.society_rows.specs.Faults.{fault_of_error, is_of_medium, IsFailure}
 use Rattle.society_rows.specs.Stored.{HasLayout}
 
--- where the database was of a kind and the disk told the truth, the fault is such a failure
-abbrev pub IsFailureOver : (Database → Type 0) → State → State → RowFault → Type 0
-IsFailureOver Was old new fault = HasCleanDisk new → Was old.now → IsFailure fault
-
--- the same over layout 3
+-- over layout 3, and where the disk told the truth, the fault is such a failure
 abbrev pub IsFailureOf : State → State → RowFault → Type 0
-IsFailureOf = IsFailureOver HasLayout
+IsFailureOf old new fault = HasCleanDisk new → HasLayout old.now → IsFailure fault
 
 -- where the database was of a kind and the disk told the truth, the call errs only by such a failure
 abbrev pub OnlyFailsOver : {X : Type 0} → (Database → Type 0) → State → State → Result X RowFault → Type 0

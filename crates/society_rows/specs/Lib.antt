@@ -2,7 +2,6 @@ pub mod Balances
 pub mod Between
 pub mod BodyKeys
 pub mod Effects
-pub mod Entries
 pub mod Faults
 pub mod Finding
 pub mod Folds

@@ -3,13 +3,10 @@ use Rattle.std.specs.Prelude.{ℕ, List, [], ◌∷◌, map, codes, IsPermutatio
 use Rattle.sqlite_value.specs.Order.{Row, column}
 use Rattle.sqlite_trees.specs.Tree.{Trees}
 use Rattle.sqlite_schema.specs.declared.schema.Table.{Table}
-use Rattle.sqlite.specs.State.{State}
-use Rattle.society_rows.specs.declared.fault.RowFault.{RowFault}
 use Rattle.society_rows.specs.declared.line_senders.LineTable.{LineTable}
 use Rattle.society_rows.specs.declared.line_senders.LineTable.TheVariants as name
-use Rattle.society_rows.specs.Folds.{AreFirst, StopsOver}
 use Rattle.society_rows.specs.Layout.{fronts, verdicts, versions, recordings, credits_table}
-use Rattle.society_rows.specs.Stored.{HasLayout, rows_in}
+use Rattle.society_rows.specs.Stored.{rows_in}
 
 -- the table of that name
 abbrev pub line_table : LineTable → Table
@@ -34,7 +31,3 @@ first_of row = column row 0 ∷ []
 -- the first column of each row of the table, in some order
 abbrev pub ListsSenders : LineTable → Trees → List Row → Type 0
 ListsSenders table db found = IsPermutation (map first_of (rows_in (line_table table) db)) found
-
--- why the senders of a table were not gone over to their end
-abbrev pub StopsSenders : {F : Type 0} → (F → Row → F) → (F → Row → RowFault → Type 0) → LineTable → F → State → State → RowFault → Type 0
-StopsSenders step refusal table begun old new = StopsOver HasLayout step refusal old new (AreFirst HasLayout old new (ListsSenders table)) begun

@@ -1,17 +1,14 @@
 //! Rows that are gone over one at a time, so that no answer is kept.
-ghost use Rattle.std.specs.Prelude.{◌≡◌, ◌⊎◌, [], false, true, length, IfErr, OnOk};
+ghost use Rattle.std.specs.Prelude.{◌≡◌, ◌⊎◌, IfErr, OnOk};
 ghost use Rattle.sqlite_value.specs.Order.{Row as SqlRow};
-ghost use Rattle.sqlite.specs.State.{Shown};
-ghost use Rattle.sqlite.specs.Values.{bound};
 ghost use Rattle.society_rows.specs.Effects.{ErrsByMedium};
-ghost use Rattle.society_rows.specs.Folds.{AreFirstOfRun, HasTaken, IsNoRun, IsRun, ReadsInside, ReadsShown, RefusesRow, StopsRun, StopsShowing};
+ghost use Rattle.society_rows.specs.Folds.{AreFirstOfRun, HasTaken, IsNoRun, IsRun, ReadsInside, RefusesRow, StopsRun};
 ghost use Rattle.society_rows.specs.declared.fault.RowFault.TheVariants.{Unread};
-ghost use Rattle.society_rows.specs.Between.{between, within};
+ghost use Rattle.society_rows.specs.Between.{within};
 
 use crate::RowFault;
 use crate::transmissions::transmission_at;
-use sqlite::{Alter, Connection, Row, Transaction};
-use sqlite_value::value::ValueRef;
+use sqlite::{Alter, Row, Transaction};
 
 /// What goes over rows, one at a time, and keeps what it wants of them.
 pub trait RowFold {
@@ -27,29 +24,6 @@ pub trait RowFold {
     fn take(&mut self, row: &Row) -> Result<(), RowFault>
         ensures taken { OnOk result (self.new ≡ step self.old row.now) }
         ensures told { IfErr result (refusal self.old row.now) };
-}
-
-/// Goes over the rows that a query shows; what is said holds where the text is one query of the database.
-pub(crate) fn fold_shown<S: Alter, F: RowFold>(
-    conn: &mut Connection<S>,
-    sql: &str,
-    params: &[ValueRef<'_>],
-    into: &mut F,
-) -> Result<(), RowFault>
-    ensures taken { between S.Store conn.old conn.new (ReadsShown F.step sql.now (bound params.now) into.old into.new) result }
-    ensures mode { conn.old.in_transaction ≡ false → conn.new.in_transaction ≡ false }
-    ensures told { IfErr result (between S.Store conn.old conn.new
-        (StopsShowing F.step F.refusal sql.now (bound params.now) into.old)) }
-{
-    let mut rows = conn.query(sql, params)?;
-    'rows: for count in 0..u64::MAX {
-        let Some(row) = rows.next()? else {
-            return Ok(());
-        };
-        into.take(row)?;
-    }
-    // No answer has so many rows.
-    Err(RowFault::Unread)
 }
 
 /// Goes over the transmissions of a sender from a number upwards, up to the first number that is not there, each by its

@@ -1,14 +1,12 @@
-//! The senders of the rows of what is derived of their lines, gone over one at a time.
-ghost use Rattle.std.specs.Prelude.{◌≡◌, IfErr};
-ghost use Rattle.society_rows.specs.Between.{between, within};
+//! The senders of the rows of what is derived of their lines.
+ghost use Rattle.std.specs.Prelude.{◌≡◌};
+ghost use Rattle.society_rows.specs.Between.{within};
 ghost use Rattle.society_rows.specs.Effects.{ErrsByMedium, OnlyFails};
 ghost use Rattle.society_rows.specs.Reads.{Reads};
-ghost use Rattle.society_rows.specs.Folds.{HasTaken, ReadsAlone};
-ghost use Rattle.society_rows.specs.LineSenders.{ListsSenders, StopsSenders, senders_text};
+ghost use Rattle.society_rows.specs.LineSenders.{ListsSenders, senders_text};
 
-use crate::folding::fold_shown;
+use crate::RowFault;
 use crate::statement::select;
-use crate::{Idle, RowFault, RowFold};
 use sqlite::{Alter, Row, Transaction};
 
 /// A table of what is derived of senders' lines; its first column is the sender.
@@ -32,20 +30,6 @@ fn senders(table: LineTable) -> &'static str
         LineTable::Recordings => "SELECT sender FROM recordings",
         LineTable::Credits => "SELECT pool FROM credits",
     }
-}
-
-/// Goes over the senders of all rows of a table, in any order, with no list of them: each is taken as a row of that one column. After an
-/// error some have been taken.
-pub fn fold_senders<S: Alter, F: RowFold>(
-    conn: &mut Idle<S>,
-    table: LineTable,
-    into: &mut F,
-) -> Result<(), RowFault>
-    ensures taken { between S.Store conn.old conn.new ReadsAlone result
-        (λ db _. HasTaken F.step (ListsSenders table db) into.old into.new) }
-    ensures told { IfErr result (between S.Store conn.old conn.new (StopsSenders F.step F.refusal table into.old)) }
-{
-    fold_shown(&mut conn.connection, senders(table), &[], into)
 }
 
 /// The senders of all rows of a table, the pools where it is that of credits: each as a row of that one column, in any order.

@@ -6,10 +6,7 @@ use crate::book::{SENDER, book, shown};
 use crate::checks::told;
 use crate::writes::{BOOK, ENDS, FRONTS, WORKS, write_all};
 use memory_store::MemoryStore;
-use society_rows::{
-    EntryTable, Idle, LineTable, Question, RowFault, RowFold, ask, fold_entries, fold_run,
-    fold_senders,
-};
+use society_rows::{Idle, Question, RowFault, RowFold, ask, fold_run};
 use sqlite::{Alter, Connection, Row};
 use std::alloc::Global;
 use std::process::Abort;
@@ -56,13 +53,6 @@ fn commit_book<S: Alter>(conn: &mut Connection<S>) -> Result<(), RowFault> {
     Ok(())
 }
 
-/// How many rows a table has, taken one at a time.
-fn count_of<S: Alter>(conn: &mut Idle<S>, table: EntryTable) -> Result<u64, RowFault> {
-    let mut count = Count { rows: 0 };
-    fold_entries(conn, table, &mut count)?;
-    Ok(count.rows)
-}
-
 /// How many numbers are in a run that begins with this one.
 fn run_from<S: Alter>(conn: &mut Idle<S>, first: u32) -> Result<u64, RowFault> {
     let mut tx = conn.connection.transaction();
@@ -71,16 +61,8 @@ fn run_from<S: Alter>(conn: &mut Idle<S>, first: u32) -> Result<u64, RowFault> {
     Ok(count.rows)
 }
 
-/// Counts the rows of tables, and of runs.
+/// Counts the rows of runs.
 fn check_counts<S: Alter>(rt: &impl Abort, conn: &mut Idle<S>) -> Result<(), Fail> {
-    for (row, table, wanted) in [
-        ("transmissions", EntryTable::Transmissions, 2),
-        ("returns", EntryTable::Returns, 1),
-        ("ends", EntryTable::SegmentEnds, 3),
-    ] {
-        let name = "rows_are_taken_one_at_a_time";
-        told(rt, name, (row, count_of(conn, table)?), (row, wanted));
-    }
     for (row, first, wanted) in [
         ("from 1", 1, 2),
         ("from 2", 2, 1),
@@ -89,21 +71,6 @@ fn check_counts<S: Alter>(rt: &impl Abort, conn: &mut Idle<S>) -> Result<(), Fai
     ] {
         let name = "a_run_ends_at_the_first_gap";
         told(rt, name, (row, run_from(conn, first)?), (row, wanted));
-    }
-    Ok(())
-}
-
-/// Counts the senders of rows of what is derived of lines.
-fn check_senders<S: Alter>(rt: &impl Abort, conn: &mut Idle<S>) -> Result<(), Fail> {
-    for (row, table, wanted) in [
-        ("senders of fronts", LineTable::Fronts, 2),
-        ("senders of verdicts", LineTable::Verdicts, 0),
-        ("senders of versions", LineTable::Versions, 2),
-        ("senders of recordings", LineTable::Recordings, 1),
-    ] {
-        let mut count = Count { rows: 0 };
-        fold_senders(conn, table, &mut count)?;
-        told(rt, row, count.rows, wanted);
     }
     Ok(())
 }
@@ -154,6 +121,5 @@ fn check_questions<S: Alter>(
 fn a_question_leaves_the_book(rt: HostRuntime) -> Result<(), Fail> {
     let mut conn = committed(rt.alloc())?;
     check_counts(&rt, &mut conn)?;
-    check_senders(&rt, &mut conn)?;
     check_questions(&rt, rt.alloc(), &mut conn)
 }

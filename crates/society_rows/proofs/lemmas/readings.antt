@@ -3,7 +3,6 @@ pub mod Alike
 pub mod Answers
 pub mod AskedRows
 pub mod CutRows
-pub mod EntryQueries
 pub mod KeyEquality
 pub mod KeyQueries
 pub mod Listings

@@ -1,5 +1,5 @@
 -- When a call that failed tells of the medium.
-use Rattle.std.proofs.Common.{◌≡◌, ◌∙◌, ◌≤◌, ℕ, true, false, true≢false, List, length, Option, IsSome, Result, Ok, Err, IfErr, IsTrue, IsErrAnd, sym, subst, inl, inr, arith}
+use Rattle.std.proofs.Common.{◌≡◌, ◌∙◌, ◌≤◌, ℕ, true, true≢false, List, length, Option, IsSome, Result, Ok, Err, IsTrue, IsErrAnd, sym, subst, inl, inr, arith}
 use Rattle.std.proofs.lemmas.Bool.{cases_Bool}
 use Rattle.sqlite_value.specs.Order.{Row}
 use Rattle.sqlite_schema.specs.declared.command.Command.TheVariants.{Insert, InsertOr, Update}
@@ -8,17 +8,15 @@ use Rattle.sqlite_schema.specs.declared.command.Source.{Source}
 use Rattle.sqlite_schema.specs.declared.program.Program.{Program}
 use Rattle.sqlite_schema.specs.declared.schema.Table.{Table}
 use Rattle.sqlite.specs.declared.error.Error.{Error}
-use Rattle.sqlite.specs.declared.error.ErrorCode.TheVariants as code
 use Rattle.sqlite.specs.Effect.{Database}
 use Rattle.sqlite.specs.State.{State, ExecutesInside, HasCleanDisk, Survives}
-use Rattle.sqlite.specs.Steps.{FailsToCommit}
 use Rattle.society_rows.specs.declared.fault.RowFault.{RowFault}
 use Rattle.society_rows.specs.Effects.{BlamesMedium, BlamesMediumOver, MayFail, RanAs, TellsOfMedium, WritesOver}
-use Rattle.society_rows.specs.Faults.{fault_of_error, is_of_medium}
+use Rattle.society_rows.specs.Faults.{is_of_medium}
 use Rattle.society_rows.specs.Stored.{HasLayout}
 use Rattle.society_rows.proofs.lemmas.changes.Commands.{IsCommand}
 use Rattle.society_rows.proofs.lemmas.changes.Inserts.{IsSettled}
-use Rattle.society_rows.proofs.lemmas.errors.Failures.{IsCoded, fails_coded, medium_told, unblamed}
+use Rattle.society_rows.proofs.lemmas.errors.Failures.{IsCoded, medium_told}
 use Rattle.society_rows.proofs.lemmas.errors.Writings.{insert_codes, insert_or_codes, update_codes}
 
 -- ---- several calls
@@ -31,11 +29,6 @@ may_on old mid new first clean up (inr (inl shut)) = elim (cases_Bool old.is_ope
   | inl was ↦ elim (first.closes clean was) [ inl still ↦ absurd (true≢false (sym still ∙ shut)) | inr fails ↦ inl (let fell = up in omega (arith, fell, fails)) ]
   | inr none ↦ inr (inl none)
 ]
-
--- in an earlier one
-pub may_up : (old mid new : State) → mid.faults ≤ new.faults → MayFail old mid → MayFail old new
-may_up old mid new up (inl fails) = inl (omega (arith, up, fails))
-may_up old mid new up (inr more) = inr more
 
 tells_on : {X : Type 0} (old mid new : State) (result : Result X RowFault) → Survives old mid (λ _. ⊥) → HasCleanDisk mid → mid.faults ≤ new.faults → TellsOfMedium mid new result → TellsOfMedium old new result
 tells_on old mid new (Ok x) first clean up h = tt
@@ -54,21 +47,6 @@ pub blames_after : {X Z : Type 0} (Was Is : Database → Type 0) (a b c : State)
 blames_after Was Is a b c before holds fault (Ok y) is survives blamed clean inside was = tt
 blames_after Was Is a b c before holds fault (Err e) is survives blamed clean inside was =
     subst (λ f. is_of_medium f ≡ true → MayFail a c) (sym is) (blames_then {Z = Unit {0}} Was Is a b c before holds (Err fault) survives blamed clean inside was)
-
--- the same of a fault of a call that is the first
-pub blames_on : (X : Type 0) {Z : Type 0} (old mid new : State) (fault : RowFault) (result : Result Z RowFault) → IsErrAnd result (λ e. e ≡ fault) → mid.faults ≤ new.faults → TellsOfMedium {X = X} old mid (Err fault) → TellsOfMedium old new result
-blames_on X old mid new fault (Ok y) is up h = tt
-blames_on X old mid new fault (Err e) is up h = subst (λ f. is_of_medium f ≡ true → MayFail old new) (sym is) (λ tells. may_up old mid new up (h tells))
-
--- of a commit, after writes that went through
-pub commit_blames : {Z : Type 0} (old mid new : State) → Survives old mid (λ _. ⊥) → HasCleanDisk mid → mid.faults ≤ new.faults → (e : Error) → FailsToCommit mid new e → (result : Result Z RowFault) → IsErrAnd result (λ f. f ≡ fault_of_error e)
-    → TellsOfMedium old new result
-commit_blames old mid new first clean up e fails (Ok y) is = tt
-commit_blames old mid new first clean up e fails (Err fault) is = λ tells. may_on old mid new first clean up (medium_told fault e is (coded fails) tells)
-  where
-    coded : FailsToCommit mid new e → IsCoded (MayFail mid new) e
-    coded (inl h) = fails_coded mid new ⊥ e h
-    coded (inr h) = (code.TransactionState, h.0, unblamed)
 
 -- ---- one statement
 

@@ -1,5 +1,5 @@
 -- What a call tells of an error.
-use Rattle.std.proofs.Common.{◌≡◌, ◌⊎◌, ◌∙◌, ℕ, true, false, List, [], length, IsSome, Some, None, Vec, Result, Ok, Err, IfErr, IsTrue, IsErrAnd, refl, sym, ap, subst, inl, inr, arith}
+use Rattle.std.proofs.Common.{◌≡◌, ◌⊎◌, ◌∙◌, ℕ, true, false, List, [], length, IsSome, Vec, Result, Ok, Err, IfErr, IsTrue, IsErrAnd, refl, sym, ap, subst, inl, inr, arith}
 use Rattle.std.proofs.lemmas.Bool.{cases_Bool, false≢true}
 use Rattle.std.specs.declared.alloc.Global.{Global}
 use Rattle.sqlite_value.specs.declared.keys.Key.{Key}

@@ -6,16 +6,16 @@ use Rattle.sqlite_tied.specs.Compute.{everything}
 use Rattle.sqlite.specs.Effect.{Database}
 use Rattle.sqlite.specs.Listing.{understood}
 use Rattle.sqlite.specs.State.{State, HasCleanDisk, Shown}
+use Rattle.sqlite.proofs.Callers.{IsPlain}
 use Rattle.society_rows.specs.declared.fault.RowFault.{RowFault}
 use Rattle.society_rows.specs.declared.tables.TableName.{TableName}
 use Rattle.society_rows.specs.declared.tables.TableName.TheVariants as name
 use Rattle.society_rows.specs.Effects.{ErrsByMediumOver, OnlyFailsOver}
-use Rattle.society_rows.specs.Folds.{IsAskedOf}
 use Rattle.society_rows.specs.Layout.{written_out}
 use Rattle.society_rows.specs.Layouts.{HasTable}
 use Rattle.society_rows.specs.Reads.{Lists, Selected}
 use Rattle.society_rows.specs.TableNames.{table_called, listing_width, listing_text}
-use Rattle.society_rows.proofs.lemmas.readings.RowFolds.{query_asked}
+use Rattle.society_rows.proofs.lemmas.readings.Queries.{query_of}
 use Rattle.society_rows.proofs.lemmas.errors.Told.{query_reads, query_tells_over}
 use Rattle.society_rows.proofs.lemmas.each_table.OfficeTable.{all_offices_is, all_offices_lists}
 use Rattle.society_rows.proofs.lemmas.each_table.TransmissionTable.{all_transmissions_is, all_transmissions_lists}
@@ -48,21 +48,21 @@ lists_called name.Balances = all_balances_lists
 lists_called name.SegmentEnds = all_segment_ends_lists
 lists_called name.MechanicalPools = all_mechanical_pools_lists
 
-pub is_asked : (table : TableName) (db : Database) → HasTable table db → IsAskedOf (listing_text table) 0 db
-is_asked name.Office = query_asked all_offices_is
-is_asked name.Transmissions = query_asked all_transmissions_is
-is_asked name.Returns = query_asked all_returns_is
-is_asked name.Pools = query_asked all_pools_is
-is_asked name.PoolCuts = query_asked all_pool_cuts_is
-is_asked name.PoolReturns = query_asked all_pool_returns_is
-is_asked name.Fronts = query_asked all_fronts_is
-is_asked name.Verdicts = query_asked all_verdicts_is
-is_asked name.Versions = query_asked all_versions_is
-is_asked name.Recordings = query_asked all_recordings_is
-is_asked name.Credits = query_asked all_credits_is
-is_asked name.Balances = query_asked all_balances_is
-is_asked name.SegmentEnds = query_asked all_segment_ends_is
-is_asked name.MechanicalPools = query_asked all_mechanical_pools_is
+pub is_plain : (table : TableName) (db : Database) → HasTable table db → IsPlain (understood db.schema (listing_text table))
+is_plain name.Office db has = (query_of all_offices_is db has).plain
+is_plain name.Transmissions db has = (query_of all_transmissions_is db has).plain
+is_plain name.Returns db has = (query_of all_returns_is db has).plain
+is_plain name.Pools db has = (query_of all_pools_is db has).plain
+is_plain name.PoolCuts db has = (query_of all_pool_cuts_is db has).plain
+is_plain name.PoolReturns db has = (query_of all_pool_returns_is db has).plain
+is_plain name.Fronts db has = (query_of all_fronts_is db has).plain
+is_plain name.Verdicts db has = (query_of all_verdicts_is db has).plain
+is_plain name.Versions db has = (query_of all_versions_is db has).plain
+is_plain name.Recordings db has = (query_of all_recordings_is db has).plain
+is_plain name.Credits db has = (query_of all_credits_is db has).plain
+is_plain name.Balances db has = (query_of all_balances_is db has).plain
+is_plain name.SegmentEnds db has = (query_of all_segment_ends_is db has).plain
+is_plain name.MechanicalPools db has = (query_of all_mechanical_pools_is db has).plain
 
 -- what it tells of an error
 pub listing_tells : (table : TableName) (old new : State) (result : Result (Vec Row Global) RowFault) → (HasCleanDisk new → Selected (listing_text table) [] old new result) → OnlyFailsOver (HasTable table) old new result

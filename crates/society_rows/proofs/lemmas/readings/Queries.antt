@@ -103,7 +103,7 @@ failed_show text params old new error c None h = inl h.3
 failed_show text params old new error c (Some what) (inl refused) = inl refused.1
 failed_show text params old new error c (Some what) (inr failed) = inr failed.3
 
-pub failed_query : (text : List ℕ) (params : Row) (old new : State) (error : Error) → FailsToQuery text params old new error → IsUnchanged old new ⊎ IsRolledBack old new
+failed_query : (text : List ℕ) (params : Row) (old new : State) (error : Error) → FailsToQuery text params old new error → IsUnchanged old new ⊎ IsRolledBack old new
 unfolding FailsToQuery IsNotRun
 failed_query text params old new error (inl (inl none)) = inl none.1
 failed_query text params old new error (inl (inr failed)) = inr failed.3

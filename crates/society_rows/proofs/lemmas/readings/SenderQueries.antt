@@ -1,5 +1,5 @@
 -- The query that shows the senders of a table of what is derived of their lines, for each table.
-use Rattle.std.proofs.Common.{lit≤, ◌≡◌, ◌∙◌, ℕ, List, [], ◌∷◌, ◌++◌, map, codes, refl, ap, subst, sym, IsPermutation}
+use Rattle.std.proofs.Common.{lit≤, ◌≡◌, ◌∙◌, ℕ, List, [], ◌∷◌, map, codes, refl, ap, subst, sym, IsPermutation}
 use Rattle.sqlite_value.specs.Order.{Row, column}
 use Rattle.sqlite_rules.proofs.ListLemmas.{all_from}
 use Rattle.sqlite_trees.proofs.ListLemmas.{filter_all}
@@ -7,9 +7,8 @@ use Rattle.sqlite_sql.specs.Term.{Term, col}
 use Rattle.sqlite_sql.specs.Query.{Query}
 use Rattle.sqlite_schema.specs.declared.schema.Table.{Table}
 use Rattle.sqlite_tied.specs.Compute.{everything}
-use Rattle.sqlite.specs.Effect.{Database}
 use Rattle.sqlite.specs.Listing.{understood}
-use Rattle.sqlite.specs.State.{HasCleanDisk, State, Begins, IsUnchanged, Shown}
+use Rattle.sqlite.specs.State.{HasCleanDisk, State, Shown}
 use Rattle.std.specs.Prelude.{Result, Vec}
 use Rattle.std.specs.declared.alloc.Global.{Global}
 use Rattle.society_rows.specs.Effects.{ErrsByMediumOver}
@@ -18,14 +17,12 @@ use Rattle.society_rows.specs.declared.fault.RowFault.{RowFault}
 use Rattle.society_rows.proofs.lemmas.errors.Told.{query_reads}
 use Rattle.society_rows.specs.declared.line_senders.LineTable.{LineTable}
 use Rattle.society_rows.specs.declared.line_senders.LineTable.TheVariants as name
-use Rattle.society_rows.specs.Folds.{IsAskedOf}
 use Rattle.society_rows.specs.Layout.{written_out}
 use Rattle.society_rows.specs.Layouts.{HasTables}
 use Rattle.society_rows.specs.LineSenders.{ListsSenders, first_of, line_table, senders_text}
-use Rattle.society_rows.specs.Stored.{HasLayout, values_of}
+use Rattle.society_rows.specs.Stored.{values_of}
 use Rattle.society_rows.proofs.lemmas.readings.Answers.{picked, passes_in, answers_are}
-use Rattle.society_rows.proofs.lemmas.readings.Queries.{IsQuery, answer_of, laid}
-use Rattle.society_rows.proofs.lemmas.readings.RowFolds.{query_asked, whole_listed}
+use Rattle.society_rows.proofs.lemmas.readings.Queries.{IsQuery, answer_of}
 
 abbrev sender_only : List Term
 sender_only = col 1 1 ∷ []
@@ -87,13 +84,6 @@ shows_senders table old new rows has h =
     let found = answers_are (line_table table).tree [] sender_only [] old.now.trees [] rows (answer_of (senders_text table) (senders_of (line_table table)) (owner_names table) (senders_are table) [] old new rows has h) in
     subst (λ (l : List Row). IsPermutation l rows) (sym (firsts_are table stored))
     (subst (λ (l : List Row). IsPermutation (map (λ r. column r 1 ∷ []) l) rows) (filter_all (passes_in [] []) stored (all_from _ stored (λ r has_it. refl))) found)
-
-pub is_asked : (table : LineTable) (db : Database) → HasLayout db → IsAskedOf (senders_text table) 0 db
-is_asked table db has = query_asked (senders_are table) db (laid (senders_are table) db has)
-
--- what it shows first is the first of what it shows
-pub first_shown : (table : LineTable) (old new : State) (rows : List Row) → HasLayout old.now → Begins (senders_text table) [] old rows × IsUnchanged old new → (after : List Row) × ListsSenders table old.now.trees (rows ++ after)
-first_shown table old new rows has = whole_listed (senders_are table) [] old new (ListsSenders table) (shows_senders table old new) rows (laid (senders_are table) old.now has)
 
 -- what it tells of an error
 pub senders_tell : (table : LineTable) (old new : State) (result : Result (Vec Row Global) RowFault) → (HasCleanDisk new → Selected (senders_text table) [] old new result) → ErrsByMediumOver (HasTables 12) old new result
