@@ -47,7 +47,3 @@ Never db = ⊥
 -- the tables do not hold the book of this office that they stand for, with exactly what is derived of it
 abbrev pub HoldsNot : Office → Trees → Type 0
 HoldsNot office db = HoldsOwnBook office db → ⊥
-
--- they hold that of no office
-abbrev pub HoldsNone : Trees → Type 0
-HoldsNone db = (office : Office) → HoldsNot office db

@@ -9,6 +9,7 @@ pub mod Examining
 pub mod Judging
 pub mod LineSteps
 pub mod OrderParts
+pub mod OwnRows
 pub mod Paying
 pub mod Pools
 pub mod Standing

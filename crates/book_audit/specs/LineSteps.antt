@@ -1,5 +1,5 @@
 -- What the steps of an audit find of senders' lines, and what they say is wrong (representation).
-use Rattle.std.specs.Prelude.{ℕ, ◌≡◌, true, List, [], ◌∷◌, Result}
+use Rattle.std.specs.Prelude.{ℕ, pos, ◌≡◌, true, List, [], ◌∷◌, Result, map}
 use Rattle.std.specs.BTreeSet.{BTreeSet}
 use Rattle.std.specs.List.{AllByRecursion}
 use Rattle.share_rules.specs.declared.office.Office.{Office}
@@ -7,17 +7,30 @@ use Rattle.sqlite_schema.specs.declared.schema.Table.{Table}
 use Rattle.sqlite.specs.State.{State}
 use Rattle.sqlite_trees.specs.Tree.{Trees}
 use Rattle.sqlite_value.specs.Order.{Row}
-use Rattle.sqlite_value.specs.declared.value.Value.TheVariants.{Text}
+use Rattle.sqlite_value.specs.declared.value.Value.TheVariants.{Int, Text}
 use Rattle.society_core.specs.Book.{AreOrderly, Book}
 use Rattle.society_rows.specs.Layout as layout
 use Rattle.society_rows.specs.Reads.{Lists, has_key}
+use Rattle.society_rows.specs.Rows.{front_values}
 use Rattle.society_rows.specs.Stored.{rows_in}
+use Rattle.society_rows.specs.declared.fronts.FrontRow.{FrontRow}
 use Rattle.society_book.specs.BookRows.{book_of}
 use Rattle.society_book.specs.DerivedRows.{knows_sender}
+use Rattle.society_book.specs.Outcomes.{settled}
+use Rattle.society_book.specs.Runs.{RunValue, behind_run, settled_run}
 use Rattle.society_book.specs.Sources.{KeepsSent}
+use Rattle.society_book.specs.declared.outcomes.Outcome.{Outcome}
+use Rattle.works_core.specs.Verdicts.{works_in}
+use Rattle.works_core.specs.Versions.{judged_of}
 use Rattle.book_audit.specs.declared.audit_fault.AuditFault.{AuditFault}
 use Rattle.book_audit.specs.Examining.{Examines, HoldsNot}
 use Rattle.book_audit.specs.Auditing.{AreSenders, HasLine, HasRowsOf, is_of_one}
+
+-- a front and outcomes are what the transmissions of a sender's whole line come to, as it is noted
+pub record SettlesLine (sender : List ℕ) (run : RunValue) (front : FrontRow) (outcomes : List Outcome) : Type 0 where
+  pub name : front.sender.now ≡ sender
+  pub row : front_values front ≡ Text sender ∷ Int (pos run.reached) ∷ Int (pos (works_in (judged_of (behind_run [] run.notes)))) ∷ []
+  pub settled : map settled outcomes ≡ settled_run [] run.notes
 
 -- of a sender a database has exactly what is derived of its transmissions
 abbrev pub FindsLine : Office → List ℕ → Trees → Type 0

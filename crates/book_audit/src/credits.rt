@@ -20,8 +20,9 @@ use sqlite::{Alter, Transaction};
 use std::alloc::Global;
 use work_ids::PoolNumber;
 
-// What an order pays by the tables; `Damaged` where no book whose works they have can pay it.
-fn paid_by<S: Alter>(
+/// What an order pays by the tables; `Damaged` where no book whose works they have can pay it, and `Memory` or `Store` where memory or the
+/// database failed.
+pub fn paid_by<S: Alter>(
     alloc: Global,
     tx: &mut Transaction<'_, S>,
     office: &Office,

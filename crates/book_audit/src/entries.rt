@@ -1,7 +1,8 @@
 //! The senders of a database whose transmissions, ends and returns may stand in a book.
 ghost use Rattle.std.specs.Prelude.{◌≡◌, ◌++◌, IfOk, IfErr, OnOk, map};
 ghost use Rattle.std.specs.BTreeSet.{IsFromIterResult};
-ghost use Rattle.book_audit.specs.Examining.{Examines, HoldsNone, Judges};
+ghost use Rattle.book_audit.specs.Examining.{Examines, Judges};
+ghost use Rattle.book_audit.specs.OwnRows.{LacksOwn};
 ghost use Rattle.society_core.specs.Keys.{ascending, bytes_cmp};
 ghost use Rattle.society_rows.specs.Between.{within};
 ghost use Rattle.book_audit.specs.Entries.{AreEndsAbove, HoldsEntries};
@@ -85,7 +86,7 @@ pub fn entries_in<S: Alter>(
     tx: &mut Transaction<'_, S>,
 ) -> Result<Vec<SenderKey>, AuditFault>
     ensures same_reference { tx.new.conn.ghost_name ≡ tx.old.conn.ghost_name }
-    ensures examined { within S.Store tx.old tx.new (Examines HoldsNone) result (λ db senders. HoldsEntries senders.items db × AreEndsAbove db) }
+    ensures examined { within S.Store tx.old tx.new (Examines LacksOwn) result (λ db senders. HoldsEntries senders.items db × AreEndsAbove db) }
 {
     let keys = sent_in(alloc, tx)?;
     let lasts = stated_in(alloc, tx)?;

@@ -26,3 +26,10 @@ mod totals;
 
 pub use audit_fault::AuditFault;
 pub use auditing::audit;
+pub use credits::paid_by;
+pub use entries::entries_in;
+pub use lines::{run_of, settled_line};
+pub use pool_orders::ClosedPool;
+pub use reading::worked_out;
+pub use standing::orders_in;
+pub use totals::Totals;

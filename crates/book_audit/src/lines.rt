@@ -5,7 +5,8 @@ ghost use Rattle.std.specs.List.{AllByRecursion};
 ghost use Rattle.book_audit.specs.Examining.{Examines, HoldsNot};
 ghost use Rattle.book_audit.specs.Alike.{IsExact};
 ghost use Rattle.book_audit.specs.Auditing.{AreLinesOf, AreSenders, HasOutcomes, HasRun};
-ghost use Rattle.book_audit.specs.LineSteps.{AsksFor, Compares, DeniesLine, DeniesLines, FindsLine, FindsLines, IsNot};
+ghost use Rattle.book_audit.specs.LineSteps.{AsksFor, Compares, DeniesLine, DeniesLines, FindsLine, FindsLines, IsNot, SettlesLine};
+ghost use Rattle.book_audit.specs.declared.audit_fault.AuditFault.TheVariants.{Memory};
 ghost use Rattle.society_book.specs.BookRows.{book_of};
 ghost use Rattle.society_book.specs.Going.{IsWholeIn};
 ghost use Rattle.society_book.specs.Outcomes.{settled};
@@ -31,8 +32,9 @@ use std::alloc::{AllocError, Global};
 use work_ids::{SenderKey, WorkNumber};
 use works_core::LineEnd;
 
-// The run of a sender's whole line, as an office notes it; `Damaged` where what was sent is that of no book.
-fn run_of<S: Alter>(
+/// The run of a sender's whole line, as an office notes it; `Damaged` where what was sent is that of no book, and `Memory` or `Store` where
+/// memory or the database failed.
+pub fn run_of<S: Alter>(
     alloc: Global,
     tx: &mut Transaction<'_, S>,
     office: &Office,
@@ -146,6 +148,27 @@ fn outcomes_agree<S: Alter>(
     recordings_agree(alloc, tx, front.sender, outcomes)
 }
 
+/// The row of a sender's front and what its transactions come to, of its whole line as it is noted; `Memory` where memory was refused, or a
+/// count has no room.
+pub fn settled_line<'a>(
+    alloc: Global,
+    sender: &'a SenderKey,
+    run: &'a Run,
+) -> Result<(FrontRow<'a>, Vec<Outcome<'a>>), AuditFault>
+    ensures settled { IfOk result (λ line. SettlesLine sender.now run.now line.0 line.1.items) }
+    ensures memory { IfErr result (λ fault. fault ≡ Memory) }
+{
+    let works = ascending_works(alloc, run.noted())?;
+    let mut end = end_of_none(alloc, works.as_slice())?;
+    let outcomes = worked_out(settle_run(alloc, &mut end, run.noted()))?;
+    let front = FrontRow {
+        sender: sender.as_bytes(),
+        front: run.reached(),
+        works: worked_out(column_of(end.works()))?,
+    };
+    Ok((front, outcomes))
+}
+
 // That a database has of a sender what its transmissions tell, as they are noted; else `Damaged`.
 fn run_agrees<S: Alter>(
     alloc: Global,
@@ -156,14 +179,7 @@ fn run_agrees<S: Alter>(
     ensures same_reference { tx.new.conn.ghost_name ≡ tx.old.conn.ghost_name }
     ensures examined { within S.Store tx.old tx.new (Examines (IsNot (HasRun sender.now run.now))) result (λ db _. HasRun sender.now run.now db) }
 {
-    let works = ascending_works(alloc, run.noted())?;
-    let mut end = end_of_none(alloc, works.as_slice())?;
-    let outcomes = worked_out(settle_run(alloc, &mut end, run.noted()))?;
-    let front = FrontRow {
-        sender: sender.as_bytes(),
-        front: run.reached(),
-        works: worked_out(column_of(end.works()))?,
-    };
+    let (front, outcomes) = settled_line(alloc, sender, run)?;
     outcomes_agree(alloc, tx, &front, outcomes.as_slice())
 }
 

@@ -61,7 +61,7 @@ pub(crate) fn owners_of<S: Alter>(
 
 /// What is worked out of rows that were read. It fails by want of memory, or where a number has no room, which is told as that: of what
 /// was read no part is missing, so `Unread` is told of none.
-pub(crate) fn worked_out<X: Drop>(found: Result<X, RowFault>) -> Result<X, AuditFault>
+pub fn worked_out<X: Drop>(found: Result<X, RowFault>) -> Result<X, AuditFault>
     ensures value { IfOk result (λ x. found ≡ Ok x) }
     ensures fault { IfErr result (λ fault. fault ≡ Memory) }
 {

@@ -3,7 +3,8 @@ ghost use Rattle.std.specs.Prelude.{◌≡◌, ◌&&◌, IfOk};
 ghost use Rattle.std.specs.List.{AllByRecursion};
 ghost use Rattle.book_audit.specs.declared.pool_orders.ClosedPool.{ClosedPool as ClosedPoolValue};
 ghost use Rattle.society_core.specs.Orders.{IsOrder};
-ghost use Rattle.book_audit.specs.Examining.{Examines, HoldsNone};
+ghost use Rattle.book_audit.specs.Examining.{Examines};
+ghost use Rattle.book_audit.specs.OwnRows.{LacksReached};
 ghost use Rattle.book_audit.specs.Standing.{FindsOrders, HoldsNoLines, KnowsReach, OrdersFall, OrdersStand, TellsOrder};
 ghost use Rattle.society_rows.specs.Between.{within};
 
@@ -67,7 +68,7 @@ pub fn orders_in<S: Alter>(
     tx: &mut Transaction<'_, S>,
 ) -> Result<Vec<ClosedPool>, AuditFault>
     ensures same_reference { tx.new.conn.ghost_name ≡ tx.old.conn.ghost_name }
-    ensures examined { within S.Store tx.old tx.new (Examines HoldsNone) result (λ db closed. FindsOrders db closed.items) }
+    ensures examined { within S.Store tx.old tx.new (Examines LacksReached) result (λ db closed. FindsOrders db closed.items) }
 {
     let rows = pool_rows(tx)?;
     let closed = closed_pools(alloc, &rows)?;

@@ -14,7 +14,8 @@ use std::collections::BTreeMap;
 #[derive(Drop)]
 pub struct Totals {
     alloc: Global,
-    pub(crate) units: BTreeMap<Vec<u8>, u64>,
+    /// By the accounts' texts, in units of money.
+    pub units: BTreeMap<Vec<u8>, u64>,
 }
 
 // Adds units to those of an account; `Memory` where memory was refused, or the units do not fit.

@@ -17,7 +17,7 @@ use Rattle.share_rules.specs.declared.office.Office.{Office}
 use Rattle.society_core.specs.Book.{Book}
 use Rattle.society_core.specs.State.{State}
 use Rattle.society_book.specs.BookRows.{book_of}
-use Rattle.society_audit.specs.Older.{HoldsOne}
+use Rattle.society_opening.specs.Older.{HoldsOne}
 use Rattle.society_commands.specs.declared.left.Left.{Left}
 use Rattle.society_commands.specs.declared.left.Left.TheVariants.{Closed, Connection, Nothing, Refused, Unclosed}
 

@@ -28,7 +28,7 @@ use Rattle.society_rows.specs.Stored.{HasLayout}
 use Rattle.society_rows.specs.declared.older.OlderLayout.{OlderLayout}
 use Rattle.society_book.specs.BookRows.{book_of}
 use Rattle.society_opening.specs.Existing.{FindsSoundly, SurvivesTaking, WhenOpen}
-use Rattle.society_audit.specs.Older.{HoldsOne, Takes}
+use Rattle.society_opening.specs.Older.{HoldsOne, Takes}
 use Rattle.society_opening.specs.Opening.{HasAnyLayout, IsOpenable, ShowsAs, SurvivesOpening, TellsDatabase}
 use Rattle.society_opening.specs.declared.open_fault.OpenFault.{OpenFault}
 use Rattle.society_opening.specs.declared.open_fault.OpenFault.TheVariants.{Empty, Store}
@@ -160,13 +160,13 @@ LeavesOpening true office found left = SurvivesTaking office found left
 LeavesOpening false office found left = SurvivesOpening office found left
 
 -- A database was not opened as the office's: this is why, its connection shows what was committed, and a crash leaves what it left
--- before or what opening may leave. Where it had to be an office's already and has no table, it is told as empty; over layout 3 a failure
+-- before or what opening may leave. Where it had to be an office's already and has no table, it is told as empty; a failure
 -- of the store is told only where there may have been one.
 pub record IsNotOpened (office : Office) (existing : Bool) (found left : connection.State) : Type 0 where
   pub fault : OpenFault
   pub told : connection.HasCleanDisk left → IsTrue found.is_open → TellsDatabase office found.committed fault
   pub empty : IsTrue existing → IsTrue found.is_open → IsBare found.committed → fault ≡ Empty
-  pub failed : WhenOpen found left (HasLayout found.committed → fault ≡ Store → MayFail found left)
+  pub failed : WhenOpen found left (fault ≡ Store → MayFail found left)
   pub unchanged : connection.HasCleanDisk left → ShowsAs found.committed left
   pub crash : LeavesOpening existing office found left
 

@@ -9,7 +9,7 @@ use Rattle.society_rows.specs.Layouts.{HasOlder}
 use Rattle.society_rows.specs.Stored.{HasLayout}
 use Rattle.society_rows.specs.declared.older.OlderLayout.{OlderLayout}
 use Rattle.society_tables.specs.Laws.{IsLeftBy}
-use Rattle.society_audit.specs.Older.{HoldsOlder, HoldsOne, IsTakenOver}
+use Rattle.society_opening.specs.Older.{HoldsOlder, HoldsOne, IsTakenOver}
 use Rattle.society_opening.specs.Opening.{IsLeftTaken, IsOutside, ShowsAs}
 use Rattle.society_opening.specs.declared.open_fault.OpenFault.{OpenFault}
 use Rattle.society_opening.specs.declared.open_fault.OpenFault.TheVariants as open_fault
@@ -56,9 +56,9 @@ SparesOlder office old new fault =
 abbrev pub SurvivesTaking : Office → connection.State → connection.State → Type 0
 SurvivesTaking office old new = connection.Survives old new (IsLeftTaken office old.now)
 
--- over layout 3 the store's fault comes only where the disk may fail
+-- the store's fault comes only where the medium may have failed
 abbrev pub FailsByStore : OpenFault → connection.State → connection.State → Type 0
-FailsByStore fault old new = WhenOpen old new (HasLayout old.committed → fault ≡ open_fault.Store → MayFail old new)
+FailsByStore fault old new = WhenOpen old new (fault ≡ open_fault.Store → MayFail old new)
 
 -- said of what a crash may leave of a clean store over this connection
 abbrev pub AfterCrash : connection.State → connection.State → Type 0 → Type 0

@@ -15,7 +15,7 @@ use Rattle.society_rows.specs.declared.older.OlderLayout.{OlderLayout}
 use Rattle.society_core.specs.Book.{empty_book}
 use Rattle.society_book.specs.BookRows.{book_of}
 use Rattle.society_book.specs.Kept.{HoldsOwnBook, Rests, office_row}
-use Rattle.society_audit.specs.Older.{HoldsOlder, HoldsOne, IsTakenOver, Takes, office_row_under}
+use Rattle.society_opening.specs.Older.{HoldsOlder, HoldsOne, IsTakenOver, Takes, office_row_under}
 use Rattle.book_audit.specs.declared.audit_fault.AuditFault.{AuditFault}
 use Rattle.book_audit.specs.declared.audit_fault.AuditFault.TheVariants as audit
 use Rattle.society_opening.specs.declared.open_fault.OpenFault.{OpenFault}
@@ -102,7 +102,7 @@ SurvivesOpening office old new = connection.Survives old new (λ db. IsLeftBegun
 
 -- A database becomes an office's tables or is left as it is: one that had no table begins an empty book, one of layout 3 held a sound
 -- book with what is derived from it and is shown as it was, one of an older layout is taken over, a fault says what the database has,
--- layout 3 is told as a failure of the store only where it failed, and a crash leaves what it left before or the whole of what becomes of it.
+-- a failure of the store is told only where there may have been one, and a crash leaves what it left before or the whole of what becomes of it.
 pub record Opens (office : Office) (old new : connection.State) (result : Result (Unit {0}) OpenFault) : Type 0 where
   pub rests : OnOk result ∥ Rests office new ∥₁
   pub begun : connection.HasCleanDisk new → IsTrue old.is_open → IsBare old.committed → OnOk result (book_of new.now.trees ≡ empty_book)
@@ -111,5 +111,5 @@ pub record Opens (office : Office) (old new : connection.State) (result : Result
   pub known : connection.HasCleanDisk new → IsTrue old.is_open → OnOk result (IsOpenable old.committed)
   pub unchanged : connection.HasCleanDisk new → OnErr result (ShowsAs old.committed new)
   pub told : connection.HasCleanDisk new → IsTrue old.is_open → IfErr result (TellsDatabase office old.committed)
-  pub failed : connection.HasCleanDisk new → IsTrue old.is_open → HasLayout old.committed → IfErr result (λ e. e ≡ fault.Store → MayFail old new)
+  pub failed : connection.HasCleanDisk new → IsTrue old.is_open → IfErr result (λ e. e ≡ fault.Store → MayFail old new)
   pub crash : SurvivesOpening office old new

@@ -2,9 +2,11 @@
 #![tactic(auto)]
 
 mod auditing;
+mod examining;
 mod laws;
 mod open_fault;
 mod opening;
+mod reading_fault;
 mod taking_over;
 
 pub use auditing::audit_existing;

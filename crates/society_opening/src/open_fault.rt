@@ -1,11 +1,11 @@
 //! Why a database is not opened.
 ghost use Rattle.std.specs.Prelude.{◌≡◌};
 ghost use Rattle.society_rows.specs.Faults.{fault_of_error};
-ghost use Rattle.society_audit.specs.Opening.{reading_fault_by};
+ghost use Rattle.society_opening.specs.Reading.{reading_fault_by};
 ghost use Rattle.society_opening.specs.Opening.{open_fault_by};
 
+use crate::reading_fault::fault_of_reading;
 use book_audit::AuditFault;
-use society_audit::fault_of_reading;
 use society_rows::RowFault;
 use sqlite::Error;
 

@@ -48,11 +48,8 @@ impl<'a> CreditRow<'a> {
     }
 }
 
-/// Adds a credit, whose key has to be free.
-pub(crate) fn add_credit<S: Alter>(
-    tx: &mut Transaction<'_, S>,
-    row: &CreditRow<'_>,
-) -> Result<(), RowFault>
+// Adds a credit, whose key has to be free.
+fn add_credit<S: Alter>(tx: &mut Transaction<'_, S>, row: &CreditRow<'_>) -> Result<(), RowFault>
     ensures same_reference { tx.new.conn.ghost_name ≡ tx.old.conn.ghost_name }
     ensures written { within S.Store tx.old tx.new Writes result
         (Adds credits_table (credit_values row.now ∷ [])) }

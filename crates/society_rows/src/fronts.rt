@@ -7,7 +7,7 @@ ghost use Rattle.society_rows.specs.Forms.{IsRead, front_forms};
 ghost use Rattle.society_rows.specs.Layout.{fronts};
 ghost use Rattle.society_rows.specs.Reads.{Lists, Reads, has_key};
 ghost use Rattle.society_rows.specs.Rows.{front_values};
-ghost use Rattle.society_rows.specs.Stored.{Adds, Puts};
+ghost use Rattle.society_rows.specs.Stored.{Puts};
 ghost use Rattle.society_rows.specs.Between.{within};
 
 use crate::RowFault;
@@ -42,28 +42,6 @@ impl<'a> FrontRow<'a> {
             works: integer(row, 2)?,
         })
     }
-}
-
-/// Adds a front, whose key has to be free.
-pub(crate) fn add_front<S: Alter>(
-    tx: &mut Transaction<'_, S>,
-    row: &FrontRow<'_>,
-) -> Result<(), RowFault>
-    ensures same_reference { tx.new.conn.ghost_name ≡ tx.old.conn.ghost_name }
-    ensures written { within S.Store tx.old tx.new Writes result
-        (Adds fronts (front_values row.now ∷ [])) }
-    ensures whole { within S.Store tx.old tx.new IsAllOrNothing result }
-    ensures told { within S.Store tx.old tx.new OnlyFails result }
-{
-    run(
-        tx,
-        "INSERT INTO fronts (sender, front, works) VALUES (?1, ?2, ?3)",
-        &[
-            ValueRef::Text(row.sender),
-            row.front.to_sql(),
-            (&row.works).to_sql(),
-        ],
-    )
 }
 
 /// Puts a front, in place of the one that is there under its key.

@@ -8,7 +8,6 @@
 
 mod balances;
 mod body_keys;
-mod copying;
 mod credits;
 mod fault;
 mod finding;
@@ -41,7 +40,6 @@ mod versions;
 
 pub use balances::{BalanceRow, add_balance, add_units, put_balance};
 pub use body_keys::{BodyTable, all_keys};
-pub use copying::add_derived_rows;
 pub use credits::{CreditRow, add_credits};
 pub use fault::RowFault;
 pub use finding::{Found, layout_found};
@@ -61,7 +59,7 @@ pub use pools::{PoolRow, add_pool};
 pub use questions::{Question, answer, ask};
 pub use raising::raise_inside;
 pub use recordings::{RecordingRow, add_recordings, sender_recordings};
-pub use returns::{ReturnRow, add_return, add_returns};
+pub use returns::{ReturnRow, add_return};
 pub use segment_ends::{SegmentEndRow, add_segment_end};
 pub use tables::{TableName, all_rows};
 pub use transmissions::{TransmissionKeyRow, TransmissionRow, add_transmission, add_transmissions};

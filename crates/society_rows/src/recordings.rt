@@ -46,8 +46,8 @@ impl<'a> RecordingRow<'a> {
     }
 }
 
-/// Adds a recording, whose key has to be free.
-pub(crate) fn add_recording<S: Alter>(
+// Adds a recording, whose key has to be free.
+fn add_recording<S: Alter>(
     tx: &mut Transaction<'_, S>,
     row: &RecordingRow<'_>,
 ) -> Result<(), RowFault>

@@ -1,13 +1,13 @@
 //! The table of performance returns.
-ghost use Rattle.std.specs.Prelude.{◌≡◌, map, take, [], ◌∷◌, pos, IfOk, IfErr};
+ghost use Rattle.std.specs.Prelude.{◌≡◌, [], ◌∷◌, pos, IfOk, IfErr};
 ghost use Rattle.sqlite_value.specs.declared.value.Value.TheVariants.{Int, Text};
 ghost use Rattle.society_rows.specs.declared.fault.RowFault.TheVariants.{Unread};
-ghost use Rattle.society_rows.specs.Effects.{ErrsByMedium, IsAllOrNothing, LeavesFirst, OnlyFails, OnlyFailsInside, Writes};
+ghost use Rattle.society_rows.specs.Effects.{ErrsByMedium, IsAllOrNothing, OnlyFails, Writes};
 ghost use Rattle.society_rows.specs.Forms.{IsRead, return_forms};
 ghost use Rattle.society_rows.specs.Layout.{returns};
 ghost use Rattle.society_rows.specs.Reads.{Lists, ListsKeys, Reads, has_key};
 ghost use Rattle.society_rows.specs.Rows.{return_values};
-ghost use Rattle.society_rows.specs.Stored.{HasLayout, Adds};
+ghost use Rattle.society_rows.specs.Stored.{Adds};
 ghost use Rattle.society_rows.specs.Between.{within};
 
 use crate::RowFault;
@@ -63,24 +63,6 @@ pub fn add_return<S: Alter>(
             ValueRef::Blob(row.body),
         ],
     )
-}
-
-/// Adds performance returns, whose keys have to be free. After an error the first of them may be in the transaction.
-pub fn add_returns<S: Alter>(
-    tx: &mut Transaction<'_, S>,
-    rows: &[ReturnRow<'_>],
-) -> Result<(), RowFault>
-    ensures same_reference { tx.new.conn.ghost_name ≡ tx.old.conn.ghost_name }
-    ensures written { within S.Store tx.old tx.new Writes result
-        (Adds returns (map return_values rows.now)) }
-    ensures left { within S.Store tx.old tx.new LeavesFirst result
-        (λ count. Adds returns (map return_values (take count rows.now))) }
-    ensures told { within S.Store tx.old tx.new (OnlyFailsInside HasLayout) result }
-{
-    for row in rows {
-        add_return(tx, row)?;
-    }
-    Ok(())
 }
 
 /// The return of a reporter under a number, if there is one.

@@ -50,11 +50,8 @@ impl<'a> VerdictRow<'a> {
     }
 }
 
-/// Adds a verdict, whose key has to be free.
-pub(crate) fn add_verdict<S: Alter>(
-    tx: &mut Transaction<'_, S>,
-    row: &VerdictRow<'_>,
-) -> Result<(), RowFault>
+// Adds a verdict, whose key has to be free.
+fn add_verdict<S: Alter>(tx: &mut Transaction<'_, S>, row: &VerdictRow<'_>) -> Result<(), RowFault>
     ensures same_reference { tx.new.conn.ghost_name ≡ tx.old.conn.ghost_name }
     ensures written { within S.Store tx.old tx.new Writes result
         (Adds verdicts (verdict_values row.now ∷ [])) }

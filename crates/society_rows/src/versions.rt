@@ -50,11 +50,8 @@ impl<'a> VersionRow<'a> {
     }
 }
 
-/// Adds a version, whose key has to be free.
-pub(crate) fn add_version<S: Alter>(
-    tx: &mut Transaction<'_, S>,
-    row: &VersionRow<'_>,
-) -> Result<(), RowFault>
+// Adds a version, whose key has to be free.
+fn add_version<S: Alter>(tx: &mut Transaction<'_, S>, row: &VersionRow<'_>) -> Result<(), RowFault>
     ensures same_reference { tx.new.conn.ghost_name ≡ tx.old.conn.ghost_name }
     ensures written { within S.Store tx.old tx.new Writes result
         (Adds versions (version_values row.now ∷ [])) }

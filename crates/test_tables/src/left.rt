@@ -128,16 +128,16 @@ pub fn left_by(alloc: Global, steps: &[Step]) -> Result<Connection<MemoryStore>,
 /// A database that is opened as the tables of an office, or why it is not.
 pub type Opened<S> = Result<Tables<S>, (OpenFault, Connection<S>)>;
 
-/// Opens a database as the tables of the office of this society.
+/// Opens a database as the tables of an office.
 pub fn opened<S: Alter + Drop>(
     alloc: Global,
     conn: Connection<S>,
-    society: u16,
+    office: &Office,
 ) -> Result<Opened<S>, Fail> {
     if !conn.is_autocommit() {
         return Err(Fail::new("no transaction"));
     }
-    Ok(open(alloc, conn, &office(society)?))
+    Ok(open(alloc, conn, office))
 }
 
 /// A registration, two files with no group, a return and a pool of 1,001 units, whose order comes first when it still has to wait.

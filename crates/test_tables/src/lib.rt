@@ -1,6 +1,6 @@
 //! Tests of the office's tables in memory: rows are read back as they were written; candidates of a pool; what each call of a store answers;
-//! databases that are confirmed. The built program is tried over files, and over databases that SQLite reads and changes, by the scripts of
-//! trials/ (files.py, leaving.py, openings.py).
+//! databases that are opened and audited. The built program is tried over files, and over databases that SQLite reads and changes, by the scripts of
+//! trials/ (files.py, leaving.py, openings.py, damages.py).
 #![tactic(auto)]
 
 #[cfg(test)]
@@ -9,8 +9,6 @@ mod asked_tests;
 mod book;
 #[cfg(test)]
 mod checks;
-#[cfg(test)]
-mod copying_tests;
 #[cfg(test)]
 mod cut_tests;
 #[cfg(test)]

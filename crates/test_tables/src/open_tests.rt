@@ -4,8 +4,9 @@ use crate::left::{
     CLOSED_AT_A_CUT, ONE_WAITS, Opened, REVISIONS, YEAR_BEGUN, left_by, office, opened,
 };
 use book_audit::{AuditFault, audit};
+use share_rules::Office;
 use society_core::Store;
-use society_opening::{open_after_crash, reopen};
+use society_opening::{OpenFault, open_after_crash, reopen};
 use society_rows::{FrontRow, Idle, put_front};
 use sqlite::{Alter, Connection};
 use std::alloc::Global;
@@ -95,6 +96,48 @@ fn check_found<S: Alter + Drop>(
 #[test]
 fn a_store_is_found_again(rt: HostRuntime) -> Result<(), Fail> {
     let alloc = rt.alloc();
-    let opened = opened(alloc, left_by(alloc, ONE_WAITS)?, 900)?;
+    let opened = opened(alloc, left_by(alloc, ONE_WAITS)?, &office(900)?)?;
     check_found(&rt, alloc, opened, left_by(alloc, ONE_WAITS)?)
+}
+
+/// Opens tables that were left by office 900 as those of another office, which is told as such, and hands them back.
+fn refused<S: Alter + Drop>(
+    rt: &impl Abort,
+    alloc: Global,
+    row: &str,
+    left: Connection<S>,
+    other: &Office,
+) -> Result<Connection<S>, Fail> {
+    match opened(alloc, left, other)? {
+        Err((fault, conn)) => {
+            told(rt, row, fault, OpenFault::OtherOffice);
+            Ok(conn)
+        }
+        Ok(_) => Err(Fail::new("another office")),
+    }
+}
+
+/// Checks that three other offices don't get tables of office 900, and that it still does.
+fn check_offices<S: Alter + Drop>(
+    rt: &impl Abort,
+    alloc: Global,
+    left: Connection<S>,
+) -> Result<(), Fail> {
+    let mut left = left;
+    for (row, society, territory, name) in [
+        ("another society", 901_u16, 40_u16, "EXAMPLE SOCIETY"),
+        ("another territory", 900, 41, "EXAMPLE SOCIETY"),
+        ("another name", 900, 40, "EXAMPLE SOCIETIES"),
+    ] {
+        let other = Office::new(society, territory, name.as_bytes());
+        left = refused(rt, alloc, row, left, &other.ok_or("an office")?)?;
+    }
+    let row = "the office itself, afterwards";
+    check_front(rt, row, opened(alloc, left, &office(900)?)?, 1)
+}
+
+#[test]
+fn tables_of_another_office_are_told_as_such(rt: HostRuntime) -> Result<(), Fail> {
+    let alloc = rt.alloc();
+    check_offices(&rt, alloc, left_by(alloc, ONE_WAITS)?)
 }

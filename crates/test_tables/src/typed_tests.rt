@@ -302,5 +302,6 @@ fn typed_answers(rt: HostRuntime) -> Result<(), Fail> {
     let alloc = rt.alloc();
     check_store(&rt, alloc, PlainStore::new(alloc, &office(900)?))?;
     let in_memory = without_tables(alloc)?;
-    check_tables(&rt, alloc, opened(alloc, in_memory, 900)?)
+    let opened = opened(alloc, in_memory, &office(900)?)?;
+    check_tables(&rt, alloc, opened)
 }

@@ -4,7 +4,7 @@ use society_rows::{
     BalanceRow, CreditRow, FrontRow, MechanicalPoolRow, PoolCutRow, PoolReturnRow, PoolRow,
     RecordingRow, ReturnRow, RowFault, SegmentEndRow, TransmissionRow, VerdictRow, VersionRow,
     add_credits, add_mechanical_pool, add_pool, add_pool_cuts, add_pool_returns, add_recordings,
-    add_returns, add_segment_end, add_transmissions, add_units, add_verdicts, add_versions,
+    add_return, add_segment_end, add_transmissions, add_units, add_verdicts, add_versions,
     put_balance, put_front,
 };
 use sqlite::{Alter, Transaction};
@@ -32,11 +32,22 @@ pub enum Write {
 // These have no clause, so that the proof of a test does not carry the state of each call, and are over any store:
 // over a store by its name each of them takes a minute to prove, and so a second.
 
+/// Writes returns, up to the first that fails.
+fn write_returns<S: Alter>(
+    tx: &mut Transaction<'_, S>,
+    rows: &[ReturnRow<'_>],
+) -> Result<(), RowFault> {
+    for row in rows {
+        add_return(tx, row)?;
+    }
+    Ok(())
+}
+
 /// Writes rows.
 pub fn write_one<S: Alter>(tx: &mut Transaction<'_, S>, what: Write) -> Result<(), RowFault> {
     match what {
         Write::Transmissions(rows) => add_transmissions(tx, rows),
-        Write::Returns(rows) => add_returns(tx, rows),
+        Write::Returns(rows) => write_returns(tx, rows),
         Write::Pool(row) => add_pool(tx, &row),
         Write::Cuts(rows) => add_pool_cuts(tx, rows),
         Write::Paid(rows) => add_pool_returns(tx, rows),

@@ -20,6 +20,7 @@ use Rattle.work_ids.specs.Account.{account_text}
 use Rattle.book_audit.specs.Balances.{HasBalances, row_of_account}
 use Rattle.book_audit.specs.Credits.{AreCreditsOf}
 use Rattle.book_audit.specs.Paying.{AreApart, AreClosedIn, AreNumbersOf, AreReachedIn, credits_by}
+use Rattle.book_audit.specs.OwnRows.{HoldsReached}
 use Rattle.book_audit.specs.Pools.{orders_by}
 use Rattle.book_audit.specs.declared.pool_orders.ClosedPool.{ClosedPool}
 use Rattle.book_audit.proofs.lemmas.Among.{credits_of_all, got, named_where}
@@ -30,6 +31,10 @@ pub same_rows : (xs ys : List Credit) → IsPermutation xs ys → (account : Lis
 same_rows xs ys moved account =
     let its : Credit → _ = λ credit. bytes_eq account (account_text credit.account) in
     same_balance account (filter its xs) (filter its ys) (IsPermutation-filter its xs ys moved)
+
+-- it has its own rows, and how far each sender came
+pub reached_by : (o : Office) (b : Book) (db : Trees) → HoldsBook o b db → HoldsReached o b db
+reached_by o b db holds = record { own = record { sound = holds.sound; kept = holds.kept }; fronts = holds.derived.fronts }
 
 module _ (o : Office) (b : Book) (db : Trees) (holds : HoldsBook o b db) (closed : List ClosedPool) (whole : (q : ℕ) → order_at b q ≡ finite.get (orders_by closed) q) where
   -- it has the works

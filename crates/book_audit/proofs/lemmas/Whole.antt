@@ -72,7 +72,8 @@ module _ (o : Office) (db : Trees) (closed : List ClosedPool) (orders : FindsOrd
   abbrev before : Book
   before = unpaid (book_of db)
 
-  abbrev after : Book
+  -- the book that the tables stand for, with these pools
+  abbrev pub after : Book
   after = record { transmissions = (book_of db).transmissions; ends = (book_of db).ends; returns = (book_of db).returns; pools = orders_by closed }
 
   lines : HoldsLines o before db
@@ -166,7 +167,7 @@ module _ (o : Office) (db : Trees) (closed : List ClosedPool) (orders : FindsOrd
     mechanical = listed_has (is_of_pool 0) (mechanical_rows after) orders.rows.marks.items (rows_in layout.mechanical_pools db) orders.are.marks (IsPermutation-sym (rows_in layout.mechanical_pools db) orders.rows.marks.items (listed_in name.MechanicalPools db orders.rows.marks.items orders.listed.marks));
   }
 
-  works : HoldsWorks o after db
+  pub works : HoldsWorks o after db
   unfolding line
   works = record { sound = sound; kept = record { transmissions = held.bodies.transmissions; returns = held.bodies.returns }; derived = record { versions = held.versions; recordings = held.recordings } }
 
@@ -174,23 +175,17 @@ module _ (o : Office) (db : Trees) (closed : List ClosedPool) (orders : FindsOrd
   all_reached [] fit = tt
   all_reached (c ∷ some) fit = (reached c.order fit.0.stands, all_reached some fit.1)
 
-  module _ (found : FindsPools o closed db) where
-    paid : PayIn o after db closed × HasBalances (credits_by o after closed) db
-    paid = found.paid after works (all_reached closed all_fit)
+  -- all cuts are reached in it
+  pub each_reached : AreReachedIn after closed
+  each_reached = all_reached closed all_fit
 
-    credits : HasRows (λ pool row. pool == whole_number_at 0 row) (credit_rows o after) (rows_in layout.credits_table db)
-    credits =
-        has_credit_rows o after db found.numbers found.owners
-        (λ q there.
-        let one = found_where q closed (sym (found.these q) ∙ there) in
-        (one.0, got closed q ∙ one.1, found_each (λ (c : ClosedPool). HasCredits c.pool (credits_of o after c.order) db) q one.0 closed paid.0 one.1))
-        (λ q none. got closed q ∙ none_where q closed (sym (found.these q) ∙ none))
+  -- the balances of what its pools pay are those of the book
+  pub balances_whole : HasBalances (credits_by o after closed) db → HasRows is_named (balance_rows o after) (rows_in layout.balances db)
+  balances_whole has account =
+      subst (λ (l : List Row). IsPermutation l (filter (is_named account) (rows_in layout.balances db)))
+      (same_rows (credits_by o after closed) (all_credits o after) (credits_of_all o after closed (orders_apart orders.rows closed orders.are) (λ q. refl)) account) (has account)
 
-    balances : HasRows is_named (balance_rows o after) (rows_in layout.balances db)
-    balances account =
-        subst (λ (l : List Row). IsPermutation l (filter (is_named account) (rows_in layout.balances db)))
-        (same_rows (credits_by o after closed) (all_credits o after) (credits_of_all o after closed (orders_apart orders.rows closed orders.are) (λ q. refl)) account) (paid.1 account)
-
+  module _ (credits : HasRows (λ pool row. pool == whole_number_at 0 row) (credit_rows o after) (rows_in layout.credits_table db)) (balances : HasRows is_named (balance_rows o after) (rows_in layout.balances db)) where
     whole : HoldsBook o after db
     unfolding line
     whole = record {
@@ -208,8 +203,24 @@ module _ (o : Office) (db : Trees) (closed : List ClosedPool) (orders : FindsOrd
       numbered = held.numbered;
     }
 
-    pub completed : HoldsOwnBook o db
-    completed = subst (λ (x : Book). HoldsBook o x db) (sym (the_book after db sound own)) whole
+    -- with the lines of credits and the balances of the book it is whole
+    pub whole_by : HoldsOwnBook o db
+    whole_by = subst (λ (x : Book). HoldsBook o x db) (sym (the_book after db sound own)) whole
+
+  module _ (found : FindsPools o closed db) where
+    paid : PayIn o after db closed × HasBalances (credits_by o after closed) db
+    paid = found.paid after works each_reached
+
+    credits : HasRows (λ pool row. pool == whole_number_at 0 row) (credit_rows o after) (rows_in layout.credits_table db)
+    credits =
+        has_credit_rows o after db found.numbers found.owners
+        (λ q there.
+        let one = found_where q closed (sym (found.these q) ∙ there) in
+        (one.0, got closed q ∙ one.1, found_each (λ (c : ClosedPool). HasCredits c.pool (credits_of o after c.order) db) q one.0 closed paid.0 one.1))
+        (λ q none. got closed q ∙ none_where q closed (sym (found.these q) ∙ none))
+
+    completed : HoldsOwnBook o db
+    completed = whole_by credits (balances_whole paid.1)
 
 -- so they do
 pub completes : (o : Office) (db : Trees) (closed : List ClosedPool) → FindsOrders db closed → FindsPools o closed db → CompletesBook o db

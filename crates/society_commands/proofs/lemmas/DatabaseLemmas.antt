@@ -17,7 +17,7 @@ use Rattle.society_rows.specs.Layouts.{HasOlder}
 use Rattle.society_rows.specs.declared.older.OlderLayout.{OlderLayout}
 use Rattle.society_opening.proofs.lemmas.opened.OpenTold.{older_apart, older_once}
 use Rattle.society_opening.specs.Existing.{FindsNewest, FindsOffice, SurvivesTaking, WhenOpen}
-use Rattle.society_audit.specs.Older.{HoldsOne, IsTakenOver}
+use Rattle.society_opening.specs.Older.{HoldsOne, IsTakenOver}
 use Rattle.society_opening.specs.Opening.{HasAnyLayout, IsOpenable, ShowsAs, SurvivesOpening, TellsDatabase}
 use Rattle.society_opening.specs.declared.open_fault.OpenFault.{OpenFault}
 use Rattle.society_opening.specs.declared.open_fault.OpenFault.TheVariants.{Empty, Store}
@@ -110,7 +110,7 @@ module _ {T C : Type 0} (office : Office) (found : connection.State) (held : T �
 
   -- what was not opened, where a book may begin
   pub not_any : (r : Result T (OpenFault × C)) → IfErr r (λ e. connection.HasCleanDisk (left e.1) → IsTrue found.is_open → TellsDatabase office found.committed e.0)
-      → IfErr r (λ e. WhenOpen found (left e.1) (HasLayout found.committed → e.0 ≡ Store → MayFail found (left e.1)))
+      → IfErr r (λ e. WhenOpen found (left e.1) (e.0 ≡ Store → MayFail found (left e.1)))
       → IfErr r (λ e. connection.HasCleanDisk (left e.1) → ShowsAs found.committed (left e.1))
       → MatchResult r (λ t. SurvivesOpening office found (shown t)) (λ e. SurvivesOpening office found (left e.1))
       → IfErr r (λ e. IsNotOpened office false found (left e.1))
@@ -120,7 +120,7 @@ module _ {T C : Type 0} (office : Office) (found : connection.State) (held : T �
   -- and where none may
   pub not_existing : (X : OpenFault × C → Type 0) (r : Result T (OpenFault × C)) → IfErr r (λ e. connection.HasCleanDisk (left e.1) → IsTrue found.is_open → TellsDatabase office found.committed e.0)
       → (IsTrue found.is_open → IsBare found.committed → IsErrAnd r (λ e. (e.0 ≡ Empty) × X e))
-      → IfErr r (λ e. WhenOpen found (left e.1) (HasLayout found.committed → e.0 ≡ Store → MayFail found (left e.1)))
+      → IfErr r (λ e. WhenOpen found (left e.1) (e.0 ≡ Store → MayFail found (left e.1)))
       → IfErr r (λ e. connection.HasCleanDisk (left e.1) → ShowsAs found.committed (left e.1))
       → MatchResult r (λ t. SurvivesTaking office found (shown t)) (λ e. SurvivesTaking office found (left e.1))
       → IfErr r (λ e. IsNotOpened office true found (left e.1))

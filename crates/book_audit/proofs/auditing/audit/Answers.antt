@@ -5,7 +5,8 @@ use Rattle.society_book.specs.Kept.{HoldsOwnBook}
 use Rattle.society_core.proofs.lemmas.Books.{sound_order}
 use Rattle.book_audit.specs.Audited.{IsNumbered, IsRegistered}
 use Rattle.book_audit.specs.Auditing.{AreLinesOf, AreSenders}
-use Rattle.book_audit.specs.Examining.{HoldsNone, HoldsNot}
+use Rattle.book_audit.specs.Examining.{HoldsNot}
+use Rattle.book_audit.specs.OwnRows.{LacksOwn}
 use Rattle.book_audit.specs.LineSteps.{FindsLines}
 use Rattle.book_audit.specs.Paying.{CompletesBook, unpaid}
 use Rattle.book_audit.proofs.lemmas.Examinations.{examines_not, examines_then}
@@ -13,6 +14,12 @@ use Rattle.book_audit.proofs.lemmas.gathered.EntryBooks.{keeps_ends, keeps_entri
 use Rattle.book_audit.proofs.lemmas.gathered.EntrySenders.{senders_of_entries}
 use Rattle.book_audit.proofs.lemmas.gathered.SenderLines.{all_fronts, all_recordings, all_verdicts, all_versions}
 use Rattle.book_audit.proofs.auditing.audit.Goals as goal
+
+pub returns-in_err-senders-clause-examined : goal.returns-in_err-senders-clause-examined
+returns-in_err-senders-clause-examined g c =
+    let old = state g.S.Store c.args.tx.now.conn.now in
+    examines_not LacksOwn (HoldsNot c.args.office.now) old (state g.S.Store c.entries_in.new.tx.conn.now) c.in_err-senders.field-0.0 c.from_residual.result _ _ c.in_err-senders.ensures.examined c.from_residual.ensures.1
+    (λ lacks holds. lacks (book_of old.now.trees) (record { sound = holds.sound; kept = holds.kept }))
 
 pub returns-in_err-lines_agree-clause-examined : goal.returns-in_err-lines_agree-clause-examined
 returns-in_err-lines_agree-clause-examined g c =
@@ -24,7 +31,7 @@ returns-in_err-lines_agree-clause-examined g c =
     let senders = c.in_ok-senders.senders.items in
     let Wrong : Trees → Type 0 = λ db. AreSenders (book_of db) senders → HoldsNot o db in
     let r = c.from_residual-in_err-lines_agree.result in
-    examines_then HoldsNone Wrong (HoldsNot o) old mid new c.in_ok-senders.senders r _ (λ db (done : Unit {0}). IsRegistered o db → IsNumbered db → HoldsOwnBook o db) _ c.in_ok-senders.ensures.examined
+    examines_then LacksOwn Wrong (HoldsNot o) old mid new c.in_ok-senders.senders r _ (λ db (done : Unit {0}). IsRegistered o db → IsNumbered db → HoldsOwnBook o db) _ c.in_ok-senders.ensures.examined
     (examines_not Wrong Wrong mid new c.in_err-lines_agree.field-0.0 r _ _ (rw c.as_slice.ensures.value at c.in_err-lines_agree.ensures.examined) c.from_residual-in_err-lines_agree.ensures.1 (λ wrong. wrong))
     (λ done entries found. found)
     (λ entries wrong. wrong (senders_of_entries senders db entries.0))
@@ -39,7 +46,7 @@ returns-clause-examined g c =
     let o = c.args.office.now in
     let senders = c.in_ok-senders.senders.items in
     let Wrong : Trees → Type 0 = λ db. AreSenders (book_of db) senders → HoldsNot o db in
-    examines_then HoldsNone (HoldsNot o) (HoldsNot o) old one new c.in_ok-senders.senders c.money_agrees.result _ (λ db (done : Unit {0}). FindsLines o senders db × AreLinesOf senders db × CompletesBook o db) _ c.in_ok-senders.ensures.examined
+    examines_then LacksOwn (HoldsNot o) (HoldsNot o) old one new c.in_ok-senders.senders c.money_agrees.result _ (λ db (done : Unit {0}). FindsLines o senders db × AreLinesOf senders db × CompletesBook o db) _ c.in_ok-senders.ensures.examined
     (examines_then Wrong (HoldsNot o) (HoldsNot o) one two new tt c.money_agrees.result _ (λ db (done : Unit {0}). CompletesBook o db) _ (rw c.as_slice.ensures.value at c.in_ok-lines_agree.ensures.examined) c.money_agrees.ensures.examined
     (λ done lines completes. (lines.0, lines.1, completes)) (λ lines wrong. wrong))
     (λ done entries found registered numbered.

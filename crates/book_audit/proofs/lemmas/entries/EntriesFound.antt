@@ -10,10 +10,11 @@ use Rattle.society_core.specs.Keys.{ascending, bytes_cmp}
 use Rattle.society_core.specs.declared.transmission_key.TransmissionKey.{TransmissionKey}
 use Rattle.society_rows.specs.Layout as layout
 use Rattle.society_rows.specs.Stored.{rows_in}
-use Rattle.society_book.specs.BookRows.{book_of, transmission_key_of}
+use Rattle.society_book.specs.BookRows.{transmission_key_of}
 use Rattle.society_book.specs.Columns.{text_at}
 use Rattle.society_book.proofs.lemmas.rows_alike.BookLemmas.{one_ascent}
-use Rattle.book_audit.specs.Examining.{HoldsNone, Judges}
+use Rattle.book_audit.specs.Examining.{Judges}
+use Rattle.book_audit.specs.OwnRows.{LacksOwn}
 use Rattle.book_audit.specs.declared.audit_fault.AuditFault.{AuditFault}
 use Rattle.book_audit.specs.Entries.{AreEndsAbove, HoldsEntries, senders_in}
 use Rattle.book_audit.specs.Judging.{AreLasts, AreReported, AreRightLasts, AreSent, AreSentKeys, AreStated, AreUnder, last_stated}
@@ -21,14 +22,14 @@ use Rattle.book_audit.proofs.lemmas.entries.OwnEntries.{own_reported, own_sent, 
 use Rattle.book_audit.proofs.lemmas.entries.StatedRows.{Last, ends_above, judges_where, stated_once}
 
 -- tables whose rows may not stand in a book hold none
-pub none_sent : (db : Trees) → (AreSent db → ⊥) → HoldsNone db
-none_sent db wrong office holds = wrong (own_sent office (book_of db) db holds)
+pub none_sent : (db : Trees) → (AreSent db → ⊥) → LacksOwn db
+none_sent db wrong book holds = wrong (own_sent book db holds)
 
-pub none_stated : (db : Trees) → (AreStated db → ⊥) → HoldsNone db
-none_stated db wrong office holds = wrong (own_stated office (book_of db) db holds)
+pub none_stated : (db : Trees) → (AreStated db → ⊥) → LacksOwn db
+none_stated db wrong book holds = wrong (own_stated book db holds)
 
-pub none_reported : (db : Trees) → (AreReported db → ⊥) → HoldsNone db
-none_reported db wrong office holds = wrong (own_reported office (book_of db) db holds)
+pub none_reported : (db : Trees) → (AreReported db → ⊥) → LacksOwn db
+none_reported db wrong book holds = wrong (own_reported book db holds)
 
 -- the rows of all three tables may stand in a book
 pub record AreAllRight (db : Trees) (keys : List TransmissionKey) (lasts : List Last) : Type 0 where
@@ -71,7 +72,7 @@ module _ (db : Trees) (keys : List TransmissionKey) (lasts : List Last) where
   )
 
   -- and else the database holds no book
-  pub all_wrong : (r : Result (Vec (List ℕ) Global) AuditFault) → AreAllRight db keys lasts → IfErr r (Judges (AreUnder keys lasts → ⊥)) → IfErr r (Judges (HoldsNone db))
+  pub all_wrong : (r : Result (Vec (List ℕ) Global) AuditFault) → AreAllRight db keys lasts → IfErr r (Judges (AreUnder keys lasts → ⊥)) → IfErr r (Judges (LacksOwn db))
   all_wrong (Ok all) right judged = tt
   all_wrong (Err fault) right judged =
-      judges_where (AreUnder keys lasts → ⊥) (HoldsNone db) fault (λ wrong office holds. wrong (own_under office (book_of db) db holds keys lasts right.keys_are right.stated.these)) judged
+      judges_where (AreUnder keys lasts → ⊥) (LacksOwn db) fault (λ wrong book holds. wrong (own_under book db holds keys lasts right.keys_are right.stated.these)) judged

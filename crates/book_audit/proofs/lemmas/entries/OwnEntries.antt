@@ -1,4 +1,4 @@
--- The tables that hold a book have rows that may stand in it, each once, and no transmission above the end of its segment.
+-- The tables that have the own rows of a sound book have rows that may stand in it, each once, and no transmission above the end of its segment.
 use Rattle.std.proofs.Common.{◌≡◌, ◌∙◌, ◌≤◌, ◌&&◌, ℕ, zero, suc, Bool, true, Option, Some, None, is_some, List, ap, arith, bytes_eq, filter, length, map, refl, subst, sym}
 use Rattle.std.specs.List.{AllByRecursion}
 use Rattle.std.proofs.lemmas.List.Sorted.{IsPermutation-sym}
@@ -9,7 +9,6 @@ use Rattle.sqlite_trees.specs.Tree.{Trees}
 use Rattle.sqlite_value.specs.Order.{Row}
 use Rattle.sqlite_value.specs.declared.value.Value.TheVariants.{Int}
 use Rattle.sender_segments.specs.Ways.{End}
-use Rattle.share_rules.specs.declared.office.Office.{Office}
 use Rattle.society_core.specs.Book.{Book, body_at, end_at, is_end_entry, is_return_entry, return_at}
 use Rattle.society_core.specs.Keys.{segment_key}
 use Rattle.society_core.specs.declared.return_key.ReturnKey.{ReturnKey}
@@ -20,10 +19,10 @@ use Rattle.society_rows.specs.SegmentColumns.{segment_column}
 use Rattle.society_rows.specs.Stored.{rows_in}
 use Rattle.society_book.specs.BookRows.{end_of, end_row, end_rows, is_end_row, is_return_row, is_transmission_row, return_key_of, return_row, return_rows, row_of_some, segment_key_of, transmission_key_of, transmission_row, transmission_rows}
 use Rattle.society_book.specs.Columns.{HasRows, segment_place_at, text_at, whole_number_at}
-use Rattle.society_book.specs.Kept.{HoldsBook}
 use Rattle.society_book.proofs.lemmas.rows_alike.BookLemmas.{IsRefilled, end_back, end_key_back, refilled}
 use Rattle.society_book.proofs.lemmas.rows_alike.KeyRows.{both_same}
 use Rattle.society_book.proofs.lemmas.rows_alike.RowLemmas.{all_rows, only}
+use Rattle.book_audit.specs.OwnRows.{HoldsOwn}
 use Rattle.book_audit.specs.Entries.{is_place, is_right_return, is_right_sent, is_right_stated}
 use Rattle.book_audit.specs.Judging.{AreLasts, AreReported, AreSent, AreSentKeys, AreStated, AreUnder, IsUnder, last_stated}
 use Rattle.book_audit.proofs.lemmas.entries.StatedRows.{IsUnderAll, Last, once_stated}
@@ -45,7 +44,7 @@ place_there (suc year) = refl
 both_true : (a b : Bool) → a ≡ true → b ≡ true → (a && b) ≡ true
 both_true a b first second = ap (λ (t : Bool). t && b) first ∙ second
 
-module _ (o : Office) (b : Book) (db : Trees) (holds : HoldsBook o b db) where
+module _ (b : Book) (db : Trees) (holds : HoldsOwn b db) where
   abbrev sent_rows : List Row
   sent_rows = rows_in layout.transmissions db
 

@@ -14,6 +14,9 @@ use Rattle.society_book.specs.Runs.{IsWhole, RunValue, Settled, behind_run, sett
 use Rattle.society_book.specs.declared.outcomes.Outcome.{Outcome}
 use Rattle.society_book.proofs.lemmas.lines.LineRows.{at_front, placed_over}
 use Rattle.society_book.proofs.lemmas.lines.RunLines.{IsSeen, run_behind, run_settled, sees_recordings, sees_verdict, sees_version}
+use Rattle.society_rows.specs.Rows.{front_values}
+use Rattle.society_rows.specs.declared.fronts.FrontRow.{FrontRow}
+use Rattle.book_audit.specs.LineSteps.{SettlesLine}
 use Rattle.book_audit.specs.Auditing.{HasLine, HasOutcomes, HasRun, HasTold}
 use Rattle.works_core.specs.Verdicts.{works_in}
 use Rattle.works_core.specs.Versions.{Placed, judged_of}
@@ -26,30 +29,25 @@ has_as s one other a d b e c f db x y z w has =
     (subst (λ (l : List Row). HasTold s other l b c db) y
     (subst (λ (r : Row). HasTold s r a b c db) x has)))
 
-module _ (s q : List ℕ) (run : RunValue) (outcomes : List Outcome) (then works : ℕ) (z : ℤ) (name : q ≡ s) (reached : then ≡ run.reached) (column_is : z ≡ pos works) (are : works ≡ works_in (judged_of (behind_run [] run.notes)))
-    (their : map settled outcomes ≡ settled_run [] run.notes) where
-  front_is : Text s ∷ Int (pos then) ∷ Int z ∷ [] ≡ Text s ∷ Int (pos run.reached) ∷ Int (pos (works_in (judged_of (behind_run [] run.notes)))) ∷ []
-  front_is = ap (λ (k : ℕ). Text s ∷ Int (pos k) ∷ Int z ∷ []) reached ∙ ap (λ (y : ℤ). Text s ∷ Int (pos run.reached) ∷ Int y ∷ []) (column_is ∙ ap pos are)
-
+module _ (s : List ℕ) (run : RunValue) (front_row : FrontRow) (outcomes : List Outcome) (line : SettlesLine s run front_row outcomes) where
   verdicts_are : map (λ x. settled_verdict s (settled x)) outcomes ≡ map (settled_verdict s) (settled_run [] run.notes)
-  verdicts_are = sym (map-map (settled_verdict s) settled outcomes) ∙ ap (map (settled_verdict s)) their
+  verdicts_are = sym (map-map (settled_verdict s) settled outcomes) ∙ ap (map (settled_verdict s)) line.settled
 
   versions_are : flat_map (λ x. settled_version s (settled x)) outcomes ≡ flat_map (settled_version s) (settled_run [] run.notes)
-  versions_are = sym (flat_map-map (settled_version s) settled outcomes) ∙ ap (flat_map (settled_version s)) their
+  versions_are = sym (flat_map-map (settled_version s) settled outcomes) ∙ ap (flat_map (settled_version s)) line.settled
 
   recordings_are : flat_map (λ x. settled_recordings s (settled x)) outcomes ≡ flat_map (settled_recordings s) (settled_run [] run.notes)
-  recordings_are = sym (flat_map-map (settled_recordings s) settled outcomes) ∙ ap (flat_map (settled_recordings s)) their
+  recordings_are = sym (flat_map-map (settled_recordings s) settled outcomes) ∙ ap (flat_map (settled_recordings s)) line.settled
 
   -- where outcomes settle a run, their rows are what it tells
-  pub has_run : (db : Trees) → HasOutcomes q (Text q ∷ Int (pos then) ∷ Int z ∷ []) outcomes db → HasRun s run db
-  has_run db has =
-      has_as s _ _ _ _ _ _ _ _ db front_is verdicts_are versions_are recordings_are (subst (λ (x : List ℕ). HasOutcomes x (Text x ∷ Int (pos then) ∷ Int z ∷ []) outcomes db) name has)
+  pub has_run : (db : Trees) → HasOutcomes front_row.sender.now (front_values front_row) outcomes db → HasRun s run db
+  has_run db has = has_as s _ _ _ _ _ _ _ _ db line.row verdicts_are versions_are recordings_are (subst (λ (x : List ℕ). HasOutcomes x (front_values front_row) outcomes db) line.name has)
 
   -- and the other way
-  pub run_has : (db : Trees) → HasRun s run db → HasOutcomes q (Text q ∷ Int (pos then) ∷ Int z ∷ []) outcomes db
+  pub run_has : (db : Trees) → HasRun s run db → HasOutcomes front_row.sender.now (front_values front_row) outcomes db
   run_has db has =
-      subst (λ (x : List ℕ). HasOutcomes x (Text x ∷ Int (pos then) ∷ Int z ∷ []) outcomes db) (sym name)
-      (has_as s _ _ _ _ _ _ _ _ db (sym front_is) (sym verdicts_are) (sym versions_are) (sym recordings_are) has)
+      subst (λ (x : List ℕ). HasOutcomes x (front_values front_row) outcomes db) (sym line.name)
+      (has_as s _ _ _ _ _ _ _ _ db (sym line.row) (sym verdicts_are) (sym versions_are) (sym recordings_are) has)
 
 module _ (o : Office) (b : Book) (s : List ℕ) (run : RunValue) (whole : IsWhole o b s run) (right : AreRight (ends_of b s)) where
   told_is : (tells : Telling) (tell : List ℕ → Settled → List Row) → IsSeen o tells tell → flat_map (tell s) (settled_run [] run.notes) ≡ told_to_front tells o b s

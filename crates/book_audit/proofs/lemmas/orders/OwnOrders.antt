@@ -21,10 +21,10 @@ use Rattle.society_rows.specs.declared.tables.TableName.{TableName}
 use Rattle.society_rows.specs.declared.tables.TableName.TheVariants as name
 use Rattle.society_book.specs.BookRows.{cut_rows, is_of_pool, mechanical_rows, paid_rows, pool_rows}
 use Rattle.society_book.specs.Columns.{HasRows, whole_number_at}
-use Rattle.society_book.specs.Kept.{HoldsBook}
 use Rattle.society_book.proofs.lemmas.rows_alike.BookLemmas.{IsRefilled, third_holds}
 use Rattle.society_book.proofs.lemmas.rows_alike.KeyRows.{both_same}
 use Rattle.work_ids.specs.Numbers.{is_pool_number}
+use Rattle.book_audit.specs.OwnRows.{HoldsReached}
 use Rattle.book_audit.specs.Pools.{AreClosedBy, ArePools, IsClosed, IsClosedBy, ListPools, cut_pair, paid_pair}
 use Rattle.book_audit.specs.Standing.{CanStand, HoldsLines, can_stand, is_paid_once}
 use Rattle.book_audit.specs.declared.pool_orders.ClosedPool.{ClosedPool}
@@ -52,41 +52,41 @@ second_true : (x y : Bool) → y ≡ true → (x || y) ≡ true
 second_true true y h = refl
 second_true false y h = h
 
-module _ (o : Office) (b : Book) (db : Trees) (holds : HoldsBook o b db) where
+module _ (o : Office) (b : Book) (db : Trees) (holds : HoldsReached o b db) where
   -- the tables have its lines
   pub lines_held : HoldsLines o b db
   lines_held = record {
-    sound = holds.sound;
-    sent = record { transmissions = holds.kept.transmissions; ends = holds.kept.ends };
-    returns = holds.kept.returns;
-    fronts = holds.derived.fronts;
+    sound = holds.own.sound;
+    sent = record { transmissions = holds.own.kept.transmissions; ends = holds.own.kept.ends };
+    returns = holds.own.kept.returns;
+    fronts = holds.fronts;
   }
 
   once_each : (pool : ℕ) (order : Order) → order_at b pool ≡ Some order → (ks : List ReturnKey) → ((k : ReturnKey) → list_any (λ x. same_return_key x k) ks ≡ true → names_return k order ≡ true) → AllByRecursion IsRefilled ks → list_all (is_paid_once db) ks ≡ true
   once_each pool order there [] names whole = refl
   once_each pool order there (k ∷ ks) names whole =
       both_hold (is_paid_once db k) (list_all (is_paid_once db) ks)
-      ((Decides-eqb _ 1).1 (one_row b holds.sound (rows_in layout.pool_returns db) holds.kept.paid pool order there k (names k (first_true (same_return_key k k) (list_any (λ x. same_return_key x k) ks) (both_same k.reporter k.number))) whole.0))
+      ((Decides-eqb _ 1).1 (one_row b holds.own.sound (rows_in layout.pool_returns db) holds.own.kept.paid pool order there k (names k (first_true (same_return_key k k) (list_any (λ x. same_return_key x k) ks) (both_same k.reporter k.number))) whole.0))
       (once_each pool order there ks (λ x h. names x (second_true (same_return_key k x) (list_any (λ y. same_return_key y x) ks) h)) whole.1)
 
   -- the order of a pool can stand in it
   pub order_stands : (pool : ℕ) (order : Order) → order_at b pool ≡ Some order → can_stand b db order ≡ true
   order_stands pool order there =
-      let entry = holds.sound.pools pool order there in
+      let entry = holds.own.sound.pools pool order there in
       both_hold (list_all (is_applied b) order.cut) _
       (second_holds (is_pool_number pool) (list_all (is_applied b) order.cut) (first_holds (is_pool_number pool && list_all (is_applied b) order.cut) (list_all (λ key. is_some (return_at b key)) order.returns) entry))
       (both_hold (list_all (λ key. is_some (return_at b key)) order.returns) (list_all (is_paid_once db) order.returns)
       (third_holds (is_pool_number pool) (list_all (is_applied b) order.cut) (list_all (λ key. is_some (return_at b key)) order.returns) entry)
-      (once_each pool order there order.returns (λ k h. h) (refilled b holds.sound pool order there)))
+      (once_each pool order there order.returns (λ k h. h) (refilled b holds.own.sound pool order there)))
 
   module _ (rows : PoolRows) (listed : ListPools db rows) where
     -- the rows are those of its pools
     pub are_pools : ArePools b rows
     are_pools = record {
-      pools = listed_has (is_of_pool 0) (pool_rows b) (rows_in layout.pools db) rows.pools.items holds.kept.pools (listed_in name.Pools db rows.pools.items listed.pools);
-      cuts = listed_has (is_of_pool 0) (cut_rows b) (rows_in layout.pool_cuts db) rows.cuts.items holds.kept.cuts (listed_in name.PoolCuts db rows.cuts.items listed.cuts);
-      paid = listed_has (is_of_pool 2) (paid_rows b) (rows_in layout.pool_returns db) rows.paid.items holds.kept.paid (listed_in name.PoolReturns db rows.paid.items listed.paid);
-      marks = listed_has (is_of_pool 0) (mechanical_rows b) (rows_in layout.mechanical_pools db) rows.marks.items holds.kept.mechanical (listed_in name.MechanicalPools db rows.marks.items listed.marks);
+      pools = listed_has (is_of_pool 0) (pool_rows b) (rows_in layout.pools db) rows.pools.items holds.own.kept.pools (listed_in name.Pools db rows.pools.items listed.pools);
+      cuts = listed_has (is_of_pool 0) (cut_rows b) (rows_in layout.pool_cuts db) rows.cuts.items holds.own.kept.cuts (listed_in name.PoolCuts db rows.cuts.items listed.cuts);
+      paid = listed_has (is_of_pool 2) (paid_rows b) (rows_in layout.pool_returns db) rows.paid.items holds.own.kept.paid (listed_in name.PoolReturns db rows.paid.items listed.paid);
+      marks = listed_has (is_of_pool 0) (mechanical_rows b) (rows_in layout.mechanical_pools db) rows.marks.items holds.own.kept.mechanical (listed_in name.MechanicalPools db rows.marks.items listed.marks);
     }
 
     -- a row's pool and order are those of the book
@@ -95,8 +95,8 @@ module _ (o : Office) (b : Book) (db : Trees) (holds : HoldsBook o b db) where
         let same : whole_number_at 0 row ≡ one.pool = ap (whole_number_at 0) by.form in
         let there : order_at b one.pool ≡ Some closed.order = ap (order_at b) (sym same) ∙ closed.there in
         let amount : one.order.amount ≡ closed.order.amount = let e = ap amount_in (sym by.form ∙ closed.form) in cc in
-        let kind = kind_given b holds.sound one.pool closed.order there rows.marks.items are_pools.marks in
-        let again = order_again b holds.sound one.pool closed.order there rows.cuts.items rows.paid.items are_pools.cuts are_pools.paid in
+        let kind = kind_given b holds.own.sound one.pool closed.order there rows.marks.items are_pools.marks in
+        let again = order_again b holds.own.sound one.pool closed.order there rows.cuts.items rows.paid.items are_pools.cuts are_pools.paid in
         there ∙ ap Some (sym (by.order ∙ ap₂ (λ (k : Kind) (n : ℕ). order_of k n (map cut_pair (filter (is_of_pool 0 one.pool) rows.cuts.items)) (map paid_pair (filter (is_of_pool 2 one.pool) rows.paid.items))) kind amount ∙ again))
 
     each_there : (pools : List Row) (closed : List ClosedPool) → AreClosedBy rows pools closed → AllByRecursion (IsClosed b) pools → AllByRecursion (λ (c : ClosedPool). order_at b c.pool ≡ Some c.order) closed

@@ -3,9 +3,9 @@ use Rattle.std.specs.declared.alloc.Global.{Global}
 use Rattle.std.specs.List.{AllByRecursion}
 use Rattle.sqlite.specs.Held.{state}
 use Rattle.society_core.specs.Orders.{IsOrder}
-use Rattle.society_book.specs.BookRows.{book_of}
 use Rattle.book_audit.proofs.lemmas.Examinations.{examines_as, examines_not, examines_then}
-use Rattle.book_audit.specs.Examining.{HoldsNone, Never}
+use Rattle.book_audit.specs.Examining.{Never}
+use Rattle.book_audit.specs.OwnRows.{LacksReached}
 use Rattle.book_audit.specs.Pools.{ListPools}
 use Rattle.book_audit.specs.Standing.{FindsOrders, OrdersFall, OrdersStand}
 use Rattle.book_audit.specs.declared.pool_orders.ClosedPool.{ClosedPool}
@@ -17,10 +17,10 @@ pub returns-in_err-closed-clause-examined : goal.returns-in_err-closed-clause-ex
 returns-in_err-closed-clause-examined g c =
     let old = state g.S.Store c.args.tx.now.conn.now in
     let db = old.now.trees in
-    examines_as Never HoldsNone old (state g.S.Store c.pool_rows.new.tx.conn.now) c.in_ok-rows.rows c.from_residual-in_err-closed.result ListPools _ c.in_ok-rows.ensures.examined
+    examines_as Never LacksReached old (state g.S.Store c.pool_rows.new.tx.conn.now) c.in_ok-rows.rows c.from_residual-in_err-closed.result ListPools _ c.in_ok-rows.ensures.examined
     (λ listed. no_answer c.from_residual-in_err-closed.result _ _ c.from_residual-in_err-closed.ensures.1)
     (λ listed. judges_on c.from_residual-in_err-closed.result c.in_err-closed.field-0.0 _ _ c.from_residual-in_err-closed.ensures.1 c.in_err-closed.ensures.judged
-    (λ wrong o holds. wrong (book_of db) holds.sound (are_pools o (book_of db) db holds c.in_ok-rows.rows listed)))
+    (λ wrong o b holds. wrong b holds.own.sound (are_pools o b db holds c.in_ok-rows.rows listed)))
 
 pub returns-in_err-orders_stand-clause-examined : goal.returns-in_err-orders_stand-clause-examined
 returns-in_err-orders_stand-clause-examined g c =
@@ -30,10 +30,10 @@ returns-in_err-orders_stand-clause-examined g c =
     let db = old.now.trees in
     let fault = c.in_err-orders_stand.field-0.0 in
     let r = c.from_residual-in_err-orders_stand.result in
-    examines_then Never (OrdersFall c.in_ok-closed.closed.items) HoldsNone old mid new c.in_ok-rows.rows r ListPools (λ db (it : Vec ClosedPool Global). FindsOrders db it.items) _ c.in_ok-rows.ensures.examined
+    examines_then Never (OrdersFall c.in_ok-closed.closed.items) LacksReached old mid new c.in_ok-rows.rows r ListPools (λ db (it : Vec ClosedPool Global). FindsOrders db it.items) _ c.in_ok-rows.ensures.examined
     (examines_not (OrdersFall c.in_ok-closed.closed.items) (OrdersFall c.in_ok-closed.closed.items) mid new fault r (λ db (done : Unit {0}). OrdersStand c.in_ok-closed.closed.items db) _ (rw c.as_slice.ensures.value at c.in_err-orders_stand.ensures.examined) c.from_residual-in_err-orders_stand.ensures.1 (λ wrong. wrong))
     (λ closed listed found. found)
-    (λ listed falls o holds. falls o (book_of db) (lines_held o (book_of db) db holds) (all_stand o (book_of db) db holds c.in_ok-rows.rows listed c.in_ok-closed.closed.items c.in_ok-closed.ensures.orders.each))
+    (λ listed falls o b holds. falls o b (lines_held o b db holds) (all_stand o b db holds c.in_ok-rows.rows listed c.in_ok-closed.closed.items c.in_ok-closed.ensures.orders.each))
 
 pub returns-clause-examined : goal.returns-clause-examined
 returns-clause-examined g c =
@@ -42,7 +42,7 @@ returns-clause-examined g c =
     let new = state g.S.Store c.orders_stand.new.tx.conn.now in
     let db = old.now.trees in
     let closed : Vec ClosedPool Global = c.in_ok-closed.closed in
-    examines_then Never (OrdersFall closed.items) HoldsNone old mid new c.in_ok-rows.rows (Ok closed) ListPools (λ db (it : Vec ClosedPool Global). (it ≡ closed) × OrdersStand closed.items db) _ c.in_ok-rows.ensures.examined
+    examines_then Never (OrdersFall closed.items) LacksReached old mid new c.in_ok-rows.rows (Ok closed) ListPools (λ db (it : Vec ClosedPool Global). (it ≡ closed) × OrdersStand closed.items db) _ c.in_ok-rows.ensures.examined
     (examines_as (OrdersFall closed.items) (OrdersFall closed.items) mid new tt (Ok closed) _ _ (rw c.as_slice.ensures.value at c.in_ok-orders_stand.ensures.examined) (λ stand. (refl, stand)) (λ stand. tt))
     (λ it listed found. subst (λ (v : Vec ClosedPool Global). FindsOrders db v.items) (sym found.0) (record { rows = c.in_ok-rows.rows; listed = listed; are = c.in_ok-closed.ensures.orders; stand = found.1; kept = subst (AllByRecursion (λ (x : ClosedPool). IsOrder x.order)) c.as_slice.ensures.value c.in_ok-orders_stand.ensures.kept }))
-    (λ listed falls o holds. falls o (book_of db) (lines_held o (book_of db) db holds) (all_stand o (book_of db) db holds c.in_ok-rows.rows listed closed.items c.in_ok-closed.ensures.orders.each))
+    (λ listed falls o b holds. falls o b (lines_held o b db holds) (all_stand o b db holds c.in_ok-rows.rows listed closed.items c.in_ok-closed.ensures.orders.each))

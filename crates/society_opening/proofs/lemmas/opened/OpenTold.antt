@@ -21,18 +21,17 @@ use Rattle.society_rows.specs.declared.older.OlderLayout.TheVariants as older
 use Rattle.society_rows.specs.declared.fault.RowFault.{RowFault}
 use Rattle.society_rows.specs.declared.fault.RowFault.TheVariants as row
 use Rattle.society_book.specs.Kept.{HoldsOwnBook}
-use Rattle.society_audit.specs.Older.{HoldsOlder, HoldsOne, office_row_under}
-use Rattle.society_audit.specs.Opening.{reading_fault_by}
+use Rattle.society_opening.specs.Older.{HoldsOlder, HoldsOne, office_row_under}
+use Rattle.society_opening.specs.Reading.{reading_fault_by}
 use Rattle.society_opening.specs.Opening.{IsDamagedOlder, IsOneOffice, IsOutside, TellsDatabase, TellsOffice, TellsOfficeIn, open_fault_by}
-use Rattle.society_audit.specs.Rebuilding.{IsAside}
 use Rattle.society_rows.proofs.lemmas.definitions.FirstTables.{first_long, has_tables}
 use Rattle.book_audit.specs.declared.audit_fault.AuditFault.{AuditFault}
 use Rattle.book_audit.specs.declared.audit_fault.AuditFault.TheVariants as audit
 use Rattle.society_opening.specs.declared.open_fault.OpenFault.{OpenFault}
 use Rattle.society_opening.specs.declared.open_fault.OpenFault.TheVariants as fault
 use Rattle.society_book.proofs.lemmas.shown.AskLemmas.{first_true, second_true}
-use Rattle.society_audit.proofs.lemmas.alike.SameTables.{all_pass}
-use Rattle.society_audit.proofs.lemmas.anew.ComesAgain.{failed_aside}
+use Rattle.society_opening.proofs.lemmas.taking.SameTables.{all_pass}
+use Rattle.society_opening.proofs.lemmas.opened.Passing.{IsAside, failed_aside}
 use Rattle.society_book.proofs.lemmas.rows_alike.RowLemmas.{one_else}
 
 -- a failed statement says nothing of the office

@@ -14,15 +14,16 @@ use Rattle.society_rows.specs.NewBook.{Begins, IsBare, IsNewBook}
 use Rattle.society_rows.specs.Layouts.{HasOlder, number_of}
 use Rattle.society_rows.specs.Stored.{HasLayout}
 use Rattle.society_rows.specs.declared.older.OlderLayout.{OlderLayout}
+use Rattle.society_rows.specs.Effects.{MayFail}
 use Rattle.society_rows.specs.declared.older.OlderLayout.TheVariants as older
 use Rattle.society_book.specs.BookRows.{book_of}
 use Rattle.society_book.specs.Kept.{HoldsOwnBook, IsAtRest, Rests, office_row}
 use Rattle.society_opening.specs.Existing.{FindsOffice, SurvivesTaking}
-use Rattle.society_audit.specs.Older.{HoldsOlder, HoldsOne, IsTakenOver}
-use Rattle.society_audit.specs.Opening.{Inspects, TellsFailure}
+use Rattle.society_opening.specs.Older.{HoldsOlder, HoldsOne, IsTakenOver}
+use Rattle.society_opening.specs.Audits.{TriesNewest}
 use Rattle.society_opening.specs.Opening.{IsOpenable, IsOutside, Opens, ShowsAs, SurvivesOpening, TellsDatabase, TellsOfficeIn}
-use Rattle.society_audit.specs.TakingOver.{TakesOffice}
-use Rattle.society_opening.specs.OpenSteps.{TakesOver}
+use Rattle.society_opening.specs.TakingOver.{TakesOffice}
+use Rattle.society_opening.specs.OpenSteps.{FailsTaking, TakesOver}
 use Rattle.society_opening.specs.declared.open_fault.OpenFault.{OpenFault}
 use Rattle.society_opening.specs.declared.open_fault.OpenFault.TheVariants.{Damaged, Empty, Schema, Store}
 use Rattle.society_book.proofs.lemmas.shown.AskLemmas.{clean_is, first_true, second_true}
@@ -45,16 +46,17 @@ rests_from false P h = ∣ (λ is. absurd (false≢true is)) ∣₁
 
 module _ (o : Office) (old new : State) (r : Result (Unit {0}) OpenFault) (settled : IsTrue old.is_open → old.now ≡ old.committed) where
   -- a database that had no table
-  pub opens_begun : IsBare old.now → (HasCleanDisk new → OnOk r (Begins (office_row o) new.now × (new.now ≡ new.committed))) → (HasCleanDisk new → OnErr r (ShowsAs old.committed new)) → IfErr r IsOutside → Survives old new (IsNewBook (office_row o)) → Opens o old new r
-  opens_begun bare created neither failed crash = record {
+  pub opens_begun : IsBare old.now → (HasCleanDisk new → OnOk r (Begins (office_row o) new.now × (new.now ≡ new.committed))) → (HasCleanDisk new → OnErr r (ShowsAs old.committed new)) → IfErr r IsOutside
+      → (HasCleanDisk new → IfErr r (λ e. e ≡ Store → MayFail old new)) → Survives old new (IsNewBook (office_row o)) → Opens o old new r
+  opens_begun bare created neither outside failed crash = record {
     rests = rests_by r created;
     begun = λ clean is_open was. book_by r (created clean);
     audited = λ clean is_open has. absurd (not_both old.now bare (subst HasLayout (sym (settled is_open)) has));
     taken = λ clean is_open layout was. absurd (not_older layout old.now bare (subst (HasOlder layout) (sym (settled is_open)) was));
     known = λ clean is_open. on_ok r (inl (subst IsBare (settled is_open) bare));
     unchanged = neither;
-    told = λ clean is_open. told_by r failed;
-    failed = λ clean is_open has. absurd (not_both old.now bare (subst HasLayout (sym (settled is_open)) has));
+    told = λ clean is_open. told_by r outside;
+    failed = λ clean is_open. failed clean;
     crash = record {
       clean = crash.clean;
       shield = crash.shield;
@@ -78,34 +80,34 @@ module _ (o : Office) (old new : State) (r : Result (Unit {0}) OpenFault) (settl
       book_by (Err e) made = tt
 
   -- one of layout 3 that was audited
-  pub opens_audited : HasLayout old.now → Inspects old new r (λ db _. HoldsOne o db) → (HasCleanDisk new → HasLayout old.now → IfErr r (TellsOfficeIn 3 o old.now)) → (HasCleanDisk new → HasLayout old.now → IfErr r (λ e. e ≡ Damaged → ¬ HoldsOwnBook o old.now.trees)) → TellsFailure Store old new r → Opens o old new r
-  opens_audited has inspected told damaged failed = record {
-    rests = rests_by r (λ clean. inspected.found clean has);
+  pub opens_audited : HasLayout old.now → TriesNewest o old new r → Opens o old new r
+  opens_audited has tries = record {
+    rests = rests_by r (λ clean. tries.sound clean has);
     begun = λ clean is_open bare. absurd (not_both old.now (subst IsBare (sym (settled is_open)) bare) has);
-    audited = λ clean is_open was. held_by r (settled is_open) (inspected.found clean has) (inspected.undone clean);
+    audited = λ clean is_open was. held_by r (settled is_open) (tries.sound clean has) (tries.shown clean);
     taken = λ clean is_open layout was. absurd (older_apart layout old.now (subst (HasOlder layout) (sym (settled is_open)) was) has);
     known = λ clean is_open. on_ok r (inr (inl (subst HasLayout (settled is_open) has)));
-    unchanged = λ clean. on_err r (inspected.undone clean);
-    told = λ clean is_open. told_by r (settled is_open) (told clean has) (damaged clean has);
-    failed = λ clean is_open was. failed clean has;
+    unchanged = λ clean. on_err r (tries.shown clean);
+    told = λ clean is_open. told_by r (settled is_open) (tries.told clean has) (tries.damaged clean has);
+    failed = λ clean is_open. tries.failed clean has;
     crash = record {
-      clean = inspected.survives.clean;
-      shield = inspected.survives.shield;
-      counts = inspected.survives.counts;
-      limit = inspected.survives.limit;
-      closes = inspected.survives.closes;
-      crash = λ clean db left. ⊎_elim (λ (before : old.may_leave db). inl before) (λ (never : ⊥). absurd never) (inspected.survives.crash clean db left);
+      clean = tries.survives.clean;
+      shield = tries.survives.shield;
+      counts = tries.survives.counts;
+      limit = tries.survives.limit;
+      closes = tries.survives.closes;
+      crash = λ clean db left. ⊎_elim (λ (before : old.may_leave db). inl before) (λ (never : ⊥). absurd never) (tries.survives.crash clean db left);
     };
   }
     where
       same_now : HasCleanDisk new → IsTrue new.is_open → new.now ≡ old.now
-      same_now clean is_open = (inspected.undone clean is_open).0 ∙ sym (settled (inspected.was_open clean is_open))
+      same_now clean is_open = (tries.shown clean is_open).0 ∙ sym (settled (tries.was_open clean is_open))
 
       at_rest : IsTrue (new.is_clean && new.is_open) → HoldsOwnBook o old.now.trees → IsAtRest o new
       at_rest live holds =
           let clean = clean_is new.is_clean (first_true new.is_clean new.is_open live) in
           let is_open = second_true new.is_clean new.is_open live in
-          let undone = inspected.undone clean is_open in
+          let undone = tries.shown clean is_open in
           record {
             same = undone.0 ∙ sym undone.1;
             kept = record {
@@ -127,8 +129,8 @@ module _ (o : Office) (old new : State) (r : Result (Unit {0}) OpenFault) (settl
       held_by (Err e) same found shows = tt
 
 -- one of an older layout that is taken over, or is not
-pub opens_taken : (o : Office) (layout : OlderLayout) (old new : State) (r : Result (Unit {0}) OpenFault) → HasOlder layout old.now → TakesOver o layout old new r → Opens o old new r
-opens_taken o layout old new r was takes = record {
+pub opens_taken : (o : Office) (layout : OlderLayout) (old new : State) (r : Result (Unit {0}) OpenFault) → HasOlder layout old.now → TakesOver o layout old new r → FailsTaking (HasOlder layout) old new r → Opens o old new r
+opens_taken o layout old new r was takes failed = record {
   rests = rests_by r (λ clean. takes.taken clean was);
   begun = λ clean is_open bare. absurd (not_older layout old.now (subst IsBare (sym (takes.settled is_open)) bare) was);
   audited = λ clean is_open has. absurd (older_apart layout old.now was (subst HasLayout (sym (takes.settled is_open)) has));
@@ -136,7 +138,7 @@ opens_taken o layout old new r was takes = record {
   known = λ clean is_open. on_ok r (inr (inr (layout, subst (HasOlder layout) (takes.settled is_open) was)));
   unchanged = takes.neither;
   told = λ clean is_open. told_by r (takes.settled is_open) (takes.told clean was) (takes.damaged clean was);
-  failed = λ clean is_open has. absurd (older_apart layout old.now was (subst HasLayout (sym (takes.settled is_open)) has));
+  failed = λ clean is_open. failed clean was;
   crash = record {
     clean = takes.survives.clean;
     shield = takes.survives.shield;
@@ -185,7 +187,7 @@ opens_other o s told other settled says = record {
   known = λ clean is_open. tt;
   unchanged = λ clean is_open. (settled is_open, refl);
   told = λ clean is_open. subst (λ (db : Database). TellsDatabase o db told) (settled is_open) says;
-  failed = λ clean is_open has is. absurd (other is);
+  failed = λ clean is_open is. absurd (other is);
   crash = record { clean = omega arith; shield = λ h. h; counts = omega arith; limit = refl; closes = λ clean is. inl is; crash = λ clean db h. inl h };
 }
 

@@ -15,7 +15,7 @@ use Rattle.society_rows.specs.Stored.{HasLayout}
 use Rattle.society_book.specs.BookRows.{book_of}
 use Rattle.society_book.specs.Kept.{HoldsOwnBook, IsAtRest, LeftBy, Rests}
 use Rattle.society_tables.specs.Laws.{IsLeftBy}
-use Rattle.society_audit.specs.Older.{HoldsOne}
+use Rattle.society_opening.specs.Older.{HoldsOne}
 use Rattle.society_opening.specs.Opening.{IsOutside, ShowsAs}
 use Rattle.society_opening.specs.declared.open_fault.OpenFault.{OpenFault}
 use Rattle.society_opening.specs.declared.open_fault.OpenFault.TheVariants as fault

@@ -1,7 +1,19 @@
+use Rattle.std.proofs.Common.{◌∙◌, ap, subst, sym}
+use Rattle.society_opening.specs.Opening.{IsOutside, open_fault_by}
+use Rattle.society_opening.proofs.lemmas.opened.Failing.{opened_store}
+use Rattle.society_opening.proofs.lemmas.taking.WritingFaults.{outside_writing, told_writing}
+use Rattle.book_derivation.specs.Writing.{writing_fault_by}
 use Rattle.society_opening.proofs.opening.begin.Goals as goal
 
-pub returns-in_err-create-clause-crash : goal.returns-in_err-create-clause-crash
-returns-in_err-create-clause-crash g c = rw (c.from.ensures, c.from-2.ensures, c.name.ensures) at c.in_err-create.ensures.crash
+pub returns-in-Err-clause-crash : goal.returns-in-Err-clause-crash
+returns-in-Err-clause-crash g c = rw (c.from.ensures, c.from-2.ensures, c.name.ensures) at c.in-Err.ensures.crash
 
-pub returns-clause-crash : goal.returns-clause-crash
-returns-clause-crash g c = rw (c.from.ensures, c.from-2.ensures, c.name.ensures) at c.in_ok-create.ensures.crash
+pub returns-in-Ok-clause-crash : goal.returns-in-Ok-clause-crash
+returns-in-Ok-clause-crash g c = rw (c.from.ensures, c.from-2.ensures, c.name.ensures) at c.in-Ok.ensures.crash
+
+pub returns-in-Err-clause-told : goal.returns-in-Err-clause-told
+returns-in-Err-clause-told g c = subst IsOutside (sym (c.from-in-Err.ensures ∙ ap open_fault_by c.fault_of_writing.ensures.told)) (outside_writing c.in-Err.fault)
+
+pub returns-in-Err-clause-failed : goal.returns-in-Err-clause-failed
+returns-in-Err-clause-failed g c clean told =
+    told_writing c.in-Err.fault (c.in-Err.ensures.blamed clean) (opened_store (writing_fault_by c.in-Err.fault) (sym (c.from-in-Err.ensures ∙ ap open_fault_by c.fault_of_writing.ensures.told) ∙ told))

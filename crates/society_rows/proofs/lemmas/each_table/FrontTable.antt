@@ -8,7 +8,7 @@ use Rattle.sqlite_value.specs.Order.{Row, column}
 use Rattle.sqlite_sql.specs.declared.ops.BinaryOp.TheVariants.{Compare}
 use Rattle.sqlite_sql.specs.declared.ops.CompareOp.TheVariants.{Eq}
 use Rattle.sqlite_sql.specs.Term.{Term, lit, col, op2}
-use Rattle.sqlite_schema.specs.declared.command.Command.TheVariants.{Insert, InsertOr}
+use Rattle.sqlite_schema.specs.declared.command.Command.TheVariants.{InsertOr}
 use Rattle.sqlite_schema.specs.declared.command.Conflict.TheVariants.{Abort}
 use Rattle.sqlite_schema.specs.declared.command.Source.TheVariants.{Values}
 use Rattle.sqlite_schema.specs.declared.schema.Reference.{Reference}
@@ -19,12 +19,12 @@ use Rattle.sqlite.specs.State.{State, ExecutesInside, Shown}
 use Rattle.society_rows.specs.Layout.{written_out, fronts}
 use Rattle.society_rows.specs.Layouts.{HasTables, schema_to}
 use Rattle.society_rows.specs.Reads.{Lists, has_key}
-use Rattle.society_rows.specs.Stored.{HasLayout, Adds, Puts}
+use Rattle.society_rows.specs.Stored.{HasLayout, Puts}
 use Rattle.society_rows.proofs.lemmas.readings.Answers.{picked}
 use Rattle.society_rows.proofs.lemmas.definitions.Booleans.{and_true, the_only, free_of}
 use Rattle.society_rows.proofs.lemmas.changes.Casts.{cast_null, cast_int}
 use Rattle.society_rows.proofs.lemmas.changes.Commands.{IsCommand}
-use Rattle.society_rows.proofs.lemmas.changes.Inserts.{IsSettled, Stores, inserts}
+use Rattle.society_rows.proofs.lemmas.changes.Inserts.{IsSettled}
 use Rattle.society_rows.proofs.lemmas.readings.Queries.{IsQuery, IsListing, lists_by}
 use Rattle.society_rows.proofs.lemmas.changes.Upserts.{IsUpserted}
 use Rattle.society_rows.proofs.lemmas.changes.UpsertParts.{IsUpdate, clause_of, puts}
@@ -48,21 +48,6 @@ put_is cuts payments = record { command = refl; plain = (refl, refl); single = (
 
 abbrev row_of : List ℕ → ℤ → ℤ → Row
 row_of sender front works = Text sender ∷ Int front ∷ Int works ∷ []
-
-abbrev pub insert_text : List ℕ
-insert_text = codes "INSERT INTO fronts (sender, front, works) VALUES (?1, ?2, ?3)"
-
-pub insert_is : IsCommand insert_text 3 (Insert 6 (Values terms 4))
-unfolding understood everything written_out
-insert_is cuts payments = record { command = refl; plain = (refl, refl); single = (refl, refl) }
-
-stores : (sender : List ℕ) (front : ℤ) (works : ℤ) → Stores fronts (Null ∷ row_of sender front works) (row_of sender front works)
-unfolding written_out
-stores sender front works rows = rw (cast_null, cast_int front, cast_int works)
-
-pub adds_row : (sender : List ℕ) (front : ℤ) (works : ℤ) (old new : State) (count : ℕ) → HasLayout old.now → ExecutesInside 0 insert_text (row_of sender front works) old new (Ok count) → Adds fronts (row_of sender front works ∷ []) old.now new.now
-adds_row sender front works old new count has h =
-    inserts fronts 6 settled old new insert_text (row_of sender front works) terms 4 ((Null ∷ row_of sender front works) ∷ []) (row_of sender front works ∷ []) (Ok count) insert_is refl (stores sender front works, tt) has h
 
 is_upserted : (sender : List ℕ) (front : ℤ) (works : ℤ) (cuts payments : List Reference) → IsUpserted (schema_to 14 cuts payments) fronts (row_of sender front works)
 unfolding written_out first_key

@@ -1,0 +1,16 @@
+use Rattle.std.proofs.Common.{map}
+use Rattle.sqlite.specs.Held.{state}
+use Rattle.society_rows.specs.Layout as layout
+use Rattle.society_rows.specs.Rows.{credit_values}
+use Rattle.book_audit.specs.Examining.{Never}
+use Rattle.book_derivation.proofs.lemmas.Derivings.{derives_also}
+use Rattle.book_derivation.proofs.lemmas.Writes.{credits_table_derived, derives_adds}
+use Rattle.book_derivation.proofs.credits.add_lines.Goals as goal
+
+pub returns-clause-derives : goal.returns-clause-derives
+returns-clause-derives g c =
+    let old = state g.S.Store c.args.tx.now.conn.now in
+    let new = state g.S.Store c.add_credits.new.tx.conn.now in
+    derives_also Never Never old new c.wrote.result _ _
+    (derives_adds layout.credits_table (map credit_values c.args.lines.now) old new c.add_credits.result c.wrote.result credits_table_derived c.add_credits.ensures.written c.add_credits.ensures.blamed c.wrote.ensures.done c.wrote.ensures.fault)
+    (λ done own adds. record { rows = adds.rows; others = adds.others }) (λ never. never)

@@ -1,0 +1,14 @@
+use Rattle.std.proofs.Common.{◌≡◌, Ok, take}
+use Rattle.sqlite.specs.Held.{state}
+use Rattle.book_derivation.specs.Deriving.{Derives}
+use Rattle.book_derivation.specs.Money.{CannotPayAll}
+use Rattle.book_derivation.proofs.lemmas.money.CreditSteps.{WritesSome}
+use Rattle.book_derivation.proofs.credits.write_credits.Given as goal
+
+-- the lines of the pools so far are added, and accounts have come to this by them
+abbrev pub invariant-loop-one : goal.invariant-loop-one
+invariant-loop-one g l = record {
+  same_reference : l.tx.conn.ghost_name ≡ l.fn.tx.conn.ghost_name;
+  derives : Derives {X = Unit {0}} (CannotPayAll l.office l.closed) (state g.S.Store l.fn.tx.conn.now) (state g.S.Store l.tx.conn.now) (Ok tt)
+      (λ before after _. WritesSome l.office l.closed (take l.one-index l.closed) before after l.totals);
+}

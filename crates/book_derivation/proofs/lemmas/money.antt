@@ -1,0 +1,4 @@
+pub mod BalanceSteps
+pub mod CreditSteps
+pub mod LinedBooks
+pub mod MoneyHeld

@@ -1,0 +1,4 @@
+pub mod Deriving
+pub mod Lines
+pub mod Money
+pub mod Writing

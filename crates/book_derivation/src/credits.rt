@@ -1,0 +1,80 @@
+//! What pools pay by the tables, worked out and written as the lines of their credits.
+ghost use Rattle.std.specs.Prelude.{◌≡◌, map};
+ghost use Rattle.book_audit.specs.Examining.{Never};
+ghost use Rattle.book_derivation.specs.Deriving.{Derives};
+ghost use Rattle.book_derivation.specs.Money.{AddsCredits, AddsLines, CannotPayAll, WritesCredits, WritesPool};
+ghost use Rattle.society_closings.specs.Blamed.{CannotPay};
+ghost use Rattle.society_rows.specs.Between.{within};
+ghost use Rattle.society_rows.specs.Rows.{credit_values};
+
+use crate::writing::wrote;
+use book_audit::{AuditFault, ClosedPool, Totals, paid_by, worked_out};
+use pool_split::Credit;
+use share_rules::Office;
+use society_closings::{line_rows, texts_of};
+use society_core::PoolOrder;
+use society_rows::{CreditRow, add_credits};
+use sqlite::{Alter, Transaction};
+use std::alloc::Global;
+use work_ids::PoolNumber;
+
+// Adds lines of credits.
+fn add_lines<S: Alter>(
+    tx: &mut Transaction<'_, S>,
+    lines: &[CreditRow<'_>],
+) -> Result<(), AuditFault>
+    ensures same_reference { tx.new.conn.ghost_name ≡ tx.old.conn.ghost_name }
+    ensures derives { within S.Store tx.old tx.new (Derives Never) result (λ before after _. AddsLines (map credit_values lines.now) before after) }
+{
+    wrote(add_credits(tx, lines))
+}
+
+// Adds the lines of these credits of a pool.
+fn write_lines<S: Alter>(
+    alloc: Global,
+    tx: &mut Transaction<'_, S>,
+    pool: u32,
+    credits: &[Credit],
+) -> Result<(), AuditFault>
+    ensures same_reference { tx.new.conn.ghost_name ≡ tx.old.conn.ghost_name }
+    ensures derives { within S.Store tx.old tx.new (Derives Never) result (λ before after _. AddsCredits pool credits.now before after) }
+{
+    let texts = worked_out(texts_of(alloc, credits))?;
+    let lines = worked_out(line_rows(alloc, pool, credits, texts.as_slice()))?;
+    add_lines(tx, lines.as_slice())
+}
+
+// What a pool pays by the tables, whose lines are written; `Damaged` where no book whose works they have can pay it.
+fn write_pool<S: Alter>(
+    alloc: Global,
+    tx: &mut Transaction<'_, S>,
+    office: &Office,
+    pool: PoolNumber,
+    order: &PoolOrder,
+) -> Result<Vec<Credit>, AuditFault>
+    ensures same_reference { tx.new.conn.ghost_name ≡ tx.old.conn.ghost_name }
+    ensures derives { within S.Store tx.old tx.new (Derives (CannotPay office.now order.now)) result (λ before after credits. WritesPool office.now pool order.now before after credits.items) }
+{
+    let credits = paid_by(alloc, tx, office, order)?;
+    write_lines(alloc, tx, pool.value(), credits.as_slice())?;
+    Ok(credits)
+}
+
+/// What accounts come to by closed pools, the lines of whose credits are written; `Damaged` where no book whose works the tables have can
+/// pay them, and `Memory` or `Store` where memory or the database failed. Memory is that of the accounts and of one pool's credits.
+pub(crate) fn write_credits<S: Alter>(
+    alloc: Global,
+    tx: &mut Transaction<'_, S>,
+    office: &Office,
+    closed: &[ClosedPool],
+) -> Result<Totals, AuditFault>
+    ensures same_reference { tx.new.conn.ghost_name ≡ tx.old.conn.ghost_name }
+    ensures derives { within S.Store tx.old tx.new (Derives (CannotPayAll office.now closed.now)) result (WritesCredits office.now closed.now) }
+{
+    let mut totals = Totals::new(alloc);
+    for one in closed {
+        let credits = write_pool(alloc, tx, office, one.pool, &one.order)?;
+        totals.add(credits.as_slice())?;
+    }
+    Ok(totals)
+}

@@ -1,5 +1,0 @@
--- Tables that hold the same.
-pub mod SameTables
-pub mod SortedOnce
-pub mod RowTies
-pub mod OneListing

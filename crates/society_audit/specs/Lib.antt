@@ -1,8 +1,0 @@
-pub mod Again
-pub mod InMemory
-pub mod Older
-pub mod Opening
-pub mod OrderParts
-pub mod OwnRows
-pub mod Rebuilding
-pub mod TakingOver

@@ -1,0 +1,117 @@
+//! What an audit finds of the tables of layout 3 in a transaction.
+ghost use Rattle.std.specs.Prelude.{[], ◌∷◌, ◌≡◌, ◌≢◌, IfErr, IfOk};
+ghost use Rattle.book_audit.specs.Audited.{IsNumbered, IsRegistered};
+ghost use Rattle.book_audit.specs.Examining.{Examines, HoldsNot};
+ghost use Rattle.society_book.specs.Kept.{HoldsOwnBook};
+ghost use Rattle.society_opening.specs.Older.{office_row_under};
+ghost use Rattle.society_opening.specs.Opening.{TellsOffice};
+ghost use Rattle.society_opening.specs.OpenSteps.{DeniesIn, FailsIn, TellsIn};
+ghost use Rattle.society_opening.specs.TakingOver.{DoesOver, IsOffice};
+ghost use Rattle.society_opening.specs.declared.open_fault.OpenFault.TheVariants as fault;
+ghost use Rattle.society_opening.specs.declared.open_fault.OpenFault.TheVariants.{Damaged, Empty};
+ghost use Rattle.society_rows.specs.Between.{within};
+ghost use Rattle.society_rows.specs.Layouts.{HasTable};
+ghost use Rattle.society_rows.specs.Stored.{AreNumbered, HasLayout};
+ghost use Rattle.society_rows.specs.declared.tables.TableName.TheVariants.{Office as OfficeTable};
+ghost use Rattle.society_rows.specs.TableNames.{table_called};
+
+use crate::OpenFault;
+use crate::reading_fault::fault_of_reading;
+use book_audit::{AuditFault, audit};
+use share_rules::Office;
+use society_rows::{LAYOUT, OfficeRow, TableName, all_rows, are_numbered};
+use sqlite::{Alter, Row, Transaction};
+use std::alloc::Global;
+
+// That the rows of offices are the one row of this office under a layout; `Schema` where it cannot be read.
+fn check_office(rows: &[Row], office: &Office, layout: u32) -> Result<(), OpenFault>
+    ensures same { IfOk result (λ _. rows.now ≡ office_row_under layout office.now ∷ []) }
+    ensures told { IfErr result (TellsOffice layout office.now rows.now) }
+    ensures other { IfErr result (λ e. e ≢ Damaged) }
+    ensures there { IfErr result (λ e. e ≢ Empty) }
+    ensures read { IfErr result (λ e. e ≢ fault.Store) }
+{
+    let [row] = rows else {
+        return Err(OpenFault::Schema);
+    };
+    let Ok(row) = OfficeRow::from_row_under(row, layout) else {
+        return Err(OpenFault::Schema);
+    };
+    if row.society == u32::from(office.society)
+        && row.territory == u32::from(office.territory)
+        && row.name == office.name()
+    {
+        Ok(())
+    } else {
+        Err(OpenFault::OtherOffice)
+    }
+}
+
+/// That the tables are those of this office, under the layout of a number.
+pub(crate) fn office_agrees<S: Alter>(
+    tx: &mut Transaction<'_, S>,
+    office: &Office,
+    number: u32,
+) -> Result<(), OpenFault>
+    ensures same_reference { tx.new.conn.ghost_name ≡ tx.old.conn.ghost_name }
+    ensures finds { within S.Store tx.old tx.new (DoesOver (HasTable OfficeTable)) result (IsOffice office.now number) }
+    ensures told { within S.Store tx.old tx.new (TellsIn (HasTable OfficeTable) number office.now) result }
+    ensures failed { within S.Store tx.old tx.new (FailsIn (HasTable OfficeTable)) result }
+    ensures other { IfErr result (λ e. e ≢ Damaged) }
+    ensures there { IfErr result (λ e. e ≢ Empty) }
+{
+    let rows = all_rows(tx, TableName::Office)?;
+    check_office(rows.as_slice(), office, number)
+}
+
+// That each row of a table has a whole number as its rowid; else `Damaged`.
+fn check_numbers<S: Alter>(tx: &mut Transaction<'_, S>, table: TableName) -> Result<(), AuditFault>
+    ensures same_reference { tx.new.conn.ghost_name ≡ tx.old.conn.ghost_name }
+    ensures examined { within S.Store tx.old tx.new (Examines (λ db. AreNumbered (table_called table) db → ⊥)) result (λ db _. AreNumbered (table_called table) db) }
+{
+    match are_numbered(tx, table) {
+        Ok(true) => Ok(()),
+        Ok(false) => Err(AuditFault::Damaged),
+        Err(fault) => Err(fault_of_reading(fault)),
+    }
+}
+
+// That what is put over another row has a whole number as its rowid; else `Damaged`.
+fn fronts_and_balances_numbered<S: Alter>(tx: &mut Transaction<'_, S>) -> Result<(), AuditFault>
+    ensures same_reference { tx.new.conn.ghost_name ≡ tx.old.conn.ghost_name }
+    ensures examined { within S.Store tx.old tx.new (Examines (λ db. IsNumbered db → ⊥)) result (λ db _. IsNumbered db) }
+{
+    check_numbers(tx, TableName::Fronts)?;
+    check_numbers(tx, TableName::Balances)
+}
+
+/// That tables with the row of this office hold the book that they stand for, with exactly what is derived of it, and can be written; else
+/// `Damaged`, and `Memory` or `Store` where memory or the database failed. Nothing is written.
+pub(crate) fn examine_whole<S: Alter>(
+    alloc: Global,
+    tx: &mut Transaction<'_, S>,
+    office: &Office,
+) -> Result<(), AuditFault>
+    ensures same_reference { tx.new.conn.ghost_name ≡ tx.old.conn.ghost_name }
+    ensures examined { within S.Store tx.old tx.new (Examines (HoldsNot office.now)) result (λ db _. IsRegistered office.now db → HoldsOwnBook office.now db) }
+{
+    fronts_and_balances_numbered(tx)?;
+    audit(alloc, tx, office)
+}
+
+/// That tables of layout 3 are this office's, and hold the book that they stand for, with exactly what is derived of it. Nothing is written.
+pub(crate) fn examine_office<S: Alter>(
+    alloc: Global,
+    tx: &mut Transaction<'_, S>,
+    office: &Office,
+) -> Result<(), OpenFault>
+    ensures same_reference { tx.new.conn.ghost_name ≡ tx.old.conn.ghost_name }
+    ensures does { within S.Store tx.old tx.new (DoesOver HasLayout) result (λ before after _. (after ≡ before) × HoldsOwnBook office.now before.trees) }
+    ensures told { within S.Store tx.old tx.new (TellsIn HasLayout 3 office.now) result }
+    ensures damaged { within S.Store tx.old tx.new (DeniesIn HasLayout (HoldsOwnBook office.now)) result }
+    ensures failed { within S.Store tx.old tx.new (FailsIn HasLayout) result }
+    ensures there { IfErr result (λ e. e ≢ Empty) }
+{
+    office_agrees(tx, office, LAYOUT)?;
+    Ok(examine_whole(alloc, tx, office)?)
+}
