@@ -17,6 +17,7 @@ from program import ROOT, SLOW, TRIALS, Other, common
 # Each of these adds its trials.
 import arguments
 import connections
+import damages
 import endings
 import files
 import leaving
