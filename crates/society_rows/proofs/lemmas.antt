@@ -1,6 +1,5 @@
 -- What is proved of the definitions, for the proofs of functions.
 pub mod changes
 pub mod readings
-pub mod each_table
 pub mod definitions
 pub mod errors

@@ -12,7 +12,9 @@ pub mod Layouts
 pub mod LineSenders
 pub mod Listings
 pub mod NewBook
+pub mod NewRows
 pub mod Questions
+pub mod QuestionTexts
 pub mod Raising
 pub mod Reads
 pub mod Rows

@@ -1,9 +1,8 @@
 -- How the tables begin.
-use Rattle.std.specs.Prelude.{◌≡◌, ◌≢◌, ℕ, [], ◌∷◌, take, fold}
+use Rattle.std.specs.Prelude.{◌≡◌, ◌≢◌, [], ◌∷◌}
 use Rattle.std.specs.List.{AllByRecursion}
 use Rattle.sqlite_value.specs.Order.{Row}
 use Rattle.sqlite_trees.specs.Tree.{Trees}
-use Rattle.sqlite_catalog.specs.Change.{created}
 use Rattle.sqlite.specs.Effect.{Database}
 use Rattle.society_rows.specs.Layout.{all_tables, no_schema, office}
 use Rattle.society_rows.specs.Stored.{rows_in, HasLayout}
@@ -11,11 +10,6 @@ use Rattle.society_rows.specs.Stored.{rows_in, HasLayout}
 -- the database has no table
 abbrev pub IsBare : Database → Type 0
 IsBare db = db.schema ≡ no_schema
-
--- the first tables of the layout are there, and empty
-pub record HasEmpty (count : ℕ) (db : Database) : Type 0 where
-  pub schema : db.schema ≡ fold created no_schema (take count all_tables)
-  pub empty : AllByRecursion (λ t. db.trees t.tree ≡ []) db.schema.tables
 
 -- every table is there, and empty
 pub record IsEmptyBook (db : Database) : Type 0 where

@@ -1,23 +1,22 @@
 //! The table of balances.
 ghost use Rattle.std.specs.Prelude.{◌≡◌, [], ◌∷◌, IfOk, IfErr, FitsSigned};
 ghost use Rattle.std.specs.Int.{w64};
-ghost use Rattle.sqlite_value.specs.declared.value.Value.TheVariants.{Text};
 ghost use Rattle.sqlite.specs.State.{HasCleanDisk};
+ghost use Rattle.sqlite.specs.Values.{bound};
 ghost use Rattle.society_rows.specs.declared.fault.RowFault.TheVariants.{Unread};
 ghost use Rattle.society_rows.specs.Balances.{HasUnits, AddsUnits, HidesUnits, RefusesUnits};
-ghost use Rattle.society_rows.specs.Effects.{BlamesMedium, ErrsByMedium, IsAllOrNothing, OnlyFails, Writes};
+ghost use Rattle.society_rows.specs.Effects.{BlamesMedium, IsAllOrNothing, OnlyFails, Writes};
 ghost use Rattle.society_rows.specs.Folds.{ReadsInside};
 ghost use Rattle.society_rows.specs.Forms.{IsRead, balance_forms};
 ghost use Rattle.society_rows.specs.Layout.{balances};
-ghost use Rattle.society_rows.specs.Reads.{Lists, Reads, has_key};
 ghost use Rattle.society_rows.specs.Rows.{balance_values};
 ghost use Rattle.society_rows.specs.Stored.{Adds, HasLayout, Puts};
 ghost use Rattle.society_rows.specs.Between.{within};
 
-use crate::RowFault;
+use crate::new_rows::{NewRows, add};
 use crate::reading::{integer, text};
-use crate::statement::{run, select};
-use sqlite::types::ToSql;
+use crate::statement::run;
+use crate::{Question, RowFault, answer};
 use sqlite::{Alter, Row, Transaction};
 use sqlite_value::value::ValueRef;
 
@@ -30,6 +29,7 @@ pub struct BalanceRow<'a> {
 
 impl<'a> BalanceRow<'a> {
     /// The row that these values are, in the order of the columns; else `Unread`.
+    #[tactic(auto, using(crate::proofs::lemmas::changes::Columns::row_columns))]
     pub fn from_row(row: &'a Row) -> Result<BalanceRow<'a>, RowFault>
         ensures value { IfOk result (λ x. balance_values x ≡ row.now) }
         ensures read { IsRead balance_forms row.now result }
@@ -43,6 +43,13 @@ impl<'a> BalanceRow<'a> {
             account: text(row, 0)?,
             units: integer(row, 1)?,
         })
+    }
+
+    /// The values of its columns.
+    pub(crate) fn params(&self) -> [ValueRef<'_>; 2]
+        ensures { bound result ≡ balance_values self.now }
+    {
+        [ValueRef::Text(self.account), ValueRef::Int(self.units)]
     }
 }
 
@@ -58,18 +65,11 @@ pub fn add_balance<S: Alter>(
     ensures told { within S.Store tx.old tx.new OnlyFails result }
     ensures blamed { within S.Store tx.old tx.new BlamesMedium result }
 {
-    run(
-        tx,
-        "INSERT INTO balances (account, units) VALUES (?1, ?2)",
-        &[ValueRef::Text(row.account), (&row.units).to_sql()],
-    )
+    add(tx, NewRows::Balance(row))
 }
 
-/// Puts a balance, in place of the one that is there under its key.
-pub fn put_balance<S: Alter>(
-    tx: &mut Transaction<'_, S>,
-    row: &BalanceRow<'_>,
-) -> Result<(), RowFault>
+// Puts a balance, in place of the one that is there under its key.
+fn put_balance<S: Alter>(tx: &mut Transaction<'_, S>, row: &BalanceRow<'_>) -> Result<(), RowFault>
     ensures same_reference { tx.new.conn.ghost_name ≡ tx.old.conn.ghost_name }
     ensures written { within S.Store tx.old tx.new Writes result
         (Puts balances (balance_values row.now)) }
@@ -79,25 +79,7 @@ pub fn put_balance<S: Alter>(
     run(
         tx,
         "INSERT INTO balances (account, units) VALUES (?1, ?2) ON CONFLICT (account) DO UPDATE SET account = excluded.account, units = excluded.units",
-        &[ValueRef::Text(row.account), (&row.units).to_sql()],
-    )
-}
-
-/// The balance of an account, if it has one.
-pub(crate) fn balance_at<S: Alter>(
-    tx: &mut Transaction<'_, S>,
-    account: &[u8],
-) -> Result<Vec<Row>, RowFault>
-    ensures same_reference { tx.new.conn.ghost_name ≡ tx.old.conn.ghost_name }
-    ensures read { within S.Store tx.old tx.new Reads result
-        (λ db rows. Lists balances (has_key (Text account.now ∷ [])) 1 db rows.items) }
-    ensures told { within S.Store tx.old tx.new OnlyFails result }
-    ensures medium { within S.Store tx.old tx.new ErrsByMedium result }
-{
-    select(
-        tx,
-        "SELECT account, units FROM balances WHERE account = ?1 ORDER BY account",
-        &[ValueRef::Text(account)],
+        &row.params(),
     )
 }
 
@@ -112,7 +94,7 @@ pub(crate) fn units_of<S: Alter>(
     ensures cause { within S.Store tx.old tx.new (λ old new. HasCleanDisk new → HasLayout old.now → IfErr result (HidesUnits account.now old.now.trees)) }
     ensures range { IfOk result (λ n. FitsSigned w64 n) }
 {
-    let rows = balance_at(tx, account)?;
+    let rows = answer(tx, Question::Balance(account))?;
     match rows.as_slice() {
         [] => Ok(0),
         [row] => Ok(BalanceRow::from_row(row)?.units),

@@ -1,15 +1,18 @@
 //! What a database holds: nothing, one of the layouts, or something else.
-ghost use Rattle.std.specs.Prelude.{◌≡◌, ◌↔◌, map, IsTrue};
+ghost use Rattle.std.specs.Prelude.{◌≡◌, ◌↔◌, List, map, IsTrue};
 ghost use Rattle.sqlite.specs.Held.{state};
 ghost use Rattle.society_rows.specs.Finding.{IsFound, IsMade, IsMadeOf, IsMadeWith, index_called, table_with};
 ghost use Rattle.society_rows.specs.Layout.{no_schema};
 ghost use Rattle.society_rows.specs.Layouts.{IsFirst, tables_of};
-ghost use Rattle.society_rows.specs.Shapes.{refers_to};
+ghost use Rattle.society_rows.specs.Shapes.{guard_shaped, refers_to, table_shaped};
+ghost use Rattle.society_rows.specs.TableNames.{table_called};
+ghost use Rattle.sqlite_schema.specs.declared.schema.Reference.{Reference};
 
-use crate::shapes::{Parent, is_guard, is_keyed, is_numbered};
+use crate::shapes::{Parent, Rows, TableShape, is_guard, is_table};
 use crate::{Idle, OlderLayout, TableName};
 use sqlite::Alter;
-use sqlite_schema::schema::{Index, Kind, Schema, Table};
+use sqlite_schema::schema::Kind::{Blob, Integer, Text};
+use sqlite_schema::schema::{Index, Schema, Table};
 
 /// What a database holds.
 #[derive(Clone, Copy, Debug, PartialEq, Eq)]
@@ -57,91 +60,169 @@ const KEYED: [TableName; 11] = [
     TableName::SegmentEnds,
 ];
 
-// The columns of each table.
+// The tables as they are made.
 
-const OFFICE: [(&str, Kind); 5] = [
-    ("one", Kind::Integer),
-    ("layout", Kind::Integer),
-    ("society", Kind::Integer),
-    ("territory", Kind::Integer),
-    ("name", Kind::Text),
-];
+const OFFICE: TableShape<'static> = TableShape {
+    name: "office",
+    tree: 0,
+    columns: &[
+        ("one", Integer),
+        ("layout", Integer),
+        ("society", Integer),
+        ("territory", Integer),
+        ("name", Text),
+    ],
+    rows: Rows::Single,
+    key: &[0],
+    guard: "sqlite_autoindex_office_1",
+};
 
-const TRANSMISSIONS: [(&str, Kind); 3] = [
-    ("sender", Kind::Text),
-    ("number", Kind::Integer),
-    ("body", Kind::Blob),
-];
+const TRANSMISSIONS: TableShape<'static> = TableShape {
+    name: "transmissions",
+    tree: 1,
+    columns: &[("sender", Text), ("number", Integer), ("body", Blob)],
+    rows: Rows::Keyed,
+    key: &[1, 2],
+    guard: "sqlite_autoindex_transmissions_1",
+};
 
-const RETURNS: [(&str, Kind); 3] = [
-    ("reporter", Kind::Text),
-    ("number", Kind::Integer),
-    ("body", Kind::Blob),
-];
+const RETURNS: TableShape<'static> = TableShape {
+    name: "returns",
+    tree: 3,
+    columns: &[("reporter", Text), ("number", Integer), ("body", Blob)],
+    rows: Rows::Keyed,
+    key: &[1, 2],
+    guard: "sqlite_autoindex_returns_1",
+};
 
-const POOLS: [(&str, Kind); 2] = [("pool", Kind::Integer), ("amount", Kind::Integer)];
+const POOLS: TableShape<'static> = TableShape {
+    name: "pools",
+    tree: 5,
+    columns: &[("pool", Integer), ("amount", Integer)],
+    rows: Rows::Numbered,
+    key: &[0],
+    guard: "sqlite_autoindex_pools_1",
+};
 
-const POOL_CUTS: [(&str, Kind); 3] = [
-    ("pool", Kind::Integer),
-    ("sender", Kind::Text),
-    ("number", Kind::Integer),
-];
+const POOL_CUTS: TableShape<'static> = TableShape {
+    name: "pool_cuts",
+    tree: 6,
+    columns: &[("pool", Integer), ("sender", Text), ("number", Integer)],
+    rows: Rows::Keyed,
+    key: &[1, 2],
+    guard: "sqlite_autoindex_pool_cuts_1",
+};
 
-const POOL_RETURNS: [(&str, Kind); 3] = [
-    ("reporter", Kind::Text),
-    ("number", Kind::Integer),
-    ("pool", Kind::Integer),
-];
+const POOL_RETURNS: TableShape<'static> = TableShape {
+    name: "pool_returns",
+    tree: 8,
+    columns: &[("reporter", Text), ("number", Integer), ("pool", Integer)],
+    rows: Rows::Keyed,
+    key: &[1, 2],
+    guard: "sqlite_autoindex_pool_returns_1",
+};
 
-const FRONTS: [(&str, Kind); 3] = [
-    ("sender", Kind::Text),
-    ("front", Kind::Integer),
-    ("works", Kind::Integer),
-];
+const FRONTS: TableShape<'static> = TableShape {
+    name: "fronts",
+    tree: 10,
+    columns: &[("sender", Text), ("front", Integer), ("works", Integer)],
+    rows: Rows::Keyed,
+    key: &[1],
+    guard: "sqlite_autoindex_fronts_1",
+};
 
-const VERDICTS: [(&str, Kind); 6] = [
-    ("sender", Kind::Text),
-    ("number", Kind::Integer),
-    ("place", Kind::Integer),
-    ("fault", Kind::Integer),
-    ("ordinal", Kind::Integer),
-    ("revision", Kind::Integer),
-];
+const VERDICTS: TableShape<'static> = TableShape {
+    name: "verdicts",
+    tree: 12,
+    columns: &[
+        ("sender", Text),
+        ("number", Integer),
+        ("place", Integer),
+        ("fault", Integer),
+        ("ordinal", Integer),
+        ("revision", Integer),
+    ],
+    rows: Rows::Keyed,
+    key: &[1, 2, 3],
+    guard: "sqlite_autoindex_verdicts_1",
+};
 
-const VERSIONS: [(&str, Kind); 6] = [
-    ("sender", Kind::Text),
-    ("work", Kind::Text),
-    ("revision", Kind::Integer),
-    ("number", Kind::Integer),
-    ("place", Kind::Integer),
-    ("ordinal", Kind::Integer),
-];
+const VERSIONS: TableShape<'static> = TableShape {
+    name: "versions",
+    tree: 14,
+    columns: &[
+        ("sender", Text),
+        ("work", Text),
+        ("revision", Integer),
+        ("number", Integer),
+        ("place", Integer),
+        ("ordinal", Integer),
+    ],
+    rows: Rows::Keyed,
+    key: &[1, 2, 3],
+    guard: "sqlite_autoindex_versions_1",
+};
 
-const RECORDINGS: [(&str, Kind); 4] = [
-    ("sender", Kind::Text),
-    ("work", Kind::Text),
-    ("revision", Kind::Integer),
-    ("isrc", Kind::Text),
-];
+const RECORDINGS: TableShape<'static> = TableShape {
+    name: "recordings",
+    tree: 16,
+    columns: &[
+        ("sender", Text),
+        ("work", Text),
+        ("revision", Integer),
+        ("isrc", Text),
+    ],
+    rows: Rows::Keyed,
+    key: &[1, 2, 3, 4],
+    guard: "sqlite_autoindex_recordings_1",
+};
 
-const CREDITS: [(&str, Kind); 5] = [
-    ("pool", Kind::Integer),
-    ("line", Kind::Integer),
-    ("isrc", Kind::Text),
-    ("account", Kind::Text),
-    ("units", Kind::Integer),
-];
+const CREDITS: TableShape<'static> = TableShape {
+    name: "credits",
+    tree: 18,
+    columns: &[
+        ("pool", Integer),
+        ("line", Integer),
+        ("isrc", Text),
+        ("account", Text),
+        ("units", Integer),
+    ],
+    rows: Rows::Keyed,
+    key: &[1, 2],
+    guard: "sqlite_autoindex_credits_1",
+};
 
-const BALANCES: [(&str, Kind); 2] = [("account", Kind::Text), ("units", Kind::Integer)];
+const BALANCES: TableShape<'static> = TableShape {
+    name: "balances",
+    tree: 20,
+    columns: &[("account", Text), ("units", Integer)],
+    rows: Rows::Keyed,
+    key: &[1],
+    guard: "sqlite_autoindex_balances_1",
+};
 
-const SEGMENT_ENDS: [(&str, Kind); 4] = [
-    ("sender", Kind::Text),
-    ("segment", Kind::Integer),
-    ("last", Kind::Integer),
-    ("next", Kind::Integer),
-];
+const SEGMENT_ENDS: TableShape<'static> = TableShape {
+    name: "segment_ends",
+    tree: 22,
+    columns: &[
+        ("sender", Text),
+        ("segment", Integer),
+        ("last", Integer),
+        ("next", Integer),
+    ],
+    rows: Rows::Keyed,
+    key: &[1, 2],
+    guard: "sqlite_autoindex_segment_ends_1",
+};
 
-const MECHANICAL_POOLS: [(&str, Kind); 1] = [("pool", Kind::Integer)];
+const MECHANICAL_POOLS: TableShape<'static> = TableShape {
+    name: "mechanical_pools",
+    tree: 24,
+    columns: &[("pool", Integer)],
+    rows: Rows::Numbered,
+    key: &[0],
+    guard: "sqlite_autoindex_mechanical_pools_1",
+};
 
 /// What a cut refers to: its pool, and its transmission.
 const CUT_PARENTS: [Parent<'static>; 2] = [CUT_POOL, CUT_TRANSMISSION];
@@ -186,50 +267,56 @@ const MECHANICAL_PARENTS: [Parent<'static>; 1] = [Parent {
     parent_columns: &["pool"],
 }];
 
+// The shape of a table.
+#[tactic(auto, unfolding(crate::specs::Layout::written_out, sqlite_tied::specs::Compute::everything))]
+fn shape_of(name: TableName) -> TableShape<'static>
+    ensures table { (references : List Reference) → table_shaped result references ≡ record (table_called name) { references = references } }
+    ensures guard { guard_shaped result ≡ index_called name }
+{
+    match name {
+        TableName::Office => OFFICE,
+        TableName::Transmissions => TRANSMISSIONS,
+        TableName::Returns => RETURNS,
+        TableName::Pools => POOLS,
+        TableName::PoolCuts => POOL_CUTS,
+        TableName::PoolReturns => POOL_RETURNS,
+        TableName::Fronts => FRONTS,
+        TableName::Verdicts => VERDICTS,
+        TableName::Versions => VERSIONS,
+        TableName::Recordings => RECORDINGS,
+        TableName::Credits => CREDITS,
+        TableName::Balances => BALANCES,
+        TableName::SegmentEnds => SEGMENT_ENDS,
+        TableName::MechanicalPools => MECHANICAL_POOLS,
+    }
+}
+
+// What a table refers to, of which cuts and payments may be named in another order.
+#[tactic(auto, unfolding(crate::specs::Layout::written_out))]
+fn parents_of<'a>(
+    name: TableName,
+    cuts: &'a [Parent<'a>],
+    payments: &'a [Parent<'a>],
+) -> &'a [Parent<'a>]
+    ensures { map refers_to result.now ≡ (table_with (map refers_to cuts.now) (map refers_to payments.now) name).references }
+{
+    match name {
+        TableName::PoolCuts => cuts,
+        TableName::PoolReturns => payments,
+        TableName::MechanicalPools => &MECHANICAL_PARENTS,
+        _ => &[],
+    }
+}
+
 // Whether a table is that of layout 3 under a name, with these references of cuts and of payments.
 fn is_called(table: &Table, name: TableName, cuts: &[Parent<'_>], payments: &[Parent<'_>]) -> bool
     ensures { IsTrue result ↔ (table.now ≡ table_with (map refers_to cuts.now) (map refers_to payments.now) name) }
 {
-    match name {
-        TableName::Office => is_numbered(table, "office", 0, &OFFICE, true, &[]),
-        TableName::Transmissions => is_keyed(
-            table,
-            "transmissions",
-            1,
-            &TRANSMISSIONS,
-            &[1, 2],
-            &[],
-        ),
-        TableName::Returns => is_keyed(table, "returns", 3, &RETURNS, &[1, 2], &[]),
-        TableName::Pools => is_numbered(table, "pools", 5, &POOLS, false, &[]),
-        TableName::PoolCuts => is_keyed(table, "pool_cuts", 6, &POOL_CUTS, &[1, 2], cuts),
-        TableName::PoolReturns => is_keyed(
-            table,
-            "pool_returns",
-            8,
-            &POOL_RETURNS,
-            &[1, 2],
-            payments,
-        ),
-        TableName::Fronts => is_keyed(table, "fronts", 10, &FRONTS, &[1], &[]),
-        TableName::Verdicts => is_keyed(table, "verdicts", 12, &VERDICTS, &[1, 2, 3], &[]),
-        TableName::Versions => is_keyed(table, "versions", 14, &VERSIONS, &[1, 2, 3], &[]),
-        TableName::Recordings => is_keyed(table, "recordings", 16, &RECORDINGS, &[1, 2, 3, 4], &[]),
-        TableName::Credits => is_keyed(table, "credits", 18, &CREDITS, &[1, 2], &[]),
-        TableName::Balances => is_keyed(table, "balances", 20, &BALANCES, &[1], &[]),
-        TableName::SegmentEnds => is_keyed(table, "segment_ends", 22, &SEGMENT_ENDS, &[1, 2], &[]),
-        TableName::MechanicalPools => is_numbered(
-            table,
-            "mechanical_pools",
-            24,
-            &MECHANICAL_POOLS,
-            false,
-            &MECHANICAL_PARENTS,
-        ),
-    }
+    is_table(table, &shape_of(name), parents_of(name, cuts, payments))
 }
 
 // Whether tables are those of these names, in their order, with these references of cuts and of payments.
+#[tactic(auto, using(crate::proofs::lemmas::readings::Alike::alike_more))]
 fn are_called(
     tables: &[Table],
     names: &[TableName],
@@ -253,49 +340,11 @@ fn are_called(
 fn guards(index: &Index, name: TableName) -> bool
     ensures { IsTrue result ↔ (index.now ≡ index_called name) }
 {
-    match name {
-        TableName::Office => is_guard(index, "sqlite_autoindex_office_1", 1, 0, &[0]),
-        TableName::Pools => is_guard(index, "sqlite_autoindex_pools_1", 6, 5, &[0]),
-        TableName::Transmissions => is_guard(
-            index,
-            "sqlite_autoindex_transmissions_1",
-            2,
-            1,
-            &[1, 2],
-        ),
-        TableName::Returns => is_guard(index, "sqlite_autoindex_returns_1", 4, 3, &[1, 2]),
-        TableName::PoolCuts => is_guard(index, "sqlite_autoindex_pool_cuts_1", 7, 6, &[1, 2]),
-        TableName::PoolReturns => is_guard(index, "sqlite_autoindex_pool_returns_1", 9, 8, &[1, 2]),
-        TableName::Fronts => is_guard(index, "sqlite_autoindex_fronts_1", 11, 10, &[1]),
-        TableName::Verdicts => is_guard(index, "sqlite_autoindex_verdicts_1", 13, 12, &[1, 2, 3]),
-        TableName::Versions => is_guard(index, "sqlite_autoindex_versions_1", 15, 14, &[1, 2, 3]),
-        TableName::Recordings => is_guard(
-            index,
-            "sqlite_autoindex_recordings_1",
-            17,
-            16,
-            &[1, 2, 3, 4],
-        ),
-        TableName::Credits => is_guard(index, "sqlite_autoindex_credits_1", 19, 18, &[1, 2]),
-        TableName::Balances => is_guard(index, "sqlite_autoindex_balances_1", 21, 20, &[1]),
-        TableName::SegmentEnds => is_guard(
-            index,
-            "sqlite_autoindex_segment_ends_1",
-            23,
-            22,
-            &[1, 2],
-        ),
-        TableName::MechanicalPools => is_guard(
-            index,
-            "sqlite_autoindex_mechanical_pools_1",
-            25,
-            24,
-            &[0],
-        ),
-    }
+    is_guard(index, &shape_of(name))
 }
 
 // Whether indexes are those for the keys of the tables of these names, in their order.
+#[tactic(auto, using(crate::proofs::lemmas::readings::Alike::alike_more))]
 fn are_guards(indexes: &[Index], names: &[TableName]) -> bool
     ensures { IsTrue result ↔ (indexes.now ≡ map index_called names.now) }
 {
@@ -326,6 +375,7 @@ fn is_made_of(
 }
 
 // Whether it has them with these references of cuts, and with those of payments in either order.
+#[tactic(auto, unfolding(crate::specs::Layout::written_out))]
 fn is_made_with(
     schema: &Schema,
     names: &[TableName],
@@ -339,6 +389,7 @@ fn is_made_with(
 }
 
 // Whether it has them with references in either order.
+#[tactic(auto, unfolding(crate::specs::Layout::written_out))]
 fn is_made(schema: &Schema, names: &[TableName], keyed: &[TableName]) -> bool
     ensures { IsTrue result ↔ IsMade names.now keyed.now schema.now }
 {
@@ -347,6 +398,7 @@ fn is_made(schema: &Schema, names: &[TableName], keyed: &[TableName]) -> bool
 }
 
 // Whether a schema is that of layout 3.
+#[tactic(auto, unfolding(crate::specs::Layout::written_out, sqlite_tied::specs::Compute::everything, crate::specs::Layouts::IsFirst))]
 fn is_layout(schema: &Schema) -> bool
     ensures { IsTrue result ↔ IsFirst 14 schema.now }
 {

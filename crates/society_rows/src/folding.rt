@@ -6,8 +6,7 @@ ghost use Rattle.society_rows.specs.Folds.{AreFirstOfRun, HasTaken, IsNoRun, IsR
 ghost use Rattle.society_rows.specs.declared.fault.RowFault.TheVariants.{Unread};
 ghost use Rattle.society_rows.specs.Between.{within};
 
-use crate::RowFault;
-use crate::transmissions::transmission_at;
+use crate::{Question, RowFault, answer};
 use sqlite::{Alter, Row, Transaction};
 
 /// What goes over rows, one at a time, and keeps what it wants of them.
@@ -43,7 +42,7 @@ pub fn fold_run<S: Alter, F: RowFold>(
         RefusesRow F.step F.refusal (AreFirstOfRun old new sender.now first) into.old fault ⊎ ((fault ≡ Unread) × IsNoRun old new sender.now first))) }
 {
     for number in first..=u32::MAX {
-        let rows = transmission_at(tx, sender, number)?;
+        let rows = answer(tx, Question::Transmission(sender, number))?;
         match rows.as_slice() {
             [] => return Ok(()),
             [row] => into.take(row)?,

@@ -1,18 +1,17 @@
 //! The table of fronts.
-ghost use Rattle.std.specs.Prelude.{◌≡◌, [], ◌∷◌, IfOk, IfErr};
-ghost use Rattle.sqlite_value.specs.declared.value.Value.TheVariants.{Text};
+ghost use Rattle.std.specs.Prelude.{◌≡◌, IfOk, IfErr};
+ghost use Rattle.sqlite.specs.Values.{bound};
 ghost use Rattle.society_rows.specs.declared.fault.RowFault.TheVariants.{Unread};
-ghost use Rattle.society_rows.specs.Effects.{BlamesMedium, ErrsByMedium, IsAllOrNothing, OnlyFails, Writes};
+ghost use Rattle.society_rows.specs.Effects.{BlamesMedium, IsAllOrNothing, OnlyFails, Writes};
 ghost use Rattle.society_rows.specs.Forms.{IsRead, front_forms};
 ghost use Rattle.society_rows.specs.Layout.{fronts};
-ghost use Rattle.society_rows.specs.Reads.{Lists, Reads, has_key};
 ghost use Rattle.society_rows.specs.Rows.{front_values};
 ghost use Rattle.society_rows.specs.Stored.{Puts};
 ghost use Rattle.society_rows.specs.Between.{within};
 
 use crate::RowFault;
 use crate::reading::{integer, text, whole};
-use crate::statement::{run, select};
+use crate::statement::run;
 use sqlite::types::ToSql;
 use sqlite::{Alter, Row, Transaction};
 use sqlite_value::value::ValueRef;
@@ -28,6 +27,7 @@ pub struct FrontRow<'a> {
 
 impl<'a> FrontRow<'a> {
     /// The row that these values are, in the order of the columns; else `Unread`.
+    #[tactic(auto, using(crate::proofs::lemmas::changes::Columns::row_columns))]
     pub fn from_row(row: &'a Row) -> Result<FrontRow<'a>, RowFault>
         ensures value { IfOk result (λ x. front_values x ≡ row.now) }
         ensures read { IsRead front_forms row.now result }
@@ -41,6 +41,17 @@ impl<'a> FrontRow<'a> {
             front: whole(row, 1)?,
             works: integer(row, 2)?,
         })
+    }
+
+    /// The values of its columns.
+    pub(crate) fn params(&self) -> [ValueRef<'_>; 3]
+        ensures { bound result ≡ front_values self.now }
+    {
+        [
+            ValueRef::Text(self.sender),
+            self.front.to_sql(),
+            ValueRef::Int(self.works),
+        ]
     }
 }
 
@@ -56,28 +67,6 @@ pub fn put_front<S: Alter>(tx: &mut Transaction<'_, S>, row: &FrontRow<'_>) -> R
     run(
         tx,
         "INSERT INTO fronts (sender, front, works) VALUES (?1, ?2, ?3) ON CONFLICT (sender) DO UPDATE SET sender = excluded.sender, front = excluded.front, works = excluded.works",
-        &[
-            ValueRef::Text(row.sender),
-            row.front.to_sql(),
-            (&row.works).to_sql(),
-        ],
-    )
-}
-
-/// The front of a sender, if it has one.
-pub(crate) fn front_at<S: Alter>(
-    tx: &mut Transaction<'_, S>,
-    sender: &[u8],
-) -> Result<Vec<Row>, RowFault>
-    ensures same_reference { tx.new.conn.ghost_name ≡ tx.old.conn.ghost_name }
-    ensures read { within S.Store tx.old tx.new Reads result
-        (λ db rows. Lists fronts (has_key (Text sender.now ∷ [])) 1 db rows.items) }
-    ensures told { within S.Store tx.old tx.new OnlyFails result }
-    ensures medium { within S.Store tx.old tx.new ErrsByMedium result }
-{
-    select(
-        tx,
-        "SELECT sender, front, works FROM fronts WHERE sender = ?1 ORDER BY sender",
-        &[ValueRef::Text(sender)],
+        &row.params(),
     )
 }

@@ -1,10 +1,12 @@
 //! The layout of the tables, and how they begin.
-ghost use Rattle.std.specs.Prelude.{◌≡◌, ℕ, List, map, false, IsTrue, IfErr, OnOk, OnErr};
+ghost use Rattle.std.specs.Prelude.{◌≡◌, ◌⊎◌, ◌≤◌, length, ℕ, List, map, IsTrue, IfErr, OnOk, OnErr};
 ghost use Rattle.std.specs.Borrow.{Bor};
 ghost use Rattle.sqlite.specs.Held.{state};
 ghost use Rattle.sqlite.specs.State.{HasCleanDisk, Survives};
 ghost use Rattle.society_rows.specs.Effects.{BlamesMediumOver, TellsOfMedium, WritesOver, OnlyFailsInside};
 ghost use Rattle.society_rows.specs.Faults.{IsFailure};
+ghost use Rattle.society_rows.specs.Layouts.{HasFirst};
+ghost use Rattle.society_rows.specs.Raising.{Extends};
 ghost use Rattle.society_rows.specs.NewBook.{IsBare, IsEmptyBook, IsNewBook, Begins};
 ghost use Rattle.society_rows.specs.Rows.{office_values};
 ghost use Rattle.society_rows.specs.Texts.{all_texts};
@@ -33,17 +35,23 @@ pub(crate) const TABLES: [&str; 14] = [
     "CREATE TABLE mechanical_pools (pool INTEGER NOT NULL PRIMARY KEY, FOREIGN KEY (pool) REFERENCES pools (pool)) STRICT",
 ];
 
-// Makes the tables of the texts, those of layout 3, in a database that has none.
-fn make_tables<S: Alter>(tx: &mut Transaction<'_, S>, texts: &[&str]) -> Result<(), RowFault>
-    requires { map (λ (t : Bor (List ℕ)). t.now) texts.now ≡ all_texts }
+/// Makes the tables of the texts behind so many first ones: behind none, or behind those of an older layout.
+pub(crate) fn make_tables<S: Alter>(
+    tx: &mut Transaction<'_, S>,
+    texts: &[&str],
+    from: usize,
+) -> Result<(), RowFault>
+    requires all { map (λ (t : Bor (List ℕ)). t.now) texts.now ≡ all_texts }
+    requires start { (from ≡ 0) ⊎ (6 ≤ from) }
+    requires some { from ≤ length texts.now }
     ensures same_reference { tx.new.conn.ghost_name ≡ tx.old.conn.ghost_name }
-    ensures made { within S.Store tx.old tx.new (WritesOver IsBare) result
-        (λ _. IsEmptyBook) }
-    ensures told { within S.Store tx.old tx.new (OnlyFailsInside IsBare) result }
-    ensures blamed { within S.Store tx.old tx.new (BlamesMediumOver IsBare) result }
+    ensures made { within S.Store tx.old tx.new (WritesOver (HasFirst from)) result
+        (Extends from) }
+    ensures told { within S.Store tx.old tx.new (OnlyFailsInside (HasFirst from)) result }
+    ensures blamed { within S.Store tx.old tx.new (BlamesMediumOver (HasFirst from)) result }
 {
-    for text in texts {
-        run(tx, text, &[])?;
+    for at in from..texts.len() {
+        run(tx, texts[at], &[])?;
     }
     Ok(())
 }
@@ -56,7 +64,7 @@ pub(crate) fn lay_out<S: Alter>(tx: &mut Transaction<'_, S>) -> Result<(), RowFa
     ensures told { within S.Store tx.old tx.new (OnlyFailsInside IsBare) result }
     ensures blamed { within S.Store tx.old tx.new (BlamesMediumOver IsBare) result }
 {
-    make_tables(tx, &TABLES)
+    make_tables(tx, &TABLES, 0)
 }
 
 // Makes the tables and writes the row of the office.

@@ -18,6 +18,7 @@ mod keys;
 mod layout;
 mod line_senders;
 mod mechanical_pools;
+mod new_rows;
 mod numbering;
 mod office;
 mod older;
@@ -38,7 +39,7 @@ mod transmissions;
 mod verdicts;
 mod versions;
 
-pub use balances::{BalanceRow, add_balance, add_units, put_balance};
+pub use balances::{BalanceRow, add_balance, add_units};
 pub use body_keys::{BodyTable, all_keys};
 pub use credits::{CreditRow, add_credits};
 pub use fault::RowFault;

@@ -1,17 +1,17 @@
 //! The table of the office, which has one row.
-ghost use Rattle.std.specs.Prelude.{◌≡◌, [], ◌∷◌, true, IfOk, IfErr};
+ghost use Rattle.std.specs.Prelude.{◌≡◌, [], ◌∷◌, IfOk, IfErr};
+ghost use Rattle.sqlite.specs.Values.{bound};
 ghost use Rattle.society_rows.specs.declared.fault.RowFault.TheVariants.{Unread};
-ghost use Rattle.society_rows.specs.Effects.{BlamesMedium, ErrsByMedium, OnlyFails, Writes};
+ghost use Rattle.society_rows.specs.Effects.{BlamesMedium, OnlyFails, Writes};
 ghost use Rattle.society_rows.specs.Forms.{IsRead, office_forms, office_forms_under};
 ghost use Rattle.society_rows.specs.Layout.{office};
-ghost use Rattle.society_rows.specs.Reads.{Lists, Reads};
 ghost use Rattle.society_rows.specs.Rows.{office_values, office_values_under};
 ghost use Rattle.society_rows.specs.Stored.{Adds};
 ghost use Rattle.society_rows.specs.Between.{within};
 
+use crate::RowFault;
+use crate::new_rows::{NewRows, add};
 use crate::reading::{text, whole};
-use crate::statement::{run, select};
-use crate::{RowFault, TableName, all_rows};
 use sqlite::types::ToSql;
 use sqlite::{Alter, Row, Transaction};
 use sqlite_value::value::ValueRef;
@@ -38,6 +38,7 @@ impl<'a> OfficeRow<'a> {
     }
 
     /// The row that these values are under a layout, by its number; else `Unread`, also where the layout is another.
+    #[tactic(auto, using(crate::proofs::lemmas::changes::Columns::row_columns))]
     pub fn from_row_under(row: &'a Row, layout: u32) -> Result<OfficeRow<'a>, RowFault>
         ensures value { IfOk result (λ x. office_values_under layout x ≡ row.now) }
         ensures read { IsRead (office_forms_under layout) row.now result }
@@ -57,6 +58,19 @@ impl<'a> OfficeRow<'a> {
             name: text(row, 4)?,
         })
     }
+
+    /// The values of its columns.
+    pub(crate) fn params(&self) -> [ValueRef<'_>; 5]
+        ensures { bound result ≡ office_values self.now }
+    {
+        [
+            1u32.to_sql(),
+            LAYOUT.to_sql(),
+            self.society.to_sql(),
+            self.territory.to_sql(),
+            ValueRef::Text(self.name),
+        ]
+    }
 }
 
 /// Adds the row of the office, which has to be the first.
@@ -70,24 +84,5 @@ pub(crate) fn add_office<S: Alter>(
     ensures told { within S.Store tx.old tx.new OnlyFails result }
     ensures blamed { within S.Store tx.old tx.new BlamesMedium result }
 {
-    run(
-        tx,
-        "INSERT INTO office (one, layout, society, territory, name) VALUES (1, 3, ?1, ?2, ?3)",
-        &[
-            row.society.to_sql(),
-            row.territory.to_sql(),
-            ValueRef::Text(row.name),
-        ],
-    )
-}
-
-/// The rows of the office: one, unless the table is empty.
-pub(crate) fn all_offices<S: Alter>(tx: &mut Transaction<'_, S>) -> Result<Vec<Row>, RowFault>
-    ensures same_reference { tx.new.conn.ghost_name ≡ tx.old.conn.ghost_name }
-    ensures read { within S.Store tx.old tx.new Reads result
-        (λ db rows. Lists office (λ _. true) 1 db rows.items) }
-    ensures told { within S.Store tx.old tx.new OnlyFails result }
-    ensures medium { within S.Store tx.old tx.new ErrsByMedium result }
-{
-    all_rows(tx, TableName::Office)
+    add(tx, NewRows::Office(row))
 }

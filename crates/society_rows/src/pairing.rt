@@ -1,10 +1,13 @@
 //! Lists of rows that are written two a statement.
 ghost use Rattle.std.specs.Prelude.{◌≡◌, ◌≤◌, map, take, [], ◌∷◌, length};
-ghost use Rattle.society_rows.specs.Effects.{BlamesMedium, FailsWhole, IsAllOrNothing, LeavesFirst, OnlyFails, OnlyFailsInside, Writes};
+ghost use Rattle.society_rows.specs.Effects.{BlamesMedium, FailsWhole, LeavesFirst, OnlyFails, OnlyFailsInside, Writes};
 ghost use Rattle.society_rows.specs.Stored.{Adds, HasLayout};
+ghost use Rattle.society_rows.specs.NewRows.{added};
+ghost use Rattle.society_rows.specs.TableNames.{table_called};
 ghost use Rattle.society_rows.specs.Between.{within};
 
 use crate::RowFault;
+use crate::new_rows::{NewRows, add};
 use sqlite::{Alter, Transaction};
 
 /// A row of which two are added by one statement.
@@ -18,25 +21,15 @@ pub(crate) trait PairedRow {
     /// The values of a row, in the order of the table's columns.
     ghost values: { Self → Row };
 
-    /// Adds a row, whose key has to be free.
-    fn add_one<S: Alter>(tx: &mut Transaction<'_, S>, row: &Self) -> Result<(), RowFault>
-        ensures same_reference { tx.new.conn.ghost_name ≡ tx.old.conn.ghost_name }
-        ensures written { within S.Store tx.old tx.new Writes result (Adds table (values row.now ∷ [])) }
-        ensures whole { within S.Store tx.old tx.new IsAllOrNothing result }
-        ensures told { within S.Store tx.old tx.new OnlyFails result }
-        ensures blamed { within S.Store tx.old tx.new BlamesMedium result };
+    /// The row, as what one statement adds.
+    fn one<'b>(row: &'b Self) -> NewRows<'b>
+        ensures table { table_called (added result).table ≡ table }
+        ensures rows { (added result).rows ≡ values row.now ∷ [] };
 
-    /// Adds two rows by one statement: both, or neither.
-    fn add_two<S: Alter>(
-        tx: &mut Transaction<'_, S>,
-        one: &Self,
-        two: &Self,
-    ) -> Result<(), RowFault>
-        ensures same_reference { tx.new.conn.ghost_name ≡ tx.old.conn.ghost_name }
-        ensures written { within S.Store tx.old tx.new Writes result (Adds table (values one.now ∷ values two.now ∷ [])) }
-        ensures whole { within S.Store tx.old tx.new IsAllOrNothing result }
-        ensures told { within S.Store tx.old tx.new OnlyFails result }
-        ensures blamed { within S.Store tx.old tx.new BlamesMedium result };
+    /// Two rows, as what one statement adds.
+    fn two<'b>(one: &'b Self, two: &'b Self) -> NewRows<'b>
+        ensures table { table_called (added result).table ≡ table }
+        ensures rows { (added result).rows ≡ values one.now ∷ values two.now ∷ [] };
 }
 
 // Adds up to two rows, all or none.
@@ -50,8 +43,8 @@ fn add_part<S: Alter, R: PairedRow>(tx: &mut Transaction<'_, S>, part: &[R]) -> 
 {
     match part {
         [] => Ok(()),
-        [one] => R::add_one(tx, one),
-        [one, two, ..] => R::add_two(tx, one, two),
+        [one] => add(tx, R::one(one)),
+        [one, two, ..] => add(tx, R::two(one, two)),
     }
 }
 

@@ -1,21 +1,21 @@
 //! The table of pools.
-ghost use Rattle.std.specs.Prelude.{◌≡◌, [], ◌∷◌, pos, IfOk, IfErr, FitsSigned};
+ghost use Rattle.std.specs.Prelude.{◌≡◌, [], ◌∷◌, IfOk, IfErr, FitsSigned};
 ghost use Rattle.std.specs.Int.{w64};
-ghost use Rattle.sqlite_value.specs.declared.value.Value.TheVariants.{Int};
+ghost use Rattle.sqlite.specs.Values.{bound};
 ghost use Rattle.society_rows.specs.declared.fault.RowFault.TheVariants.{Unread};
-ghost use Rattle.society_rows.specs.Effects.{ErrsByMedium, IsAllOrNothing, OnlyFails, Writes};
+ghost use Rattle.society_rows.specs.Effects.{IsAllOrNothing, OnlyFails, Writes};
 ghost use Rattle.society_rows.specs.Forms.{IsRead, pool_forms};
 ghost use Rattle.society_rows.specs.Layout.{pools};
-ghost use Rattle.society_rows.specs.Reads.{Lists, Reads, has_key};
 ghost use Rattle.society_rows.specs.Rows.{pool_values};
 ghost use Rattle.society_rows.specs.Stored.{Adds};
 ghost use Rattle.society_rows.specs.Between.{within};
 
 use crate::RowFault;
+use crate::new_rows::{NewRows, add};
 use crate::reading::{integer, whole};
-use crate::statement::{run, select};
 use sqlite::types::ToSql;
 use sqlite::{Alter, Row, Transaction};
+use sqlite_value::value::ValueRef;
 
 /// A pool: its number and its amount in units of money.
 #[derive(Clone, Copy, Debug)]
@@ -26,6 +26,7 @@ pub struct PoolRow {
 
 impl PoolRow {
     /// The row that these values are, in the order of the columns; else `Unread`.
+    #[tactic(auto, using(crate::proofs::lemmas::changes::Columns::row_columns))]
     pub fn from_row(row: &Row) -> Result<PoolRow, RowFault>
         ensures value { IfOk result (λ x. pool_values x ≡ row.now) }
         ensures range { IfOk result (λ x. FitsSigned w64 x.amount) }
@@ -40,6 +41,13 @@ impl PoolRow {
             amount: integer(row, 1)?,
         })
     }
+
+    /// The values of its columns.
+    pub(crate) fn params(&self) -> [ValueRef<'_>; 2]
+        ensures { bound result ≡ pool_values self.now }
+    {
+        [self.pool.to_sql(), ValueRef::Int(self.amount)]
+    }
 }
 
 /// Adds a pool, whose key has to be free.
@@ -50,27 +58,5 @@ pub fn add_pool<S: Alter>(tx: &mut Transaction<'_, S>, row: &PoolRow) -> Result<
     ensures whole { within S.Store tx.old tx.new IsAllOrNothing result }
     ensures told { within S.Store tx.old tx.new OnlyFails result }
 {
-    run(
-        tx,
-        "INSERT INTO pools (pool, amount) VALUES (?1, ?2)",
-        &[row.pool.to_sql(), (&row.amount).to_sql()],
-    )
-}
-
-/// The pool of a number, if there is one.
-pub(crate) fn pool_at<S: Alter>(
-    tx: &mut Transaction<'_, S>,
-    pool: u32,
-) -> Result<Vec<Row>, RowFault>
-    ensures same_reference { tx.new.conn.ghost_name ≡ tx.old.conn.ghost_name }
-    ensures read { within S.Store tx.old tx.new Reads result
-        (λ db rows. Lists pools (has_key (Int (pos pool) ∷ [])) 1 db rows.items) }
-    ensures told { within S.Store tx.old tx.new OnlyFails result }
-    ensures medium { within S.Store tx.old tx.new ErrsByMedium result }
-{
-    select(
-        tx,
-        "SELECT pool, amount FROM pools WHERE pool = ?1 ORDER BY pool",
-        &[pool.to_sql()],
-    )
+    add(tx, NewRows::Pool(row))
 }

@@ -1,25 +1,18 @@
-//! Questions that are asked on a connection at rest.
+//! The questions that the tables answer by a key, each by one query.
 ghost use Rattle.std.specs.Prelude.{◌≡◌};
+ghost use Rattle.sqlite.specs.Values.{bound};
 ghost use Rattle.society_rows.specs.Effects.{ErrsByMedium, OnlyFails};
 ghost use Rattle.society_rows.specs.Questions.{RowsAnswer, Asks};
+ghost use Rattle.society_rows.specs.QuestionTexts.{question_params, question_text};
 ghost use Rattle.society_rows.specs.Reads.{Reads};
 ghost use Rattle.society_rows.specs.Between.{between, within};
 
-use crate::balances::balance_at;
-use crate::credits::credits_of;
-use crate::fronts::front_at;
-use crate::mechanical_pools::mechanical_at;
-use crate::office::all_offices;
-use crate::pool_cuts::cuts_of;
-use crate::pool_returns::{pool_return_at, returns_of_pool};
-use crate::pools::pool_at;
-use crate::returns::{return_at, return_known};
-use crate::segment_ends::ends_of;
-use crate::transmissions::{numbers_above, numbers_between, transmission_at};
-use crate::verdicts::{sender_verdicts, verdicts_of};
-use crate::versions::{last_version_of, sender_versions, versions_of};
-use crate::{Idle, RowFault, sender_recordings};
+use crate::statement::select;
+use crate::tables::listing;
+use crate::{Idle, RowFault, TableName};
+use sqlite::types::ToSql;
 use sqlite::{Alter, Row, Transaction};
+use sqlite_value::value::ValueRef;
 
 /// What is asked of the tables, by a key.
 #[derive(Clone, Copy)]
@@ -68,6 +61,88 @@ pub enum Question<'a> {
     Balance(&'a [u8]),
 }
 
+// The query of a question.
+fn query_of(question: Question<'_>) -> &'static str
+    ensures { result.now ≡ question_text question.entry }
+{
+    match question {
+        Question::Office => listing(TableName::Office),
+        Question::Front(_) => {
+            "SELECT sender, front, works FROM fronts WHERE sender = ?1 ORDER BY sender"
+        }
+        Question::Transmission(_, _) => {
+            "SELECT sender, number, body FROM transmissions WHERE sender = ?1 AND number = ?2 ORDER BY sender, number"
+        }
+        Question::NumbersAbove(_, _) => {
+            "SELECT sender, number FROM transmissions WHERE sender = ?1 AND number > ?2 ORDER BY sender, number"
+        }
+        Question::NumbersBetween(_, _, _) => {
+            "SELECT sender, number FROM transmissions WHERE sender = ?1 AND number > ?2 AND number < ?3 ORDER BY sender, number"
+        }
+        Question::Ends(_) => {
+            "SELECT sender, segment, last, next FROM segment_ends WHERE sender = ?1 ORDER BY sender, segment"
+        }
+        Question::Return(_, _) => {
+            "SELECT reporter, number, body FROM returns WHERE reporter = ?1 AND number = ?2 ORDER BY reporter, number"
+        }
+        Question::HasReturn(_, _) => {
+            "SELECT reporter, number FROM returns WHERE reporter = ?1 AND number = ?2 ORDER BY reporter, number"
+        }
+        Question::Pool(_) => "SELECT pool, amount FROM pools WHERE pool = ?1 ORDER BY pool",
+        Question::Mechanical(_) =>
+            "SELECT pool FROM mechanical_pools WHERE pool = ?1 ORDER BY pool",
+        Question::Cuts(_) => {
+            "SELECT pool, sender, number FROM pool_cuts WHERE pool = ?1 ORDER BY pool, sender"
+        }
+        Question::Payer(_, _) => {
+            "SELECT reporter, number, pool FROM pool_returns WHERE reporter = ?1 AND number = ?2 ORDER BY reporter, number"
+        }
+        Question::PaidBy(_) => {
+            "SELECT reporter, number, pool FROM pool_returns WHERE pool = ?1 ORDER BY reporter, number"
+        }
+        Question::Verdicts(_, _) => {
+            "SELECT sender, number, place, fault, ordinal, revision FROM verdicts WHERE sender = ?1 AND number = ?2 ORDER BY sender, number, place"
+        }
+        Question::Versions(_, _) => {
+            "SELECT sender, work, revision, number, place, ordinal FROM versions WHERE sender = ?1 AND work = ?2 ORDER BY sender, work, revision"
+        }
+        Question::LastVersion(_, _) => {
+            "SELECT sender, work, revision, number, place, ordinal FROM versions WHERE sender = ?1 AND work = ?2 ORDER BY sender DESC, work DESC, revision DESC LIMIT 1"
+        }
+        Question::SenderVerdicts(_) => {
+            "SELECT sender, number, place, fault, ordinal, revision FROM verdicts WHERE sender = ?1 ORDER BY sender, number, place"
+        }
+        Question::SenderVersions(_) => {
+            "SELECT sender, work, revision, number, place, ordinal FROM versions WHERE sender = ?1 ORDER BY sender, work, revision"
+        }
+        Question::SenderRecordings(_) => {
+            "SELECT sender, work, revision, isrc FROM recordings WHERE sender = ?1 ORDER BY sender, work, revision, isrc"
+        }
+        Question::Credits(_) => {
+            "SELECT pool, line, isrc, account, units FROM credits WHERE pool = ?1 ORDER BY pool, line"
+        }
+        Question::Balance(_) => {
+            "SELECT account, units FROM balances WHERE account = ?1 ORDER BY account"
+        }
+    }
+}
+
+// The rows that answer a question whose query has these parameters.
+fn answer_by<S: Alter>(
+    tx: &mut Transaction<'_, S>,
+    question: Question<'_>,
+    params: &[ValueRef<'_>],
+) -> Result<Vec<Row>, RowFault>
+    requires { bound params.now ≡ question_params question }
+    ensures same_reference { tx.new.conn.ghost_name ≡ tx.old.conn.ghost_name }
+    ensures read { within S.Store tx.old tx.new Reads result
+        (λ db rows. RowsAnswer question.entry db rows.items) }
+    ensures told { within S.Store tx.old tx.new OnlyFails result }
+    ensures medium { within S.Store tx.old tx.new ErrsByMedium result }
+{
+    select(tx, query_of(question), params)
+}
+
 /// The rows that answer a question, each once, by the key of their table.
 pub fn answer<S: Alter>(
     tx: &mut Transaction<'_, S>,
@@ -80,27 +155,38 @@ pub fn answer<S: Alter>(
     ensures medium { within S.Store tx.old tx.new ErrsByMedium result }
 {
     match question {
-        Question::Office => all_offices(tx),
-        Question::Front(sender) => front_at(tx, sender),
-        Question::Transmission(sender, number) => transmission_at(tx, sender, number),
-        Question::NumbersAbove(sender, number) => numbers_above(tx, sender, number),
-        Question::NumbersBetween(sender, above, below) => numbers_between(tx, sender, above, below),
-        Question::Ends(sender) => ends_of(tx, sender),
-        Question::Return(reporter, number) => return_at(tx, reporter, number),
-        Question::HasReturn(reporter, number) => return_known(tx, reporter, number),
-        Question::Pool(pool) => pool_at(tx, pool),
-        Question::Mechanical(pool) => mechanical_at(tx, pool),
-        Question::Cuts(pool) => cuts_of(tx, pool),
-        Question::Payer(reporter, number) => pool_return_at(tx, reporter, number),
-        Question::PaidBy(pool) => returns_of_pool(tx, pool),
-        Question::Verdicts(sender, number) => verdicts_of(tx, sender, number),
-        Question::Versions(sender, work) => versions_of(tx, sender, work),
-        Question::LastVersion(sender, work) => last_version_of(tx, sender, work),
-        Question::SenderVerdicts(sender) => sender_verdicts(tx, sender),
-        Question::SenderVersions(sender) => sender_versions(tx, sender),
-        Question::SenderRecordings(sender) => sender_recordings(tx, sender),
-        Question::Credits(pool) => credits_of(tx, pool),
-        Question::Balance(account) => balance_at(tx, account),
+        Question::Office => answer_by(tx, question, &[]),
+        Question::Front(key)
+        | Question::Ends(key)
+        | Question::SenderVerdicts(key)
+        | Question::SenderVersions(key)
+        | Question::SenderRecordings(key)
+        | Question::Balance(key) => answer_by(tx, question, &[ValueRef::Text(key)]),
+        Question::Pool(pool)
+        | Question::Mechanical(pool)
+        | Question::Cuts(pool)
+        | Question::PaidBy(pool)
+        | Question::Credits(pool) => answer_by(tx, question, &[pool.to_sql()]),
+        Question::Transmission(key, number)
+        | Question::NumbersAbove(key, number)
+        | Question::Return(key, number)
+        | Question::HasReturn(key, number)
+        | Question::Payer(key, number)
+        | Question::Verdicts(key, number) => {
+            answer_by(tx, question, &[ValueRef::Text(key), number.to_sql()])
+        }
+        Question::Versions(sender, work) | Question::LastVersion(sender, work) => {
+            answer_by(
+                tx,
+                question,
+                &[ValueRef::Text(sender), ValueRef::Text(work)],
+            )
+        }
+        Question::NumbersBetween(sender, above, below) => answer_by(
+            tx,
+            question,
+            &[ValueRef::Text(sender), above.to_sql(), below.to_sql()],
+        ),
     }
 }
 

@@ -1,40 +1,16 @@
 //! How a database of an older layout gets layout 3.
-ghost use Rattle.std.specs.Prelude.{◌≡◌, ◌≤◌, ℕ, List, length, map};
-ghost use Rattle.std.specs.Borrow.{Bor};
-ghost use Rattle.sqlite.specs.Held.{state};
+ghost use Rattle.std.specs.Prelude.{◌≡◌};
 ghost use Rattle.society_rows.specs.Effects.{BlamesMedium, BlamesMediumOver, OnlyFails, OnlyFailsInside, Writes, WritesOver};
-ghost use Rattle.society_rows.specs.Layouts.{HasFirst, HasOlder};
-ghost use Rattle.society_rows.specs.Raising.{BecomesNewest, Extends, Renames};
-ghost use Rattle.society_rows.specs.Texts.{all_texts};
+ghost use Rattle.society_rows.specs.Layouts.{HasOlder};
+ghost use Rattle.society_rows.specs.Raising.{BecomesNewest, Renames};
 ghost use Rattle.society_rows.specs.Between.{within};
 
-use crate::layout::TABLES;
+use crate::layout::{TABLES, make_tables};
 use crate::office::LAYOUT;
 use crate::statement::run;
 use crate::{OlderLayout, RowFault};
 use sqlite::types::ToSql;
 use sqlite::{Alter, Transaction};
-
-// Makes the tables of the texts behind the first ones, so many.
-fn make_missing<S: Alter>(
-    tx: &mut Transaction<'_, S>,
-    texts: &[&str],
-    from: usize,
-) -> Result<(), RowFault>
-    requires all { map (λ (t : Bor (List ℕ)). t.now) texts.now ≡ all_texts }
-    requires book { 6 ≤ from }
-    requires some { from ≤ length texts.now }
-    ensures same_reference { tx.new.conn.ghost_name ≡ tx.old.conn.ghost_name }
-    ensures made { within S.Store tx.old tx.new (WritesOver (HasFirst from)) result
-        (Extends from) }
-    ensures told { within S.Store tx.old tx.new (OnlyFailsInside (HasFirst from)) result }
-    ensures blamed { within S.Store tx.old tx.new (BlamesMediumOver (HasFirst from)) result }
-{
-    for at in from..texts.len() {
-        run(tx, texts[at], &[])?;
-    }
-    Ok(())
-}
 
 // Says layout 3 in the row of the office.
 fn rename<S: Alter>(tx: &mut Transaction<'_, S>) -> Result<(), RowFault>
@@ -58,6 +34,6 @@ pub fn raise_inside<S: Alter>(
     ensures told { within S.Store tx.old tx.new (OnlyFailsInside (HasOlder from)) result }
     ensures blamed { within S.Store tx.old tx.new (BlamesMediumOver (HasOlder from)) result }
 {
-    make_missing(tx, &TABLES, from.table_count())?;
+    make_tables(tx, &TABLES, from.table_count())?;
     rename(tx)
 }

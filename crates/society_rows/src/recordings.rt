@@ -1,8 +1,9 @@
 //! The table of recordings of versions.
 ghost use Rattle.std.specs.Prelude.{◌≡◌, map, take, [], ◌∷◌, IfOk, IfErr};
 ghost use Rattle.sqlite_value.specs.declared.value.Value.TheVariants.{Text};
+ghost use Rattle.sqlite.specs.Values.{bound};
 ghost use Rattle.society_rows.specs.declared.fault.RowFault.TheVariants.{Unread};
-ghost use Rattle.society_rows.specs.Effects.{BlamesMedium, ErrsByMedium, IsAllOrNothing, LeavesFirst, OnlyFails, OnlyFailsInside, Writes};
+ghost use Rattle.society_rows.specs.Effects.{BlamesMedium, ErrsByMedium, LeavesFirst, OnlyFails, OnlyFailsInside, Writes};
 ghost use Rattle.society_rows.specs.Forms.{IsRead, recording_forms};
 ghost use Rattle.society_rows.specs.Layout.{recordings};
 ghost use Rattle.society_rows.specs.Reads.{Lists, Reads, has_key};
@@ -10,11 +11,10 @@ ghost use Rattle.society_rows.specs.Rows.{recording_values};
 ghost use Rattle.society_rows.specs.Stored.{HasLayout, Adds};
 ghost use Rattle.society_rows.specs.Between.{within};
 
-use crate::RowFault;
+use crate::new_rows::NewRows;
 use crate::pairing::{PairedRow, add_all};
 use crate::reading::{integer, text};
-use crate::statement::{run, select};
-use sqlite::types::ToSql;
+use crate::{Question, RowFault, answer};
 use sqlite::{Alter, Row, Transaction};
 use sqlite_value::value::ValueRef;
 
@@ -29,6 +29,7 @@ pub struct RecordingRow<'a> {
 
 impl<'a> RecordingRow<'a> {
     /// The row that these values are, in the order of the columns; else `Unread`.
+    #[tactic(auto, using(crate::proofs::lemmas::changes::Columns::row_columns))]
     pub fn from_row(row: &'a Row) -> Result<RecordingRow<'a>, RowFault>
         ensures value { IfOk result (λ x. recording_values x ≡ row.now) }
         ensures read { IsRead recording_forms row.now result }
@@ -44,59 +45,18 @@ impl<'a> RecordingRow<'a> {
             isrc: text(row, 3)?,
         })
     }
-}
 
-// Adds a recording, whose key has to be free.
-fn add_recording<S: Alter>(
-    tx: &mut Transaction<'_, S>,
-    row: &RecordingRow<'_>,
-) -> Result<(), RowFault>
-    ensures same_reference { tx.new.conn.ghost_name ≡ tx.old.conn.ghost_name }
-    ensures written { within S.Store tx.old tx.new Writes result
-        (Adds recordings (recording_values row.now ∷ [])) }
-    ensures whole { within S.Store tx.old tx.new IsAllOrNothing result }
-    ensures told { within S.Store tx.old tx.new OnlyFails result }
-    ensures blamed { within S.Store tx.old tx.new BlamesMedium result }
-{
-    run(
-        tx,
-        "INSERT INTO recordings (sender, work, revision, isrc) VALUES (?1, ?2, ?3, ?4)",
-        &[
-            ValueRef::Text(row.sender),
-            ValueRef::Text(row.work),
-            (&row.revision).to_sql(),
-            ValueRef::Text(row.isrc),
-        ],
-    )
-}
-
-// Adds two recordings of versions by one statement: both, or neither.
-fn add_pair<S: Alter>(
-    tx: &mut Transaction<'_, S>,
-    one: &RecordingRow<'_>,
-    two: &RecordingRow<'_>,
-) -> Result<(), RowFault>
-    ensures same_reference { tx.new.conn.ghost_name ≡ tx.old.conn.ghost_name }
-    ensures written { within S.Store tx.old tx.new Writes result
-        (Adds recordings (recording_values one.now ∷ recording_values two.now ∷ [])) }
-    ensures whole { within S.Store tx.old tx.new IsAllOrNothing result }
-    ensures told { within S.Store tx.old tx.new OnlyFails result }
-    ensures blamed { within S.Store tx.old tx.new BlamesMedium result }
-{
-    run(
-        tx,
-        "INSERT INTO recordings (sender, work, revision, isrc) VALUES (?1, ?2, ?3, ?4), (?5, ?6, ?7, ?8)",
-        &[
-            ValueRef::Text(one.sender),
-            ValueRef::Text(one.work),
-            (&one.revision).to_sql(),
-            ValueRef::Text(one.isrc),
-            ValueRef::Text(two.sender),
-            ValueRef::Text(two.work),
-            (&two.revision).to_sql(),
-            ValueRef::Text(two.isrc),
-        ],
-    )
+    /// The values of its columns.
+    pub(crate) fn params(&self) -> [ValueRef<'_>; 4]
+        ensures { bound result ≡ recording_values self.now }
+    {
+        [
+            ValueRef::Text(self.sender),
+            ValueRef::Text(self.work),
+            ValueRef::Int(self.revision),
+            ValueRef::Text(self.isrc),
+        ]
+    }
 }
 
 impl<'a> PairedRow for RecordingRow<'a> {
@@ -104,16 +64,12 @@ impl<'a> PairedRow for RecordingRow<'a> {
 
     ghost values = { recording_values };
 
-    fn add_one<S: Alter>(tx: &mut Transaction<'_, S>, row: &Self) -> Result<(), RowFault> {
-        add_recording(tx, row)
+    fn one<'b>(row: &'b Self) -> NewRows<'b> {
+        NewRows::Recording(row)
     }
 
-    fn add_two<S: Alter>(
-        tx: &mut Transaction<'_, S>,
-        one: &Self,
-        two: &Self,
-    ) -> Result<(), RowFault> {
-        add_pair(tx, one, two)
+    fn two<'b>(one: &'b Self, two: &'b Self) -> NewRows<'b> {
+        NewRows::Recordings(one, two)
     }
 }
 
@@ -144,9 +100,5 @@ pub fn sender_recordings<S: Alter>(
     ensures told { within S.Store tx.old tx.new OnlyFails result }
     ensures medium { within S.Store tx.old tx.new ErrsByMedium result }
 {
-    select(
-        tx,
-        "SELECT sender, work, revision, isrc FROM recordings WHERE sender = ?1 ORDER BY sender, work, revision, isrc",
-        &[ValueRef::Text(sender)],
-    )
+    answer(tx, Question::SenderRecordings(sender))
 }

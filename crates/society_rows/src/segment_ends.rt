@@ -1,12 +1,11 @@
 //! The table of the ends of segments.
 ghost use Rattle.std.specs.Prelude.{◌≡◌, ◌≤◌, [], ◌∷◌, FitsSigned, IfOk, IfErr};
 ghost use Rattle.std.specs.Int.{w64};
-ghost use Rattle.sqlite_value.specs.declared.value.Value.TheVariants.{Text};
+ghost use Rattle.sqlite.specs.Values.{bound};
 ghost use Rattle.society_rows.specs.declared.fault.RowFault.TheVariants.{Unread};
-ghost use Rattle.society_rows.specs.Effects.{ErrsByMedium, IsAllOrNothing, OnlyFails, Writes};
+ghost use Rattle.society_rows.specs.Effects.{IsAllOrNothing, OnlyFails, Writes};
 ghost use Rattle.society_rows.specs.Forms.{IsRead, segment_end_forms};
 ghost use Rattle.society_rows.specs.Layout.{segment_ends};
-ghost use Rattle.society_rows.specs.Reads.{Lists, Reads, has_key};
 ghost use Rattle.society_rows.specs.Rows.{segment_end_values};
 ghost use Rattle.society_rows.specs.SegmentColumns.{segment_column};
 ghost use Rattle.society_rows.specs.Stored.{Adds};
@@ -14,8 +13,8 @@ ghost use Rattle.society_rows.specs.Between.{within};
 ghost use Rattle.work_ids.specs.Segments.{index_of};
 
 use crate::RowFault;
+use crate::new_rows::{NewRows, add};
 use crate::reading::{segment, text, whole};
-use crate::statement::{run, select};
 use sqlite::types::ToSql;
 use sqlite::{Alter, Row, Transaction};
 use sqlite_value::value::ValueRef;
@@ -33,6 +32,7 @@ pub struct SegmentEndRow<'a> {
 
 impl<'a> SegmentEndRow<'a> {
     /// The row that these values are, in the order of the columns; else `Unread`, also where the segment is a year above 99.
+    #[tactic(auto, using(crate::proofs::lemmas::changes::Columns::row_columns))]
     pub fn from_row(row: &'a Row) -> Result<SegmentEndRow<'a>, RowFault>
         ensures value { IfOk result (λ x. segment_end_values x ≡ row.now) }
         ensures read { IsRead segment_end_forms row.now result }
@@ -48,6 +48,18 @@ impl<'a> SegmentEndRow<'a> {
             last: whole(row, 2)?,
             next: whole(row, 3)?,
         })
+    }
+
+    /// The values of its columns.
+    pub(crate) fn params(&self) -> [ValueRef<'_>; 4]
+        ensures { bound result ≡ segment_end_values self.now }
+    {
+        [
+            ValueRef::Text(self.sender),
+            ValueRef::Int(column_of(self.segment)),
+            self.last.to_sql(),
+            self.next.to_sql(),
+        ]
     }
 }
 
@@ -73,33 +85,5 @@ pub fn add_segment_end<S: Alter>(
     ensures whole { within S.Store tx.old tx.new IsAllOrNothing result }
     ensures told { within S.Store tx.old tx.new OnlyFails result }
 {
-    let segment = column_of(row.segment);
-    run(
-        tx,
-        "INSERT INTO segment_ends (sender, segment, last, next) VALUES (?1, ?2, ?3, ?4)",
-        &[
-            ValueRef::Text(row.sender),
-            (&segment).to_sql(),
-            row.last.to_sql(),
-            row.next.to_sql(),
-        ],
-    )
-}
-
-/// The ends of the segments of a sender, by segment: the plain one first, then the years.
-pub(crate) fn ends_of<S: Alter>(
-    tx: &mut Transaction<'_, S>,
-    sender: &[u8],
-) -> Result<Vec<Row>, RowFault>
-    ensures same_reference { tx.new.conn.ghost_name ≡ tx.old.conn.ghost_name }
-    ensures read { within S.Store tx.old tx.new Reads result
-        (λ db rows. Lists segment_ends (has_key (Text sender.now ∷ [])) 2 db rows.items) }
-    ensures told { within S.Store tx.old tx.new OnlyFails result }
-    ensures medium { within S.Store tx.old tx.new ErrsByMedium result }
-{
-    select(
-        tx,
-        "SELECT sender, segment, last, next FROM segment_ends WHERE sender = ?1 ORDER BY sender, segment",
-        &[ValueRef::Text(sender)],
-    )
+    add(tx, NewRows::SegmentEnd(row))
 }

@@ -6,7 +6,7 @@ ghost use Rattle.sqlite_value.specs.declared.value.Value.TheVariants.{Null, Int}
 ghost use Rattle.sqlite_schema.specs.declared.schema.Kind.{Kind};
 ghost use Rattle.sqlite_schema.specs.Code.{term_in};
 ghost use Rattle.society_rows.specs.Layout.{column_of, keyed_table, numbered_table};
-ghost use Rattle.society_rows.specs.Shapes.{columns_named, refers_to};
+ghost use Rattle.society_rows.specs.Shapes.{columns_named, guard_shaped, refers_to, table_shaped};
 ghost use Rattle.society_rows.specs.Finding.{is_one, is_same};
 
 use sqlite_items::Items;
@@ -24,6 +24,31 @@ pub(crate) struct Parent<'a> {
     pub(crate) parent_columns: &'a [&'a str],
 }
 
+/// What the rows of a table are under.
+#[derive(Clone, Copy, Debug)]
+pub(crate) enum Rows {
+    /// One row, whose first column is its rowid, 1.
+    Single,
+    /// Their first column, which is their rowid.
+    Numbered,
+    /// A key of their columns.
+    Keyed,
+}
+
+/// A table as its statement makes it.
+#[derive(Clone, Copy, Debug)]
+pub(crate) struct TableShape<'a> {
+    pub(crate) name: &'a str,
+    /// Its tree; the index for its key has the next one.
+    pub(crate) tree: u32,
+    pub(crate) columns: &'a [(&'a str, Kind)],
+    pub(crate) rows: Rows,
+    /// The places of its key: the columns from 1, or 0 for the rowid.
+    pub(crate) key: &'a [usize],
+    /// The index for its key.
+    pub(crate) guard: &'a str,
+}
+
 // Whether a column has this name, holds this kind of value and no NULL, and has no default.
 fn is_column(column: &Column, name: &str, kind: Kind) -> bool
     ensures { IsTrue result ↔ (column.now ≡ column_of kind name.now) }
@@ -37,6 +62,7 @@ fn is_column(column: &Column, name: &str, kind: Kind) -> bool
 }
 
 // Whether columns have these names and kinds, in their order.
+#[tactic(auto, using(crate::proofs::lemmas::readings::Alike::alike_more))]
 fn are_columns(columns: &[Column], forms: &[(&str, Kind)]) -> bool
     ensures { IsTrue result ↔ (columns.now ≡ columns_named forms.now) }
 {
@@ -59,6 +85,7 @@ fn is_name(name: &Bytes, form: &str) -> bool
 }
 
 // Whether names are these, in their order.
+#[tactic(auto, using(crate::proofs::lemmas::readings::Alike::alike_more))]
 fn are_names(names: &[Bytes], forms: &[&str]) -> bool
     ensures { IsTrue result ↔ (names.now ≡ map (λ (f : Bor (List ℕ)). f.now) forms.now) }
 {
@@ -86,6 +113,7 @@ fn is_reference(reference: &Reference, form: &Parent<'_>) -> bool
 }
 
 // Whether references are these, in their order.
+#[tactic(auto, using(crate::proofs::lemmas::readings::Alike::alike_more))]
 fn are_references(references: &[Reference], forms: &[Parent<'_>]) -> bool
     ensures { IsTrue result ↔ (references.now ≡ map refers_to forms.now) }
 {
@@ -202,23 +230,16 @@ fn is_only_one(terms: &Terms) -> bool
     }
 }
 
-/// Whether a table is under a key of its own columns, by their places from 1, and has these columns and references.
-pub(crate) fn is_keyed(
-    table: &Table,
-    name: &str,
-    tree: u32,
-    columns: &[(&str, Kind)],
-    key: &[usize],
-    parents: &[Parent<'_>],
-) -> bool
-    ensures { IsTrue result ↔ (table.now ≡ keyed_table name.now tree (columns_named columns.now) key.now (map refers_to parents.now)) }
+// Whether a table is under a key of its own columns, is of a shape, and has these references.
+fn is_keyed(table: &Table, shape: &TableShape<'_>, parents: &[Parent<'_>]) -> bool
+    ensures { IsTrue result ↔ (table.now ≡ keyed_table shape.now.name.now shape.now.tree (columns_named shape.now.columns.now) shape.now.key.now (map refers_to parents.now)) }
 {
-    table.name.as_slice() == name.as_bytes()
-        && table.tree == tree
-        && are_columns(table.columns.as_slice(), columns)
+    table.name.as_slice() == shape.name.as_bytes()
+        && table.tree == shape.tree
+        && are_columns(table.columns.as_slice(), shape.columns)
         && table.key.is_none()
-        && table.primary.as_slice() == key
-        && is_only_key(table.uniques.as_slice(), key)
+        && table.primary.as_slice() == shape.key
+        && is_only_key(table.uniques.as_slice(), shape.key)
         && is_only_plain(table.orders.as_slice())
         && is_no_term(&table.checks)
         && are_references(table.references.as_slice(), parents)
@@ -227,17 +248,9 @@ pub(crate) fn is_keyed(
         && !table.is_counted
 }
 
-/// Whether a table's first column is its rowid, and it has these columns and references, and, where it is for one row, the check that the
-/// first is 1.
-pub(crate) fn is_numbered(
-    table: &Table,
-    name: &str,
-    tree: u32,
-    columns: &[(&str, Kind)],
-    one: bool,
-    parents: &[Parent<'_>],
-) -> bool
-    ensures { IsTrue result ↔ (table.now ≡ numbered_table name.now tree (columns_named columns.now) (if one then is_one ∷ [] else []) (map refers_to parents.now)) }
+// Whether a table's first column is its rowid, which has to be 1 where the table is for one row, and it is of a shape and has these references.
+fn is_numbered(table: &Table, shape: &TableShape<'_>, one: bool, parents: &[Parent<'_>]) -> bool
+    ensures { IsTrue result ↔ (table.now ≡ numbered_table shape.now.name.now shape.now.tree (columns_named shape.now.columns.now) (if one then is_one ∷ [] else []) (map refers_to parents.now)) }
 {
     let checked = if one {
         is_only_one(&table.checks)
@@ -245,9 +258,9 @@ pub(crate) fn is_numbered(
         is_no_term(&table.checks)
     };
     checked
-        && table.name.as_slice() == name.as_bytes()
-        && table.tree == tree
-        && are_columns(table.columns.as_slice(), columns)
+        && table.name.as_slice() == shape.name.as_bytes()
+        && table.tree == shape.tree
+        && are_columns(table.columns.as_slice(), shape.columns)
         && table.key == Some(0)
         && table.primary.as_slice() == [0].as_slice()
         && table.uniques.is_empty()
@@ -258,14 +271,26 @@ pub(crate) fn is_numbered(
         && !table.is_counted
 }
 
-/// Whether an index is the one that SQLite makes for the key of a table, under this name and over these places.
-pub(crate) fn is_guard(index: &Index, name: &str, tree: u32, table: u32, key: &[usize]) -> bool
-    ensures { IsTrue result ↔ (index.now ≡ record { name = name.now; tree = tree; table = table; columns = key.now; order = plain; is_unique = true }) }
+/// Whether a table is of a shape, and has these references.
+pub(crate) fn is_table(table: &Table, shape: &TableShape<'_>, parents: &[Parent<'_>]) -> bool
+    ensures { IsTrue result ↔ (table.now ≡ table_shaped shape.now (map refers_to parents.now)) }
 {
-    index.name.as_slice() == name.as_bytes()
-        && index.tree == tree
-        && index.table == table
-        && index.columns.as_slice() == key
+    match shape.rows {
+        Rows::Single => is_numbered(table, shape, true, parents),
+        Rows::Numbered => is_numbered(table, shape, false, parents),
+        Rows::Keyed => is_keyed(table, shape, parents),
+    }
+}
+
+/// Whether an index is the one that SQLite makes for the key of a table of a shape.
+pub(crate) fn is_guard(index: &Index, shape: &TableShape<'_>) -> bool
+    ensures { IsTrue result ↔ (index.now ≡ guard_shaped shape.now) }
+{
+    index.name.as_slice() == shape.guard.as_bytes()
+        && index.tree > shape.tree
+        && index.tree - shape.tree == 1
+        && index.table == shape.tree
+        && index.columns.as_slice() == shape.key
         && index.order == Order::PLAIN
         && index.is_unique
 }

@@ -1,5 +1,5 @@
 //! The tables by name, and the query that shows all rows of each.
-ghost use Rattle.std.specs.Prelude.{◌≡◌, true};
+ghost use Rattle.std.specs.Prelude.{◌≡◌};
 ghost use Rattle.society_rows.specs.Effects.{ErrsByMediumOver, OnlyFailsOver};
 ghost use Rattle.society_rows.specs.Layouts.{HasTable};
 ghost use Rattle.society_rows.specs.Listings.{ListsAll};
@@ -30,8 +30,8 @@ pub enum TableName {
     MechanicalPools,
 }
 
-// The query that shows all rows of a table, by its key; by all its columns where two rows of one key could not be told apart else.
-fn listing(table: TableName) -> &'static str
+/// The query that shows all rows of a table, by its key; by all its columns where two rows of one key could not be told apart else.
+pub(crate) fn listing(table: TableName) -> &'static str
     ensures { result.now ≡ listing_text table }
 {
     match table {

@@ -1,18 +1,18 @@
 //! The table of transmissions.
-ghost use Rattle.std.specs.Prelude.{◌≡◌, map, take, [], ◌∷◌, pos, IfOk, IfErr};
-ghost use Rattle.sqlite_value.specs.declared.value.Value.TheVariants.{Int, Text};
+ghost use Rattle.std.specs.Prelude.{◌≡◌, map, take, [], ◌∷◌, IfOk, IfErr};
+ghost use Rattle.sqlite.specs.Values.{bound};
 ghost use Rattle.society_rows.specs.declared.fault.RowFault.TheVariants.{Unread};
-ghost use Rattle.society_rows.specs.Effects.{ErrsByMedium, IsAllOrNothing, LeavesFirst, OnlyFails, OnlyFailsInside, Writes};
+ghost use Rattle.society_rows.specs.Effects.{IsAllOrNothing, LeavesFirst, OnlyFails, OnlyFailsInside, Writes};
 ghost use Rattle.society_rows.specs.Forms.{IsRead, transmission_forms, transmission_key_forms};
 ghost use Rattle.society_rows.specs.Layout.{transmissions};
-ghost use Rattle.society_rows.specs.Reads.{Lists, ListsKeys, Reads, has_key, is_above, is_above_and_below};
 ghost use Rattle.society_rows.specs.Rows.{transmission_values, transmission_key_values};
 ghost use Rattle.society_rows.specs.Stored.{HasLayout, Adds};
 ghost use Rattle.society_rows.specs.Between.{within};
 
 use crate::RowFault;
+use crate::new_rows::{NewRows, add};
+use crate::pairing::{PairedRow, add_all};
 use crate::reading::{bytes, text, whole};
-use crate::statement::{run, select};
 use sqlite::types::ToSql;
 use sqlite::{Alter, Row, Transaction};
 use sqlite_value::value::ValueRef;
@@ -27,6 +27,7 @@ pub struct TransmissionRow<'a> {
 
 impl<'a> TransmissionRow<'a> {
     /// The row that these values are, in the order of the columns; else `Unread`.
+    #[tactic(auto, using(crate::proofs::lemmas::changes::Columns::row_columns))]
     pub fn from_row(row: &'a Row) -> Result<TransmissionRow<'a>, RowFault>
         ensures value { IfOk result (λ x. transmission_values x ≡ row.now) }
         ensures read { IsRead transmission_forms row.now result }
@@ -41,6 +42,17 @@ impl<'a> TransmissionRow<'a> {
             body: bytes(row, 2)?,
         })
     }
+
+    /// The values of its columns.
+    pub(crate) fn params(&self) -> [ValueRef<'_>; 3]
+        ensures { bound result ≡ transmission_values self.now }
+    {
+        [
+            ValueRef::Text(self.sender),
+            self.number.to_sql(),
+            ValueRef::Blob(self.body),
+        ]
+    }
 }
 
 /// The key of a transmission: its sender key and its number.
@@ -52,6 +64,7 @@ pub struct TransmissionKeyRow<'a> {
 
 impl<'a> TransmissionKeyRow<'a> {
     /// The key that these values are, in the order of the columns; else `Unread`.
+    #[tactic(auto, using(crate::proofs::lemmas::changes::Columns::row_columns))]
     pub fn from_row(row: &'a Row) -> Result<TransmissionKeyRow<'a>, RowFault>
         ensures value { IfOk result (λ x. transmission_key_values x ≡ row.now) }
         ensures read { IsRead transmission_key_forms row.now result }
@@ -78,15 +91,21 @@ pub fn add_transmission<S: Alter>(
     ensures whole { within S.Store tx.old tx.new IsAllOrNothing result }
     ensures told { within S.Store tx.old tx.new OnlyFails result }
 {
-    run(
-        tx,
-        "INSERT INTO transmissions (sender, number, body) VALUES (?1, ?2, ?3)",
-        &[
-            ValueRef::Text(row.sender),
-            row.number.to_sql(),
-            ValueRef::Blob(row.body),
-        ],
-    )
+    add(tx, NewRows::Transmission(row))
+}
+
+impl<'a> PairedRow for TransmissionRow<'a> {
+    ghost table = { transmissions };
+
+    ghost values = { transmission_values };
+
+    fn one<'b>(row: &'b Self) -> NewRows<'b> {
+        NewRows::Transmission(row)
+    }
+
+    fn two<'b>(one: &'b Self, two: &'b Self) -> NewRows<'b> {
+        NewRows::Transmissions(one, two)
+    }
 }
 
 /// Adds transmissions, whose keys have to be free. After an error the first of them may be in the transaction.
@@ -101,66 +120,5 @@ pub fn add_transmissions<S: Alter>(
         (λ count. Adds transmissions (map transmission_values (take count rows.now))) }
     ensures told { within S.Store tx.old tx.new (OnlyFailsInside HasLayout) result }
 {
-    for row in rows {
-        add_transmission(tx, row)?;
-    }
-    Ok(())
-}
-
-/// The transmission of a sender under a number, if there is one.
-pub(crate) fn transmission_at<S: Alter>(
-    tx: &mut Transaction<'_, S>,
-    sender: &[u8],
-    number: u32,
-) -> Result<Vec<Row>, RowFault>
-    ensures same_reference { tx.new.conn.ghost_name ≡ tx.old.conn.ghost_name }
-    ensures read { within S.Store tx.old tx.new Reads result
-        (λ db rows. Lists transmissions (has_key (Text sender.now ∷ Int (pos number) ∷ [])) 2 db rows.items) }
-    ensures told { within S.Store tx.old tx.new OnlyFails result }
-    ensures medium { within S.Store tx.old tx.new ErrsByMedium result }
-{
-    select(
-        tx,
-        "SELECT sender, number, body FROM transmissions WHERE sender = ?1 AND number = ?2 ORDER BY sender, number",
-        &[ValueRef::Text(sender), number.to_sql()],
-    )
-}
-
-/// The keys of the transmissions of a sender above a number, by number; their bodies are not read.
-pub(crate) fn numbers_above<S: Alter>(
-    tx: &mut Transaction<'_, S>,
-    sender: &[u8],
-    number: u32,
-) -> Result<Vec<Row>, RowFault>
-    ensures same_reference { tx.new.conn.ghost_name ≡ tx.old.conn.ghost_name }
-    ensures read { within S.Store tx.old tx.new Reads result
-        (λ db rows. ListsKeys transmissions (is_above (Text sender.now) (Int (pos number))) 2 db rows.items) }
-    ensures told { within S.Store tx.old tx.new OnlyFails result }
-    ensures medium { within S.Store tx.old tx.new ErrsByMedium result }
-{
-    select(
-        tx,
-        "SELECT sender, number FROM transmissions WHERE sender = ?1 AND number > ?2 ORDER BY sender, number",
-        &[ValueRef::Text(sender), number.to_sql()],
-    )
-}
-
-/// The keys of the transmissions of a sender above one number and below another, by number; their bodies are not read.
-pub(crate) fn numbers_between<S: Alter>(
-    tx: &mut Transaction<'_, S>,
-    sender: &[u8],
-    above: u32,
-    below: u32,
-) -> Result<Vec<Row>, RowFault>
-    ensures same_reference { tx.new.conn.ghost_name ≡ tx.old.conn.ghost_name }
-    ensures read { within S.Store tx.old tx.new Reads result
-        (λ db rows. ListsKeys transmissions (is_above_and_below (Text sender.now) (Int (pos above)) (Int (pos below))) 2 db rows.items) }
-    ensures told { within S.Store tx.old tx.new OnlyFails result }
-    ensures medium { within S.Store tx.old tx.new ErrsByMedium result }
-{
-    select(
-        tx,
-        "SELECT sender, number FROM transmissions WHERE sender = ?1 AND number > ?2 AND number < ?3 ORDER BY sender, number",
-        &[ValueRef::Text(sender), above.to_sql(), below.to_sql()],
-    )
+    add_all(tx, rows)
 }

@@ -3,9 +3,9 @@ use crate::book::SENDER;
 use society_rows::{
     BalanceRow, CreditRow, FrontRow, MechanicalPoolRow, PoolCutRow, PoolReturnRow, PoolRow,
     RecordingRow, ReturnRow, RowFault, SegmentEndRow, TransmissionRow, VerdictRow, VersionRow,
-    add_credits, add_mechanical_pool, add_pool, add_pool_cuts, add_pool_returns, add_recordings,
-    add_return, add_segment_end, add_transmissions, add_units, add_verdicts, add_versions,
-    put_balance, put_front,
+    add_balance, add_credits, add_mechanical_pool, add_pool, add_pool_cuts, add_pool_returns,
+    add_recordings, add_return, add_segment_end, add_transmissions, add_units, add_verdicts,
+    add_versions, put_front,
 };
 use sqlite::{Alter, Transaction};
 use work_ids::Segment;
@@ -58,7 +58,7 @@ pub fn write_one<S: Alter>(tx: &mut Transaction<'_, S>, what: Write) -> Result<(
         Write::Verdicts(rows) => add_verdicts(tx, rows),
         Write::Credits(rows) => add_credits(tx, rows),
         Write::Front(row) => put_front(tx, &row),
-        Write::Balance(row) => put_balance(tx, &row),
+        Write::Balance(row) => add_balance(tx, &row),
         Write::Units(account, units) => add_units(tx, account, units),
     }
 }
@@ -176,16 +176,13 @@ pub const FRONTS: &[Write] = &[
     }),
 ];
 
-/// A balance that gives way to another.
+/// A balance that gives way to another, of more units.
 pub const BALANCES: &[Write] = &[
     Write::Balance(BalanceRow {
         account: b"UNCLAIMED",
         units: 5,
     }),
-    Write::Balance(BalanceRow {
-        account: b"UNCLAIMED",
-        units: 999_999_999_999_999_999,
-    }),
+    Write::Units(b"UNCLAIMED", 999_999_999_999_999_994),
 ];
 
 /// The end of a year.

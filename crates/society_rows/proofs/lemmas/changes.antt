@@ -3,6 +3,8 @@ pub mod Adds
 pub mod Casts
 pub mod Columns
 pub mod Commands
+pub mod EachInsert
+pub mod EachPut
 pub mod Effects
 pub mod Inserts
 pub mod ListWrites
@@ -11,5 +13,6 @@ pub mod Puts
 pub mod References
 pub mod Renaming
 pub mod Rowids
+pub mod Units
 pub mod UpsertParts
 pub mod Upserts

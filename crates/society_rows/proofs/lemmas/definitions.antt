@@ -1,6 +1,5 @@
 -- The texts that make the tables, and what they define.
 pub mod Booleans
-pub mod Called
 pub mod Creates
 pub mod FirstTables
 pub mod LayoutAlone

@@ -4,10 +4,10 @@ pub mod Answers
 pub mod AskedRows
 pub mod CutRows
 pub mod KeyEquality
-pub mod KeyQueries
-pub mod Listings
 pub mod Queries
+pub mod QuestionQueries
 pub mod RowFolds
 pub mod RunFolds
-pub mod SenderQueries
+pub mod Selections
+pub mod TableQueries
 pub mod RowidQueries

@@ -3,7 +3,7 @@ use Rattle.std.proofs.lemmas.Int.{to_z-of_z}
 use Rattle.sqlite.specs.Held.{state}
 use Rattle.sqlite.specs.State.{HasCleanDisk}
 use Rattle.society_rows.specs.Stored.{HasLayout}
-use Rattle.society_rows.proofs.lemmas.each_table.UnitLemmas.{sums_units, told_refuses}
+use Rattle.society_rows.proofs.lemmas.changes.Units.{sums_units, told_refuses}
 use Rattle.society_rows.proofs.balances.add_units.Goals as goal
 
 pub returns-clause-written : goal.returns-clause-written

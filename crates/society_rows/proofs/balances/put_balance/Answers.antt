@@ -1,24 +1,30 @@
 use Rattle.std.proofs.Common.{refl}
 use Rattle.sqlite.specs.Held.{state}
-use Rattle.society_rows.specs.Layout.{balances}
+use Rattle.society_rows.specs.declared.tables.TableName.TheVariants as name
+use Rattle.society_rows.specs.Layout.{balances, written_out}
 use Rattle.society_rows.specs.Rows.{balance_values}
 use Rattle.society_rows.specs.Stored.{HasLayout, Puts}
+use Rattle.society_rows.proofs.lemmas.changes.EachInsert.{settled}
+use Rattle.society_rows.proofs.lemmas.changes.EachPut.{balance_put, put_balance_text}
 use Rattle.society_rows.proofs.lemmas.changes.Effects.{writes_by}
-use Rattle.society_rows.proofs.lemmas.each_table.BalanceTable.{put_text, puts_row, settled, put_is}
-use Rattle.society_rows.proofs.lemmas.errors.Told.{insert_or_tells}
+use Rattle.society_rows.proofs.lemmas.changes.UpsertParts.{puts}
+use Rattle.society_rows.proofs.lemmas.errors.Told.{statement_tells}
+use Rattle.society_rows.proofs.lemmas.errors.Writings.{insert_or_codes}
 use Rattle.society_rows.proofs.balances.put_balance.Goals as goal
 
 pub returns-clause-written : goal.returns-clause-written
+unfolding settled written_out
 returns-clause-written g c =
     let row = c.args.row.now in
     let old = state g.S.Store c.args.tx.now.conn.now in
     let new = state g.S.Store c.run.new.tx.conn.now in
-    writes_by HasLayout old new put_text (balance_values row) c.run.result (Puts balances (balance_values row)) (λ clean inside. rw (c.to_sql.ensures) at (c.run.ensures.ran clean inside)) c.run.ensures.survives
-    (λ count. puts_row row.account.now row.units old new count)
+    writes_by HasLayout old new put_balance_text (balance_values row) c.run.result (Puts balances (balance_values row)) (λ clean inside. rw c.params.ensures at (c.run.ensures.ran clean inside)) c.run.ensures.survives
+    (λ count. puts (settled name.Balances) (λ cuts payments. refl) (balance_put row) old new count)
 
 pub returns-clause-told : goal.returns-clause-told
 returns-clause-told g c =
     let row = c.args.row.now in
     let old = state g.S.Store c.args.tx.now.conn.now in
     let new = state g.S.Store c.run.new.tx.conn.now in
-    insert_or_tells put_text settled put_is (balance_values row) refl old new c.run.result c.run.ensures.ended (λ clean inside. rw (c.to_sql.ensures) at (c.run.ensures.ran clean inside))
+    statement_tells HasLayout put_balance_text (balance_values row) old new c.run.result c.run.ensures.ended (λ clean inside. rw c.params.ensures at (c.run.ensures.ran clean inside))
+    (insert_or_codes put_balance_text (settled name.Balances) (balance_put row).is (balance_values row) refl old new)

@@ -5,19 +5,19 @@ use Rattle.society_rows.specs.Balances.{HasUnits, HidesUnits}
 use Rattle.society_rows.proofs.lemmas.changes.Effects.{handed_on}
 use Rattle.society_rows.proofs.lemmas.readings.Alike.{only_one}
 use Rattle.society_rows.proofs.lemmas.readings.RunFolds.{none_there}
-use Rattle.society_rows.proofs.lemmas.each_table.UnitLemmas.{no_units, one_balance, reads_inside, two_rows, unread_row}
+use Rattle.society_rows.proofs.lemmas.changes.Units.{no_units, one_balance, reads_inside, two_rows, unread_row}
 use Rattle.society_rows.proofs.balances.units_of.Goals as goal
 
 pub returns-in-empty-clause-read : goal.returns-in-empty-clause-read
 returns-in-empty-clause-read g c =
-    reads_inside (state g.S.Store c.args.tx.now.conn.now) (state g.S.Store c.balance_at.new.tx.conn.now) c.in_ok-rows.rows (Ok (pos 0)) _ (HasUnits c.args.account.now) c.in_ok-rows.ensures.read
+    reads_inside (state g.S.Store c.args.tx.now.conn.now) (state g.S.Store c.answer.new.tx.conn.now) c.in_ok-rows.rows (Ok (pos 0)) _ (HasUnits c.args.account.now) c.in_ok-rows.ensures.read
     (λ db. no_units c.args.account.now db c.in_ok-rows.rows.items (sym c.as_slice.ensures.value ∙ none_there _ c.in-empty.len_below))
 
 pub returns-in-len1-clause-read : goal.returns-in-len1-clause-read
 returns-in-len1-clause-read g c =
     let units = c.in_ok-from_row-in-len1.field-0.units in
     rw (to_z-of_z w64 units c.in_ok-from_row-in-len1.ensures.range)
-    (reads_inside (state g.S.Store c.args.tx.now.conn.now) (state g.S.Store c.balance_at.new.tx.conn.now) c.in_ok-rows.rows (Ok units) _ (HasUnits c.args.account.now) c.in_ok-rows.ensures.read
+    (reads_inside (state g.S.Store c.args.tx.now.conn.now) (state g.S.Store c.answer.new.tx.conn.now) c.in_ok-rows.rows (Ok units) _ (HasUnits c.args.account.now) c.in_ok-rows.ensures.read
     (λ db. one_balance c.args.account.now c.in_ok-from_row-in-len1.field-0.account.now units db c.in_ok-rows.rows.items c.row-item.result
     (sym c.as_slice.ensures.value ∙ only_one _ c.row-item.result c.in-len1.len_at_least c.in-len1.len_below c.row-item.is) c.in_ok-from_row-in-len1.ensures.value))
 

@@ -5,7 +5,7 @@ use Rattle.society_rows.specs.NewBook.{IsBare, IsEmptyBook, Begins}
 use Rattle.society_rows.specs.Rows.{office_values}
 use Rattle.society_rows.specs.Stored.{HasLayout, Adds}
 use Rattle.society_rows.proofs.lemmas.changes.Effects.{writes_then}
-use Rattle.society_rows.proofs.lemmas.each_table.OfficeTable.{begins}
+use Rattle.society_rows.proofs.lemmas.definitions.NewBooks.{begins}
 use Rattle.society_rows.proofs.lemmas.errors.Blamed.{blames_then}
 use Rattle.society_rows.proofs.lemmas.errors.Told.{tells_then}
 use Rattle.society_rows.proofs.layout.begin_book.Goals as goal

@@ -59,10 +59,10 @@ writes_then Was Is a b c x result P Q R keeps joins one two =
     on_ok (Ok z) A B f h = f h
     on_ok (Err e) A B f h = tt
 
--- the same write, said otherwise
-pub writes_as : {X : Type 0} (Was : Database → Type 0) (a b : State) (result : Result X RowFault) (P Q : Database → Database → Type 0) → ((d e : Database) → P d e → Q d e)
-    → WritesOver Was a b result P → WritesOver Was a b result Q
-writes_as {X} Was a b result P Q turns h = record { change = λ clean inside has. on result (h.change clean inside has); inside = h.inside; kept = h.kept; survives = h.survives }
+-- the same write over a narrower kind of database, said otherwise
+pub writes_as : {X : Type 0} (Was Is : Database → Type 0) (a b : State) (result : Result X RowFault) (P Q : Database → Database → Type 0) → (Is a.now → Was a.now) → ((d e : Database) → P d e → Q d e)
+    → WritesOver Was a b result P → WritesOver Is a b result Q
+writes_as {X} Was Is a b result P Q narrow turns h = record { change = λ clean inside has. on result (h.change clean inside (narrow has)); inside = h.inside; kept = h.kept; survives = h.survives }
   where
     on : (r : Result X RowFault) → OnOk r (P a.now b.now) → OnOk r (Q a.now b.now)
     on (Ok x) p = turns a.now b.now p

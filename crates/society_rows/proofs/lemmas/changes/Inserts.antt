@@ -1,12 +1,14 @@
 -- INSERT, for every table.
-use Rattle.std.proofs.Common.{◌≡◌, ℕ, ◌/◌, Bool, true, false, cond, true≢false, Option, MatchBool, drop, ◌-◌, List, [], ◌∷◌, ◌++◌, length, map, slice_get, Some, None, Ok, Err, Result, OnOk, refl, sym, ap, ap₂, subst, subst₂, ◌∙◌, ◌≢◌, append-nil, IsPermutation}
+use Rattle.std.proofs.Common.{◌≡◌, ℕ, ◌+◌, ◌/◌, Bool, true, false, cond, true≢false, Option, MatchBool, drop, ◌-◌, List, [], ◌∷◌, ◌++◌, length, map, slice_get, Some, None, Ok, Err, Result, OnOk, refl, sym, ap, ap₂, subst, subst₂, ◌∙◌, ◌≢◌, append-nil, IsPermutation}
 use Rattle.std.specs.List.{AllByRecursion}
 use Rattle.std.proofs.lemmas.List.{map-append}
 use Rattle.std.proofs.lemmas.List.Sorted.{IsPermutation-map}
 use Rattle.sqlite_value.specs.Order.{Row}
 use Rattle.sqlite_trees.specs.Tree.{Trees, rowid, put_row}
 use Rattle.sqlite_trees.specs.View.{is_int}
-use Rattle.sqlite_sql.specs.Term.{Term, eval_all}
+use Rattle.sqlite_value.specs.declared.value.Value.TheVariants.{Null}
+use Rattle.std.specs.List.{range_with_len}
+use Rattle.sqlite_sql.specs.Term.{Term, col, lit, eval_all}
 use Rattle.sqlite_schema.specs.declared.schema.Keys.TheVariants.{Enforced}
 use Rattle.sqlite_schema.specs.declared.schema.Reference.{Reference}
 use Rattle.sqlite_schema.specs.declared.schema.Stamps.{Stamps}
@@ -24,6 +26,7 @@ use Rattle.sqlite.specs.Does.{Tally, AtPlace, OnRows}
 use Rattle.sqlite.specs.State.{State, mode_of, ExecutesInside}
 use Rattle.sqlite.proofs.Callers.{runs_as, one_step}
 use Rattle.society_rows.specs.Layouts.{IsFirst, schema_to}
+use Rattle.society_rows.specs.NewRows.{one_after_another}
 use Rattle.society_rows.specs.Stored.{values_of, rows_in, HasLayout, Adds}
 use Rattle.society_rows.proofs.lemmas.changes.Commands.{IsCommand, command_in}
 use Rattle.society_rows.proofs.lemmas.changes.Parts.{went, same_value}
@@ -125,3 +128,35 @@ inserts table at settled old new text params terms width sources more (Ok rows) 
     let task : Task = record { limit = old.step_limit; keys = Enforced; schema = schema; table = table; params = params } in
     let at_table = λ (o : Option Table). AtPlace {X = Table} {A = Tally × Database} (λ t. OnRows (record task { table = t }) (mode_of old) None command old.now.trees) o (Ok (w.tally, new.now)) in
     inserted schema has table at settled old new params terms width sources more given fits w.tally (subst at_table (listed_in table at settled schema has) w.changed)
+
+-- ---- rows as code names them
+
+-- a row as it is given to its table: NULL in place of a rowid, or of the column that is the rowid
+abbrev given_row : Option ℕ → Row → Row
+given_row None row = Null ∷ row
+given_row (Some _) [] = []
+given_row (Some _) (v ∷ row) = v ∷ Null ∷ row
+
+-- the parameters from one on, as the columns of such a row
+abbrev given_terms : Option ℕ → ℕ → ℕ → List Term
+given_terms None from width = lit Null ∷ map (col 0) (range_with_len from width)
+given_terms (Some _) from width = col 0 from ∷ lit Null ∷ map (col 0) (range_with_len (from + 1) (width - 1))
+
+-- the same of rows, one after another
+abbrev all_terms : Option ℕ → ℕ → ℕ → List Row → List Term
+all_terms key width from [] = []
+all_terms key width from (row ∷ rows) = given_terms key from width ++ all_terms key width (from + width) rows
+
+abbrev pub terms_of : Table → List Row → List Term
+terms_of table rows = all_terms table.key (length table.columns) 0 rows
+
+-- the text adds these rows to the table at this place, whose values are its parameters
+pub record IsInsert (table : Table) (at : ℕ) (text : List ℕ) (rows : List Row) : Type 0 where
+  pub is : IsCommand text (length (one_after_another rows)) (Insert at (Values (terms_of table rows) (length table.columns + 1)))
+  pub given : value_rows (one_after_another rows) (length table.columns + 1) (length (terms_of table rows) / (length table.columns + 1)) (terms_of table rows) ≡ map (given_row table.key) rows
+  pub stores : AllStore table (map (given_row table.key) rows) rows
+
+pub adds : {table : Table} {at : ℕ} {text : List ℕ} {rows : List Row} → IsSettled table at → IsInsert table at text rows → (old new : State) (count : ℕ)
+    → HasLayout old.now → ExecutesInside 0 text (one_after_another rows) old new (Ok count) → Adds table rows old.now new.now
+adds {table} {at} {text} {rows} settled insert old new count =
+    inserts table at settled old new text (one_after_another rows) (terms_of table rows) (length table.columns + 1) (map (given_row table.key) rows) rows (Ok count) insert.is insert.given insert.stores

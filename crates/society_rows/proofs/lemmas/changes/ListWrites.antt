@@ -1,7 +1,7 @@
 -- A list of rows, written one at a time.
-use Rattle.std.proofs.Common.{arith, inr, inl, refl, ◌≡◌, ℕ, ◌+◌, ◌<◌, List, [], ◌∷◌, ◌++◌, length, map, take, get_or, Result, Ok, Err, sym, ap, subst, ◌∙◌, append-nil, append_assoc}
+use Rattle.std.proofs.Common.{arith, inr, inl, refl, ◌≡◌, ℕ, List, [], ◌++◌, length, map, take, Result, Ok, Err, sym, ap, subst, ◌∙◌, append-nil, append_assoc}
 use Rattle.std.proofs.Math.Seq.{take-append_seam}
-use Rattle.std.proofs.lemmas.List.{map-append, nil_from_length, take_more}
+use Rattle.std.proofs.lemmas.List.{map-append, nil_from_length}
 use Rattle.std.specs.Result.{IsErr}
 use Rattle.sqlite_value.specs.Order.{Row}
 use Rattle.sqlite.specs.Effect.{Database}
@@ -23,18 +23,6 @@ fails_after a b c P Q Z keeps fault (Ok x) is before more = absurd cc
 fails_after a b c P Q Z keeps fault (Err other) is before more =
     let both = writes_then HasLayout HasLayout a b c tt (Err fault) P Q (λ _ _. Unit {0}) keeps (λ d e f p q. tt) before more in
     record { change = λ clean inside has. tt; inside = λ clean inside. tt; kept = both.kept; survives = both.survives }
-
-module _ {R : Type 0} (table : Table) (values : R → Row) (rows : List R) (i : ℕ) (d : R) (a b c : State) (before : Writes {X = Unit {0}} a b (Ok tt) (Adds table (map values (take i rows)))) where
-  pub adds_next : (within : i < length rows) (x : Unit {0}) → Writes b c (Ok x) (Adds table (values (get_or rows i d) ∷ [])) → Writes {X = Unit {0}} a c (Ok tt) (Adds table (map values (take (i + 1) rows)))
-  adds_next within x more =
-      subst (λ l. Writes {X = Unit {0}} a c (Ok tt) (Adds table l)) (sym (map-append values (take i rows) (get_or rows i d ∷ [])) ∙ ap (map values) (sym (take_more rows i d within)))
-      (writes_then HasLayout HasLayout a b c tt (Ok tt) (Adds table (map values (take i rows))) (Adds table (values (get_or rows i d) ∷ [])) (Adds table (map values (take i rows) ++ values (get_or rows i d) ∷ []))
-      (λ e f h. h.layout) (λ e f k. adds_then table (map values (take i rows)) (values (get_or rows i d) ∷ []) e f k) before more)
-
-  pub adds_fails : (fault : RowFault) (all : List Row) (result : Result (Unit {0}) RowFault) → IsErr result → Writes {X = Unit {0}} b c (Err fault) (Adds table (values (get_or rows i d) ∷ []))
-      → Writes a c result (Adds table all)
-  adds_fails fault all result is more =
-      fails_after a b c (Adds table (map values (take i rows))) (Adds table (values (get_or rows i d) ∷ [])) (Adds table all) (λ e f h. h.layout) fault result is before more
 
 -- a write failed after so many
 pub leaves_first : (a b c : State) (First : ℕ → Database → Database → Type 0) (count : ℕ) (fault : RowFault) (result : Result (Unit {0}) RowFault) → Writes {X = Unit {0}} a b (Ok tt) (First count)

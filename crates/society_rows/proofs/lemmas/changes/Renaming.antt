@@ -38,7 +38,8 @@ use Rattle.society_rows.proofs.lemmas.changes.Inserts.{alone_in}
 use Rattle.society_rows.proofs.lemmas.changes.Parts.{went, same_value}
 use Rattle.society_rows.proofs.lemmas.changes.References.{no_works}
 use Rattle.society_rows.proofs.lemmas.definitions.FirstTables.{all_laid}
-use Rattle.society_rows.proofs.lemmas.each_table.OfficeTable.{refers_to_none, settled}
+use Rattle.society_rows.specs.declared.tables.TableName.TheVariants as name
+use Rattle.society_rows.proofs.lemmas.changes.EachInsert.{settled}
 use Rattle.society_rows.proofs.lemmas.readings.Answers.{picked, answers_are}
 
 abbrev pub update_text : List ℕ
@@ -49,7 +50,7 @@ update_program = record { lets = []; body = picked 0 [] (col 1 0 ∷ col 1 0 ∷
 
 pub update_is : IsCommand update_text 1 (Update 0 update_program)
 unfolding understood everything written_out
-update_is cuts payments = record { command = refl; plain = (refl, refl); single = (refl, refl) }
+update_is cuts payments = refl
 
 abbrev pub newest : Row
 newest = Int (pos 3) ∷ []
@@ -132,13 +133,14 @@ renamed schema laid old new tally h =
 
 -- the office's row is set to layout 3
 pub renames : (old new : State) (count : ℕ) → HasLayout old.now → ExecutesInside 0 update_text newest old new (Ok count) → Renames old.now new.now
+unfolding settled written_out
 renames old new count has h =
     let schema = old.now.schema in
     let it = command_in update_text 1 (Update 0 update_program) update_is schema has in
     let w = runs_as update_text newest old new schema refl (Update 0 update_program) it.command it.plain count h.0 in
     let task : Task = record { limit = old.step_limit; keys = Enforced; schema = schema; table = office; params = newest } in
     let at_table = λ (o : Option Table). AtPlace {X = Table} {A = Tally × Database} (λ t. OnRows (record task { table = t }) (mode_of old) None (Update 0 update_program) old.now.trees) o (Ok (w.tally, new.now)) in
-    renamed schema has old new w.tally (subst at_table (alone_in office 0 settled refers_to_none schema has) w.changed)
+    renamed schema has old new w.tally (subst at_table (alone_in office 0 (settled name.Office) (λ cuts payments. refl) schema has) w.changed)
 
 -- ---- both
 

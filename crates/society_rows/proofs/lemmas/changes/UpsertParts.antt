@@ -1,6 +1,6 @@
 -- An upsert as a statement: its parts, in turn.
-use Rattle.std.proofs.Common.{◌≡◌, ℕ, ◌/◌, ℤ, true, false, cond, List, [], ◌∷◌, ◌++◌, length, map, filter, Option, Some, None, Ok, refl, sym, ap, ap₂, subst, ◌∙◌, inl, inr, IsPermutation}
-use Rattle.std.specs.List.{AllByRecursion}
+use Rattle.std.proofs.Common.{◌+◌, ◌≡◌, ℕ, ◌/◌, ℤ, true, false, cond, List, [], ◌∷◌, ◌++◌, length, map, filter, Option, Some, None, Ok, refl, sym, ap, ap₂, subst, ◌∙◌, inl, inr, IsPermutation}
+use Rattle.std.specs.List.{AllByRecursion, range_with_len}
 use Rattle.std.proofs.lemmas.Bool.{cases_Bool}
 use Rattle.sqlite_value.specs.declared.value.Value.{Value}
 use Rattle.sqlite_value.specs.declared.value.Value.TheVariants.{Null, Int}
@@ -38,7 +38,7 @@ use Rattle.society_rows.specs.Layouts.{IsFirst, schema_to}
 use Rattle.society_rows.specs.Stored.{HasLayout, Puts}
 use Rattle.society_rows.proofs.lemmas.definitions.FirstTables.{ordered}
 use Rattle.society_rows.proofs.lemmas.readings.Answers.{picked, answers_are, passes_in, shown_in}
-use Rattle.society_rows.proofs.lemmas.changes.Inserts.{IsSettled, alone_in, uncounted, unstamped}
+use Rattle.society_rows.proofs.lemmas.changes.Inserts.{terms_of, IsSettled, alone_in, uncounted, unstamped}
 use Rattle.society_rows.proofs.lemmas.changes.Commands.{IsCommand, command_in}
 use Rattle.society_rows.proofs.lemmas.changes.Parts.{went, same_value}
 use Rattle.society_rows.proofs.lemmas.changes.References.{no_works}
@@ -144,18 +144,27 @@ module _ (schema : Schema) (laid : IsFirst 14 schema) (table : Table) (at : ℕ)
       let is_new : after tried.0.0.trees ≡ new = sym (now ∙ ap after trees) in
       subst (Puts table values (after db)) is_new put
 
-pub puts : (table : Table) (at : ℕ) (settled : IsSettled table at) → ((cuts payments : List Reference) → settled.refers cuts payments ≡ table.references) → (values : Row)
-    → ((cuts payments : List Reference) → IsUpserted (schema_to 14 cuts payments) table values) → (params : Row) (place : ℕ) (news : List Term) → IsUpdate table params values place news
-    → (terms : List Term) (width : ℕ) → value_rows params width (length terms / width) terms ≡ (Null ∷ values) ∷ [] → (old new : State) (text : List ℕ) (rows : ℕ) {count : ℕ}
-    → IsCommand text count (InsertOr at Abort (Values terms width) (clause_of table.tree place news ∷ []))
-    → HasLayout old.now → ExecutesInside 0 text params old new (Ok rows) → Puts table values old.now new.now
-puts table at settled alone values upserted_as params place news update terms width given old new text rows means has h =
+-- the parameters of a row as a statement has them that writes over it: behind them stand the rowid that is there, and the row that was to be added
+abbrev new_terms : Row → List Term
+new_terms row = map (col 0) (range_with_len (length row + 2) (length row))
+
+-- the text puts this row into the table at this place, and its values are its parameters
+pub record IsPut (table : Table) (at : ℕ) (text : List ℕ) (row : Row) : Type 0 where
+  pub is : IsCommand text (length row) (InsertOr at Abort (Values (terms_of table (row ∷ [])) (length table.columns + 1)) (clause_of table.tree (length row) (new_terms row) ∷ []))
+  pub given : value_rows row (length table.columns + 1) (length (terms_of table (row ∷ [])) / (length table.columns + 1)) (terms_of table (row ∷ [])) ≡ (Null ∷ row) ∷ []
+  pub upserted : (cuts payments : List Reference) → IsUpserted (schema_to 14 cuts payments) table row
+  pub update : IsUpdate table row row (length row) (new_terms row)
+
+pub puts : {table : Table} {at : ℕ} {text : List ℕ} {row : Row} (settled : IsSettled table at) → ((cuts payments : List Reference) → settled.refers cuts payments ≡ table.references) → IsPut table at text row
+    → (old new : State) (count : ℕ) → HasLayout old.now → ExecutesInside 0 text row old new (Ok count) → Puts table row old.now new.now
+puts {table} {at} {text} {row} settled alone put old new count has h =
     let schema = old.now.schema in
-    let act = InsertOr at Abort (Values terms width) (clause_of table.tree place news ∷ []) in
-    let it = command_in text _ act means schema has in
-    let is = subst (λ s. IsUpserted s table values) (sym (ordered has).is) (upserted_as (ordered has).cuts (ordered has).payments) in
-    let w = runs_as text params old new schema refl act it.command it.plain rows h.0 in
+    let act = InsertOr at Abort (Values (terms_of table (row ∷ [])) (length table.columns + 1)) (clause_of table.tree (length row) (new_terms row) ∷ []) in
+    let it = command_in text _ act put.is schema has in
+    let is = subst (λ s. IsUpserted s table row) (sym (ordered has).is) (put.upserted (ordered has).cuts (ordered has).payments) in
+    let w = runs_as text row old new schema refl act it.command it.plain count h.0 in
     let db = old.now.trees in
-    let task : Task = record { limit = old.step_limit; keys = Enforced; schema = schema; table = table; params = params } in
+    let task : Task = record { limit = old.step_limit; keys = Enforced; schema = schema; table = table; params = row } in
     let at_table = λ (o : Option Table). AtPlace {X = Table} {A = Tally × Database} (λ t. OnRows (record task { table = t }) (mode_of old) None act db) o (Ok (w.tally, new.now)) in
-    upserted schema has table at settled values is params place news update old.step_limit db terms width given old w.tally new.now (subst at_table (alone_in table at settled alone schema has) w.changed)
+    upserted schema has table at settled row is row (length row) (new_terms row) put.update old.step_limit db (terms_of table (row ∷ [])) (length table.columns + 1) put.given old w.tally new.now
+    (subst at_table (alone_in table at settled alone schema has) w.changed)

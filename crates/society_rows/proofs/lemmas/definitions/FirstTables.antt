@@ -103,6 +103,23 @@ first_long count low db first_ones =
     let all = tables_with has.cuts has.payments in
     ap (λ (s : Schema). length s.tables) has.is ∙ ap length (tables_are count has.cuts has.payments) ∙ length-take-le count all (omega (arith, longer has.cuts has.payments))
 
+-- the place of a table among all
+abbrev pub place : TableName → ℕ
+place name.Office = 0
+place name.Transmissions = 1
+place name.Returns = 2
+place name.Pools = 3
+place name.PoolCuts = 4
+place name.PoolReturns = 5
+place name.Fronts = 6
+place name.Verdicts = 7
+place name.Versions = 8
+place name.Recordings = 9
+place name.Credits = 10
+place name.Balances = 11
+place name.SegmentEnds = 12
+place name.MechanicalPools = 13
+
 since_one : (table : TableName) → first_table_count table ≤ 14
 since_one name.Office = lit≤ tt
 since_one name.Transmissions = lit≤ tt

@@ -1,5 +1,5 @@
--- The missing tables of an older layout, made one after another.
-use Rattle.std.proofs.Common.{◌≡◌, ◌∙◌, ℕ, zero, suc, ◌+◌, ◌<◌, ◌≤◌, List, [], ◌∷◌, ◌++◌, length, take, drop, map, get_or, false, IsTrue, Result, Ok, IfErr, refl, sym, ap, subst, arith, inl, inr, append-nil, append_assoc}
+-- Tables that are made one after another, behind so many first ones.
+use Rattle.std.proofs.Common.{◌⊎◌, ◌≡◌, ◌∙◌, ℕ, zero, suc, ◌+◌, ◌<◌, ◌≤◌, List, [], ◌∷◌, ◌++◌, length, take, drop, map, get_or, false, IsTrue, Result, Ok, IfErr, refl, sym, ap, subst, arith, inl, inr, append-nil, append_assoc}
 use Rattle.std.specs.List.{AllByRecursion, fold}
 use Rattle.std.proofs.lemmas.List.{take_more, take_all, length-take}
 use Rattle.std.proofs.lemmas.List.Sums.{fold_push}
@@ -14,15 +14,21 @@ use Rattle.sqlite.specs.State.{State, HasCleanDisk, ExecutesInside}
 use Rattle.society_rows.specs.declared.fault.RowFault.{RowFault}
 use Rattle.society_rows.specs.Effects.{BlamesMediumOver, OnlyFailsOver, RanAs}
 use Rattle.society_rows.specs.Faults.{IsFailure}
-use Rattle.society_rows.specs.Layout.{all_tables, no_schema, office, tables_with, written_out}
+use Rattle.society_rows.specs.Layout.{pool_cuts, pool_returns, all_tables, no_schema, office, tables_with, written_out}
 use Rattle.society_rows.specs.Layouts.{HasFirst, schema_to}
 use Rattle.society_rows.specs.Raising.{Extends}
 use Rattle.society_rows.specs.Texts.{all_texts}
 use Rattle.society_rows.proofs.lemmas.definitions.Creates.{IsDefinition, IsMade, creates}
 use Rattle.society_rows.proofs.lemmas.definitions.FirstTables.{IsOrdered, first_of, ordered, tables_are}
-use Rattle.society_rows.proofs.lemmas.definitions.NewBooks.{defined_at}
-use Rattle.society_rows.proofs.lemmas.definitions.Texts.{AreDefinitionsFrom, later_are}
+use Rattle.society_rows.proofs.lemmas.definitions.Texts.{AreDefinitions, AreDefinitionsFrom, all_are, later_are}
 use Rattle.society_rows.proofs.lemmas.errors.ToldTables.{create_blames, create_tells}
+
+defined_at : (before : Schema) (texts : List (List ℕ)) (tables : List Table) (d : Table) → AreDefinitions before texts tables → (i : ℕ) → i < length texts
+    → IsDefinition (fold created before (take i tables)) (get_or texts i []) (get_or tables i d)
+defined_at before [] tables d all i within = absurd (omega arith)
+defined_at before (text ∷ texts) [] d all i within = absurd all
+defined_at before (text ∷ texts) (table ∷ tables) d all zero within = all.0
+defined_at before (text ∷ texts) (table ∷ tables) d all (suc i) within = defined_at (created before table) texts tables d all.1 i (omega arith)
 
 defined_from : (n : ℕ) (before : Schema) (texts : List (List ℕ)) (tables : List Table) (d : Table) → AreDefinitionsFrom n before texts tables → (i : ℕ) → n ≤ i → i < length texts
     → IsDefinition (fold created before (take i tables)) (get_or texts i []) (get_or tables i d)
@@ -32,9 +38,17 @@ defined_from (suc n) before (text ∷ texts) [] d all i low within = absurd all
 defined_from (suc n) before (text ∷ texts) (table ∷ tables) d all zero low within = absurd (omega arith)
 defined_from (suc n) before (text ∷ texts) (table ∷ tables) d all (suc i) low within = defined_from n (created before table) texts tables d all i (omega arith) (omega arith)
 
--- the text behind the book's tables makes the next table, in whatever order references are listed
-later_at : (cuts payments : List Reference) (i : ℕ) → 6 ≤ i → i < length all_texts → IsDefinition (schema_to i cuts payments) (get_or all_texts i []) (get_or (tables_with cuts payments) i office)
-later_at cuts payments = defined_from 6 no_schema all_texts (tables_with cuts payments) office (later_are cuts payments)
+-- the texts from one on make their tables, with these references of cuts and of payments
+abbrev MakesFrom : ℕ → List Reference → List Reference → Type 0
+MakesFrom count cuts payments =
+    (i : ℕ) → count ≤ i → i < length all_texts → IsDefinition (schema_to i cuts payments) (get_or all_texts i []) (get_or (tables_with cuts payments) i office)
+
+makes_all : MakesFrom 0 pool_cuts.references pool_returns.references
+makes_all = defined_from 0 no_schema all_texts (tables_with pool_cuts.references pool_returns.references) office all_are
+
+-- behind the book's tables in whatever order references are listed
+makes_later : (cuts payments : List Reference) → MakesFrom 6 cuts payments
+makes_later cuts payments = defined_from 6 no_schema all_texts (tables_with cuts payments) office (later_are cuts payments)
 
 all_long : (cuts payments : List Reference) → (length (tables_with cuts payments) ≡ 14) × (length all_texts ≡ 14)
 unfolding written_out
@@ -44,14 +58,34 @@ all_long cuts payments = (refl, refl)
 pub record Grows (from count : ℕ) (old new : Database) : Type 0 where
   pub was : IsOrdered from old.schema
   pub first : IsOrdered count new.schema
+  pub makes : MakesFrom count first.cuts first.payments
   pub kept : AllByRecursion (λ t. new.trees t.tree ≡ old.trees t.tree) old.schema.tables
   pub made : List Table
   pub are : new.schema.tables ≡ old.schema.tables ++ made
   pub empty : AllByRecursion (λ t. new.trees t.tree ≡ []) made
 
 -- no table is made yet
-pub none_made : (from : ℕ) (d : Database) → HasFirst from d → Grows from from d d
-none_made from d has = record { was = ordered has; first = ordered has; kept = all_from _ d.schema.tables (λ t is. refl); made = []; are = sym (append-nil d.schema.tables); empty = tt }
+pub none_made : (from : ℕ) → (from ≡ 0) ⊎ (6 ≤ from) → (d : Database) → HasFirst from d → Grows from from d d
+none_made zero start d has = record {
+  was = ordered has;
+  first = record { cuts = pool_cuts.references; payments = pool_returns.references; cuts_are = inl refl; payments_are = inl refl; is = (ordered has).is };
+  makes = makes_all;
+  kept = all_from _ d.schema.tables (λ t is. refl);
+  made = [];
+  are = sym (append-nil d.schema.tables);
+  empty = tt;
+}
+none_made (suc n) start d has =
+    let book : 6 ≤ suc n = elim start [ inl none ↦ absurd (let e = none in cc) | inr book ↦ book ] in
+    record {
+      was = ordered has;
+      first = ordered has;
+      makes = λ i low. makes_later (ordered has).cuts (ordered has).payments i (omega arith);
+      kept = all_from _ d.schema.tables (λ t is. refl);
+      made = [];
+      are = sym (append-nil d.schema.tables);
+      empty = tt;
+    }
 
 one_more : (from i : ℕ) (table : Table) (old mid new : Database) (has : Grows from i old mid)
     → take (i + 1) (tables_with has.first.cuts has.first.payments) ≡ take i (tables_with has.first.cuts has.first.payments) ++ table ∷ []
@@ -71,6 +105,7 @@ one_more from i table old mid new has more is_made =
         payments_are = first.payments_are;
         is = is_made.schema ∙ sym (ap (fold created no_schema) more ∙ fold_push created no_schema (take i (tables_with first.cuts first.payments)) table);
       };
+      makes = λ i low. has.makes i (omega arith);
       kept = all_from _ old.schema.tables (λ t is. all_has _ (old.schema.tables ++ has.made) t others (has_left old.schema.tables has.made t is) ∙ all_has _ old.schema.tables t has.kept is);
       made = has.made ++ placed ∷ [];
       are = ap (λ (s : Schema). s.tables) is_made.schema ∙ ap (λ (ts : List Table). ts ++ placed ∷ []) were ∙ append_assoc old.schema.tables has.made (placed ∷ []);
@@ -81,29 +116,27 @@ one_more from i table old mid new has more is_made =
     }
 
 -- the next text makes the next table
-pub next_made : (from i : ℕ) → 6 ≤ i → i < length all_texts → (text : List ℕ) → text ≡ get_or all_texts i [] → (d : Database) (old new : State) (count : ℕ) → Grows from i d old.now
+pub next_made : (from i : ℕ) → i < length all_texts → (text : List ℕ) → text ≡ get_or all_texts i [] → (d : Database) (old new : State) (count : ℕ) → Grows from i d old.now
     → ExecutesInside 0 text [] old new (Ok count) → Grows from (i + 1) d new.now
-next_made from i book within text is d old new count has h =
+next_made from i within text is d old new count has h =
     let cuts = has.first.cuts in
     let payments = has.first.payments in
     let long = all_long cuts payments in
     let ran = subst (λ t. ExecutesInside 0 t [] old new (Ok count)) is h in
     one_more from i (get_or (tables_with cuts payments) i office) d old.now new.now has (take_more (tables_with cuts payments) i office (omega (arith, long.0, long.1)))
-    (creates _ _ _ (later_at cuts payments i book within) old new count has.first.is ran.0)
+    (creates _ _ _ (has.makes i (omega arith) within) old new count has.first.is ran.0)
 
 -- what the next text tells of an error
-pub next_made_tells : (i : ℕ) → 6 ≤ i → i < length all_texts → (text : List ℕ) → text ≡ get_or all_texts i [] → (old new : State) (result : Result (Unit {0}) RowFault) → (old.in_transaction ≡ false → IfErr result IsFailure)
-    → (HasCleanDisk new → IsTrue old.in_transaction → RanAs text [] old new result) → OnlyFailsOver (HasFirst i) old new result
-next_made_tells i book within text is old new result ended ran clean first_ones =
-    let has = ordered first_ones in
-    create_tells _ _ _ (later_at has.cuts has.payments i book within) old new result ended (λ clean inside. subst (λ t. RanAs t [] old new result) is (ran clean inside)) clean has.is
+pub next_made_tells : (from i : ℕ) → i < length all_texts → (text : List ℕ) → text ≡ get_or all_texts i [] → (old new : State) (result : Result (Unit {0}) RowFault) → (old.in_transaction ≡ false → IfErr result IsFailure)
+    → (HasCleanDisk new → IsTrue old.in_transaction → RanAs text [] old new result) → OnlyFailsOver (λ d. (was : Database) × Grows from i was d) old new result
+next_made_tells from i within text is old new result ended ran clean grown =
+    create_tells _ _ _ (grown.1.makes i (omega arith) within) old new result ended (λ clean inside. subst (λ t. RanAs t [] old new result) is (ran clean inside)) clean grown.1.first.is
 
 -- when the next text tells of the medium
-pub next_made_blames : (i : ℕ) → 6 ≤ i → i < length all_texts → (text : List ℕ) → text ≡ get_or all_texts i [] → (old new : State) (result : Result (Unit {0}) RowFault)
-    → (HasCleanDisk new → IsTrue old.in_transaction → RanAs text [] old new result) → BlamesMediumOver (HasFirst i) old new result
-next_made_blames i book within text is old new result ran clean inside first_ones =
-    let has = ordered first_ones in
-    create_blames _ _ _ (later_at has.cuts has.payments i book within) old new result (λ clean inside. subst (λ t. RanAs t [] old new result) is (ran clean inside)) clean inside has.is
+pub next_made_blames : (from i : ℕ) → i < length all_texts → (text : List ℕ) → text ≡ get_or all_texts i [] → (old new : State) (result : Result (Unit {0}) RowFault)
+    → (HasCleanDisk new → IsTrue old.in_transaction → RanAs text [] old new result) → BlamesMediumOver (λ d. (was : Database) × Grows from i was d) old new result
+next_made_blames from i within text is old new result ran clean inside grown =
+    create_blames _ _ _ (grown.1.makes i (omega arith) within) old new result (λ clean inside. subst (λ t. RanAs t [] old new result) is (ran clean inside)) clean inside grown.1.first.is
 
 -- ---- the tables by their trees
 

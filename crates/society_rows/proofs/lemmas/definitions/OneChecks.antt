@@ -1,5 +1,5 @@
 -- The check that the first column is 1, as its nodes have it.
-use Rattle.std.proofs.Common.{◌≡◌, ◌≢◌, ◌<◌, ◌≤◌, ℕ, zero, suc, pos, List, length, slice_index_or, sym, ap, subst, ◌∙◌, arith}
+use Rattle.std.proofs.Common.{◌≡◌, ◌≤◌, ℕ, zero, suc, pos, List, length, slice_index_or, sym, ap, subst, ◌∙◌, arith}
 use Rattle.sqlite_value.specs.declared.value.Value.TheVariants.{Null, Int}
 use Rattle.sqlite_sql.specs.Term.{Term, lit, col}
 use Rattle.sqlite_schema.specs.declared.code.Op.{Op}
@@ -71,12 +71,6 @@ written_to : (ops : List Op) (depth root a b : ℕ) → 2 ≤ depth → node ops
 written_to ops zero root a b deep is column number = absurd (omega arith)
 written_to ops (suc zero) root a b deep is column number = absurd (omega arith)
 written_to ops (suc (suc depth)) root a b deep is column number = rw (is, column, number)
-
-pub too_short : (ops : List Op) (root : ℕ) → length ops < 2 → term_in ops root ≢ is_one
-too_short ops root short e = omega (arith, (read_to ops (length ops) root e).1)
-
-pub not_compared : (ops : List Op) (root : ℕ) → ((a b : ℕ) → node ops root ≢ Binary is_same a b) → term_in ops root ≢ is_one
-not_compared ops root never e = let read = (read_to ops (length ops) root e).0 in never read.first read.second read.is
 
 pub asks_one : (ops : List Op) (root a b : ℕ) → 2 ≤ length ops → node ops root ≡ Binary is_same a b → node ops a ≡ Column 1 0 → node ops b ≡ Literal (Int (pos 1)) → term_in ops root ≡ is_one
 asks_one ops = written_to ops (length ops)

@@ -1,23 +1,14 @@
 -- When a call that failed tells of the medium.
-use Rattle.std.proofs.Common.{◌≡◌, ◌∙◌, ◌≤◌, ℕ, true, true≢false, List, length, Option, IsSome, Result, Ok, Err, IsTrue, IsErrAnd, sym, subst, inl, inr, arith}
+use Rattle.std.proofs.Common.{◌≡◌, ◌∙◌, ◌≤◌, ℕ, true, true≢false, List, Option, IsSome, Result, Ok, Err, IsTrue, IsErrAnd, sym, subst, inl, inr, arith}
 use Rattle.std.proofs.lemmas.Bool.{cases_Bool}
 use Rattle.sqlite_value.specs.Order.{Row}
-use Rattle.sqlite_schema.specs.declared.command.Command.TheVariants.{Insert, InsertOr, Update}
-use Rattle.sqlite_schema.specs.declared.command.Conflict.{Conflict}
-use Rattle.sqlite_schema.specs.declared.command.Source.{Source}
-use Rattle.sqlite_schema.specs.declared.program.Program.{Program}
-use Rattle.sqlite_schema.specs.declared.schema.Table.{Table}
 use Rattle.sqlite.specs.declared.error.Error.{Error}
 use Rattle.sqlite.specs.Effect.{Database}
 use Rattle.sqlite.specs.State.{State, ExecutesInside, HasCleanDisk, Survives}
 use Rattle.society_rows.specs.declared.fault.RowFault.{RowFault}
-use Rattle.society_rows.specs.Effects.{BlamesMedium, BlamesMediumOver, MayFail, RanAs, TellsOfMedium, WritesOver}
+use Rattle.society_rows.specs.Effects.{BlamesMediumOver, MayFail, RanAs, TellsOfMedium, WritesOver}
 use Rattle.society_rows.specs.Faults.{is_of_medium}
-use Rattle.society_rows.specs.Stored.{HasLayout}
-use Rattle.society_rows.proofs.lemmas.changes.Commands.{IsCommand}
-use Rattle.society_rows.proofs.lemmas.changes.Inserts.{IsSettled}
 use Rattle.society_rows.proofs.lemmas.errors.Failures.{IsCoded, medium_told}
-use Rattle.society_rows.proofs.lemmas.errors.Writings.{insert_codes, insert_or_codes, update_codes}
 
 -- ---- several calls
 
@@ -58,19 +49,3 @@ statement_blames Was text params old new result ran coded clean inside has = on 
     on : (r : Result (Unit {0}) RowFault) → RanAs text params old new r → TellsOfMedium old new r
     on (Ok _) h = tt
     on (Err fault) h = medium_told fault h.0 h.1 (coded has h.0 h.2)
-
-module _ (text : List ℕ) {count : ℕ} {table : Table} {at : ℕ} (settled : IsSettled table at) where
-  -- of an INSERT
-  pub insert_blames : {from : Source} → IsCommand text count (Insert at from) → (params : Row) → length params ≡ count → (old new : State) (result : Result (Unit {0}) RowFault)
-      → (HasCleanDisk new → IsTrue old.in_transaction → RanAs text params old new result) → BlamesMedium old new result
-  insert_blames is params long old new result ran = statement_blames HasLayout text params old new result ran (insert_codes text settled is params long old new)
-
-  -- of one that updates where a row is in its way
-  pub insert_or_blames : {from : Source} {way : Conflict} {clauses : _} → IsCommand text count (InsertOr at way from clauses) → (params : Row) → length params ≡ count → (old new : State) (result : Result (Unit {0}) RowFault)
-      → (HasCleanDisk new → IsTrue old.in_transaction → RanAs text params old new result) → BlamesMedium old new result
-  insert_or_blames is params long old new result ran = statement_blames HasLayout text params old new result ran (insert_or_codes text settled is params long old new)
-
-  -- of an UPDATE
-  pub update_blames : {q : Program} → IsCommand text count (Update at q) → (params : Row) → length params ≡ count → (old new : State) (result : Result (Unit {0}) RowFault)
-      → (HasCleanDisk new → IsTrue old.in_transaction → RanAs text params old new result) → BlamesMedium old new result
-  update_blames is params long old new result ran = statement_blames HasLayout text params old new result ran (update_codes text settled is params long old new)

@@ -1,23 +1,12 @@
 -- Two lists of which one is to be the other's image.
-use Rattle.std.proofs.Common.{◌≡◌, ◌≢◌, ◌↔◌, Bool, IsTrue, [], ◌∷◌, ◌<◌, ◌≤◌, ◌+◌, ℕ, List, length, map, take, get_or, sym, ap, ◌∙◌, arith}
-use Rattle.std.proofs.lemmas.List.{length-map, get_or-map, take_more_same, take_all}
+use Rattle.std.proofs.Common.{◌≡◌, ◌↔◌, Bool, IsTrue, [], ◌∷◌, ◌<◌, ◌≤◌, ◌+◌, ℕ, List, length, map, take, get_or, sym, ap, ◌∙◌, arith}
+use Rattle.std.proofs.lemmas.List.{length-map, get_or-map, take_more_same}
 
 module _ {A B : Type 0} (f : B → A) (xs : List A) (ys : List B) (i : ℕ) where
   -- one place more is alike
   pub alike_more : (d : A) (e : B) → i < length xs → i < length ys → get_or xs i d ≡ f (get_or ys i e) → take i xs ≡ take i (map f ys) → take (i + 1) xs ≡ take (i + 1) (map f ys)
   alike_more d e here there is before =
       take_more_same xs (map f ys) i d here (omega (arith, there, length-map ys f)) before (is ∙ sym (get_or-map f ys i e d there))
-
-  -- one place differs
-  pub alike_not : (d : A) (e : B) → i < length ys → get_or xs i d ≢ f (get_or ys i e) → xs ≢ map f ys
-  alike_not d e there other same = other (ap (λ l. get_or l i d) same ∙ get_or-map f ys i e d there)
-
-  -- no place is left
-  pub alike_all : length xs ≡ length ys → length ys ≤ i → take i xs ≡ take i (map f ys) → xs ≡ map f ys
-  alike_all long past same = sym (take_all i xs (omega (arith, long))) ∙ same ∙ take_all i (map f ys) (omega (arith, past, length-map ys f))
-
-pub unlike_long : {A B : Type 0} (f : B → A) (xs : List A) (ys : List B) → length xs ≢ length ys → xs ≢ map f ys
-unlike_long f xs ys other same = other (ap length same ∙ length-map ys f)
 
 pub only_one : {X : Type 0} (xs : List X) (x : X) → 1 ≤ length xs → length xs < 2 → x ≡ get_or xs 0 x → xs ≡ x ∷ []
 only_one [] x long short is = absurd (omega arith)

@@ -1,7 +1,5 @@
 -- Questions on a connection.
-use Rattle.std.proofs.Common.{◌≡◌, IsTrue, Vec, Result, refl, sym, subst, ◌∙◌, true, arith}
-use Rattle.std.specs.declared.alloc.Global.{Global}
-use Rattle.sqlite_value.specs.Order.{Row}
+use Rattle.std.proofs.Common.{◌≡◌, IsTrue, Result, refl, ◌∙◌, true, arith}
 use Rattle.sqlite_trees.specs.Tree.{Trees}
 use Rattle.sqlite_trees.specs.declared.store.Store.{Ghosts}
 use Rattle.sqlite.specs.Effect.{Database}
@@ -10,13 +8,8 @@ use Rattle.sqlite.specs.State.{State, HasCleanDisk, IsRolledBack, Survives}
 use Rattle.sqlite.proofs.Callers.{survives_begin}
 use Rattle.sqlite.proofs.StateLemmas.{survives_then}
 use Rattle.society_rows.specs.declared.fault.RowFault.{RowFault}
-use Rattle.society_rows.specs.declared.questions.Question.{Question}
-use Rattle.society_rows.specs.Questions.{RowsAnswer, AsksOver}
-use Rattle.society_rows.specs.Reads.{Reads, ReadsOver}
-
-pub answers_as : (old new : State) (result : Result (Vec Row Global) RowFault) (asked is : Question) → asked ≡ is → Reads old new result (λ db rows. RowsAnswer is db rows.items)
-    → Reads old new result (λ db rows. RowsAnswer asked db rows.items)
-answers_as old new result asked is same = subst (λ q. Reads old new result (λ db rows. RowsAnswer q db rows.items)) (sym same)
+use Rattle.society_rows.specs.Questions.{AsksOver}
+use Rattle.society_rows.specs.Reads.{ReadsOver}
 
 -- a reading in a transaction that was rolled back
 pub asks_by : {S : Type 0} (g : Ghosts S) {X : Type 0} {Was : Database → Type 0} (old : Held S) (mid new : State) (result : Result X RowFault) (Found : Trees → X → Type 0)
@@ -36,14 +29,3 @@ asks_by g old mid new result Found settled read rolled survives =
           (back.0 ∙ same, back.1 ∙ same);
       survives = survives_begin g old new (λ _. ⊥) (survives_then begun mid new (λ _. ⊥) (λ _. ⊥) (λ _. ⊥) (λ _ db none. none) (λ _ db none. none) read.survives survives);
     }
-
--- what is so of a kind of database is so of a narrower one
-pub asks_where : {X : Type 0} (Was Is : Database → Type 0) (old new : State) (result : Result X RowFault) (Found : Trees → X → Type 0) → (Is old.now → Was old.now) → AsksOver Was old new result Found → AsksOver Is old new result Found
-asks_where Was Is old new result Found turns asked = record {
-  settled = asked.settled;
-  found = λ clean has. asked.found clean (turns has);
-  answered = asked.answered;
-  was_open = asked.was_open;
-  undone = asked.undone;
-  survives = asked.survives;
-}

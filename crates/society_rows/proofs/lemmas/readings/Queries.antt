@@ -1,9 +1,8 @@
 -- Readings in a transaction.
-use Rattle.std.proofs.Common.{◌≡◌, ◌⊎◌, ◌≤◌, ℕ, Bool, true, false, IsTrue, if◌then◌else◌, List, [], ◌∷◌, map, filter, Vec, Option, None, Some, Result, Ok, Err, IfOk, OnOk, OnErr, refl, sym, ap, subst, ◌∙◌, inl, inr, IsPermutation, IsSorted}
+use Rattle.std.proofs.Common.{lit≤, length, ◌≡◌, ◌⊎◌, ℕ, Bool, true, false, IsTrue, if◌then◌else◌, List, [], ◌∷◌, map, filter, Vec, Option, None, Some, Result, Ok, Err, IfOk, OnOk, OnErr, refl, sym, ap, subst, ◌∙◌, inl, inr, IsPermutation, IsSorted}
 use Rattle.std.specs.declared.alloc.Global.{Global}
 use Rattle.sqlite_value.specs.declared.value.Value.TheVariants.{Null}
 use Rattle.sqlite_value.specs.declared.keys.Key.{Key}
-use Rattle.sqlite_value.specs.Keys.{rising}
 use Rattle.sqlite_value.specs.Order.{Row}
 use Rattle.sqlite_trees.specs.Tree.{Trees}
 use Rattle.sqlite_trees.proofs.ListLemmas.{filter_same}
@@ -11,7 +10,8 @@ use Rattle.sqlite_keyed.proofs.ListLemmas.{filter-map}
 use Rattle.sqlite_rules.proofs.ListLemmas.{all_from}
 use Rattle.sqlite_sql.specs.Term.{Term}
 use Rattle.sqlite_sql.specs.Query.{Query, key_cmp, sort_cmp, IsAnswer}
-use Rattle.sqlite_sql.specs.Program.{overlay}
+use Rattle.sqlite_sql.specs.Program.{overlay, ProgramOverflows}
+use Rattle.sqlite_typing.specs.Types.{accepts_program}
 use Rattle.sqlite_schema.specs.declared.schema.Index.{Index}
 use Rattle.sqlite_schema.specs.declared.schema.Reference.{Reference}
 use Rattle.sqlite_schema.specs.declared.schema.Schema.{Schema}
@@ -22,48 +22,63 @@ use Rattle.sqlite.specs.Effect.{Database}
 use Rattle.sqlite.specs.Listing.{understood, reads_listing}
 use Rattle.sqlite.specs.State.{State, HasCleanDisk, IsUnchanged, IsRolledBack, KeepsCommit, Survives, Shown, ShowsRows, FailsToShow, FailsToQuery, IsNotRun}
 use Rattle.sqlite.specs.Clock.{timed}
-use Rattle.sqlite.proofs.Callers.{IsPlain, command_of, reads_as}
+use Rattle.sqlite.proofs.Callers.{IsPlain, reads_as}
 use Rattle.society_rows.specs.declared.fault.RowFault.{RowFault}
 use Rattle.society_rows.specs.Layouts.{HasTables, schema_from}
 use Rattle.society_rows.specs.Stored.{values_of, rows_in, HasLayout}
-use Rattle.society_rows.specs.Reads.{Lists, IsFirstOf, falling, Reads, ReadsOver, Selected}
+use Rattle.society_rows.specs.Reads.{Reads, ReadsOver, Selected}
 use Rattle.society_rows.proofs.lemmas.definitions.FirstTables.{has_tables}
-use Rattle.society_rows.proofs.lemmas.errors.Failures.{IsSingle}
-use Rattle.society_rows.proofs.lemmas.readings.Answers.{picked, picked_first, passes_in, shown_in, answers_are, answers_sorted, first_answer}
+use Rattle.society_rows.proofs.lemmas.changes.Commands.{IsCommandOf, Statement, is_command, one_statement, statement_in}
+use Rattle.society_rows.proofs.lemmas.readings.Answers.{picked, passes_in, shown_in, answers_are, answers_sorted}
 
--- under the schema the text is this query, with so many parameters
-pub record IsQueryOf (schema : Schema) (text : List ℕ) (count : ℕ) (query : Query) (names : List (List ℕ)) : Type 0 where
-  pub command : command_of (understood schema text) ≡ Select (record { lets = []; body = query }) names
-  pub plain : IsPlain (understood schema text)
+-- under the schema the text is this query, which takes these parameters
+pub record IsSelect (schema : Schema) (text : List ℕ) (params : Row) (query : Query) (names : List (List ℕ)) : Type 0 where
+  pub is : IsCommandOf schema text (length params) (Select (record { lets = []; body = query }) names)
   pub unlisted : reads_listing schema text ≡ false
-  pub single : IsSingle text count (understood schema text)
+  pub typed : accepts_program schema [] query params ≡ true
 
--- where so many of the first tables are there the text is this query, whatever is behind them
-pub record IsQuery (tables : ℕ) (text : List ℕ) (count : ℕ) (query : Query) (names : List (List ℕ)) : Type 0 where
-  pub few : tables ≤ 14
-  pub under : (cuts payments : List Reference) (more : List Table) (indexes : List Index) → IsQueryOf (schema_from tables cuts payments more indexes) text count query names
+-- what a text is that may be a query: its statement, whether it asks for the listing of tables, and whether the query takes these parameters
+abbrev Seen : Type 0
+Seen = Option Statement × Bool × Bool
 
-pub query_of : {tables : ℕ} {text : List ℕ} {count : ℕ} {query : Query} {names : List (List ℕ)} → IsQuery tables text count query names → (db : Database) → HasTables tables db → IsQueryOf db.schema text count query names
-query_of {tables} {text} {count} {query} {names} is db has = subst (λ s. IsQueryOf s text count query names) (sym has.is) (is.under has.cuts has.payments has.more has.indexes)
+abbrev pub seen : List ℕ → Row → Query → Schema → Seen
+seen text params query schema = (statement_in (understood schema text), reads_listing schema text, accepts_program schema [] query params)
 
--- layout 3 has so many tables
-pub laid : {tables : ℕ} {text : List ℕ} {count : ℕ} {query : Query} {names : List (List ℕ)} → IsQuery tables text count query names → (db : Database) → HasLayout db → HasTables tables db
-laid {tables} is = has_tables tables 14 is.few
+abbrev pub one_query : List ℕ → Row → Query → List (List ℕ) → Seen
+one_query text params query names = (one_statement text (length params) (Select (record { lets = []; body = query }) names), false, true)
+
+-- it is this query where so many of the first tables are there, whatever is behind them
+abbrev pub IsSelectOver : ℕ → List ℕ → Row → Query → List (List ℕ) → Type 0
+IsSelectOver tables text params query names =
+    (cuts payments : List Reference) (more : List Table) (indexes : List Index) → seen text params query (schema_from tables cuts payments more indexes) ≡ one_query text params query names
+
+-- The text is one query, which sums nothing, and what its answers are. It stands behind the parameters, so that these are known when it is
+-- compiled: the terms that are left else grow past every limit.
+pub record IsReading (tables : ℕ) (params : Row) (text : List ℕ) (Found : Trees → List Row → Type 0) : Type 0 where
+  pub query : Query
+  pub names : List (List ℕ)
+  pub under : IsSelectOver tables text params query names
+  pub sums : (db : Trees) → ProgramOverflows db params [] [] query → ⊥
+  pub finds : (db : Trees) (rows : List Row) → IsAnswer query (overlay db []) params rows → Found db rows
+
+pub select_in : {tables : ℕ} {text : List ℕ} {params : Row} {Found : Trees → List Row → Type 0} (it : IsReading tables params text Found) (db : Database) → HasTables tables db → IsSelect db.schema text params it.query it.names
+select_in {text = text} {params = params} it db has =
+    let all = ap (seen text params it.query) has.is ∙ it.under has.cuts has.payments has.more has.indexes in
+    record {
+      is = is_command db.schema text (length params) (Select (record { lets = []; body = it.query }) it.names) (ap (λ (p : Seen). p.0) all);
+      unlisted = ap (λ (p : Seen). p.1) all;
+      typed = ap (λ (p : Seen). p.2) all;
+    }
+
+-- layout 3 has all tables
+pub laid : (db : Database) → HasLayout db → HasTables 14 db
+laid = has_tables 14 14 (lit≤ tt)
 
 -- the query shows whole rows of the table, those that pass, in the order of their first columns by these keys
 pub record IsShowing (table : Table) (filters project : List Term) (order : List (Term × Key)) (params : Row) (passes : Row → Bool) (keys : List Key) : Type 0 where
   pub shows : (r : Row) → shown_in project params r ≡ values_of table r
   pub tests : (r : Row) → passes (values_of table r) ≡ passes_in filters params r
   pub orders : (a b : Row) → sort_cmp order (params ∷ a ∷ []) (params ∷ b ∷ []) ≡ key_cmp 0 keys (shown_in project params a) (shown_in project params b)
-
-abbrev pub IsListing : Table → List Term → List Term → List (Term × Key) → Row → (Row → Bool) → ℕ → Type 0
-IsListing table filters project order params passes width = IsShowing table filters project order params passes (rising width [])
-
-pub answer_of : (text : List ℕ) {tables count : ℕ} (query : Query) (names : List (List ℕ)) → IsQuery tables text count query names → (params : Row) (old new : State) (rows : List Row) → HasTables tables old.now
-    → Shown text params old new rows → IsAnswer query (overlay old.now.trees []) params rows
-answer_of text query names is params old new rows has h =
-    let it = query_of is old.now has in
-    (reads_as text params old new old.now.schema refl (Select (record { lets = []; body = query }) names) it.command it.plain it.unlisted rows h).answer Null
 
 -- the rows that the query shows are those that pass, in their order
 pub listed : (table : Table) (filters project : List Term) (order : List (Term × Key)) (params : Row) (passes : Row → Bool) (keys : List Key) → IsShowing table filters project order params passes keys
@@ -76,21 +91,6 @@ listed table filters project order params passes keys listing db rows a =
       subst (λ l. IsPermutation l rows) kept (answers_are table.tree filters project order db params rows a),
       answers_sorted table.tree filters project order db params (key_cmp 0 keys) listing.orders rows a,
     )
-
-pub lists_by : (table : Table) (text : List ℕ) {tables count : ℕ} (filters project : List Term) (order : List (Term × Key)) (names : List (List ℕ)) → IsQuery tables text count (picked table.tree filters project order) names
-    → (params : Row) (passes : Row → Bool) (width : ℕ) → IsListing table filters project order params passes width
-    → (old new : State) (rows : List Row) → HasTables tables old.now → Shown text params old new rows → Lists table passes width old.now.trees rows
-lists_by table text filters project order names is params passes width listing old new rows has h =
-    let found = listed table filters project order params passes (rising width []) listing old.now.trees rows (answer_of text (picked table.tree filters project order) names is params old new rows has h) in
-    record { rows = found.0; sorted = found.1 }
-
-pub first_by : (table : Table) (text : List ℕ) {tables count : ℕ} (filters project : List Term) (order : List (Term × Key)) (names : List (List ℕ)) → IsQuery tables text count (picked_first table.tree filters project order) names
-    → (params : Row) (passes : Row → Bool) (width : ℕ) → IsShowing table filters project order params passes (falling width)
-    → (old new : State) (rows : List Row) → HasTables tables old.now → Shown text params old new rows → IsFirstOf table passes width old.now.trees rows
-first_by table text filters project order names is params passes width listing old new rows has h =
-    let answer = first_answer table.tree filters project order (overlay old.now.trees []) params rows (answer_of text (picked_first table.tree filters project order) names is params old new rows has h) in
-    let found = listed table filters project order params passes (falling width) listing old.now.trees answer.0 answer.1 in
-    record { all = answer.0; rows = found.0; sorted = found.1; first = answer.2 }
 
 shown_same : (text : List ℕ) (params : Row) (old new : State) (rows : List Row) → IsPlain (understood old.now.schema text) → Shown text params old new rows → IsUnchanged old new
 unfolding Shown
@@ -177,12 +177,14 @@ reads_by Was text params old new result Found plain selected survives finds = re
     on_inside (Ok rows) inside h = shown_inside text params old new rows.items h ∙ inside
     on_inside (Err fault) inside h = tt
 
--- the same of a text that is one query where so many of the first tables are there, over layout 3
-pub reads_laid : {tables : ℕ} {text : List ℕ} {count : ℕ} {query : Query} {names : List (List ℕ)} → IsQuery tables text count query names → (params : Row) (old new : State) (result : Result (Vec Row Global) RowFault)
-    (Found : Trees → Vec Row Global → Type 0) → (HasCleanDisk new → Selected text params old new result) → Survives old new (λ _. ⊥)
-    → ((rows : Vec Row Global) → HasTables tables old.now → Shown text params old new rows.items → Found old.now.trees rows) → Reads old new result Found
-reads_laid {tables} {text} is params old new result Found selected survives finds =
-    reads_by HasLayout text params old new result Found (λ has. (query_of is old.now (laid is old.now has)).plain) selected survives (λ rows has. finds rows (laid is old.now has))
+-- what a reading of one query finds
+pub reads : {tables : ℕ} {text : List ℕ} {params : Row} {Found : Trees → List Row → Type 0} → IsReading tables params text Found → (old new : State) (result : Result (Vec Row Global) RowFault)
+    → (HasCleanDisk new → Selected text params old new result) → Survives old new (λ _. ⊥) → ReadsOver (HasTables tables) old new result (λ db rows. Found db rows.items)
+reads {tables} {text} {params} {Found} it old new result selected survives =
+    reads_by (HasTables tables) text params old new result (λ db rows. Found db rows.items) (λ has. (select_in it old.now has).is.plain) selected survives
+    (λ rows has h.
+    let is = select_in it old.now has in
+    it.finds old.now.trees rows.items ((reads_as text params old new old.now.schema refl (Select (record { lets = []; body = it.query }) it.names) is.is.command is.is.plain is.unlisted rows.items h).answer Null))
 
 -- what is so of a kind of database is so of a narrower one
 pub reads_where : {X : Type 0} (Was Is : Database → Type 0) (old new : State) (result : Result X RowFault) (Found : Trees → X → Type 0) → (Is old.now → Was old.now) → ReadsOver Was old new result Found → ReadsOver Is old new result Found
@@ -195,3 +197,8 @@ reads_where Was Is old new result Found turns read = record {
   kept = read.kept;
   survives = read.survives;
 }
+
+-- the same over layout 3
+pub reads_laid : {text : List ℕ} {params : Row} {Found : Trees → List Row → Type 0} → IsReading 14 params text Found → (old new : State) (result : Result (Vec Row Global) RowFault)
+    → (HasCleanDisk new → Selected text params old new result) → Survives old new (λ _. ⊥) → Reads old new result (λ db rows. Found db rows.items)
+reads_laid it old new result selected survives = reads_where (HasTables 14) HasLayout old new result _ (laid old.now) (reads it old new result selected survives)

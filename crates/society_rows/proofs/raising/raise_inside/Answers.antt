@@ -11,15 +11,15 @@ use Rattle.society_rows.proofs.raising.raise_inside.Goals as goal
 pub returns-clause-raised : goal.returns-clause-raised
 returns-clause-raised g c =
     let from = c.args.from in
-    writes_then (HasOlder from) HasLayout (state g.S.Store c.args.tx.now.conn.now) (state g.S.Store c.make_missing.new.tx.conn.now) (state g.S.Store c.rename.new.tx.conn.now) tt c.rename.result
-    (Extends (tables_of from)) Renames (BecomesNewest from) (λ d e h. h.layout) (becomes from) (rw (c.table_count.ensures) at c.in_ok-make_missing.ensures.made) c.rename.ensures.renamed
+    writes_then (HasOlder from) HasLayout (state g.S.Store c.args.tx.now.conn.now) (state g.S.Store c.make_tables.new.tx.conn.now) (state g.S.Store c.rename.new.tx.conn.now) tt c.rename.result
+    (Extends (tables_of from)) Renames (BecomesNewest from) (λ d e h. h.layout) (becomes from) (rw (c.table_count.ensures) at c.in_ok-make_tables.ensures.made) c.rename.ensures.renamed
 
 pub returns-clause-told : goal.returns-clause-told
 returns-clause-told g c =
-    tells_then (HasOlder c.args.from) HasLayout (state g.S.Store c.args.tx.now.conn.now) (state g.S.Store c.make_missing.new.tx.conn.now) (state g.S.Store c.rename.new.tx.conn.now)
-    (rw (c.table_count.ensures) at c.in_ok-make_missing.ensures.made) (λ d e h. h.layout) c.rename.result c.rename.ensures.renamed.survives c.rename.ensures.told
+    tells_then (HasOlder c.args.from) HasLayout (state g.S.Store c.args.tx.now.conn.now) (state g.S.Store c.make_tables.new.tx.conn.now) (state g.S.Store c.rename.new.tx.conn.now)
+    (rw (c.table_count.ensures) at c.in_ok-make_tables.ensures.made) (λ d e h. h.layout) c.rename.result c.rename.ensures.renamed.survives c.rename.ensures.told
 
 pub returns-clause-blamed : goal.returns-clause-blamed
 returns-clause-blamed g c =
-    blames_then (HasOlder c.args.from) HasLayout (state g.S.Store c.args.tx.now.conn.now) (state g.S.Store c.make_missing.new.tx.conn.now) (state g.S.Store c.rename.new.tx.conn.now)
-    (rw (c.table_count.ensures) at c.in_ok-make_missing.ensures.made) (λ d e h. h.layout) c.rename.result c.rename.ensures.renamed.survives c.rename.ensures.blamed
+    blames_then (HasOlder c.args.from) HasLayout (state g.S.Store c.args.tx.now.conn.now) (state g.S.Store c.make_tables.new.tx.conn.now) (state g.S.Store c.rename.new.tx.conn.now)
+    (rw (c.table_count.ensures) at c.in_ok-make_tables.ensures.made) (λ d e h. h.layout) c.rename.result c.rename.ensures.renamed.survives c.rename.ensures.blamed

@@ -1,9 +1,0 @@
-use Rattle.std.proofs.Common.{◌≡◌, length, sym, arith, w64}
-use Rattle.std.proofs.lemmas.Int.{to_z-of_z}
-use Rattle.society_rows.proofs.lemmas.changes.Columns.{columns_5}
-use Rattle.society_rows.proofs.credits.CreditRow.from_row.Goals as goal
-
-pub returns-clause-value : goal.returns-clause-value
-returns-clause-value c =
-    let long : length c.args.row.now ≡ 5 = omega (arith, c.column_count.ensures, c.if-column_count-ne5.false) in
-    rw (to_z-of_z w64 c.in_ok-integer.field-0 c.in_ok-integer.ensures.range, ← c.in_ok-whole.ensures.value, ← c.in_ok-whole-2.ensures.value, ← c.in_ok-text.ensures.value, ← c.in_ok-text-2.ensures.value, ← c.in_ok-integer.ensures.value) (sym (columns_5 c.args.row.now long))
