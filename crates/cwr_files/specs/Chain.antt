@@ -5,50 +5,50 @@ use Rattle.cwr_records.specs.Places.{record_type_in}
 use Rattle.cwr_records.specs.Records.{group_header_of}
 use Rattle.cwr_files.specs.RecordTypes.{hdr, grh, grt, trl, has_type, is_frame, is_code, is_read, type_of_group}
 use Rattle.cwr_files.specs.RightLines.{bears, is_dated, is_numbered, has_group_counts, has_file_counts, sender_of_header}
-use Rattle.cwr_files.specs.LineFaults.{sequence_at, record_sequence_at}
+use Rattle.cwr_files.specs.LineFaults.{sequence_at, record_sequence_at, no_header, other_sender, wrong_date, wrong_group_id, wrong_type, wrong_file_counts, outside_groups, wrong_group_counts, misplaced_in_group, wrong_sequence, behind_trailer}
 
--- line 1: 1 no HDR, 2 another sender, 3 a date or time that is none
+-- the fault of a transmission's first line
 unfoldable pub header_fault : List ℕ → List ℕ → Option ℕ
 header_fault sender line =
-    if not (has_type hdr line) then Some 1
-    else (if not (bytes_eq (sender_of_header line) sender) then Some 2
-    else (if not (is_dated line) then Some 3 else None))
+    if not (has_type hdr line) then Some no_header
+    else (if not (bytes_eq (sender_of_header line) sender) then Some other_sender
+    else (if not (is_dated line) then Some wrong_date else None))
 
--- a group header behind so many groups: 5 another group ID than the next, 13 a transaction type that is none
+-- that of a group header behind so many groups
 unfoldable pub opening_fault : ℕ → List ℕ → Option ℕ
 opening_fault groups line =
-    if not (bears (group_header_of line).group_id (groups + 1)) then Some 5
-    else (if not (is_code (type_of_group line)) then Some 13 else None)
+    if not (bears (group_header_of line).group_id (groups + 1)) then Some wrong_group_id
+    else (if not (is_code (type_of_group line)) then Some wrong_type else None)
 
--- a transmission trailer behind so many groups, transactions and lines: 9 another count
+-- that of a transmission trailer behind so many groups, transactions and lines
 unfoldable pub trailer_fault : ℕ → ℕ → ℕ → List ℕ → Option ℕ
 trailer_fault groups transactions lines line =
-    if has_file_counts groups transactions (lines + 1) line then None else Some 9
+    if has_file_counts groups transactions (lines + 1) line then None else Some wrong_file_counts
 
--- between groups, behind so many groups, transactions and lines: 4 neither GRH nor TRL, else theirs
+-- that of a line between groups, behind so many groups, transactions and lines
 unfoldable pub between_fault : ℕ → ℕ → ℕ → List ℕ → Option ℕ
 between_fault groups transactions lines line =
     if has_type grh line then opening_fault groups line
-    else (if has_type trl line then trailer_fault groups transactions lines line else Some 4)
+    else (if has_type trl line then trailer_fault groups transactions lines line else Some outside_groups)
 
--- a group trailer in the group with this ID, behind so many of its transactions and of its lines: 8 another ID or count
+-- that of a group trailer in the group with this ID, behind so many of its transactions and of its lines
 unfoldable pub closing_fault : ℕ → ℕ → ℕ → List ℕ → Option ℕ
 closing_fault group transactions lines line =
-    if has_group_counts group transactions (lines + 1) line then None else Some 8
+    if has_group_counts group transactions (lines + 1) line then None else Some wrong_group_counts
 
--- a record in a group of a type: 6 a frame record or one before the first transaction, 7 another sequence number, 13 a record type that is none
+-- that of a record in a group of a type, behind so many of its transactions, where one that begins none would have this record sequence
 unfoldable pub record_fault : List ℕ → ℕ → ℕ → List ℕ → Option ℕ
 record_fault type transactions further line =
-    if is_frame line || (not (has_type type line) && transactions == 0) then Some 6
-    else (if is_read type && not (is_numbered (sequence_at type transactions line) (record_sequence_at type further line) line) then Some 7
-    else (if not (is_code (record_type_in line)) then Some 13 else None))
+    if is_frame line || (not (has_type type line) && transactions == 0) then Some misplaced_in_group
+    else (if is_read type && not (is_numbered (sequence_at type transactions line) (record_sequence_at type further line) line) then Some wrong_sequence
+    else (if not (is_code (record_type_in line)) then Some wrong_type else None))
 
--- within the group with this ID and type: a group trailer's fault, or that of another record
+-- that of a line within the group with this ID and type
 unfoldable pub group_fault : ℕ → List ℕ → ℕ → ℕ → ℕ → List ℕ → Option ℕ
 group_fault group type transactions lines further line =
     if has_type grt line then closing_fault group transactions lines line
     else record_fault type transactions further line
 
--- after the transmission trailer: 11 a line that is not blank
+-- that of a line after the transmission trailer
 unfoldable pub ended_fault : List ℕ → Option ℕ
-ended_fault line = if is_blank line then None else Some 11
+ended_fault line = if is_blank line then None else Some behind_trailer

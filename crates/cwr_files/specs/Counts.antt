@@ -6,7 +6,7 @@ use Rattle.cwr_files.specs.declared.counts.OpenGroup.{OpenGroup}
 use Rattle.cwr_files.specs.declared.counts.Stage.{Stage}
 use Rattle.cwr_files.specs.declared.counts.Stage.TheVariants.{Header, Between, Within, Ended}
 use Rattle.cwr_files.specs.RecordTypes.{grh, grt, has_type, type_of_group}
-use Rattle.cwr_files.specs.LineFaults.{is_too_large, record_sequence_at}
+use Rattle.cwr_files.specs.LineFaults.{is_too_large, record_sequence_at, too_large, no_header, no_trailer}
 use Rattle.cwr_files.specs.Chain.{header_fault, between_fault, group_fault, ended_fault}
 use Rattle.cwr_files.specs.LinesBefore.{is_ended, is_open, open_type, groups_before, transactions_in_group, lines_in_group, next_number, transactions_before}
 use Rattle.cwr_files.specs.FileFault.{fault_at}
@@ -44,7 +44,7 @@ stage_fault sender Ended counts line = ended_fault line
 -- the fault of a line by running counts, where the body has so many bytes at the line's end
 unfoldable pub counted_fault : List ℕ → Counts → ℕ → List ℕ → Option ℕ
 counted_fault sender counts end line =
-    if is_too_large end line then Some 12 else stage_fault sender counts.stage counts line
+    if is_too_large end line then Some too_large else stage_fault sender counts.stage counts line
 
 -- the open group after one more of its records
 unfoldable pub group_after : OpenGroup → List ℕ → OpenGroup
@@ -80,12 +80,12 @@ after_in Ended c line = record c { lines = c.lines + 1 }
 unfoldable pub counts_after : Counts → List ℕ → Counts
 counts_after c line = after_in c.stage c line
 
--- the fault of a body that ends behind these counts: 1 it has no line, 10 it has no trailer
+-- the fault of a body that ends behind these counts, by where the next line would stand
 abbrev pub end_in : Stage → Counts → Option FileFault
-end_in Header c = Some (record { number = 1; line = 1 })
+end_in Header c = Some (record { number = no_header; line = 1 })
 end_in Ended c = None
-end_in Between c = Some (record { number = 10; line = c.lines + 1 })
-end_in (Within g) c = Some (record { number = 10; line = c.lines + 1 })
+end_in Between c = Some (record { number = no_trailer; line = c.lines + 1 })
+end_in (Within g) c = Some (record { number = no_trailer; line = c.lines + 1 })
 
 -- the fault of a body that ends behind these counts
 abbrev pub counted_end : Counts → Option FileFault

@@ -3,7 +3,9 @@ ghost use Rattle.std.specs.Prelude.{◌≡◌, ◌+◌, ◌^◌, ◌<◌, []};
 ghost use Rattle.cwr_files.specs.declared.counts.Stage.TheVariants.{Between, Within};
 ghost use Rattle.cwr_files.specs.Counts.{HasRoom, StageHasRoom, IsStep, IsStepBehind, counts_of, counts_after, counted_fault, after_in, group_after};
 
-use crate::line_faults::{between_fault, ended_fault, group_fault, header_fault, is_too_large};
+use crate::line_faults::{
+    TOO_LARGE, between_fault, ended_fault, group_fault, header_fault, is_too_large,
+};
 use crate::record_types::{has_type, type_of_group};
 use cwr_records::Line;
 use work_ids::SenderKey;
@@ -74,7 +76,7 @@ fn counted_fault(sender: &SenderKey, counts: &Counts, end: usize, line: &Line) -
     ensures { result ≡ counted_fault sender.now counts.now end line.now }
 {
     if is_too_large(end, line) {
-        return Some(12);
+        return Some(TOO_LARGE);
     }
     match counts.stage {
         Stage::Header => header_fault(sender, line),

@@ -6,6 +6,7 @@ ghost use Rattle.cwr_files.specs.ReadTo.{HasReadLines};
 
 use crate::counts::{Counts, Stage, step};
 use crate::fault::FileFault;
+use crate::line_faults::{NO_HEADER, NO_TRAILER};
 use crate::progress::{Progress, at_next_line, read_lines};
 use cwr_records::line_of;
 use work_ids::SenderKey;
@@ -36,16 +37,19 @@ pub fn last_fault(sender: &SenderKey, body: &[u8], at: &Progress) -> Option<File
     }
 }
 
-// The fault of a body that ends behind these counts: 1 it has no line, 10 it has no trailer.
+// The fault of a body that ends behind these counts: it has no line, or no trailer.
 fn end_fault(counts: &Counts) -> Option<FileFault>
     requires { counts.now.lines < 2 ^ 63 }
     ensures { result ≡ counted_end counts.now }
 {
     match counts.stage {
-        Stage::Header => Some(FileFault { number: 1, line: 1 }),
+        Stage::Header => Some(FileFault {
+            number: NO_HEADER,
+            line: 1,
+        }),
         Stage::Ended => None,
         _ => Some(FileFault {
-            number: 10,
+            number: NO_TRAILER,
             line: counts.lines as usize + 1,
         }),
     }

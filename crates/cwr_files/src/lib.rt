@@ -18,5 +18,6 @@ mod transmission;
 pub use fault::{FileFault, ReadFault};
 pub use fault_finder::find_fault;
 pub use file_reader::FileReader;
+pub use limits::MAX_BODY;
 pub use reader::{known_transmission, one_or_the_other, read_transmission};
 pub use transmission::{Group, Groups, Records, Transaction, Transactions, Transmission};

@@ -12,6 +12,45 @@ use crate::record_types::{has_type, is_code, is_frame, is_read, record_type, typ
 use cwr_records::{Line, TransmissionHeader, read_as};
 use work_ids::SenderKey;
 
+/// Fault: there is no line, or the first is no HDR (profile).
+pub const NO_HEADER: u8 = 1;
+
+/// Fault: the first line bears another sender key (profile).
+const OTHER_SENDER: u8 = 2;
+
+/// Fault: a date or the time of the first line is none (profile).
+const WRONG_DATE: u8 = 3;
+
+/// Fault: between groups, neither GRH nor TRL (profile).
+const OUTSIDE_GROUPS: u8 = 4;
+
+/// Fault: the group ID is not the next one (profile).
+const WRONG_GROUP_ID: u8 = 5;
+
+/// Fault: within a group, HDR, GRH or TRL, or a record before the group's first transaction (profile).
+const MISPLACED_IN_GROUP: u8 = 6;
+
+/// Fault: the transaction or record sequence is not the next number (profile).
+const WRONG_SEQUENCE: u8 = 7;
+
+/// Fault: the group ID, transaction count or record count of a GRT is wrong (profile).
+const WRONG_GROUP_COUNTS: u8 = 8;
+
+/// Fault: the group, transaction or record count of the TRL is wrong (profile).
+const WRONG_FILE_COUNTS: u8 = 9;
+
+/// Fault: the body ended before TRL (profile).
+pub const NO_TRAILER: u8 = 10;
+
+/// Fault: after TRL, a line that is not blank (profile).
+const BEHIND_TRAILER: u8 = 11;
+
+/// Fault: the line is too long, or the body at its end too large (profile).
+pub const TOO_LARGE: u8 = 12;
+
+/// Fault: a transaction or record type is not three of A-Z and 0-9 (profile).
+const WRONG_TYPE: u8 = 13;
+
 /// Whether a line is too long, or the body at the end of it, of so many bytes.
 #[tactic(auto, unfolding(crate::specs::LineFaults::is_too_large))]
 pub fn is_too_large(end: usize, line: &Line) -> bool
@@ -20,19 +59,19 @@ pub fn is_too_large(end: usize, line: &Line) -> bool
     line.len() > MAX_LINE || end > MAX_BODY
 }
 
-/// The fault of a transmission's first line: 1 another record, 2 another sender, 3 a wrong date or time.
+/// The fault of a transmission's first line.
 #[tactic(auto, unfolding(crate::specs::Chain::header_fault))]
 pub fn header_fault(sender: &SenderKey, line: &Line) -> Option<u8>
     ensures { result ≡ header_fault sender.now line.now }
 {
     if !has_type(line, b"HDR") {
-        return Some(1);
+        return Some(NO_HEADER);
     }
     if !is_of_sender(sender, line) {
-        return Some(2);
+        return Some(OTHER_SENDER);
     }
     if !is_dated(line) {
-        return Some(3);
+        return Some(WRONG_DATE);
     }
     None
 }
@@ -46,22 +85,22 @@ fn is_of_sender(sender: &SenderKey, line: &Line) -> bool
         && header.sender_id.field().is(sender.sender_id())
 }
 
-// The fault of a group header behind so many groups: 5 another group ID, 13 a transaction type that is none.
+// The fault of a group header behind so many groups.
 #[tactic(auto, unfolding(crate::specs::Chain::opening_fault))]
 fn opening_fault(groups: u64, line: &Line) -> Option<u8>
     requires { groups < 2 ^ 63 }
     ensures { result ≡ opening_fault groups line.now }
 {
     if !has_group_id(line, groups + 1) {
-        return Some(5);
+        return Some(WRONG_GROUP_ID);
     }
     if !is_code(&type_of_group(line)) {
-        return Some(13);
+        return Some(WRONG_TYPE);
     }
     None
 }
 
-// The fault of a transmission trailer behind these counts: 9 another count.
+// The fault of a transmission trailer behind these counts.
 #[tactic(auto, unfolding(crate::specs::Chain::trailer_fault))]
 fn trailer_fault(counts: &Counts, line: &Line) -> Option<u8>
     requires { counts.now.lines < 2 ^ 63 }
@@ -70,11 +109,11 @@ fn trailer_fault(counts: &Counts, line: &Line) -> Option<u8>
     if has_file_counts(line, counts.groups, counts.transactions, counts.lines + 1) {
         None
     } else {
-        Some(9)
+        Some(WRONG_FILE_COUNTS)
     }
 }
 
-/// The fault of a line between groups: 4 neither a group header nor the trailer, else theirs.
+/// The fault of a line between groups: a group header's or the trailer's, or that it is neither.
 #[tactic(auto, unfolding(crate::specs::Chain::between_fault))]
 pub fn between_fault(counts: &Counts, line: &Line) -> Option<u8>
     requires groups_room { counts.now.groups < 2 ^ 63 }
@@ -87,10 +126,10 @@ pub fn between_fault(counts: &Counts, line: &Line) -> Option<u8>
     if has_type(line, b"TRL") {
         return trailer_fault(counts, line);
     }
-    Some(4)
+    Some(OUTSIDE_GROUPS)
 }
 
-// The fault of the trailer of the open group with this ID: 8 another ID or count.
+// The fault of the trailer of the open group with this ID.
 #[tactic(auto, unfolding(crate::specs::Chain::closing_fault))]
 fn closing_fault(id: u64, group: &OpenGroup, line: &Line) -> Option<u8>
     requires { group.now.lines < 2 ^ 63 }
@@ -99,7 +138,7 @@ fn closing_fault(id: u64, group: &OpenGroup, line: &Line) -> Option<u8>
     if has_group_counts(line, id, group.transactions, group.lines + 1) {
         None
     } else {
-        Some(8)
+        Some(WRONG_GROUP_COUNTS)
     }
 }
 
@@ -114,23 +153,22 @@ fn is_in_sequence(group: &OpenGroup, line: &Line) -> bool
     }
 }
 
-// The fault of a record in an open group: 6 a frame record or one before the first transaction, 7 another sequence
-// number, 13 a record type that is none.
+// The fault of a record in an open group.
 #[tactic(auto, unfolding(crate::specs::Chain::record_fault))]
 fn record_fault(group: &OpenGroup, line: &Line) -> Option<u8>
     ensures { result ≡ record_fault group.now.kind group.now.transactions group.now.further line.now }
 {
     if is_frame(line) {
-        return Some(6);
+        return Some(MISPLACED_IN_GROUP);
     }
     if !has_type(line, &group.kind) && group.transactions == 0 {
-        return Some(6);
+        return Some(MISPLACED_IN_GROUP);
     }
     if is_read(&group.kind) && !is_in_sequence(group, line) {
-        return Some(7);
+        return Some(WRONG_SEQUENCE);
     }
     if !is_code(&record_type(line)) {
-        return Some(13);
+        return Some(WRONG_TYPE);
     }
     None
 }
@@ -147,10 +185,14 @@ pub fn group_fault(id: u64, group: &OpenGroup, line: &Line) -> Option<u8>
     record_fault(group, line)
 }
 
-/// The fault of a line after the transmission trailer: 11 it is not blank.
+/// The fault of a line after the transmission trailer.
 #[tactic(auto, unfolding(crate::specs::Chain::ended_fault))]
 pub fn ended_fault(line: &Line) -> Option<u8>
     ensures { result ≡ ended_fault line.now }
 {
-    if line.is_blank() { None } else { Some(11) }
+    if line.is_blank() {
+        None
+    } else {
+        Some(BEHIND_TRAILER)
+    }
 }

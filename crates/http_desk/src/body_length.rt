@@ -7,12 +7,10 @@ ghost use Rattle.httparse.specs.Spans.{IsHeaderWithin, header_bytes};
 ghost use Rattle.http_desk.specs.Fields.{FindsValues};
 ghost use Rattle.http_text.specs.BodyLength.{is_field_named, field_values, body_length_by, body_length_of, ends_connection, says_close, is_put};
 
+use cwr_files::MAX_BODY;
 use http_text::BodyLength;
 use httparse::spans::HeaderSpan;
 use work_ids::{is_number, number_up_to};
-
-/// The greatest body, in bytes.
-pub(crate) const MAX_BODY: u32 = 1_048_576;
 
 /// The values of the fields of one name: none, one, or more.
 #[derive(Clone, Copy, Drop)]
@@ -88,8 +86,9 @@ fn body_length_by_value(value: &[u8]) -> BodyLength
     if !is_number(value) {
         return BodyLength::Faulty;
     }
-    let size = number_up_to(value, MAX_BODY);
-    if size > MAX_BODY {
+    let greatest = MAX_BODY as u32;
+    let size = number_up_to(value, greatest);
+    if size > greatest {
         BodyLength::Large
     } else {
         BodyLength::Sized(size)

@@ -8,13 +8,13 @@ ghost use Rattle.work_ids.specs.Account.{account_text};
 ghost use Rattle.work_ids.specs.Blanks.{without_trailing_blanks};
 ghost use Rattle.http_text.specs.Json as spec;
 
-use crate::number_text::{FIRST_YEAR, dated_text_of};
+use crate::number_text::dated_text_of;
 use percent_encoding::{AsciiSet, CONTROLS, ascii_set, percent_encode};
 use serde_json::{Value, json};
 use share_rules::Holder;
 use society_core::{SenderStatus, Work};
 use std::alloc::{AllocError, Global};
-use work_ids::{Account, Isrc, Iswc, TransmissionNumber, WorkNumber};
+use work_ids::{Account, FIRST_YEAR, Isrc, Iswc, TransmissionNumber, WorkNumber};
 use works_core::Verdict;
 
 /// The bytes of a title that are escaped, beside those that are no ASCII.

@@ -3,13 +3,7 @@ ghost use Rattle.std.specs.Prelude.{◌≡◌, ◌≤◌, ◌-◌, ◌/◌, ◌%
 ghost use Rattle.work_ids.specs.SpelledNumber.{dated_text};
 ghost use Rattle.http_text.specs.NumberTexts.{rank_in_text, segment_named};
 
-use work_ids::{Segment, SpelledNumber, TransmissionNumber, last_digits, number};
-
-/// The rank of the number before the first of year 00; plain numbers are below it.
-pub(crate) const FIRST_YEAR: u32 = 1_000_000;
-
-/// From the first number of a year to that of the next.
-const YEAR: u32 = 10_000;
+use work_ids::{FIRST_YEAR, Segment, SpelledNumber, TransmissionNumber, YEAR, last_digits, number};
 
 /// The name of the plain segment.
 const PLAIN: &[u8] = b"plain";

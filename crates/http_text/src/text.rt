@@ -3,9 +3,10 @@ ghost use Rattle.std.specs.Prelude.{◌≡◌, ◌≤◌, ◌+◌, ◌++◌, len
 ghost use Rattle.http_text.specs.NumberTexts.{number_text};
 ghost use Rattle.http_text.specs.Text.{code_of, connection_field, fields_text, head_text, status_text, type_text};
 
-use crate::number_text::{FIRST_YEAR, dated_text_of};
+use crate::number_text::dated_text_of;
 use crate::status::{ContentType, Status, code, phrase, type_name};
 use itoa::Buffer;
+use work_ids::FIRST_YEAR;
 
 /// Appends bytes for which there is room.
 pub fn put(out: &mut Vec<u8>, bytes: &[u8])

@@ -1,7 +1,7 @@
 -- A return, as CSV: its records, its rows of data, and its fault.
 use Rattle.std.specs.Prelude.{ℕ, ◌≡◌, ◌+◌, List, [], ◌∷◌, Option, Some, None, Result, Ok, Err, ⊤, drop}
 use Rattle.csv.specs.Reading.{default_config, records, strip_bom}
-use Rattle.perf_returns.specs.Rows.{row_fault, row_of, with_row}
+use Rattle.perf_returns.specs.Rows.{row_fault, row_of, with_row, wrong_header}
 use Rattle.perf_returns.specs.declared.fault.ReturnError.{ReturnError}
 use Rattle.perf_returns.specs.declared.fault.ReturnError.TheVariants.{Csv, Memory}
 use Rattle.perf_returns.specs.declared.fault.ReturnFault.{ReturnFault}
@@ -22,9 +22,9 @@ abbrev pub first_row_fault : ℕ → List (List (List ℕ)) → Option ReturnFau
 first_row_fault row [] = None
 first_row_fault row (fields ∷ more) = told_at row (row_fault row fields) (first_row_fault (row + 1) more)
 
--- the fault of the records of a return: 1 at row 1 where there are none (profile)
+-- the fault of the records of a return: at row 1 that there is no header, where there are none (profile)
 abbrev pub fault_of_records : List (List (List ℕ)) → Option ReturnFault
-fault_of_records [] = Some (record { number = 1; row = 1 })
+fault_of_records [] = Some (record { number = wrong_header; row = 1 })
 fault_of_records (header ∷ more) = first_row_fault 1 (header ∷ more)
 
 -- the return fault of a body, none where it is a return (profile)

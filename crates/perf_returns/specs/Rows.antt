@@ -16,21 +16,41 @@ abbrev pub is_header_row : List (List ℕ) → Bool
 is_header_row (first ∷ second ∷ third ∷ []) = are_header_words first second third
 is_header_row _ = false
 
--- the fault of the first record: 1 where it is not the header (profile)
-abbrev pub header_row_fault : List (List ℕ) → Option ℕ
-header_row_fault fields = if is_header_row fields then None else Some 1
+-- 1: there is no row, or the first is not the header (profile)
+abbrev pub wrong_header : ℕ
+wrong_header = 1
 
--- a row of data by its three fields: 3 where the first is no text of an ISRC, 4 where the plays are wrong, 5 where the seconds are, in this order (profile)
+-- the fault of the first record, where it is not the header (profile)
+abbrev pub header_row_fault : List (List ℕ) → Option ℕ
+header_row_fault fields = if is_header_row fields then None else Some wrong_header
+
+-- 3: the first field is no text of an ISRC (profile)
+abbrev pub no_isrc : ℕ
+no_isrc = 3
+
+-- 4: the second field is no plays (profile)
+abbrev pub wrong_plays : ℕ
+wrong_plays = 4
+
+-- 5: the third field is no seconds (profile)
+abbrev pub wrong_seconds : ℕ
+wrong_seconds = 5
+
+-- a row of data by its three fields, the faults of the fields in this order (profile)
 abbrev pub row_by : Result (List ℕ) IdFault → Option ℕ → Option ℕ → Result Performance ℕ
-row_by (Err fault) plays seconds = Err 3
-row_by (Ok isrc) None seconds = Err 4
-row_by (Ok isrc) (Some plays) None = Err 5
+row_by (Err fault) plays seconds = Err no_isrc
+row_by (Ok isrc) None seconds = Err wrong_plays
+row_by (Ok isrc) (Some plays) None = Err wrong_seconds
 row_by (Ok isrc) (Some plays) (Some seconds) = Ok (record { isrc = isrc; plays = plays; seconds = seconds })
 
--- what a row of data says: 2 where it has not three fields (profile)
+-- 2: a row of data has not three fields (profile)
+abbrev pub other_fields : ℕ
+other_fields = 2
+
+-- what a row of data says, or its fault (profile)
 abbrev pub row_of : List (List ℕ) → Result Performance ℕ
 row_of (isrc ∷ plays ∷ seconds ∷ []) = row_by (isrc_of_text isrc) (plays_of plays) (seconds_of seconds)
-row_of _ = Err 2
+row_of _ = Err other_fields
 
 -- the fault of a row that was read
 abbrev pub fault_in : Result Performance ℕ → Option ℕ
@@ -41,9 +61,13 @@ fault_in (Err number) = Some number
 abbrev pub data_rows_to : ℕ → ℕ
 data_rows_to row = row - 1
 
--- the fault of a row of data: 6 where more than 10,000 rows of data have come, before all others (profile)
+-- 6: there are more than 10,000 rows of data (profile)
+abbrev pub too_many_rows : ℕ
+too_many_rows = 6
+
+-- the fault of a row of data: where too many rows of data have come that one, before all others (profile)
 abbrev pub data_fault : ℕ → List (List ℕ) → Option ℕ
-data_fault row fields = if nat_lt 10000 (data_rows_to row) then Some 6 else fault_in (row_of fields)
+data_fault row fields = if nat_lt 10000 (data_rows_to row) then Some too_many_rows else fault_in (row_of fields)
 
 -- the fault of a row, the header being row 1 (profile)
 abbrev pub row_fault : ℕ → List (List ℕ) → Option ℕ

@@ -11,8 +11,8 @@ use work_ids::Isrc;
 /// Fields of a row.
 const FIELDS: usize = 3;
 
-/// Fault: the first row is not the header (profile).
-const NO_HEADER: u8 = 1;
+/// Fault: there is no row, or the first is not the header (profile).
+pub const WRONG_HEADER: u8 = 1;
 
 /// Fault: a row of data has not three fields (profile).
 const OTHER_FIELDS: u8 = 2;
@@ -54,12 +54,12 @@ pub fn header_fault(fields: &ByteRecord) -> Option<u8>
     ensures { result ≡ header_row_fault (fields_of fields.now) }
 {
     if fields.len() != FIELDS {
-        return Some(NO_HEADER);
+        return Some(WRONG_HEADER);
     }
     if are_header_words(field(fields, 0), field(fields, 1), field(fields, 2)) {
         None
     } else {
-        Some(NO_HEADER)
+        Some(WRONG_HEADER)
     }
 }
 

@@ -8,7 +8,7 @@ ghost use Rattle.perf_returns.specs.declared.fault.ReturnError.TheVariants.{Memo
 ghost use Rattle.perf_returns.specs.Returns.{AnswersReturn, return_fault, performances_in};
 
 use crate::fault::{ReturnError, ReturnFault};
-use crate::performance::{Performance, header_fault, read_row};
+use crate::performance::{Performance, WRONG_HEADER, header_fault, read_row};
 use crate::performances::{Performances, Return};
 use csv::{ByteRecord, Error, ErrorKind, ReaderBuilder};
 use std::alloc::Global;
@@ -21,9 +21,6 @@ const MAX_ROWS: usize = 10_000;
 
 /// Fault: there are more rows of data than a return may have (profile).
 const TOO_MANY_ROWS: u8 = 6;
-
-/// Fault: there is no header, nor any other row (profile).
-const NO_RECORD: u8 = 1;
 
 // Takes the record of a row: one of data joins the rows. `Err` is the first fault of the row, or want of memory.
 fn take(row: usize, fields: &ByteRecord, rows: &mut Vec<Performance>) -> Result<(), ReturnError>
@@ -84,7 +81,7 @@ pub fn read_return(alloc: Global, body: &[u8]) -> Result<Return, ReturnError>
     }
     if row == 0 {
         return Err(ReturnError::Csv(ReturnFault {
-            number: NO_RECORD,
+            number: WRONG_HEADER,
             row: HEADER_ROW,
         }));
     }

@@ -2,7 +2,7 @@
 use Rattle.std.specs.Prelude.{ℕ, zero, suc, ◌+◌, ◌≡◌, ◌<◌, ◌≤◌, Bool, true, false, ◌&&◌, ◌==◌, List, [], ◌++◌, Option, Some, None, if◌then◌else◌, nat_le}
 use Rattle.std.specs.List.{list_all, range_with_len}
 use Rattle.work_ids.specs.SegmentEnds.{StatedEnd}
-use Rattle.work_ids.specs.Segments.{base_of, index_of, most_in, segment_of, sequence_of}
+use Rattle.work_ids.specs.Segments.{base_of, greatest_rank, index_of, most_in, segment_of, sequence_of}
 use Rattle.work_ids.specs.declared.segment.Segment.TheVariants.{Year}
 
 -- the ranks of a segment's numbers from its first on, so many
@@ -72,7 +72,7 @@ pub record IsGap (there : ℕ → Bool) (ends : StatedEnds) (number : ℕ) : Typ
 
 -- what is kept of a sender are numbers: none is above the last of the last year, and none is a segment's 0
 pub record AreNumbers (there : ℕ → Bool) : Type 0 where
-  pub most : (n : ℕ) → there n ≡ true → n ≤ 1999999
+  pub most : (n : ℕ) → there n ≡ true → n ≤ greatest_rank
   pub from_one : (n : ℕ) → there n ≡ true → 1 ≤ sequence_of n
 
 -- a number that is kept is not above the end of its segment

@@ -1,10 +1,10 @@
 //! The front of a sender: its last number before the first gap, over the segments that its ends lead through.
 ghost use Rattle.std.specs.Prelude.{◌≡◌, ◌≤◌, Bool, ℕ, option_map, true};
-ghost use Rattle.work_ids.specs.Segments.{base_of, index_of, segment_of, sequence_of};
+ghost use Rattle.work_ids.specs.Segments.{base_of, greatest_rank, index_of, segment_of, sequence_of};
 ghost use Rattle.work_ids.specs.declared.segment.Segment.TheVariants.{Year};
 ghost use Rattle.sender_segments.specs.Ways.{AreNumbers, AreRight, AreWithinEnds, StatedEnds, IsGap, LeadToYears, end_stated, is_reached};
 
-use work_ids::SegmentEnd;
+use work_ids::{FIRST_YEAR, SegmentEnd, YEAR};
 
 /// What is kept of a sender: its numbers, by their ranks, and the ends that it stated.
 pub trait Numbers {
@@ -20,7 +20,7 @@ pub trait Numbers {
 
     /// The end of the segment that a rank belongs to, none where none was stated.
     fn end_of(&self, rank: u32) -> Option<SegmentEnd>
-        requires { rank ≤ 1999999 }
+        requires { rank ≤ greatest_rank }
         ensures { option_map end_stated result ≡ ends self.now (segment_of rank) };
 }
 
@@ -28,31 +28,31 @@ pub trait Numbers {
 pub fn first_rank(year: u8) -> u32
     ensures { result ≡ base_of (index_of (Year year)) }
 {
-    1_000_000 + 10_000 * u32::from(year)
+    FIRST_YEAR + YEAR * u32::from(year)
 }
 
 /// The number that a rank has within its segment.
 pub fn sequence(rank: u32) -> u32
     ensures { result ≡ sequence_of rank }
 {
-    if rank < 1_000_000 {
+    if rank < FIRST_YEAR {
         rank
     } else {
-        (rank - 1_000_000) % 10_000
+        (rank - FIRST_YEAR) % YEAR
     }
 }
 
 /// The front of a sender, on from a rank that is reached: the last number before a gap, or a year's 0 where nothing of it is there.
 pub fn front_from<N: Numbers>(numbers: &N, reached: u32) -> u32
     requires reached { is_reached (N.there numbers.now) (N.ends numbers.now) reached ≡ true }
-    requires limit { reached ≤ 1999999 }
+    requires limit { reached ≤ greatest_rank }
     requires numbers { AreNumbers (N.there numbers.now) }
     requires right { AreRight (N.ends numbers.now) }
     requires years { LeadToYears (N.ends numbers.now) }
     requires within { AreWithinEnds (N.there numbers.now) (N.ends numbers.now) }
     ensures reached { is_reached (N.there numbers.now) (N.ends numbers.now) result ≡ true }
     ensures gap { IsGap (N.there numbers.now) (N.ends numbers.now) result }
-    ensures limit { result ≤ 1999999 }
+    ensures limit { result ≤ greatest_rank }
 {
     let mut front = reached;
     loop {

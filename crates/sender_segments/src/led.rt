@@ -1,14 +1,14 @@
 //! Whether the ends of a sender lead to a number, and whether it is one of those up to a front.
 ghost use Rattle.std.specs.Prelude.{◌≡◌, ◌≤◌, ◌==◌, ◌&&◌, true};
 ghost use Rattle.std.specs.List.{list_any};
-ghost use Rattle.work_ids.specs.Segments.{segment_of, sequence_of};
+ghost use Rattle.work_ids.specs.Segments.{greatest_rank, segment_of, sequence_of};
 ghost use Rattle.sender_segments.specs.Ways.{AreRight, IsWithinEnd, LeadToYears, is_up_to_end, leads_to, numbers_up_to};
 
 use crate::front::{Numbers, first_rank, sequence};
 
 /// Whether the ends lead to the number of a rank.
 pub fn leads<N: Numbers>(numbers: &N, rank: u32) -> bool
-    requires limit { rank ≤ 1999999 }
+    requires limit { rank ≤ greatest_rank }
     requires right { AreRight (N.ends numbers.now) }
     requires years { LeadToYears (N.ends numbers.now) }
     ensures { result ≡ leads_to (N.ends numbers.now) rank }
@@ -26,7 +26,7 @@ pub fn leads<N: Numbers>(numbers: &N, rank: u32) -> bool
 
 /// Whether a rank is not above the end of its segment, if that has one.
 pub fn is_up_to_end<N: Numbers>(numbers: &N, rank: u32) -> bool
-    requires limit { rank ≤ 1999999 }
+    requires limit { rank ≤ greatest_rank }
     ensures { result ≡ is_up_to_end (N.ends numbers.now (segment_of rank)) (sequence_of rank) }
 {
     match numbers.end_of(rank) {
@@ -48,7 +48,7 @@ pub fn is_up_to<N: Numbers>(numbers: &N, front: u32, rank: u32) -> bool
     requires right { AreRight (N.ends numbers.now) }
     requires years { LeadToYears (N.ends numbers.now) }
     requires within { IsWithinEnd (N.ends numbers.now) front }
-    requires limit { rank ≤ 1999999 }
+    requires limit { rank ≤ greatest_rank }
     ensures { result ≡ list_any (λ m. m == rank) (numbers_up_to (N.ends numbers.now) front) }
 {
     let is_led_to = leads(numbers, rank);

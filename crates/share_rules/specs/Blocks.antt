@@ -6,11 +6,11 @@ use Rattle.cwr_records.specs.Typed.{indicator_of}
 use Rattle.cwr_records.specs.declared.record.Record.{Record}
 use Rattle.cwr_records.specs.declared.record.Record.TheVariants as kind
 use Rattle.share_rules.specs.Fault.{has_row_without_party}
-use Rattle.share_rules.specs.Parties.{collected, counts, interests, is_interested_party, no_shares, row_in, share_in, shares_by, party_in}
+use Rattle.share_rules.specs.Parties.{Interest, collected, counts, interests, is_interested_party, no_shares, row_in, share_in, shares_by, party_in}
 use Rattle.share_rules.specs.Steps.{row_is}
 use Rattle.share_rules.specs.Weights.{account_by, holder_of}
 use Rattle.share_rules.specs.declared.holder.Holder.{Holder}
-use Rattle.share_rules.specs.declared.kind.Kind.{Kind}
+use Rattle.share_rules.specs.declared.holding.Basis.{Basis}
 use Rattle.share_rules.specs.declared.office.Office.{Office}
 use Rattle.share_rules.specs.declared.party.InterestedParty.{InterestedParty}
 use Rattle.share_rules.specs.declared.party.Side.{Side}
@@ -132,24 +132,28 @@ abbrev pub rows_from : List Record → ℕ → Bool
 rows_from records place = has_row_without_party (take place records) (drop place records)
 
 -- a holder: an interested party's account, and of some shares that of a right
-abbrev pub holder_with : Kind → List ℕ → InterestedParty → Shares → Holder
-holder_with right sender party shares = record {
-  account = account_by sender (ipi_field_of party.ipi_name) (party_number_of party.number);
-  weight = share_in right shares;
+abbrev pub holder_with : Basis → InterestedParty → Shares → Holder
+holder_with basis party shares = record {
+  account = account_by basis.sender.now (ipi_field_of party.ipi_name) (party_number_of party.number);
+  weight = share_in basis.kind shares;
 }
 
+-- the holder of an interest on a basis
+abbrev pub holder_on : Basis → Interest → Holder
+holder_on basis = holder_of basis.kind basis.sender.now basis.office.now
+
 -- the holder that an interested party is by the records after it, where there is one
-abbrev pub holder_if : Kind → List ℕ → Office → Option InterestedParty → List Record → List Holder
-holder_if right sender office None after = []
-holder_if right sender office (Some party) after = holder_of right sender office (record { party = party; after = after }) ∷ []
+abbrev pub holder_if : Basis → Option InterestedParty → List Record → List Holder
+holder_if basis None after = []
+holder_if basis (Some party) after = holder_on basis (record { party = party; after = after }) ∷ []
 
 -- the holder that a record is by the records after it, where it is an interested party
-abbrev pub holders_in : Kind → List ℕ → Office → Record → List Record → List Holder
-holders_in right sender office r after = holder_if right sender office (party_in r) after
+abbrev pub holders_in : Basis → Record → List Record → List Holder
+holders_in basis r after = holder_if basis (party_in r) after
 
 -- the holders among the records from a place on
-abbrev pub holders_from : Kind → List ℕ → Office → List Record → ℕ → List Holder
-holders_from right sender office records place = map (holder_of right sender office) (interests (drop place records))
+abbrev pub holders_from : Basis → List Record → ℕ → List Holder
+holders_from basis records place = map (holder_on basis) (interests (drop place records))
 
 -- whether a record links a writer to a publisher (CISAC CWR 2.2)
 abbrev pub is_link : Record → Bool

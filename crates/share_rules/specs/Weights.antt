@@ -2,6 +2,7 @@
 use Rattle.std.specs.Prelude.{ℕ, ◌-◌, ◌≤◌, List, [], ◌∷◌, ◌++◌, Option, Some, None, Result, Ok, Err, map, max, if◌then◌else◌}
 use Rattle.std.specs.List.{list_all, sum}
 use Rattle.cwr_files.specs.declared.transmission.Transaction.{Transaction}
+use Rattle.share_rules.specs.Fault.{sum_limit}
 use Rattle.share_rules.specs.Parties.{Interest, collected, interests, share_in}
 use Rattle.share_rules.specs.declared.holder.Holder.{Holder}
 use Rattle.share_rules.specs.declared.kind.Kind.{Kind}
@@ -43,9 +44,9 @@ whole_right = 10000
 abbrev pub unclaimed_beside : List Holder → Holder
 unclaimed_beside holders = let claimed = total holders in record { account = Unclaimed; weight = max whole_right claimed - claimed }
 
--- weights are the whole or, for what is let pass, up to 10,006 (profile)
+-- weights are the whole or, for what is let pass, up to the greatest sum (profile)
 abbrev pub AreWholeWeights : List Holder → Type 0
-AreWholeWeights holders = (10000 ≤ total holders) × (total holders ≤ 10006)
+AreWholeWeights holders = (whole_right ≤ total holders) × (total holders ≤ sum_limit)
 
 -- the weights of a transaction in a right: its holders in record order, and behind them what nobody claims (profile)
 unfoldable pub weights_of : Kind → List ℕ → Office → Transaction → List Holder

@@ -18,6 +18,14 @@ use cwr_records::Record;
 use std::alloc::{AllocError, Global};
 use work_ids::{Account, IpiName, PartyNumber, SenderKey};
 
+/// What a work's holders are found by: the right, the sender that names the parties, and the office at which they collect.
+#[derive(Drop)]
+pub(crate) struct Basis<'a> {
+    pub(crate) kind: Kind,
+    pub(crate) sender: &'a SenderKey,
+    pub(crate) office: &'a Office,
+}
+
 // The account of an interested party that a sender names: its IPI name number's where it has one, else that of the
 // sender's number of it, nobody's where that is blank or wrong too (profile).
 fn account(sender: &SenderKey, party: &InterestedParty<'_>) -> Account
@@ -35,17 +43,16 @@ fn account(sender: &SenderKey, party: &InterestedParty<'_>) -> Account
 // Appends the holder that an interested party is with these collection shares.
 fn push_holder(
     holders: &mut Vec<Holder>,
-    kind: Kind,
-    sender: &SenderKey,
+    basis: &Basis<'_>,
     party: &InterestedParty<'_>,
     shares: Shares,
 ) -> Result<(), AllocError>
-    ensures { OnOk result (holders.new.items ≡ holders.old.items ++ holder_with kind sender.now party.now shares ∷ []) }
+    ensures { OnOk result (holders.new.items ≡ holders.old.items ++ holder_with basis.now party.now shares ∷ []) }
 {
-    let account = account(sender, party);
+    let account = account(basis.sender, party);
     holders.push(Holder {
         account,
-        weight: u64::from(shares.share(kind).hundredths()),
+        weight: u64::from(shares.share(basis.kind).hundredths()),
     })?;
     Ok(())
 }
@@ -53,18 +60,16 @@ fn push_holder(
 // The holders among a few records, which are gone through for each of them.
 fn few_holders(
     alloc: Global,
-    kind: Kind,
-    sender: &SenderKey,
+    basis: &Basis<'_>,
     records: &[Record<'_>],
-    office: &Office,
 ) -> Result<Vec<Holder>, AllocError>
-    ensures { IfOk result (λ holders. holders.items ≡ holders_from kind sender.now office.now records.now 0) }
+    ensures { IfOk result (λ holders. holders.items ≡ holders_from basis.now records.now 0) }
 {
     let mut holders = Vec::new(alloc);
     for (index, record) in records.iter().enumerate() {
         if let Some(party) = InterestedParty::of(record) {
-            let shares = collected(&party, &records[index + 1..], office);
-            push_holder(&mut holders, kind, sender, &party, shares)?;
+            let shares = collected(&party, &records[index + 1..], basis.office);
+            push_holder(&mut holders, basis, &party, shares)?;
         }
     }
     Ok(holders)
@@ -73,21 +78,19 @@ fn few_holders(
 // Appends the holder that a record is, where it is an interested party.
 fn push_record(
     holders: &mut Vec<Holder>,
-    kind: Kind,
-    sender: &SenderKey,
+    basis: &Basis<'_>,
     keys: &PartyKeys,
     latest: &[Option<Shares>],
     line: &Record<'_>,
     after: &[Record<'_>],
-    office: &Office,
 ) -> Result<(), AllocError>
     requires room { length latest.now ≡ BLOCK }
-    requires latest { AreLatest office.now keys.now.keys latest.now after.now }
-    ensures { OnOk result (holders.new.items ≡ holders.old.items ++ holders_in kind sender.now office.now line.now after.now) }
+    requires latest { AreLatest basis.now.office.now keys.now.keys latest.now after.now }
+    ensures { OnOk result (holders.new.items ≡ holders.old.items ++ holders_in basis.now line.now after.now) }
 {
     if let Some(party) = InterestedParty::of(line) {
-        let shares = collected_by(keys, latest, &party, after, office);
-        push_holder(holders, kind, sender, &party, shares)?;
+        let shares = collected_by(keys, latest, &party, after, basis.office);
+        push_holder(holders, basis, &party, shares)?;
     }
     Ok(())
 }
@@ -95,36 +98,25 @@ fn push_record(
 // Appends the holders among the records from one on to another, the last one first, behind those after them.
 fn push_block(
     holders: &mut Vec<Holder>,
-    kind: Kind,
-    sender: &SenderKey,
+    basis: &Basis<'_>,
     records: &[Record<'_>],
     start: usize,
     end: usize,
-    office: &Office,
 ) -> Result<(), AllocError>
     requires order { start ≤ end }
     requires within { end ≤ length records.now }
-    requires held { holders.old.items ≡ reverse (holders_from kind sender.now office.now records.now end) }
-    ensures { OnOk result (holders.new.items ≡ reverse (holders_from kind sender.now office.now records.now start)) }
+    requires held { holders.old.items ≡ reverse (holders_from basis.now records.now end) }
+    ensures { OnOk result (holders.new.items ≡ reverse (holders_from basis.now records.now start)) }
 {
     let keys = PartyKeys::of(&records[start..end]);
     let mut latest = [None; BLOCK];
-    note_all(&keys, &mut latest, &records[end..], office);
+    note_all(&keys, &mut latest, &records[end..], basis.office);
     let mut index = end;
     while index > start {
         index -= 1;
         let after = &records[index + 1..];
-        push_record(
-            holders,
-            kind,
-            sender,
-            &keys,
-            &latest,
-            &records[index],
-            after,
-            office,
-        )?;
-        note(&keys, &mut latest, &records[index], office);
+        push_record(holders, basis, &keys, &latest, &records[index], after)?;
+        note(&keys, &mut latest, &records[index], basis.office);
     }
     Ok(())
 }
@@ -132,18 +124,16 @@ fn push_block(
 // The holders among many records, found block by block.
 fn many_holders(
     alloc: Global,
-    kind: Kind,
-    sender: &SenderKey,
+    basis: &Basis<'_>,
     records: &[Record<'_>],
-    office: &Office,
 ) -> Result<Vec<Holder>, AllocError>
-    ensures { IfOk result (λ holders. holders.items ≡ holders_from kind sender.now office.now records.now 0) }
+    ensures { IfOk result (λ holders. holders.items ≡ holders_from basis.now records.now 0) }
 {
     let mut holders = Vec::new(alloc);
     let mut end = records.len();
     while end > 0 {
         let start = end.saturating_sub(BLOCK);
-        push_block(&mut holders, kind, sender, records, start, end, office)?;
+        push_block(&mut holders, basis, records, start, end)?;
         end = start;
     }
     holders.reverse();
@@ -153,16 +143,14 @@ fn many_holders(
 /// The holders among some records, in record order; an error where memory runs out.
 pub(crate) fn holders_among(
     alloc: Global,
-    kind: Kind,
-    sender: &SenderKey,
+    basis: &Basis<'_>,
     records: &[Record<'_>],
-    office: &Office,
 ) -> Result<Vec<Holder>, AllocError>
-    ensures { IfOk result (λ holders. holders.items ≡ holders_from kind sender.now office.now records.now 0) }
+    ensures { IfOk result (λ holders. holders.items ≡ holders_from basis.now records.now 0) }
 {
     if records.len() <= FEW {
-        few_holders(alloc, kind, sender, records, office)
+        few_holders(alloc, basis, records)
     } else {
-        many_holders(alloc, kind, sender, records, office)
+        many_holders(alloc, basis, records)
     }
 }

@@ -4,7 +4,7 @@ ghost use Rattle.share_rules.specs.Fault.{fault_of};
 ghost use Rattle.share_rules.specs.Weights.{AreWholeWeights, unclaimed_beside, weights_of};
 
 use crate::holder::Holder;
-use crate::holding::holders_among;
+use crate::holding::{Basis, holders_among};
 use crate::kind::Kind;
 use crate::office::Office;
 use cwr_files::Transaction;
@@ -42,8 +42,12 @@ pub fn weights(
     ensures weights { IfOk result (λ holders. holders.items ≡ weights_of kind sender.now office.now transaction.now) }
     ensures total { fault_of office.now transaction.now ≡ None → IfOk result (λ holders. AreWholeWeights holders.items) }
 {
-    let records = transaction.records.as_slice();
-    let mut holders = holders_among(alloc, kind, sender, records, office)?;
+    let basis = Basis {
+        kind,
+        sender,
+        office,
+    };
+    let mut holders = holders_among(alloc, &basis, transaction.records.as_slice())?;
     let unclaimed = unclaimed_beside(holders.as_slice());
     holders.push(unclaimed)?;
     Ok(holders)

@@ -5,6 +5,7 @@ ghost use Rattle.society_rows.specs.Effects.{Errs};
 ghost use Rattle.society_book.specs.Going.{IsWholeIn, RunsOn, RunsOver};
 ghost use Rattle.society_book.specs.RightRows.{KeepsUnsound};
 ghost use Rattle.society_book.specs.Steps.{Looks, LooksOpen};
+ghost use Rattle.work_ids.specs.Segments.{greatest_rank};
 
 use share_rules::Office;
 use society_book::{Run, SenderEnds, ends_in};
@@ -37,7 +38,7 @@ pub(crate) fn go_over<S: Alter>(
     begun: u32,
     run: &mut Run,
 ) -> Result<(), RowFault>
-    requires { begun ≤ 1999999 }
+    requires { begun ≤ greatest_rank }
     ensures same_reference { tx.new.conn.ghost_name ≡ tx.old.conn.ghost_name }
     ensures looks { within S.Store tx.old tx.new Looks result (λ db _. RunsOver sender.now ends.now begun run.old run.new db) }
     ensures errs { within S.Store tx.old tx.new (Errs KeepsUnsound) result }

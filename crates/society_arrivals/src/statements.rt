@@ -12,10 +12,7 @@ use society_book::{Run, ends_in};
 use society_rows::{Idle, RowFault, SegmentEndRow, add_segment_end};
 use sqlite::{Alter, Transaction};
 use std::alloc::Global;
-use work_ids::{SegmentEnd, SenderKey};
-
-// The last number of the last year, by its rank (profile).
-const GREATEST_RANK: u32 = 1_999_999;
+use work_ids::{GREATEST_RANK, SegmentEnd, SenderKey};
 
 // The run with which a sender's line goes on from its front when an end comes: of no transmission where none was waiting for it.
 fn run_behind<S: Alter>(

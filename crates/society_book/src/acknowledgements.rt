@@ -22,7 +22,7 @@ use work_ids::{SenderKey, TransmissionNumber};
 use works_core::Verdict;
 
 /// The transmission that a body is; `Unread` where it is none of the sender.
-pub fn read_body<'a>(
+pub(crate) fn read_body<'a>(
     alloc: Global,
     body: &'a [u8],
     sender: &SenderKey,

@@ -30,8 +30,8 @@ fn rank_before(segment: Segment) -> u32
     }
 }
 
-/// The greatest number of a sender's transmissions in the segment of an end that is above the end, none where there is none.
-pub fn number_past_of<S: Alter>(
+// The greatest number of a sender's transmissions in the segment of an end that is above the end, none where there is none.
+fn number_past_of<S: Alter>(
     conn: &mut Idle<S>,
     sender: &[u8],
     end: &SegmentEnd,

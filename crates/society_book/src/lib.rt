@@ -19,8 +19,8 @@ mod skips;
 mod standing;
 mod works;
 
-pub use acknowledgements::{ack_of, read_body};
-pub use ends_known::{known_end_of, number_past_of};
+pub use acknowledgements::ack_of;
+pub use ends_known::known_end_of;
 pub use ends_read::{ends_in, ends_of};
 pub use orders::known_pool_of;
 pub use outcomes::{Outcome, column_of, recording_rows, settle_run, verdict_rows, version_rows};
@@ -28,6 +28,6 @@ pub use pools::{NO_ISRC, balance_of, pool_credits, text_of};
 pub use returns::{known_return_of, payment_of, write_return};
 pub use run::{Noted, Run, ascending_works, distinct_isrcs};
 pub use sender_ends::SenderEnds;
-pub use senders::{front_of, known_of, place_of, shown_front, verdicts_of};
+pub use senders::{front_of, known_of, place_of, verdicts_of};
 pub use standing::status_of;
 pub use works::{last_version, version_of, work_of};

@@ -4,7 +4,7 @@ ghost use Rattle.sender_segments.specs.Ways.{AreRight, IsWithinEnd, LeadToYears,
 ghost use Rattle.society_core.specs.Book.{is_one_of};
 ghost use Rattle.society_core.specs.Ends.{end_known_by, last_below, place_stated};
 ghost use Rattle.society_book.specs.EndLists.{behind_end, end_listed, passed_to};
-ghost use Rattle.work_ids.specs.Segments.{base_of, segment_of, sequence_of};
+ghost use Rattle.work_ids.specs.Segments.{base_of, greatest_rank, segment_of, sequence_of};
 
 use sender_segments::{Numbers, first_rank, is_up_to_end, leads, sequence};
 use society_core::Known;
@@ -115,9 +115,9 @@ impl SenderEnds {
 
     /// The first rank behind the end of a rank's segment, where a number is not below the end.
     pub fn behind(&self, rank: u32, reached: u32) -> Option<u32>
-        requires { rank ≤ 1999999 }
+        requires { rank ≤ greatest_rank }
         ensures value { result ≡ behind_end (base_of (segment_of rank)) reached (end_listed self.now (segment_of rank)) }
-        ensures later { IfSome result (λ next. (rank < next) × (next ≤ 1999999)) }
+        ensures later { IfSome result (λ next. (rank < next) × (next ≤ greatest_rank)) }
     {
         self.see_years();
         let first = rank - sequence(rank);
@@ -129,9 +129,9 @@ impl SenderEnds {
 
     /// The first rank behind the end of a rank's segment, where a front is not below that rank.
     pub(crate) fn passed(&self, rank: u32, front: u32) -> Option<u32>
-        requires { rank ≤ 1999999 }
+        requires { rank ≤ greatest_rank }
         ensures value { result ≡ passed_to front (end_listed self.now (segment_of rank)) }
-        ensures later { IfSome result (λ next. (rank < next) × (next ≤ 1999999)) }
+        ensures later { IfSome result (λ next. (rank < next) × (next ≤ greatest_rank)) }
     {
         self.see_years();
         match self.end_of(rank) {

@@ -18,8 +18,8 @@ use std::alloc::Global;
 use work_ids::{Segment, TransmissionNumber};
 use works_core::Verdict;
 
-/// The front that the rows of a sender's front show; `Unread` where they are more than one.
-pub fn shown_front(rows: &[Row]) -> Result<u32, RowFault>
+// The front that the rows of a sender's front show; `Unread` where they are more than one.
+fn shown_front(rows: &[Row]) -> Result<u32, RowFault>
     ensures { (n : ℕ) → ShowFront n rows.now → IfOk result (λ front. front ≡ n) }
 {
     match rows {

@@ -3,15 +3,11 @@ ghost use Rattle.std.specs.Prelude.{◌≡◌, ◌≤◌, suc, IfOk, true};
 ghost use Rattle.sender_segments.specs.Ways.{leads_to};
 ghost use Rattle.society_book.specs.EndLists.{end_listed};
 ghost use Rattle.society_book.specs.Standing.{AreSkipped};
-ghost use Rattle.work_ids.specs.Segments.{base_of, segment_of};
+ghost use Rattle.work_ids.specs.Segments.{base_of, greatest_rank, segment_of};
 
 use crate::sender_ends::SenderEnds;
 use std::alloc::{AllocError, Global};
-
-// The rank before the first number of year 00, and from one year's to that of the next (profile).
-const FIRST_YEAR: u32 = 1_000_000;
-
-const YEAR: u32 = 10_000;
+use work_ids::{FIRST_YEAR, YEAR};
 
 /// Segments between two that follow one another in a line: their numbers are above one rank and below another.
 #[derive(Clone, Copy, Debug)]
@@ -22,7 +18,7 @@ pub(crate) struct Skip {
 
 // The first rank of the segment after one that begins with a rank.
 fn next_segment(first: u32) -> u32
-    requires limit { first ≤ 1999999 }
+    requires limit { first ≤ greatest_rank }
     requires first { first ≡ base_of (segment_of first) }
     ensures { result ≡ base_of (suc (segment_of first)) }
 {

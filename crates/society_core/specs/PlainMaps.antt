@@ -14,6 +14,7 @@ use Rattle.society_core.specs.declared.return_key.ReturnKey.{ReturnKey}
 use Rattle.society_core.specs.declared.segment_key.SegmentKey.{SegmentKey}
 use Rattle.society_core.specs.declared.transmission_key.TransmissionKey.{TransmissionKey}
 use Rattle.work_ids.specs.SegmentEnds.{StatedEnd}
+use Rattle.work_ids.specs.Segments.{greatest_rank}
 
 -- entries with the bytes of each body
 abbrev pub bodies_of : {K : Type 0} → List (K × Vec ℕ Global) → List (K × List ℕ)
@@ -59,4 +60,4 @@ HasFronts fronts bodies ends = (sender : List ℕ) → unwrap_or (tree.get bytes
 abbrev pub IsReachedBy : BTreeMap (List ℕ) ℕ → Transmissions → Ends → List ℕ → Type 0
 IsReachedBy fronts bodies ends sender =
     (is_reached (is_among bodies sender) (ends_among ends sender) (unwrap_or (tree.get bytes_cmp fronts sender) 0) ≡ true)
-    × (unwrap_or (tree.get bytes_cmp fronts sender) 0 ≤ 1999999)
+    × (unwrap_or (tree.get bytes_cmp fronts sender) 0 ≤ greatest_rank)

@@ -3,6 +3,7 @@ ghost use Rattle.std.specs.Prelude.{◌≡◌, ◌≤◌, true};
 ghost use Rattle.society_core.specs.Book.{AreOrderly, ends_among, front_in, is_among, is_one_of};
 ghost use Rattle.society_core.specs.PlainMaps.{ends_kept, transmissions_of};
 ghost use Rattle.sender_segments.specs.Ways.{is_reached, numbers_up_to};
+ghost use Rattle.work_ids.specs.Segments.{greatest_rank};
 
 use crate::segment_key::SegmentKey;
 use crate::transmission_key::TransmissionKey;
@@ -54,7 +55,7 @@ pub(crate) fn front_on(
     reached: u32,
 ) -> u32
     requires reached { is_reached (is_among (transmissions_of transmissions.now) sender.now) (ends_among (ends_kept ends.now) sender.now) reached ≡ true }
-    requires limit { reached ≤ 1999999 }
+    requires limit { reached ≤ greatest_rank }
     requires orderly { AreOrderly (transmissions_of transmissions.now) (ends_kept ends.now) sender.now }
     ensures { result ≡ front_in (transmissions_of transmissions.now) (ends_kept ends.now) sender.now }
 {

@@ -47,3 +47,7 @@ transmission_number_in segment sequence = if is_in_segment segment sequence then
 -- the rank of a number, plain or of a year (profile)
 abbrev pub is_transmission_number : ℕ → Bool
 is_transmission_number rank = nat_le 1 (sequence_of rank) && nat_le (segment_of rank) 100
+
+-- the greatest rank of a number, that of number 9,999 of year 99 (profile)
+abbrev pub greatest_rank : ℕ
+greatest_rank = 1999999

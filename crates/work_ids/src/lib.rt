@@ -43,5 +43,5 @@ pub use segment_end::{SegmentEnd, SegmentFault};
 pub use segment_place::SegmentPlace;
 pub use sender_key::SenderKey;
 pub use spelled_number::{SpelledNumber, dated_text};
-pub use transmission_number::TransmissionNumber;
+pub use transmission_number::{FIRST_YEAR, GREATEST_RANK, TransmissionNumber, YEAR};
 pub use work_number::WorkNumber;

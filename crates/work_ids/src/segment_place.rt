@@ -1,6 +1,6 @@
 //! The place of a segment among all.
 ghost use Rattle.std.specs.Prelude.{◌≡◌, ◌≤◌};
-ghost use Rattle.work_ids.specs.Segments.{index_of, segment_of};
+ghost use Rattle.work_ids.specs.Segments.{greatest_rank, index_of, segment_of};
 
 use crate::transmission_number::{FIRST_YEAR, GREATEST_YEAR, YEAR};
 use crate::{Segment, SegmentEnd};
@@ -84,7 +84,7 @@ impl PartialOrd for SegmentPlace {
 impl SegmentPlace {
     /// The place of the segment that a rank belongs to.
     pub fn of_rank(rank: u32) -> SegmentPlace
-        requires { rank ≤ 1999999 }
+        requires { rank ≤ greatest_rank }
         ensures { result ≡ segment_of rank }
     {
         let segment = if rank < FIRST_YEAR {

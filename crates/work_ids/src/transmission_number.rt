@@ -1,7 +1,7 @@
 //! The number of a transmission, plain or of a year.
 ghost use Rattle.std.specs.Prelude.{◌≡◌, ◌≤◌, true};
 ghost use Rattle.work_ids.specs.Numbers.{is_plain_number, number_in_text, number_where};
-ghost use Rattle.work_ids.specs.Segments.{transmission_number_in, index_of, is_transmission_number, segment_of, sequence_of};
+ghost use Rattle.work_ids.specs.Segments.{transmission_number_in, index_of, is_transmission_number, segment_of, sequence_of, greatest_rank};
 
 use crate::Segment;
 use crate::digits::number_from_one;
@@ -12,11 +12,14 @@ use std::marker::Model;
 /// Greatest year: the last two digits of one (profile).
 pub(crate) const GREATEST_YEAR: u8 = 99;
 
-/// The rank of the number before the first of year 00.
-pub(crate) const FIRST_YEAR: u32 = 1_000_000;
+/// The rank of the number before the first of year 00; plain numbers are below it (profile).
+pub const FIRST_YEAR: u32 = 1_000_000;
 
-/// From the first number of a year to that of the next.
-pub(crate) const YEAR: u32 = 10_000;
+/// Ranks from the first number of a year to that of the next (profile).
+pub const YEAR: u32 = 10_000;
+
+/// The greatest rank of a number, that of number 9,999 of year 99 (profile).
+pub const GREATEST_RANK: u32 = 1_999_999;
 
 /// The number of a sender's transmission: a plain number of 1 to 999,999, or a number of 1 to 9,999 within a year of 00 to 99
 /// (profile). Plain ones come first, then those of a year by year and number. Clauses see the rank in this order.
@@ -142,7 +145,7 @@ impl TransmissionNumber {
     /// Its rank: a plain number is itself, number `k` of year `y` is 1,000,000 + 10,000 × `y` + `k`.
     pub fn value(self) -> u32
         ensures value { result ≡ self }
-        ensures limits { (1 ≤ self) × (self ≤ 1999999) }
+        ensures limits { (1 ≤ self) × (self ≤ greatest_rank) }
         ensures number { is_transmission_number self ≡ true }
     {
         match self.segment {

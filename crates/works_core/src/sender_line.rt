@@ -5,6 +5,7 @@ ghost use Rattle.works_core.specs.Numbered.{last_number};
 ghost use Rattle.works_core.specs.Tracks.{HasRoomFor, IsTracked, Tracks};
 ghost use Rattle.works_core.specs.Verdicts.{verdicts_from};
 ghost use Rattle.works_core.specs.Versions.{judged_of, placed_behind, Placed, work_at};
+ghost use Rattle.work_ids.specs.Segments.{greatest_rank};
 
 use crate::judged::Judged;
 use crate::key::WorkKey;
@@ -165,7 +166,7 @@ impl SenderLine {
     /// The last number of the line, as a rank; 0 where no transmission is applied.
     pub fn front(&self) -> u32
         ensures front { result ≡ last_number 0 self.now.transmissions }
-        ensures limit { result ≤ 1999999 }
+        ensures limit { result ≤ greatest_rank }
     {
         match self.kept.last() {
             Some(last) => last.number.value(),

@@ -10,7 +10,7 @@ use Rattle.cwr_files.specs.declared.counts.OpenGroup.{OpenGroup}
 use Rattle.cwr_files.specs.declared.counts.Stage.{Stage}
 use Rattle.cwr_files.specs.declared.counts.Stage.TheVariants.{Header, Between, Within, Ended}
 use Rattle.cwr_files.specs.RecordTypes.{hdr, grh, grt, trl, has_type, is_frame, type_of_group}
-use Rattle.cwr_files.specs.LineFaults.{is_too_large, record_sequence_at}
+use Rattle.cwr_files.specs.LineFaults.{is_too_large, record_sequence_at, too_large, no_header, outside_groups, misplaced_in_group, behind_trailer}
 use Rattle.cwr_files.specs.Chain.{header_fault, between_fault, group_fault, record_fault, ended_fault}
 use Rattle.cwr_files.specs.LinesBefore.{since, is_ended, is_open, open_type, groups_before, transactions_in_group, lines_in_group, next_number, begins_transaction, transactions_before}
 use Rattle.cwr_files.proofs.lemmas.Chained.{later_fault, structure_fault, fault-chained}
@@ -36,7 +36,7 @@ structure-behind sender (l ∷ past) line = stage_fault-chosen sender (is_ended 
 pub fault-behind : (sender : List ℕ) (past : List (List ℕ)) (end : ℕ) (line : List ℕ) → counted_fault sender (counts_of past) end line ≡ fault_at sender past end line
 unfolding counted_fault
 fault-behind sender past end line =
-    ap (λ f. cond (is_too_large end line) (Some 12) f) (structure-behind sender past line) ∙ sym (fault-chained sender past end line)
+    ap (λ f. cond (is_too_large end line) (Some too_large) f) (structure-behind sender past line) ∙ sym (fault-chained sender past end line)
 
 -- one line more
 
@@ -127,9 +127,9 @@ kept false n e = absurd cc
 
 header-hdr : (sender line : List ℕ) → header_fault sender line ≡ None → has_type hdr line ≡ true
 unfolding header_fault
-header-hdr sender line e = first-true (has_type hdr line) 1 _ e
+header-hdr sender line e = first-true (has_type hdr line) no_header _ e
 
-second-true : (a b : Bool) (x y : Option ℕ) → cond a x (cond b y (Some 4)) ≡ None → a ≡ false → b ≡ true
+second-true : (a b : Bool) (x y : Option ℕ) → cond a x (cond b y (Some outside_groups)) ≡ None → a ≡ false → b ≡ true
 second-true true b x y e h = absurd cc
 second-true false true x y e h = refl
 second-true false false x y e h = absurd cc
@@ -138,7 +138,7 @@ between-trl : (g t n : ℕ) (line : List ℕ) → between_fault g t n line ≡ N
 unfolding between_fault
 between-trl g t n line e h = second-true (has_type grh line) (has_type trl line) _ _ e h
 
-first-false : (a b : Bool) (x : Option ℕ) → cond (a || b) (Some 6) x ≡ None → a ≡ false
+first-false : (a b : Bool) (x : Option ℕ) → cond (a || b) (Some misplaced_in_group) x ≡ None → a ≡ false
 first-false true b x e = absurd cc
 first-false false b x e = refl
 
@@ -156,7 +156,7 @@ record-no_frame g t n f type line e h = no_frame line (first-false (is_frame lin
 
 ended-blank : (line : List ℕ) → ended_fault line ≡ None → is_blank line ≡ true
 unfolding ended_fault
-ended-blank line e = kept (is_blank line) 11 e
+ended-blank line e = kept (is_blank line) behind_trailer e
 
 or-true : (b : Bool) → (b || true) ≡ true
 or-true true = refl
@@ -319,7 +319,7 @@ unfolding counts_after
 counts-behind sender [] line none = header-behind line (header-hdr sender line none)
 counts-behind sender (n ∷ q) line none = later-behind n q line none
 
-sized-none : (b : Bool) (f : Option ℕ) → cond b (Some 12) f ≡ None → f ≡ None
+sized-none : (b : Bool) (f : Option ℕ) → cond b (Some too_large) f ≡ None → f ≡ None
 sized-none true f e = absurd cc
 sized-none false f e = e
 

@@ -9,7 +9,7 @@ use Rattle.cwr_files.specs.RecordTypes.{hdr, grh, grt, trl, has_type, is_frame, 
 use Rattle.cwr_files.specs.RightLines.{bears, is_numbered, has_group_counts, has_file_counts}
 use Rattle.cwr_files.specs.LinesBefore.{since, is_ended, is_open, open_type, groups_before, transactions_in_group, lines_in_group, next_number, transactions_before}
 use Rattle.cwr_files.specs.Sentences.{Sentence, sentence, first_that_holds}
-use Rattle.cwr_files.specs.LineFaults.{is_too_large, sequence_at, record_sequence_at, structure_sentences}
+use Rattle.cwr_files.specs.LineFaults.{is_too_large, sequence_at, record_sequence_at, structure_sentences, too_large, outside_groups, wrong_group_id, misplaced_in_group, wrong_sequence, wrong_group_counts, wrong_file_counts, behind_trailer, wrong_type}
 use Rattle.cwr_files.specs.Chain.{header_fault, opening_fault, trailer_fault, between_fault, closing_fault, record_fault, group_fault, ended_fault}
 use Rattle.cwr_files.specs.FileFault.{fault_at}
 use Rattle.cwr_files.proofs.lemmas.LineFacts.{other_type}
@@ -29,7 +29,7 @@ structure_fault sender (nearest ∷ past) line = later_fault (nearest ∷ past) 
 
 -- the fault of a line behind those lines, its size first
 abbrev pub chained_fault : List ℕ → List (List ℕ) → ℕ → List ℕ → Option ℕ
-chained_fault sender past end line = if is_too_large end line then Some 12 else structure_fault sender past line
+chained_fault sender past end line = if is_too_large end line then Some too_large else structure_fault sender past line
 
 -- the tests that the sentences on a later line make
 record Tests : Type 0 where
@@ -74,41 +74,41 @@ tests ended opened is_hdr is_grh is_grt is_trl begins none read numbered group_c
 -- the sentences from these tests
 abbrev sentences_by : Tests → List Sentence
 sentences_by t =
-    sentence 4 ((not t.ended && not t.opened) && not t.is_grh && not t.is_trl)
-    ∷ sentence 5 ((not t.ended && not t.opened) && t.is_grh && not t.next_id)
-    ∷ sentence 6 ((not t.ended && t.opened) && ((t.is_hdr || t.is_grh || t.is_trl) || (not t.is_grt && not t.begins && t.none)))
-    ∷ sentence 7 ((not t.ended && t.opened) && not t.is_grt && t.read && not t.numbered)
-    ∷ sentence 8 ((not t.ended && t.opened) && t.is_grt && not t.group_counted)
-    ∷ sentence 9 ((not t.ended && not t.opened) && t.is_trl && not t.file_counted)
-    ∷ sentence 11 (t.ended && not t.blank)
-    ∷ sentence 13 (((not t.ended && not t.opened) && t.is_grh && not t.type_coded) || ((not t.ended && t.opened) && not t.coded))
+    sentence outside_groups ((not t.ended && not t.opened) && not t.is_grh && not t.is_trl)
+    ∷ sentence wrong_group_id ((not t.ended && not t.opened) && t.is_grh && not t.next_id)
+    ∷ sentence misplaced_in_group ((not t.ended && t.opened) && ((t.is_hdr || t.is_grh || t.is_trl) || (not t.is_grt && not t.begins && t.none)))
+    ∷ sentence wrong_sequence ((not t.ended && t.opened) && not t.is_grt && t.read && not t.numbered)
+    ∷ sentence wrong_group_counts ((not t.ended && t.opened) && t.is_grt && not t.group_counted)
+    ∷ sentence wrong_file_counts ((not t.ended && not t.opened) && t.is_trl && not t.file_counted)
+    ∷ sentence behind_trailer (t.ended && not t.blank)
+    ∷ sentence wrong_type (((not t.ended && not t.opened) && t.is_grh && not t.type_coded) || ((not t.ended && t.opened) && not t.coded))
     ∷ []
 
 -- the chain from these tests
 abbrev chain_by : Tests → Option ℕ
 chain_by t =
-    if t.ended then (if t.blank then None else Some 11)
+    if t.ended then (if t.blank then None else Some behind_trailer)
     else (if t.opened
-    then (if t.is_grt then (if t.group_counted then None else Some 8)
-    else (if (t.is_hdr || t.is_grh || t.is_grt || t.is_trl) || (not t.begins && t.none) then Some 6
-    else (if t.read && not t.numbered then Some 7
-    else (if not t.coded then Some 13 else None))))
-    else (if t.is_grh then (if not t.next_id then Some 5 else (if not t.type_coded then Some 13 else None))
-    else (if t.is_trl then (if t.file_counted then None else Some 9) else Some 4)))
+    then (if t.is_grt then (if t.group_counted then None else Some wrong_group_counts)
+    else (if (t.is_hdr || t.is_grh || t.is_grt || t.is_trl) || (not t.begins && t.none) then Some misplaced_in_group
+    else (if t.read && not t.numbered then Some wrong_sequence
+    else (if not t.coded then Some wrong_type else None))))
+    else (if t.is_grh then (if not t.next_id then Some wrong_group_id else (if not t.type_coded then Some wrong_type else None))
+    else (if t.is_trl then (if t.file_counted then None else Some wrong_file_counts) else Some outside_groups)))
 
-ended-chosen : (blank : Bool) → first_that_holds (sentence 11 (not blank) ∷ sentence 13 false ∷ []) ≡ cond blank None (Some 11)
+ended-chosen : (blank : Bool) → first_that_holds (sentence behind_trailer (not blank) ∷ sentence wrong_type false ∷ []) ≡ cond blank None (Some behind_trailer)
 ended-chosen true = refl
 ended-chosen false = refl
 
-closing-chosen : (counted : Bool) → first_that_holds (sentence 8 (not counted) ∷ sentence 9 false ∷ sentence 11 false ∷ sentence 13 false ∷ []) ≡ cond counted None (Some 8)
+closing-chosen : (counted : Bool) → first_that_holds (sentence wrong_group_counts (not counted) ∷ sentence wrong_file_counts false ∷ sentence behind_trailer false ∷ sentence wrong_type false ∷ []) ≡ cond counted None (Some wrong_group_counts)
 closing-chosen true = refl
 closing-chosen false = refl
 
-trailer-chosen : (counted : Bool) → first_that_holds (sentence 9 (not counted) ∷ sentence 11 false ∷ sentence 13 false ∷ []) ≡ cond counted None (Some 9)
+trailer-chosen : (counted : Bool) → first_that_holds (sentence wrong_file_counts (not counted) ∷ sentence behind_trailer false ∷ sentence wrong_type false ∷ []) ≡ cond counted None (Some wrong_file_counts)
 trailer-chosen true = refl
 trailer-chosen false = refl
 
-record-chosen : (a last odd wrong coded : Bool) → first_that_holds (sentence 6 ((a || last) || odd) ∷ sentence 7 wrong ∷ sentence 8 false ∷ sentence 9 false ∷ sentence 11 false ∷ sentence 13 (not coded) ∷ []) ≡ cond (((a || false) || last) || odd) (Some 6) (cond wrong (Some 7) (cond (not coded) (Some 13) None))
+record-chosen : (a last odd wrong coded : Bool) → first_that_holds (sentence misplaced_in_group ((a || last) || odd) ∷ sentence wrong_sequence wrong ∷ sentence wrong_group_counts false ∷ sentence wrong_file_counts false ∷ sentence behind_trailer false ∷ sentence wrong_type (not coded) ∷ []) ≡ cond (((a || false) || last) || odd) (Some misplaced_in_group) (cond wrong (Some wrong_sequence) (cond (not coded) (Some wrong_type) None))
 record-chosen true last odd wrong coded = refl
 record-chosen false true odd wrong coded = refl
 record-chosen false false true wrong coded = refl
@@ -116,7 +116,7 @@ record-chosen false false false true coded = refl
 record-chosen false false false false true = refl
 record-chosen false false false false false = refl
 
-opening-chosen : (next coded : Bool) → first_that_holds (sentence 5 (not next) ∷ sentence 9 false ∷ sentence 11 false ∷ sentence 13 (not coded || false) ∷ []) ≡ cond (not next) (Some 5) (cond (not coded) (Some 13) None)
+opening-chosen : (next coded : Bool) → first_that_holds (sentence wrong_group_id (not next) ∷ sentence wrong_file_counts false ∷ sentence behind_trailer false ∷ sentence wrong_type (not coded || false) ∷ []) ≡ cond (not next) (Some wrong_group_id) (cond (not coded) (Some wrong_type) None)
 opening-chosen false coded = refl
 opening-chosen true true = refl
 opening-chosen true false = refl
@@ -173,4 +173,4 @@ structure-chained sender (nearest ∷ past) line = later-line sender nearest pas
 -- the chain finds the fault of a line
 pub fault-chained : (sender : List ℕ) (past : List (List ℕ)) (end : ℕ) (line : List ℕ) → fault_at sender past end line ≡ chained_fault sender past end line
 unfolding fault_at
-fault-chained sender past end line = ap (λ f. cond (is_too_large end line) (Some 12) f) (structure-chained sender past line)
+fault-chained sender past end line = ap (λ f. cond (is_too_large end line) (Some too_large) f) (structure-chained sender past line)

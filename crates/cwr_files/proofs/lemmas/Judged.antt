@@ -11,7 +11,7 @@ use Rattle.cwr_files.specs.Sizes.{max_line, max_body}
 use Rattle.cwr_files.specs.declared.transmission.Transmission.{Transmission}
 use Rattle.cwr_files.specs.RecordTypes.{hdr, has_type}
 use Rattle.cwr_files.specs.RightLines.{is_header, is_dated, sender_of_header}
-use Rattle.cwr_files.specs.LineFaults.{is_too_large}
+use Rattle.cwr_files.specs.LineFaults.{is_too_large, too_large}
 use Rattle.cwr_files.specs.LinesBefore.{groups_before}
 use Rattle.cwr_files.specs.FileFault.{fault_at, fault_or, fault_from, file_fault}
 use Rattle.cwr_files.proofs.lemmas.Chained.{structure_fault, fault-chained}
@@ -37,7 +37,7 @@ fault_or-none : (o : Option ℕ) (l : ℕ) (x : Option FileFault) → fault_or o
 fault_or-none None l x e = (refl, e)
 fault_or-none (Some n) l x e = absurd cc
 
-sized-parts : (b : Bool) (f : Option ℕ) → cond b (Some 12) f ≡ None → (b ≡ false) × (f ≡ None)
+sized-parts : (b : Bool) (f : Option ℕ) → cond b (Some too_large) f ≡ None → (b ≡ false) × (f ≡ None)
 sized-parts true f e = absurd cc
 sized-parts false f e = (refl, e)
 
@@ -47,7 +47,7 @@ fault_at-none sender past end line e =
 
 fault_at-free : (sender : List ℕ) (past : List (List ℕ)) (end : ℕ) (line : List ℕ) → is_too_large end line ≡ false → structure_fault sender past line ≡ None → fault_at sender past end line ≡ None
 fault_at-free sender past end line s f =
-    fault-chained sender past end line ∙ ap (λ b. cond b (Some 12) (structure_fault sender past line)) s ∙ f
+    fault-chained sender past end line ∙ ap (λ b. cond b (Some too_large) (structure_fault sender past line)) s ∙ f
 
 bytes-more : (p : List ℕ) (past : List (List ℕ)) → sum_by length (p ∷ past) ≡ sum_by length past + length p
 bytes-more p past = omega (arith, sum_by-cons length p past)

@@ -1,25 +1,11 @@
 -- Facts on single lines.
-use Rattle.std.proofs.Common.{◌≡◌, ℕ, ◌+◌, ◌-◌, Bool, true, false, eqb, List, [], ◌∷◌, length, get_or, refl, ap, ◌∙◌, arith}
+use Rattle.std.proofs.Common.{◌≡◌, ℕ, Bool, true, false, eqb, List, [], ◌∷◌, refl, ap, ◌∙◌}
 use Rattle.std.specs.Prelude.{◌&&◌, ◌||◌, bytes_eq}
 use Rattle.std.proofs.lemmas.Bool.{eqb-true, or_parts, and_parts}
 use Rattle.std.proofs.lemmas.Slice.Eq.{bytes_eq-Decides}
-use Rattle.std.proofs.lemmas.List.{length-append, length-take, length-replicate}
 use Rattle.cwr_records.specs.Lines.{field, fill_field, is_blank}
 use Rattle.cwr_records.specs.Places.{record_type_in}
 use Rattle.cwr_files.specs.RecordTypes.{hdr, grh, grt, trl, has_type, is_frame}
-
--- a field has its width
-pub length-field : (line : List ℕ) (first last : ℕ) → length (field line first last) ≡ last + 1 - first
-unfolding field fill_field
-length-field line first last = simp (length-append, length-replicate, length-take) (omega arith)
-
--- three bytes, one by one
-pub three_are : (xs : List ℕ) → length xs ≡ 3 → get_or xs 0 0 ∷ get_or xs 1 0 ∷ get_or xs 2 0 ∷ [] ≡ xs
-three_are [] e = absurd (omega arith)
-three_are (a ∷ []) e = absurd (omega arith)
-three_are (a ∷ b ∷ []) e = absurd (omega arith)
-three_are (a ∷ b ∷ c ∷ []) e = refl
-three_are (a ∷ b ∷ c ∷ d ∷ xs) e = absurd (omega arith)
 
 -- a line has one record type
 pub other_type : (a b line : List ℕ) → bytes_eq a b ≡ false → has_type a line ≡ true → has_type b line ≡ false

@@ -54,21 +54,11 @@ pub record AreRecords (kind first after rest : List ℕ) (list : List Record) : 
   pub further : parts_of_group kind rest ≡ parts_of_group kind after
   pub shorter : length rest ≤ length after
 
-pub records-start : (kind first after : List ℕ) (list : List Record) → list ≡ record_of first ∷ [] → AreRecords kind first after after list
-records-start kind first after list e = record {
-  listed = ap (λ r. r ++ map record_of (further_part kind (lines after))) e;
-  further = refl;
-  shorter = omega arith;
-}
-
 further-step : (kind line : List ℕ) (ls : List (List ℕ)) → has_type grt line ≡ false → has_type kind line ≡ false → further_part kind (line ∷ ls) ≡ line ∷ further_part kind ls
 further-step kind line ls t k = ap (take_while (λ l. not (has_type kind l))) (until-other grt line ls t) ∙ until-other kind line (group_part ls) k
 
 further-next : (kind line : List ℕ) (ls : List (List ℕ)) → has_type grt line ≡ false → has_type kind line ≡ true → further_part kind (line ∷ ls) ≡ []
 further-next kind line ls t k = ap (take_while (λ l. not (has_type kind l))) (until-other grt line ls t) ∙ until-it kind line (group_part ls) k
-
-further-closing : (kind line : List ℕ) (ls : List (List ℕ)) → has_type grt line ≡ true → further_part kind (line ∷ ls) ≡ []
-further-closing kind line ls t = ap (take_while (λ l. not (has_type kind l))) (until-it grt line ls t)
 
 pub records-step : (kind first after rest line more : List ℕ) (list grown : List Record) → AreRecords kind first after rest list → IsFirstLine rest line more → has_type grt line ≡ false → has_type kind line ≡ false → grown ≡ list ++ record_of line ∷ [] → AreRecords kind first after more grown
 records-step kind first after rest line more list grown r f t k e =
@@ -83,14 +73,8 @@ records-step kind first after rest line more list grown r f t k e =
 records-stop : (kind first after rest : List ℕ) (list made : List Record) → made ≡ list → AreRecords kind first after rest list → further_part kind (lines rest) ≡ [] → HasRecords kind first after made rest
 records-stop kind first after rest list made m r e = record { listed = m ∙ ended list _ _ r.listed (ap (map record_of) e); further = r.further; shorter = r.shorter }
 
-pub records-closing : (kind first after rest line more : List ℕ) (list made : List Record) → made ≡ list → AreRecords kind first after rest list → IsFirstLine rest line more → has_type grt line ≡ true → HasRecords kind first after made rest
-records-closing kind first after rest line more list made m r f t = records-stop kind first after rest list made m r (ap (further_part kind) f.lines_are ∙ further-closing kind line (lines more) t)
-
 pub records-next : (kind first after rest line more : List ℕ) (list made : List Record) → made ≡ list → AreRecords kind first after rest list → IsFirstLine rest line more → has_type grt line ≡ false → has_type kind line ≡ true → HasRecords kind first after made rest
 records-next kind first after rest line more list made m r f t k = records-stop kind first after rest list made m r (ap (further_part kind) f.lines_are ∙ further-next kind line (lines more) t k)
-
-pub records-end : (kind first after rest : List ℕ) (list made : List Record) → made ≡ list → AreRecords kind first after rest list → rest ≡ [] → HasRecords kind first after made rest
-records-end kind first after rest list made m r e = records-stop kind first after rest list made m r (ap (λ b. further_part kind (lines b)) e)
 
 -- transactions
 
@@ -104,12 +88,6 @@ numbered k group n xs = map (λ p. transaction_of k group p.0 p.1) (enumerate_fr
 pub record AreTransactions (kind : List ℕ) (group : ℕ) (after rest : List ℕ) (list : List Transaction) : Type 0 where
   pub listed : list ++ numbered (kind_of kind) group (length list) (transaction_parts kind (lines rest)) ≡ numbered_transactions (kind_of kind) group (transaction_parts kind (lines after))
   pub few : length list + length rest ≤ length after
-
-pub transactions-start : (kind : List ℕ) (group : ℕ) (after : List ℕ) (list : List Transaction) → list ≡ [] → AreTransactions kind group after after list
-transactions-start kind group after list e = record {
-  listed = rw e refl;
-  few = omega (arith, ap length e);
-}
 
 pub transactions-step : (kind : List ℕ) (group : ℕ) (after rest line more : List ℕ) (list grown : List Transaction) (t : Transaction) → AreTransactions kind group after rest list → IsFirstLine rest line more → has_type grt line ≡ false → has_type kind line ≡ true → t ≡ transaction_of (kind_of kind) group (length list) (line ∷ further_part kind (lines more)) → grown ≡ list ++ t ∷ [] → AreTransactions kind group after more grown
 transactions-step kind group after rest line more list grown t r f g k is e =
@@ -147,16 +125,6 @@ transactions-pass kind group after rest line more list r f g k =
       few = omega (arith, r.few, f.shorter);
     }
 
-transactions-stop : (kind : List ℕ) (group : ℕ) (after rest : List ℕ) (list : List Transaction) → AreTransactions kind group after rest list → transaction_parts kind (lines rest) ≡ [] → list ≡ numbered_transactions (kind_of kind) group (transaction_parts kind (lines after))
-transactions-stop kind group after rest list r e = ended list _ _ r.listed (ap (numbered (kind_of kind) group (length list)) e)
-
-pub transactions-closing : (kind : List ℕ) (group : ℕ) (after rest line more : List ℕ) (list : List Transaction) → AreTransactions kind group after rest list → IsFirstLine rest line more → has_type grt line ≡ true → list ≡ numbered_transactions (kind_of kind) group (transaction_parts kind (lines after))
-transactions-closing kind group after rest line more list r f g =
-    transactions-stop kind group after rest list r (ap (transaction_parts kind) f.lines_are ∙ ap (parts (has_type kind) (has_type kind)) (until-it grt line (lines more) g))
-
-pub transactions-end : (kind : List ℕ) (group : ℕ) (after rest : List ℕ) (list : List Transaction) → AreTransactions kind group after rest list → rest ≡ [] → list ≡ numbered_transactions (kind_of kind) group (transaction_parts kind (lines after))
-transactions-end kind group after rest list r e = transactions-stop kind group after rest list r (ap (λ b. transaction_parts kind (lines b)) e)
-
 -- groups
 
 abbrev pub group_parts : List (List ℕ) → List (List (List ℕ))
@@ -168,39 +136,6 @@ numbered_groups n ps = map (λ p. group_in p.0 p.1) (enumerate_from n ps)
 pub record AreGroupsIn (after rest : List ℕ) (list : List Group) : Type 0 where
   pub listed : list ++ numbered_groups (length list + 1) (group_parts (lines rest)) ≡ groups_in (lines after)
   pub few : length list + length rest ≤ length after
-
-pub groups-start : (after : List ℕ) (list : List Group) → list ≡ [] → AreGroupsIn after after list
-groups-start after list e = record {
-  listed = rw e refl;
-  few = omega (arith, ap length e);
-}
-
-pub groups-step : (after rest line more : List ℕ) (list grown : List Group) (g : Group) → AreGroupsIn after rest list → IsFirstLine rest line more → has_type grh line ≡ true → g ≡ group_in (length list + 1) (line ∷ group_part (lines more)) → grown ≡ list ++ g ∷ [] → AreGroupsIn after more grown
-groups-step after rest line more list grown g r f h is e =
-    let here : group_parts (lines rest) ≡ (line ∷ group_part (lines more)) ∷ group_parts (lines more) =
-    ap group_parts f.lines_are ∙ parts-opens (has_type grh) (has_type grt) line (lines more) h in
-    let shown : list ++ (g ∷ numbered_groups (length list + 1 + 1) (group_parts (lines more))) ≡ groups_in (lines after) =
-    ap (λ x. list ++ (x ∷ numbered_groups (length list + 1 + 1) (group_parts (lines more)))) is
-    ∙ ap (λ ps. list ++ numbered_groups (length list + 1) ps) (sym here) ∙ r.listed in
-    let long : length grown ≡ length list + 1 = ap length e ∙ length_push list g in
-    record {
-      listed = ap (λ n. grown ++ numbered_groups (n + 1) (group_parts (lines more))) long
-          ∙ ap (λ xs. xs ++ numbered_groups (length list + 1 + 1) (group_parts (lines more))) e
-          ∙ pushed list _ _ g shown;
-      few = omega (arith, long, r.few, f.shorter);
-    }
-
-pub groups-pass : (after rest line more : List ℕ) (list : List Group) → AreGroupsIn after rest list → IsFirstLine rest line more → has_type grh line ≡ false → AreGroupsIn after more list
-groups-pass after rest line more list r f h =
-    let here : group_parts (lines rest) ≡ group_parts (lines more) =
-    ap group_parts f.lines_are ∙ parts-passes (has_type grh) (has_type grt) line (lines more) h in
-    record {
-      listed = ap (λ ps. list ++ numbered_groups (length list + 1) ps) (sym here) ∙ r.listed;
-      few = omega (arith, r.few, f.shorter);
-    }
-
-pub groups-end : (after rest : List ℕ) (list : List Group) → AreGroupsIn after rest list → rest ≡ [] → list ≡ groups_in (lines after)
-groups-end after rest list r e = ended list _ _ r.listed (ap (λ b. numbered_groups (length list + 1) (group_parts (lines b))) e)
 
 pub transaction-made : (k kind_is : TransactionKind) (group s n : ℕ) (ls : List (List ℕ)) (rs : List Record) → k ≡ kind_is → s ≡ n → rs ≡ map record_of ls → record { kind = k; group = group; sequence = s; records = rs } ≡ transaction_of kind_is group n ls
 transaction-made k kind_is group s n ls rs a b c = rw (a, b, c) refl

@@ -11,7 +11,7 @@ use Rattle.cwr_files.specs.declared.counts.Counts.{Counts}
 use Rattle.cwr_files.specs.declared.counts.OpenGroup.{OpenGroup}
 use Rattle.cwr_files.specs.declared.counts.Stage.TheVariants.{Between, Within, Ended}
 use Rattle.cwr_files.specs.declared.progress.Progress.{Progress}
-use Rattle.cwr_files.specs.LineFaults.{is_too_large}
+use Rattle.cwr_files.specs.LineFaults.{is_too_large, too_large, no_trailer}
 use Rattle.cwr_files.specs.LinesBefore.{is_ended, is_open}
 use Rattle.cwr_files.specs.FileFault.{fault_at, end_fault, fault_or, fault_from, file_fault}
 use Rattle.cwr_files.specs.Counts.{counts_of, end_in, counted_end, HasRoom}
@@ -45,7 +45,7 @@ read-room sender body at r =
     let few : length (map line_of_piece r.past) < 2 ^ 62 = omega (arith, length-map r.past line_of_piece, r.lines, r.small) in
     rw r.counted (counts_room (map line_of_piece r.past) few)
 
-sized-parts : (b : Bool) (f : Option ℕ) → cond b (Some 12) f ≡ None → (b ≡ false) × (f ≡ None)
+sized-parts : (b : Bool) (f : Option ℕ) → cond b (Some too_large) f ≡ None → (b ≡ false) × (f ≡ None)
 sized-parts true f e = absurd cc
 sized-parts false f e = (refl, e)
 
@@ -54,9 +54,9 @@ pub fault_at-none : (sender : List ℕ) (past : List (List ℕ)) (end : ℕ) (li
 fault_at-none sender past end line e =
     sized-parts (is_too_large end line) (structure_fault sender past line) (sym (fault-chained sender past end line) ∙ e)
 
-pub fault_at-large : (sender : List ℕ) (past : List (List ℕ)) (end : ℕ) (line : List ℕ) → is_too_large end line ≡ true → fault_at sender past end line ≡ Some 12
+pub fault_at-large : (sender : List ℕ) (past : List (List ℕ)) (end : ℕ) (line : List ℕ) → is_too_large end line ≡ true → fault_at sender past end line ≡ Some too_large
 fault_at-large sender past end line large =
-    fault-chained sender past end line ∙ ap (λ b. cond b (Some 12) (structure_fault sender past line)) large
+    fault-chained sender past end line ∙ ap (λ b. cond b (Some too_large) (structure_fault sender past line)) large
 
 -- the line that is next, from the lines that are read
 pub lines-read : (sender body : List ℕ) (at : Progress) (r : IsReadTo sender body at) → at.counts.lines ≡ length r.past
@@ -142,19 +142,19 @@ empty-fits sender body rest at r long none =
 large-has-some : (sender body : List ℕ) (at : Progress) (r : IsReadTo sender body at) → is_too_large (length body) (line_of_piece (drop at.start body)) ≡ true → drop at.start body ≢ []
 large-has-some sender body at r large = λ none. false≢true (sym (empty-fits sender body (drop at.start body) at r (rest-length sender body at r) none) ∙ large)
 
-large-first : (sender body first p : List ℕ) (at : Progress) (more : List ℕ) (ps : List (List ℕ)) (h : HasReadLines sender body at) → pieces (drop at.start body ++ more) ≡ first ∷ ps → first ≡ drop at.start body ++ p → is_too_large (length body) (line_of_piece (drop at.start body)) ≡ true → file_fault sender (body ++ more) ≡ Some (record { number = 12; line = at.counts.lines + 1 })
+large-first : (sender body first p : List ℕ) (at : Progress) (more : List ℕ) (ps : List (List ℕ)) (h : HasReadLines sender body at) → pieces (drop at.start body ++ more) ≡ first ∷ ps → first ≡ drop at.start body ++ p → is_too_large (length body) (line_of_piece (drop at.start body)) ≡ true → file_fault sender (body ++ more) ≡ Some (record { number = too_large; line = at.counts.lines + 1 })
 large-first sender body first p at more ps h cut is large =
     let r = h.read in
     let far : length body ≤ sum_by length r.past + length first = omega (arith, rest-length sender body at h.read, ap length is, length-append (drop at.start body) p) in
     let long : length (line_of_piece (drop at.start body)) ≤ length (line_of_piece first) = omega (arith, line-grows (drop at.start body) p h.no_end, ap (λ b. length (line_of_piece b)) is) in
     let grown = larger (length body) (sum_by length r.past + length first) (line_of_piece (drop at.start body)) (line_of_piece first) far long large in
     sym (after-front sender body first at more ps h.read cut)
-    ∙ faulty _ 12 at.counts.lines (length r.past + 1) _ (fault_at-large sender (map line_of_piece r.past) (sum_by length r.past + length first) (line_of_piece first) grown) (ap (λ n. n + 1) (lines-read sender body at h.read))
+    ∙ faulty _ too_large at.counts.lines (length r.past + 1) _ (fault_at-large sender (map line_of_piece r.past) (sum_by length r.past + length first) (line_of_piece first) grown) (ap (λ n. n + 1) (lines-read sender body at h.read))
 
 -- a last line that is too large already is so whatever follows
-pub settles-size : (sender body : List ℕ) (at : Progress) → HasReadLines sender body at → is_too_large (length body) (line_of_piece (drop at.start body)) ≡ true → IsSettled sender body (record { number = 12; line = at.counts.lines + 1 })
+pub settles-size : (sender body : List ℕ) (at : Progress) → HasReadLines sender body at → is_too_large (length body) (line_of_piece (drop at.start body)) ≡ true → IsSettled sender body (record { number = too_large; line = at.counts.lines + 1 })
 settles-size sender body at h large = λ more. onto (pieces more) more (open-pieces (drop at.start body) more (large-has-some sender body at h.read large) h.no_end) where
-  onto : (ps : List (List ℕ)) (more : List ℕ) → pieces (drop at.start body ++ more) ≡ onto_front (drop at.start body) ps → file_fault sender (body ++ more) ≡ Some (record { number = 12; line = at.counts.lines + 1 })
+  onto : (ps : List (List ℕ)) (more : List ℕ) → pieces (drop at.start body ++ more) ≡ onto_front (drop at.start body) ps → file_fault sender (body ++ more) ≡ Some (record { number = too_large; line = at.counts.lines + 1 })
   onto [] more cut = large-first sender body (drop at.start body) [] at more [] h cut (sym (append-nil (drop at.start body))) large
   onto (p ∷ ps) more cut = large-first sender body (drop at.start body ++ p) p at more ps h cut refl large
 
@@ -168,7 +168,7 @@ some-left bytes rest t cut is other = λ none. false≢true (sym other ∙ is �
 
 -- the end of the body
 
-end-chosen : (ended opened : Bool) (g : OpenGroup) (c : Counts) → end_in (cond ended Ended (cond opened (Within g) Between)) c ≡ fault_or (cond (not ended) (Some 10) None) (c.lines + 1) None
+end-chosen : (ended opened : Bool) (g : OpenGroup) (c : Counts) → end_in (cond ended Ended (cond opened (Within g) Between)) c ≡ fault_or (cond (not ended) (Some no_trailer) None) (c.lines + 1) None
 end-chosen true opened g c = refl
 end-chosen false true g c = refl
 end-chosen false false g c = refl

@@ -2,7 +2,7 @@
 use Rattle.std.proofs.Common.{◌≡◌, ◌≢◌, ℕ, ◌+◌, ◌-◌, ◌≤◌, Bool, true, false, cond, eqb, List, [], ◌∷◌, ◌++◌, length, take, drop, map, replicate, min, subst, append_assoc, Result, Ok, Err, if◌then◌else◌, refl, ap, sym, ◌∙◌, arith, length-append, ◌⊎◌, inl, inr, Option, Some, None, suc, zero}
 use Rattle.std.specs.Result.{is_ok}
 use Rattle.std.proofs.lemmas.Bool.{false≢true, or_from}
-use Rattle.std.proofs.lemmas.List.{append-nil, length-replicate, length-take, length-drop, drop-append-le, take_all, take_at, take-append-drop}
+use Rattle.std.proofs.lemmas.List.{append-nil, length-replicate, length-take, drop-append-le, take_all, take-append-drop}
 use Rattle.std.proofs.lemmas.List.Folds.{list_any-append}
 use Rattle.cwr_records.specs.Lines.{line_of_piece, has_line_end}
 use Rattle.cwr_files.specs.Sizes.{max_line, max_body}
@@ -11,7 +11,7 @@ use Rattle.cwr_files.specs.declared.fault.ReadFault.{ReadFault}
 use Rattle.cwr_files.specs.declared.fault.ReadFault.TheVariants as read_faults
 use Rattle.cwr_files.specs.declared.progress.Progress.{Progress}
 use Rattle.cwr_files.specs.Sentences.{Sentence, first_that_holds}
-use Rattle.cwr_files.specs.LineFaults.{is_too_large, structure_sentences, end_sentences}
+use Rattle.cwr_files.specs.LineFaults.{is_too_large, structure_sentences, end_sentences, too_large}
 use Rattle.cwr_files.specs.Counts.{counted_end}
 use Rattle.cwr_files.specs.FileFault.{fault_at, end_fault, fault_or, file_fault}
 use Rattle.cwr_files.specs.Prefixes.{IsSettled, IsUnsettled}
@@ -23,40 +23,40 @@ use Rattle.cwr_files.proofs.lemmas.OnePass.{reads-more, settles-size, ends-behin
 -- sentences of other faults than 12
 AreOthers : List Sentence → Type 0
 AreOthers [] = Unit {0}
-AreOthers (s ∷ more) = (eqb s.fault 12 ≡ false) × AreOthers more
+AreOthers (s ∷ more) = (eqb s.fault too_large ≡ false) × AreOthers more
 
 some-is : (n m : ℕ) → Some n ≡ Some m → n ≡ m
 some-is n m e = cc
 
-other-number : (more : List Sentence) → AreOthers more → first_that_holds more ≡ Some 12 → ⊥
+other-number : (more : List Sentence) → AreOthers more → first_that_holds more ≡ Some too_large → ⊥
 unfolding AreOthers
 other-number [] a e = absurd cc
 other-number (s ∷ more) a e = chosen s.holds s.fault more a.0 (other-number more a.1) e where
-  chosen : (t : Bool) (n : ℕ) (ss : List Sentence) → eqb n 12 ≡ false → (first_that_holds ss ≡ Some 12 → ⊥) → cond t (Some n) (first_that_holds ss) ≡ Some 12 → ⊥
-  chosen true n ss other later is = false≢true (sym other ∙ ap (λ m. eqb m 12) (some-is n 12 is))
+  chosen : (t : Bool) (n : ℕ) (ss : List Sentence) → eqb n too_large ≡ false → (first_that_holds ss ≡ Some too_large → ⊥) → cond t (Some n) (first_that_holds ss) ≡ Some too_large → ⊥
+  chosen true n ss other later is = false≢true (sym other ∙ ap (λ m. eqb m too_large) (some-is n too_large is))
   chosen false n ss other later is = later is
 
-structure-other : (sender : List ℕ) (past : List (List ℕ)) (line : List ℕ) → first_that_holds (structure_sentences sender past line) ≡ Some 12 → ⊥
+structure-other : (sender : List ℕ) (past : List (List ℕ)) (line : List ℕ) → first_that_holds (structure_sentences sender past line) ≡ Some too_large → ⊥
 unfolding AreOthers
 structure-other sender past line = other-number (structure_sentences sender past line) (refl, (refl, (refl, (refl, (refl, (refl, (refl, (refl, (refl, (refl, (refl, tt)))))))))))
 
-end-other : (past : List (List ℕ)) → first_that_holds (end_sentences past) ≡ Some 12 → ⊥
+end-other : (past : List (List ℕ)) → first_that_holds (end_sentences past) ≡ Some too_large → ⊥
 unfolding AreOthers
 end-other past = other-number (end_sentences past) (refl, (refl, tt))
 
 -- a line that is not too large has another fault than 12, or none
-line-other : (sender : List ℕ) (past : List (List ℕ)) (end : ℕ) (line : List ℕ) → is_too_large end line ≡ false → fault_at sender past end line ≡ Some 12 → ⊥
+line-other : (sender : List ℕ) (past : List (List ℕ)) (end : ℕ) (line : List ℕ) → is_too_large end line ≡ false → fault_at sender past end line ≡ Some too_large → ⊥
 unfolding fault_at
 line-other sender past end line fits e =
-    structure-other sender past line (sym (ap (λ t. cond t (Some 12) (first_that_holds (structure_sentences sender past line))) fits) ∙ e)
+    structure-other sender past line (sym (ap (λ t. cond t (Some too_large) (first_that_holds (structure_sentences sender past line))) fits) ∙ e)
 
-number-at : (o : Option ℕ) (line : ℕ) (later : Option FileFault) (f : FileFault) → f.number ≡ 12 → (o ≡ Some 12 → ⊥) → (later ≡ Some f → ⊥) → fault_or o line later ≡ Some f → ⊥
+number-at : (o : Option ℕ) (line : ℕ) (later : Option FileFault) (f : FileFault) → f.number ≡ too_large → (o ≡ Some too_large → ⊥) → (later ≡ Some f → ⊥) → fault_or o line later ≡ Some f → ⊥
 number-at None line later f is a b e = b e
 number-at (Some n) line later f is a b e = a (ap (λ m. Some m) (number-of n line f e ∙ is)) where
   number-of : (n line : ℕ) (f : FileFault) → Some (record { number = n; line = line }) ≡ Some f → n ≡ f.number
   number-of n line f e = let same : record { number = n; line = line } ≡ f = cc in ap (λ (g : FileFault). g.number) same
 
-end-number : (past : List (List ℕ)) (f : FileFault) → f.number ≡ 12 → end_fault past ≡ Some f → ⊥
+end-number : (past : List (List ℕ)) (f : FileFault) → f.number ≡ too_large → end_fault past ≡ Some f → ⊥
 end-number past f is e = number-at (first_that_holds (end_sentences past)) (length past + 1) None f is (end-other past) (λ n. absurd cc) e
 
 -- many bytes without an LF
@@ -69,7 +69,7 @@ empty-or-not [] = inl refl
 empty-or-not (b ∷ bs) = inr (λ e. cc)
 
 -- as it stands, what is pending has another fault than 12, or none
-now-other : (sender body : List ℕ) (at : Progress) → IsPending sender body at → (f : FileFault) → f.number ≡ 12 → file_fault sender body ≡ Some f → ⊥
+now-other : (sender body : List ℕ) (at : Progress) → IsPending sender body at → (f : FileFault) → f.number ≡ too_large → file_fault sender body ≡ Some f → ⊥
 now-other sender body at w f is e =
     let h = w.lines in
     let r = h.read in
@@ -83,7 +83,7 @@ now-other sender body at w f is e =
     ]
 
 -- with many bytes more it has fault 12
-then-large : (sender body more : List ℕ) (at : Progress) → IsPending sender body at → has_line_end more ≡ false → length more ≡ max_line + 2 → file_fault sender (body ++ more) ≡ Some (record { number = 12; line = at.counts.lines + 1 })
+then-large : (sender body more : List ℕ) (at : Progress) → IsPending sender body at → has_line_end more ≡ false → length more ≡ max_line + 2 → file_fault sender (body ++ more) ≡ Some (record { number = too_large; line = at.counts.lines + 1 })
 then-large sender body more at w no_end many =
     let r = reads-more sender body more at w.lines.read in
     let cut : drop at.start (body ++ more) ≡ drop at.start body ++ more = drop-append-le at.start body more w.lines.read.within in
@@ -187,9 +187,3 @@ stays-as-it-was seen old new at is same w =
 -- what is pending is no larger than a body may be
 pub pending-small : (sender body : List ℕ) (at : Progress) → IsPending sender body at → length body ≤ max_body
 pending-small sender body at w = (too_large-parts (length body) (line_of_piece (drop at.start body)) w.fits).1
-
--- the bytes that were pending hold no LF
-pub searched-none : (body piece : List ℕ) (start : ℕ) → start ≤ length body → has_line_end (drop start body) ≡ false → has_line_end (take (length body - start) (drop start (body ++ piece))) ≡ false
-searched-none body piece start within free =
-    ap (λ b. has_line_end (take (length body - start) b)) (drop-append-le start body piece within)
-    ∙ ap has_line_end (take_at (drop start body) piece (length body - start) (length-drop start body)) ∙ free

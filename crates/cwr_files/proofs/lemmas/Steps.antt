@@ -10,7 +10,7 @@ use Rattle.cwr_files.specs.declared.counts.Stage.TheVariants.{Header, Between, W
 use Rattle.cwr_files.specs.RecordTypes.{hdr, grh, grt, trl, has_type, is_frame, is_read, is_code, type_of_group}
 use Rattle.cwr_files.specs.RightLines.{is_numbered, is_dated, bears, has_group_counts, has_file_counts, is_header, is_opening, is_closing, is_trailer, is_record, sender_of_header}
 use Rattle.cwr_files.specs.Chain.{header_fault, opening_fault, trailer_fault, between_fault, closing_fault, record_fault, group_fault, ended_fault}
-use Rattle.cwr_files.specs.LineFaults.{sequence_at, record_sequence_at}
+use Rattle.cwr_files.specs.LineFaults.{sequence_at, record_sequence_at, no_header, other_sender, wrong_date, outside_groups, wrong_group_id, misplaced_in_group, wrong_sequence, wrong_group_counts, wrong_file_counts, behind_trailer, wrong_type}
 use Rattle.cwr_files.specs.Counts.{group_after, group_begun_by, counts_after}
 use Rattle.cwr_files.proofs.lemmas.LineFacts.{other_type, NoFrame, no_frame}
 
@@ -70,9 +70,9 @@ not-is false e = refl
 pub header-good : (sender line : List ℕ) → header_fault sender line ≡ None → is_header sender line ≡ true
 unfolding header_fault is_header
 header-good sender line e =
-    let a = guard-not (has_type hdr line) 1 _ e in
-    let b = guard-not (bytes_eq (sender_of_header line) sender) 2 _ a.1 in
-    let c = guard-not (is_dated line) 3 _ b.1 in
+    let a = guard-not (has_type hdr line) no_header _ e in
+    let b = guard-not (bytes_eq (sender_of_header line) sender) other_sender _ a.1 in
+    let c = guard-not (is_dated line) wrong_date _ b.1 in
     and_from _ _ (and_from _ _ a.0 b.0) c.0
 
 pub header-faultless : (sender line : List ℕ) → is_header sender line ≡ true → header_fault sender line ≡ None
@@ -91,9 +91,9 @@ after-header line = refl
 pub opening-good : (m t n : ℕ) (line : List ℕ) → between_fault m t n line ≡ None → has_type grh line ≡ true → is_opening (m + 1) line ≡ true
 unfolding between_fault opening_fault is_opening
 opening-good m t n line e h =
-    let o : cond true (opening_fault m line) (cond (has_type trl line) (trailer_fault m t n line) (Some 4)) ≡ None = rw h at e in
-    let a = guard-not (bears (group_header_of line).group_id (m + 1)) 5 _ o in
-    let b = guard-not (is_code (type_of_group line)) 13 _ a.1 in
+    let o : cond true (opening_fault m line) (cond (has_type trl line) (trailer_fault m t n line) (Some outside_groups)) ≡ None = rw h at e in
+    let a = guard-not (bears (group_header_of line).group_id (m + 1)) wrong_group_id _ o in
+    let b = guard-not (is_code (type_of_group line)) wrong_type _ a.1 in
     and_from _ _ (and_from _ _ h a.0) b.0
 
 pub opening-type : (m : ℕ) (line : List ℕ) → is_opening m line ≡ true → has_type grh line ≡ true
@@ -117,10 +117,10 @@ after-opening n m t line h = rw h refl
 pub trailer-good : (m t n : ℕ) (line : List ℕ) → between_fault m t n line ≡ None → has_type grh line ≡ false → is_trailer m t (n + 1) line ≡ true
 unfolding between_fault trailer_fault is_trailer
 trailer-good m t n line e h =
-    let o : cond false (opening_fault m line) (cond (has_type trl line) (trailer_fault m t n line) (Some 4)) ≡ None = rw h at e in
+    let o : cond false (opening_fault m line) (cond (has_type trl line) (trailer_fault m t n line) (Some outside_groups)) ≡ None = rw h at e in
     let a = trailer-parts (has_type trl line) (has_file_counts m t (n + 1) line) o in
     and_from _ _ a.0 a.1 where
-      trailer-parts : (a b : Bool) → cond {A = Option ℕ} a (cond b None (Some 9)) (Some 4) ≡ None → (a ≡ true) × (b ≡ true)
+      trailer-parts : (a b : Bool) → cond {A = Option ℕ} a (cond b None (Some wrong_file_counts)) (Some outside_groups) ≡ None → (a ≡ true) × (b ≡ true)
       trailer-parts true true f = (refl, refl)
       trailer-parts true false f = absurd cc
       trailer-parts false b f = absurd cc
@@ -146,7 +146,7 @@ pub closing-good : (m r q k : ℕ) (kind line : List ℕ) → group_fault m kind
 unfolding group_fault closing_fault is_closing
 closing-good m r q k kind line e h =
     let o : cond true (closing_fault m r q line) (record_fault kind r k line) ≡ None = rw h at e in
-    and_from _ _ h (kept (has_group_counts m r (q + 1) line) 8 o)
+    and_from _ _ h (kept (has_group_counts m r (q + 1) line) wrong_group_counts o)
 
 pub closing-type : (m r q : ℕ) (line : List ℕ) → is_closing m r q line ≡ true → has_type grt line ≡ true
 unfolding is_closing
@@ -180,9 +180,9 @@ pub record-good : (m r q k : ℕ) (kind line : List ℕ) → group_fault m kind 
 unfolding group_fault record_fault is_record
 record-good m r q k kind line e h =
     let o : cond false (closing_fault m r q line) (record_fault kind r k line) ≡ None = rw h at e in
-    let a = guard (is_frame line || (not (has_type kind line) && eqb r 0)) 6 _ o in
-    let b = guard (is_read kind && not (is_numbered (sequence_at kind r line) (record_sequence_at kind k line) line)) 7 _ a.1 in
-    let c = guard-not (is_code (record_type_in line)) 13 _ b.1 in
+    let a = guard (is_frame line || (not (has_type kind line) && eqb r 0)) misplaced_in_group _ o in
+    let b = guard (is_read kind && not (is_numbered (sequence_at kind r line) (record_sequence_at kind k line) line)) wrong_sequence _ a.1 in
+    let c = guard-not (is_code (record_type_in line)) wrong_type _ b.1 in
     let d = or-parts (is_frame line) (not (has_type kind line) && eqb r 0) a.0 in
     record {
       begun = d.1;
@@ -206,11 +206,11 @@ after-record kind r q k n m t line b h e = rw (h, e) refl
 
 pub blank-good : (line : List ℕ) → ended_fault line ≡ None → is_blank line ≡ true
 unfolding ended_fault
-blank-good line e = kept (is_blank line) 11 e
+blank-good line e = kept (is_blank line) behind_trailer e
 
 pub blank-faultless : (line : List ℕ) → is_blank line ≡ true → ended_fault line ≡ None
 unfolding ended_fault
-blank-faultless line e = keeps (is_blank line) 11 e
+blank-faultless line e = keeps (is_blank line) behind_trailer e
 
 pub after-blank : (n m t : ℕ) (line : List ℕ) → counts_after (at_end n m t) line ≡ at_end (n + 1) m t
 unfolding counts_after

@@ -94,17 +94,6 @@ fill-whole bs =
     let none : length bs - length bs ≡ 0 = omega arith in
     rw (none, append-nil bs) refl
 
--- a filled list that is not too long has its width
-pub length-fill : (width : ℕ) (bs : List ℕ) → length bs ≤ width → length (fill_field width bs) ≡ width
-unfolding fill_field
-length-fill width bs within = filled-length bs width within
-
--- a field has as many bytes as its positions say, however short its line is
-pub length-field : (line : List ℕ) (first last : ℕ) → length (field line first last) ≡ last + 1 - first
-unfolding field
-length-field line first last =
-    length-fill (last + 1 - first) (take (last + 1 - first) (drop (first - 1) line)) (omega (arith, length-take (last + 1 - first) (drop (first - 1) line)))
-
 trailing-one : (bs : List ℕ) → without_trailing_blanks (bs ++ 32 ∷ []) ≡ without_trailing_blanks bs
 trailing-one bs =
     let last : List ℕ = 32 ∷ [] in

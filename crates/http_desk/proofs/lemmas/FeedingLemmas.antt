@@ -1,10 +1,9 @@
 -- Lemmas on bodies that are fed while they come.
-use Rattle.std.proofs.Common.{◌≡◌, inl, inr, ℕ, ◌+◌, ◌<◌, ◌≤◌, List, [], ◌++◌, length, take, drop, Option, refl, sym, ◌∙◌, ap, subst, arith, append_assoc, length-append, length-take}
+use Rattle.std.proofs.Common.{◌≡◌, ℕ, ◌+◌, ◌<◌, ◌≤◌, List, [], ◌++◌, length, take, drop, Option, sym, ◌∙◌, ap, subst, arith, append_assoc, length-append, length-take}
 use Rattle.std.specs.Prelude.{min, ◌^◌}
 use Rattle.std.specs.Io.KnownBytes.{IsAtEnd}
 use Rattle.std.proofs.lemmas.List.{append-nil, take-append-drop, take_at}
-use Rattle.cwr_files.specs.Fed.{Fed, KnowsFault, Stops, WasFed}
-use Rattle.cwr_files.specs.declared.fault.FileFault.{FileFault}
+use Rattle.cwr_files.specs.Fed.{Fed, WasFed}
 use Rattle.httparse.specs.Grammar.{print_request}
 use Rattle.http_desk.specs.Feeding.{HasFed, pending}
 use Rattle.http_desk.specs.Head.{HasHead}
@@ -17,45 +16,6 @@ use Rattle.http_text.specs.declared.body_length.BodyLength.TheVariants.{Sized}
 use Rattle.http_text.specs.declared.connection_end.End.TheVariants.{Bad, Busy}
 use Rattle.http_desk.specs.declared.head.Head.{Head}
 use Rattle.http_desk.proofs.lemmas.UpcomingLemmas.{ReadsOn-behind, ReadsOn-is, ReadsOn-join, ReadsOn-same, awaits_body, ended_refused, ended_short}
-
--- ---- what was fed
-
-kept_all : (reader : Fed) (fed dropped : List ℕ) → fed ≡ reader.body ++ dropped → dropped ≡ [] → fed ≡ reader.body
-kept_all reader fed dropped e nil = e ∙ ap (λ (v : List ℕ). reader.body ++ v) nil ∙ append-nil reader.body
-
--- a piece was taken whole
-pub fed_whole : (old new : Fed) (piece : List ℕ) → new ≡ record old { body = old.body ++ piece } → (KnowsFault old → ⊥)
-    → (fed : List ℕ) → WasFed old fed → WasFed new (fed ++ piece)
-fed_whole old new piece e none fed was =
-    elim (was.whole) [
-      | inl nil ↦ record {
-        dropped = [];
-        joined =
-            ap (λ (v : List ℕ). v ++ piece) (kept_all old fed was.dropped was.joined nil)
-            ∙ sym (ap (λ (r : Fed). r.body) e) ∙ sym (append-nil new.body);
-        whole = inl refl;
-      }
-      | inr known ↦ absurd (none known)
-    ]
-
--- a piece stopped the reader, or it had stopped before
-pub fed_stopped : (old new : Fed) (piece : List ℕ) (fault : FileFault) → Stops old piece new fault → (KnowsFault old → new ≡ old)
-    → (fed : List ℕ) → WasFed old fed → WasFed new (fed ++ piece)
-fed_stopped old new piece fault stops stays fed was =
-    elim (was.whole) [
-      | inl nil ↦ record {
-        dropped = stops.dropped;
-        joined = ap (λ (v : List ℕ). v ++ piece) (kept_all old fed was.dropped was.joined nil) ∙ stops.joined;
-        whole = inr (fault, stops.settled);
-      }
-      | inr known ↦
-          let P : Fed → Type 0 = λ r. WasFed r (fed ++ piece) in
-          subst P (sym (stays known)) (record {
-            dropped = was.dropped ++ piece;
-            joined = ap (λ (v : List ℕ). v ++ piece) was.joined ∙ append_assoc old.body was.dropped piece;
-            whole = inr known;
-          })
-    ]
 
 -- ---- what is pending
 

@@ -44,11 +44,6 @@ split_on bytes done rest n e =
     e ∙ ap (λ v. done ++ v) (sym (take-append-drop n rest)) ∙ sym (append_assoc done (take n rest) (drop n rest))
     ∙ ap (λ v. (done ++ take n rest) ++ v) (sym (take_rest rest n))
 
-pub Writes-after : {T E : Type 0} (r : Result T E) (a b c : Option (List ℕ)) (xs ys : List ℕ) → Appends a b xs → WritesBytes r b c ys → WritesBytes r a c (xs ++ ys)
-Writes-after (Ok x) a b c xs ys p q = Appends-join a b c xs ys p q
-Writes-after (Err e) a b c xs ys p q =
-    (xs ++ q.0, q.1, ap (λ (v : List ℕ). xs ++ v) q.2 ∙ sym (append_assoc xs q.0 q.1), Appends-join a b c xs q.0 p q.3)
-
 pub AppendsFront-after : (a b c : Option (List ℕ)) (xs ys : List ℕ) → Appends a b xs → AppendsFront b c ys → AppendsFront a c (xs ++ ys)
 AppendsFront-after a b c xs ys p q =
     (xs ++ q.0, q.1, ap (λ (v : List ℕ). xs ++ v) q.2 ∙ sym (append_assoc xs q.0 q.1), Appends-join a b c xs q.0 p q.3)
@@ -72,10 +67,6 @@ Sends-none a waiting = ([], refl, Appends-none a)
 -- what waited was all appended
 pub Sends-all : (a b : Option (List ℕ)) (xs waiting : List ℕ) → waiting ≡ [] → Appends a b xs → Sends a b xs waiting
 Sends-all a b xs waiting e p = (xs, sym (append-nil xs) ∙ ap (λ (v : List ℕ). xs ++ v) (sym e), p)
-
--- more waits
-pub Sends-wait : (a b : Option (List ℕ)) (xs waiting ys : List ℕ) → Sends a b xs waiting → Sends a b (xs ++ ys) (waiting ++ ys)
-Sends-wait a b xs waiting ys s = (s.0, ap (λ (v : List ℕ). v ++ ys) s.1 ∙ append_assoc s.0 waiting ys, s.2)
 
 pub Sends-is : (a b : Option (List ℕ)) (xs ys waiting : List ℕ) → Sends a b xs waiting → xs ≡ ys → Sends a b ys waiting
 Sends-is a b xs ys waiting s e = let P : List ℕ → Type 0 = λ v. Sends a b v waiting in subst P e s
@@ -111,10 +102,6 @@ Sends-cut a b c xs waiting s p =
 -- a front of what is in front of more bytes is a front of all
 pub AppendsFront-longer : (a b : Option (List ℕ)) (xs ys : List ℕ) → AppendsFront a b xs → AppendsFront a b (xs ++ ys)
 AppendsFront-longer a b xs ys p = (p.0, p.1 ++ ys, ap (λ (v : List ℕ). v ++ ys) p.2 ∙ append_assoc p.0 p.1 ys, p.3)
-
--- all is a front of itself and more
-pub AppendsFront-all : (a b : Option (List ℕ)) (xs ys : List ℕ) → Appends a b xs → AppendsFront a b (xs ++ ys)
-AppendsFront-all a b xs ys p = (xs, ys, refl, p)
 
 -- a head was put behind what waits, and all was written, and then a body
 pub Gathers-written : {T E : Type 0} (r : Result T E) (a b c d : Option (List ℕ)) (old room head body put now : List ℕ) → Sends a b (old ++ []) room → put ≡ room ++ head

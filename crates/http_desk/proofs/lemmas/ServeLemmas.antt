@@ -1,5 +1,5 @@
 -- Lemmas on a connection: what was served so far, one more request, and its end.
-use Rattle.std.proofs.Common.{◌≡◌, ◌≢◌, inl, inr, ℕ, ◌+◌, ◌*◌, ◌<◌, ◌≤◌, Bool, true, false, List, [], ◌∷◌, ◌++◌, length, Option, Result, Ok, Err, refl, sym, ◌∙◌, ap, subst, arith, append_assoc, length-append}
+use Rattle.std.proofs.Common.{◌≡◌, inl, inr, ℕ, ◌+◌, ◌*◌, ◌<◌, ◌≤◌, Bool, true, false, List, [], ◌∷◌, ◌++◌, length, Option, Result, Ok, Err, refl, sym, ◌∙◌, ap, subst, arith, append_assoc, length-append}
 use Rattle.std.specs.Prelude.{IfSome, IfOk, IfErr, IsTrue, unwrap_or, ◌^◌}
 use Rattle.std.specs.List.{flat_map, AllByRecursion}
 use Rattle.std.proofs.lemmas.List.{append-nil}
@@ -251,16 +251,6 @@ ended_cause state remaining contents desk new_desk reader new_reader writer mid_
     Q : ℕ → Type 0
     Q n = Rises n (failures_of new_writer)
 
--- it was no want of memory
-pub ended_write : (requests failures new_failures : ℕ) (before mid : Option (List ℕ)) (bytes : List ℕ) (r : Result Served DeskFault)
-    → IfErr r (λ fault. (fault ≡ record { kind = Write; requests = requests }) × AppendsFront before mid bytes × Rises failures new_failures)
-    → IfErr r (λ fault. fault.kind ≢ Memory)
-ended_write requests failures new_failures before mid bytes (Ok served) p = tt
-ended_write requests failures new_failures before mid bytes (Err fault) p = λ is. write_not_memory (sym (ap (λ (f : DeskFault). f.kind) p.0) ∙ is)
-  where
-    write_not_memory : ◌≡◌ {A = FaultKind} Write Memory → ⊥
-    write_not_memory e = cc
-
 -- ---- what was read
 
 -- an end at a desk that stayed the same
@@ -364,12 +354,6 @@ module _ {S R W : Type 0} (state : S → State) (remaining : R → Option (List 
     breaks = stopped_so state _ _ pending spare turns _ _ _ _ _ _ waiting requests so kind _ _ _ by;
     cause = caused kind by;
   }
-
-pub stops_not_memory : (kind : FaultKind) (bytes : List ℕ) (turns : ℕ) (reader writer : ℕ × ℕ) (holds new_holds : Option (List ℕ)) (waiting : List ℕ) → StopsBy kind bytes turns reader writer holds new_holds waiting → kind ≢ Memory
-stops_not_memory Read bytes turns reader writer holds new_holds waiting by e = cc
-stops_not_memory Turns bytes turns reader writer holds new_holds waiting by e = cc
-stops_not_memory Write bytes turns reader writer holds new_holds waiting by e = cc
-stops_not_memory Memory bytes turns reader writer holds new_holds waiting by e = absurd by
 
 -- the turns were kept
 pub keeps_turns : {S R : Type 0} (state : S → State) (remaining : R → Option (List ℕ)) (reader new_reader : Counted R) (pending : List ℕ) (spare : ℕ) (turns : ℕ) (old mid : S) (holds mid_holds : Option (List ℕ)) (waiting : List ℕ) (requests : ℕ)

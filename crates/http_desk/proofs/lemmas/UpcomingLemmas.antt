@@ -1,5 +1,5 @@
 -- Lemmas on reading on: what was read so far, and what stands at the front of it.
-use Rattle.std.proofs.Common.{◌≡◌, ◌≢◌, inl, inr, ℕ, ◌+◌, ◌<◌, ◌≤◌, List, [], ◌∷◌, ◌++◌, length, take, drop, Option, Some, None, refl, sym, ◌∙◌, ap, subst, arith, append_assoc, length-append}
+use Rattle.std.proofs.Common.{◌≡◌, inl, inr, ℕ, ◌+◌, ◌<◌, ◌≤◌, List, [], ◌∷◌, ◌++◌, length, take, drop, Option, Some, None, refl, sym, ◌∙◌, ap, subst, arith, append_assoc, length-append}
 use Rattle.std.specs.Prelude.{unwrap_or, ◌^◌}
 use Rattle.std.proofs.lemmas.List.{append-nil, take-append-drop, length-take-le, drop-append-le}
 use Rattle.std.specs.Io.KnownBytes.{Consumes, IsAtEnd, Keeps}
@@ -7,20 +7,20 @@ use Rattle.std.specs.List.{AllByRecursion}
 use Rattle.std.proofs.lemmas.Grind.{flat_map-append}
 use Rattle.httparse.specs.Grammar.{RequestHead, print_request}
 use Rattle.http_text.specs.declared.connection_end.End.{End}
-use Rattle.http_text.specs.declared.connection_end.End.TheVariants.{Quiet, Bad, TooLarge, Busy}
+use Rattle.http_text.specs.declared.connection_end.End.TheVariants.{Bad, TooLarge, Busy}
 use Rattle.http_text.specs.declared.body_length.BodyLength.TheVariants.{Sized}
 use Rattle.http_desk.specs.declared.head.Head.{Head}
 use Rattle.http_desk.specs.declared.upcoming.Upcoming.{Upcoming}
 use Rattle.http_desk.specs.declared.upcoming.Upcoming.TheVariants.{Request, Ended}
 use Rattle.http_desk.specs.Head.{HasHead, IsHeadKept}
 use Rattle.http_desk.specs.Input.{BeforeEach, IsPiece, ReadsOn, all_of}
-use Rattle.http_desk.specs.Upcoming.{EndsSo, HasPart, IsUpcoming, IsUpcomingHead, ended_with}
+use Rattle.http_desk.specs.Upcoming.{EndsSo, HasPart, IsUpcoming, IsUpcomingHead}
 use Rattle.http_text.specs.Part.{BeginsWithHead}
 use Rattle.http_text.specs.Path.{PutsTransmission}
-use Rattle.http_text.specs.Reads.{Awaits, AwaitsHead, IsRemainder, IsBad, IsTooLarge, small_request}
+use Rattle.http_text.specs.Reads.{Awaits, IsRemainder, IsBad, IsTooLarge, small_request}
 use Rattle.http_desk.specs.Counted.{counted_on}
 use Rattle.http_desk.proofs.lemmas.Known.{Consumes-none, Consumes-join, Keeps-consumes, counted_none, counted_join}
-use Rattle.http_text.proofs.lemmas.HeadLemmas.{Begins-append, none_partial}
+use Rattle.http_text.proofs.lemmas.HeadLemmas.{Begins-append}
 
 -- ---- bytes behind others
 
@@ -216,12 +216,6 @@ at_end society bytes known end is_end ends =
     let P : List ℕ → Type 0 = λ v. IsRemainder society v [] end in
     subst P (sym (append-nil bytes) ∙ ap (λ (v : List ℕ). bytes ++ v) (sym (none_left known is_end))) ends
 
-pub ended_partial : (bytes : List ℕ) (known : Option (List ℕ)) → IsAtEnd known → AwaitsHead bytes → (society : ℕ) → EndsSo society bytes known (ended_with bytes)
-ended_partial [] known is_end awaits society = at_end society [] known Quiet is_end refl
-ended_partial (b ∷ bytes) known is_end awaits society =
-    let some : b ∷ bytes ≢ [] = λ e. cc in
-    at_end society (b ∷ bytes) known Bad is_end (inl (some, none_partial (b ∷ bytes) awaits.none))
-
 -- a head and less than its body
 short_body : (bytes rest : List ℕ) (head : RequestHead) (kept : Head) → BeginsWithHead bytes head rest → IsHeadKept head kept
     → length bytes < kept.length + kept.body → length rest < kept.body
@@ -280,9 +274,6 @@ whole_part bytes kept h enough =
       is_kept = h.3;
       size = sym size;
     }
-
-pub head_small : (bytes : List ℕ) (kept : Head) → HasHead bytes kept → kept.length ≤ 8192
-head_small bytes kept h = omega (arith, h.2.short, h.3.size)
 
 -- a whole request begins with its head
 pub part_head : (bytes : List ℕ) (kept : Head) → HasPart bytes kept → HasHead bytes kept

@@ -1,10 +1,10 @@
 -- Lemmas on heads at the front of bytes: what follows changes nothing.
-use Rattle.std.proofs.Common.{◌≡◌, ◌≢◌, inl, inr, ℕ, ◌-◌, ◌<◌, ◌≤◌, List, [], ◌∷◌, ◌++◌, length, map, take, drop, refl, sym, ◌∙◌, ap, arith, length-take, length-drop, length-append}
+use Rattle.std.proofs.Common.{◌≡◌, ◌≢◌, inl, inr, ℕ, ◌-◌, ◌<◌, ◌≤◌, List, [], ◌∷◌, ◌++◌, length, map, take, drop, refl, sym, ◌∙◌, ap, arith, length-drop, length-append}
 use Rattle.std.specs.Prelude.{slice_range, false, ◌==◌}
 use Rattle.std.proofs.lemmas.Bool.{false≢true}
-use Rattle.std.proofs.lemmas.List.{length-map, take_at, take-append-le, drop-append-le, take-append-drop}
+use Rattle.std.proofs.lemmas.List.{take_at, take-append-le, drop-append-le, take-append-drop}
 use Rattle.httparse.specs.Grammar.{RequestHead, print_request, print_blank, print_version, print_end, print_section, ReadsRequest, HasNoRequest}
-use Rattle.httparse.specs.Spans.{IsRequestAt, RequestOverflows, name_and_value, header_bytes, AreFieldsAt}
+use Rattle.httparse.specs.Spans.{IsRequestAt, RequestOverflows, name_and_value}
 use Rattle.httparse.specs.declared.spans.HeaderSpan.{HeaderSpan}
 use Rattle.httparse.specs.declared.spans.RequestSpans.{RequestSpans}
 use Rattle.httparse.proofs.GrammarLemmas.{request_unique, request_prefix_free, ReadsRequest-append}
@@ -67,9 +67,6 @@ none_in_window bytes more none long head rest begins =
 pub none_refused : (bytes more : List ℕ) → RequestOverflows 64 bytes → HasNoHead (bytes ++ more)
 none_refused bytes more over head rest begins = omega (arith, over more head rest begins.reads, begins.few)
 
-pub none_partial : (bytes : List ℕ) → HasNoRequest bytes → HasNoHead bytes
-none_partial bytes none head rest begins = none head rest begins.reads
-
 pub some_bytes : (bytes : List ℕ) → false ≡ (length bytes == 0) → bytes ≢ []
 some_bytes [] e h = absurd (false≢true e)
 some_bytes (b ∷ bytes) e h = cc
@@ -102,13 +99,6 @@ body_length_at head method fields m f = rw (m, f) refl
 pub closes_at : (head : RequestHead) (minor : ℕ) (fields : List (List ℕ × List ℕ)) → minor ≡ head.minor
     → fields ≡ map name_and_value head.fields → ends_connection minor fields ≡ closes head
 closes_at head minor fields m f = rw (m, f) refl
-
-pub few_at : (bytes : List ℕ) (headers : List HeaderSpan) (count : ℕ) (head : RequestHead)
-    → AreFieldsAt bytes headers count head.fields → length headers ≡ 64 → length head.fields ≤ max_fields
-few_at bytes headers count head are e =
-    let same : length (map (header_bytes bytes) (take count headers)) ≡ length (map name_and_value head.fields) = ap length are in
-    let l : length (take count headers) ≡ length head.fields = sym (length-map (take count headers) (header_bytes bytes)) ∙ same ∙ length-map head.fields name_and_value in
-    omega (arith, l, length-take count headers)
 
 pub target_at : (bytes target rest : List ℕ) (head : RequestHead) (start end len : ℕ) → slice_range bytes start end ≡ target
     → bytes ≡ print_request head ++ rest → len ≡ length (print_request head) → start ≤ end → end ≤ len → slice_range (print_request head) start end ≡ target

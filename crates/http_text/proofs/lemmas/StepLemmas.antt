@@ -14,9 +14,8 @@ use Rattle.society_core.specs.Orders.{Order}
 use Rattle.society_core.specs.Requests.{Query, Puts, States, StatesFaulty, PutsReturn, Closes, ClosesFaulty, Inquires, AsksElsewhere, Reply, Refused}
 use Rattle.society_core.specs.Runs.{Calls, Proceeds, Step, asks_store}
 use Rattle.society_core.specs.State.{Goes, State}
-use Rattle.society_core.specs.declared.order_fault.OrderFault.{OrderFault}
 use Rattle.society_core.specs.declared.refusal.Refusal.{Refusal}
-use Rattle.society_core.specs.declared.refusal.Refusal.TheVariants.{Order as NoOrder, Unavailable, Unknown}
+use Rattle.society_core.specs.declared.refusal.Refusal.TheVariants.{Unknown}
 use Rattle.society_core.specs.declared.return_key.ReturnKey.{ReturnKey}
 use Rattle.society_core.specs.declared.store.Known.{Known}
 use Rattle.society_core.specs.declared.store.Known.TheVariants.{Absent, Same, Other}
@@ -134,33 +133,6 @@ stays store query = record {
   stays = λ honest clean. inl clean;
   crash = λ honest book left. inl left;
 }
-
--- what asks for something is told that the office is unavailable where memory is refused for it
-pub busy_call : {S : Type 0} (state : S → State) (desk : S) (query : Query) → query ≢ AsksElsewhere → Calls state desk desk query (Refused Unavailable)
-busy_call state desk query some = record {
-  proceeds = record { step = λ clean. inr (refl, refl); goes = stays (state desk) query };
-  untouched = λ _. refl;
-  unknown = λ e. absurd (some e);
-}
-
--- nothing that the office has is unknown
-pub unknown_call : {S : Type 0} (state : S → State) (desk : S) → Calls state desk desk AsksElsewhere (Refused Unknown)
-unknown_call state desk = record {
-  proceeds = record { step = λ clean. inl (refl, refl); goes = stays (state desk) AsksElsewhere };
-  untouched = λ _. refl;
-  unknown = λ _. refl;
-}
-
--- an order at fault is refused
-pub faulty_call : {S : Type 0} (state : S → State) (desk : S) (fault : OrderFault) → Calls state desk desk (ClosesFaulty fault) (Refused (NoOrder fault))
-faulty_call state desk fault = record {
-  proceeds = record { step = λ clean. inl (refl, refl); goes = stays (state desk) (ClosesFaulty fault) };
-  untouched = λ _. refl;
-  unknown = λ e. absurd (faulty_some fault e);
-}
-  where
-    faulty_some : (n : OrderFault) → ClosesFaulty n ≢ AsksElsewhere
-    faulty_some n = λ e. cc
 
 -- ---- requests that ask the store
 

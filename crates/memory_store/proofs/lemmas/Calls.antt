@@ -4,10 +4,9 @@ use Rattle.sqlite_value.specs.Order.{Row}
 use Rattle.sqlite_trees.specs.declared.error.StoreError.{StoreError}
 use Rattle.sqlite_trees.specs.declared.store.Shape.{Shape}
 use Rattle.sqlite_trees.specs.declared.store.Shape.TheVariants.{Absent}
-use Rattle.sqlite_trees.specs.declared.schema.Object.{Object}
 use Rattle.sqlite_trees.specs.Tree.{Trees}
 use Rattle.sqlite_trees.specs.View.{View, IsShaped, IsClean, IsQuiet, SetsTree, IsFailure, Commits, OnlyCommits, IsRolledBack, Marks, Releases, GoesBack, snapshot}
-use Rattle.sqlite_trees.specs.Objects.{catalog_tree, version_tree, version_rows, SetsObject, Relists, FailsToRelist}
+use Rattle.sqlite_trees.specs.Objects.{catalog_tree, version_tree, version_rows, SetsObject}
 use Rattle.memory_store.specs.declared.memory.MemoryStore.{MemoryStore}
 use Rattle.memory_store.specs.Memory.{store_view}
 use Rattle.memory_store.specs.Shown.{AreShaped, AreMarksShaped, AreAllShaped}
@@ -39,16 +38,6 @@ module _ (v w : View) (r k : Trees) (m : List Trees) where
     now = λ _. subst (λ f. AreShaped f now) (sym (ap (λ (x : View). x.shape) h.is)) (shaped_object v.shape r now t s others none (was.now h.sound));
     committed = subst (λ f. AreShaped f k) (sym (ap (λ (x : View). x.committed_shape) h.is)) was.committed;
     savepoints = subst (λ l. AreMarksShaped l m) (sym (ap (λ (x : View). x.marks) h.is)) was.savepoints;
-  }
-
-  pub shaped_relisted : (changes : List (ℕ × Object)) → Relists v w changes → AreAllShaped v r k m → AreAllShaped w r k m
-  shaped_relisted changes h = shaped_by_parts (λ _. h.sound) (ap (λ (x : View). x.shape) h.is) (ap (λ (x : View). x.committed_shape) h.is) (ap (λ (x : View). x.marks) h.is)
-
-  pub shaped_relist_failed : (e : StoreError) → FailsToRelist v w e → IsTrue w.is_open → AreAllShaped v r k m → AreAllShaped w r k m
-  shaped_relist_failed e h o was = record {
-    now = λ s. let same = h.unchanged s in subst (λ f. AreShaped f r) (sym (ap (λ (x : View). x.shape) same)) (was.now (sym (ap (λ (x : View). x.is_broken) same) ∙ s));
-    committed = subst (λ f. AreShaped f k) (sym h.shape) was.committed;
-    savepoints = subst (λ l. AreMarksShaped l m) (sym (h.marks o)) was.savepoints;
   }
 
   pub shaped_versioned : (n : ℕ) → SetsTree v w version_tree (λ _. version_rows n) → AreAllShaped v r k m → AreAllShaped w r k m

@@ -35,9 +35,3 @@ over-object listed rows now t some objects low others none = fun_ext (λ k. elim
 
 pub over-version : (listed rows : Trees) (new : List Row) → over (with_tree listed version_tree new) rows ≡ with_tree (over listed rows) version_tree new
 over-version listed rows new = fun_ext (λ k. elim (cases_eq k version_tree) [ inl same ↦ rw same | inr other ↦ rw (ne_eqb k version_tree other) ])
-
-pub over-catalog : (listed rows : Trees) (new : List Row) → over (with_tree listed catalog_tree new) rows ≡ with_tree (over listed rows) catalog_tree new
-over-catalog listed rows new = fun_ext (λ k. elim (cases_eq k catalog_tree) [
-  | inl same ↦ rw same
-  | inr other ↦ rw (ne_eqb k catalog_tree other)
-])

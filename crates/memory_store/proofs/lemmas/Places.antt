@@ -18,9 +18,6 @@ taken_at (suc n) [] i d low = absurd (omega arith)
 taken_at (suc n) (x ∷ xs) zero d low = refl
 taken_at (suc n) (x ∷ xs) (suc i) d low = taken_at n xs i d (omega arith)
 
-pub within_taken : (n most : ℕ) (marks : List ℕ) → All (λ m. m ≤ most) marks → All (λ m. m ≤ most) (take n marks)
-within_taken n most marks h k d low = rw (taken_at n marks k d low) (h k d (taken_within n marks k low))
-
 pub rise_taken : (n : ℕ) (marks : List ℕ) → Rise marks → Rise (take n marks)
 rise_taken n marks h i j a b = rw (taken_at n marks i 0 (omega arith), taken_at n marks j 0 b) (h i j a (taken_within n marks j b))
 

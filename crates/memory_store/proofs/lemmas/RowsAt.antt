@@ -1,6 +1,5 @@
 -- The rows of trees by their numbers: a tree at the end, and a tree that is exchanged.
-use Rattle.std.proofs.Common.{◌≡◌, ℕ, zero, suc, ◌<◌, ◌≤◌, List, [], ◌∷◌, ◌++◌, map, length, get_or, set, cond, eqb, refl, sym, ap, ◌∙◌, arith, eq-eqb, ne_eqb, inl, inr, get_or-set_same, get_or-set_other, slice_get, Some, None}
-use Rattle.std.proofs.lemmas.Option.{slice_get_within, get_or_from_slice_get}
+use Rattle.std.proofs.Common.{◌≡◌, ℕ, zero, suc, ◌<◌, ◌≤◌, List, [], ◌∷◌, ◌++◌, map, length, get_or, set, cond, eqb, refl, sym, ap, ◌∙◌, arith, eq-eqb, ne_eqb, inl, inr, get_or-set_same, get_or-set_other}
 use Rattle.std.proofs.lemmas.Bool.{cases_eq}
 use Rattle.std.proofs.lemmas.List.{map-set, map-append, length-map}
 use mathlib.Core.Path.{fun_ext}
@@ -44,11 +43,3 @@ rows_at-same trees t x within same = rows_at-set trees t x within ∙ fun_ext (�
 -- a tree without rows is as if it were emptied
 pub rows_at-empty : (trees : List SortedRows) (t : ℕ) → length trees ≤ t → rows_at trees ≡ with_tree (rows_at trees) t []
 rows_at-empty trees t past = fun_ext (λ k. elim (cases_eq k t) [ inl is ↦ rw (is, eq-eqb t t refl) (rows_at-past trees t past) | inr other ↦ rw (ne_eqb k t other) ])
-
-pub rows_at-got : (trees : List SortedRows) (t : ℕ) (x : SortedRows) → slice_get trees t ≡ Some x → rows_at trees t ≡ tree_rows x
-rows_at-got trees t x is = rows_at-read trees t x (slice_get_within trees t x is) (sym (get_or_from_slice_get trees t x x is))
-
-pub rows_at-missing : (trees : List SortedRows) (t : ℕ) → slice_get trees t ≡ None → rows_at trees t ≡ []
-rows_at-missing [] t is = refl
-rows_at-missing (y ∷ trees) zero is = absurd (cc)
-rows_at-missing (y ∷ trees) (suc t) is = rows_at-missing trees t is

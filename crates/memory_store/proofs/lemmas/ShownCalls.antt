@@ -1,15 +1,14 @@
 -- What is shown after each call, by what the list of trees shows after its own.
-use Rattle.std.proofs.Common.{◌≡◌, ◌≢◌, ℕ, ◌-◌, ◌^◌, ◌<◌, false, List, [], ◌∷◌, ◌++◌, length, fold, take, get_or, Option, sym, ◌∙◌, ap, arith}
+use Rattle.std.proofs.Common.{◌≡◌, ◌≢◌, ℕ, ◌-◌, ◌^◌, ◌<◌, false, List, [], ◌∷◌, ◌++◌, length, take, get_or, Option, sym, ◌∙◌, ap, arith}
 use Rattle.sqlite_value.specs.Order.{Row}
 use Rattle.sqlite_trees.specs.declared.error.StoreError.{StoreError}
 use Rattle.sqlite_trees.specs.declared.store.Shape.{Shape}
-use Rattle.sqlite_trees.specs.declared.schema.Object.{Object}
 use Rattle.sqlite_trees.specs.Tree.{Trees, with_tree}
 use Rattle.sqlite_trees.specs.View.{View, snapshot, newest, SetsTree, IsFailure, Commits, IsRolledBack, Marks, Releases, GoesBack}
-use Rattle.sqlite_trees.specs.Objects.{catalog_tree, version_tree, version_rows, set_at, SetsObject, relisted, Relists, FailsToRelist}
+use Rattle.sqlite_trees.specs.Objects.{catalog_tree, version_tree, version_rows, set_at, SetsObject}
 use Rattle.memory_store.specs.Shown.{over, shown_over, shown_mark, shown_marks, AreMarksShaped}
 use Rattle.memory_store.specs.Laws.{over-at}
-use Rattle.memory_store.proofs.lemmas.Over.{not_catalog, not_version, over-edit, over-object, over-version, over-catalog}
+use Rattle.memory_store.proofs.lemmas.Over.{not_catalog, not_version, over-edit, over-object, over-version}
 use Rattle.memory_store.proofs.lemmas.Marks.{marks_paired, marks_pushed, marks_taken, length-shown_marks, mark_at}
 
 module _ (v : View) (r k : Trees) (c d : ℕ → Option (List Row)) (m : List Trees) where
@@ -43,25 +42,6 @@ module _ (v : View) (r k : Trees) (c d : ℕ → Option (List Row)) (m : List Tr
         sound = h.sound;
         is = ap (λ x. shown_over x now k d m) h.is ∙ (λ i. record (shown_over v r k c m) { trees = trees i; shape = set_at v.shape t shape; reals = set_at v.reals t reals; cursors = d });
       }
-
-  pub shown_relist : (w : View) (changes : List (ℕ × Object)) → Relists v w changes → Relists (shown_over v r k c m) (shown_over w r k d m) changes
-  shown_relist w changes h = record {
-    sound = h.sound;
-    is = ap (λ x. shown_over x r k d m) h.is
-        ∙ (λ i. record (shown_over v r k c m) { trees = over-catalog v.trees r (relisted (v.trees catalog_tree) changes) i; reals = fold (λ reals change. set_at reals change.0 change.1.reals) v.reals changes; cursors = d });
-  }
-
-  pub shown_relist_failure : (w : View) (e : StoreError) → FailsToRelist v w e → FailsToRelist (shown_over v r k c m) (shown_over w r k d m) e
-  shown_relist_failure w e h = record {
-    shape = h.shape;
-    reals = h.reals;
-    numbered = h.numbered;
-    was_open = h.was_open;
-    committed = λ o. ap (λ db. over db k) (h.committed o);
-    marks = λ o. ap (λ ms. shown_marks ms m) (h.marks o);
-    unchanged = λ sound. ap (λ x. shown_over x r k d m) (h.unchanged sound);
-    refused = λ clean cause. ap (λ x. shown_over x r k d m) (h.refused clean cause);
-  }
 
   pub shown_version : (w : View) (n : ℕ) → SetsTree v w version_tree (λ _. version_rows n) → SetsTree (shown_over v r k c m) (shown_over w r k d m) version_tree (λ _. version_rows n)
   shown_version w n h = record {

@@ -10,7 +10,6 @@ use Rattle.sqlite_value.specs.Order.{Row, value_cmp}
 use Rattle.sqlite_value.specs.declared.keys.Order.{Order}
 use Rattle.sqlite_value.specs.Keys.{entry_cmp, prefix_cmp}
 use Rattle.sqlite_trees.specs.declared.store.Shape.{Shape}
-use Rattle.sqlite_trees.specs.declared.store.Shape.TheVariants.{Absent, Table, Index, Pageless, FrozenTable, FrozenIndex}
 use Rattle.sqlite_trees.specs.Tree.{rowid, IsAscending, from_key, up_to_key, put_row, insert_entry}
 use Rattle.sqlite_trees.specs.View.{IsShaped}
 use Rattle.sqlite_trees.proofs.ListLemmas.{all_weaker, ascending_weaker, filter_all, filter_none}
@@ -39,15 +38,6 @@ not_false false h = absurd (true≢false h)
 pub not_is : (b : Bool) → not b ≡ true → b ≡ false
 not_is true h = absurd (true≢false (sym h))
 not_is false h = refl
-
--- no rows are of any shape
-pub shaped_none : (shape : Shape) → IsShaped shape []
-shaped_none Absent = refl
-shaped_none Pageless = refl
-shaped_none FrozenTable = (tt, tt)
-shaped_none (FrozenIndex o) = tt
-shaped_none Table = (tt, tt)
-shaped_none (Index o) = tt
 
 pub cut_below : (o : Order) (key : Row) (rows : List Row) → IsSortedTree o rows → IsCutOnce (λ e. is_lt (prefix_cmp o e key)) rows
 cut_below o key rows up = ascending_weaker (AtMost o) _ (λ a b h. (prefix_cmp_follows o key a b h).0) rows up

@@ -3,7 +3,7 @@ use Rattle.std.proofs.Common.{◌≡◌, ℕ, ◌+◌, ◌-◌, ◌<◌, ◌≤�
 use Rattle.std.proofs.lemmas.Bool.Decides.{nat_tests}
 use Rattle.std.proofs.lemmas.List.{append_assoc}
 use Rattle.perf_returns.specs.Returns.{AnswersReturn, fault_of_records, first_row_fault, performances_of, told_at}
-use Rattle.perf_returns.specs.Rows.{IsRowTaken, row_fault, fault_in, header_row_fault, row_added, row_of, with_row}
+use Rattle.perf_returns.specs.Rows.{IsRowTaken, row_fault, fault_in, header_row_fault, row_added, row_of, too_many_rows, with_row}
 use Rattle.perf_returns.specs.declared.fault.ReturnError.{ReturnError}
 use Rattle.perf_returns.specs.declared.fault.ReturnError.TheVariants.{Csv, Memory}
 use Rattle.perf_returns.specs.declared.fault.ReturnFault.{ReturnFault}
@@ -65,7 +65,7 @@ pub not_too_many : (row : ℕ) (fields : List (List ℕ)) → row_fault row fiel
 not_too_many row fields none =
     by_case (row == 1) (nat_lt 10000 (row - 1)) refl refl none
   where
-    by_case : (first late : Bool) → (row == 1) ≡ first → nat_lt 10000 (row - 1) ≡ late → (if first then header_row_fault fields else (if late then Some 6 else fault_in (row_of fields))) ≡ None → row ≤ 10001
+    by_case : (first late : Bool) → (row == 1) ≡ first → nat_lt 10000 (row - 1) ≡ late → (if first then header_row_fault fields else (if late then Some too_many_rows else fault_in (row_of fields))) ≡ None → row ≤ 10001
     by_case true late is more e = grind (arith, nat_tests)
     by_case false true is more e = absurd cc
     by_case false false is more e = grind (arith, nat_tests)

@@ -1,7 +1,7 @@
 -- Numbers, their segments and their places there.
-use Rattle.std.proofs.Common.{◌≡◌, ℕ, zero, suc, ◌+◌, ◌*◌, ◌-◌, ◌/◌, ◌<◌, ◌≤◌, cond, ap, sym, subst, ◌∙◌, arith, ⊎_elim}
+use Rattle.std.proofs.Common.{◌≡◌, ℕ, zero, suc, ◌+◌, ◌-◌, ◌/◌, ◌<◌, ◌≤◌, cond, ap, sym, subst, ◌∙◌, arith, ⊎_elim}
 use Rattle.std.proofs.lemmas.Bool.{cases_lt, lt-ltb, le-ltb}
-use Rattle.work_ids.specs.Segments.{base_of, most_in, segment_of, sequence_of}
+use Rattle.work_ids.specs.Segments.{base_of, greatest_rank, most_in, segment_of, sequence_of}
 
 -- segments come one behind another
 pub bases_rise : (g : ℕ) → base_of g + most_in g < base_of (suc g)
@@ -19,9 +19,6 @@ bases_order g (suc k) =
 pub record IsMade (n : ℕ) (g k : ℕ) : Type 0 where
   pub is : base_of g + k ≡ n
   pub within : k ≤ most_in g
-
-div_small : (y k : ℕ) → k < 10000 → (10000 * y + k) / 10000 ≡ y
-div_small y k h = omega (arith, h)
 
 pub made_plain : (n : ℕ) → n < 1000000 → segment_of n ≡ 0
 made_plain n h = ap (λ b. cond b 0 ((n - 1000000) / 10000 + 1)) (lt-ltb n 1000000 h)
@@ -67,6 +64,6 @@ room_before n some =
     next_base (suc y) = omega arith
 
 -- bases of segments to the last year
-pub base_within : (g : ℕ) → g ≤ 100 → base_of g ≤ 1999999
+pub base_within : (g : ℕ) → g ≤ 100 → base_of g ≤ greatest_rank
 base_within zero h = omega arith
 base_within (suc y) h = omega (arith, h)

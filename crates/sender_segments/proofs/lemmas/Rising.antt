@@ -15,10 +15,6 @@ pub rises_to : (a b c : ℕ) (xs : List ℕ) → Ascends a xs b → b ≤ c → 
 rises_to a b c [] rising le = omega (arith, rising, le)
 rises_to a b c (x ∷ xs) rising le = (rising.0, rises_to x b c xs rising.1 le)
 
-pub rises_from : (a b c : ℕ) (xs : List ℕ) → a ≤ b → Ascends b xs c → Ascends a xs c
-rises_from a b c [] le rising = omega (arith, le, rising)
-rises_from a b c (x ∷ xs) le rising = (let h = rising.0 in omega (arith, le, h), rising.1)
-
 -- numbers from one on
 pub range_rises : (a len : ℕ) → Ascends a (range_with_len (a + 1) len) (a + len)
 range_rises a zero = omega arith

@@ -193,10 +193,6 @@ answers_stay {V} before after keys values s n none others answers t m place d by
     by_case true is = absurd (none_is_some place (sym none ∙ alike_place s t n m keys is ∙ there))
     by_case false is = answers t m place d bytes there ∙ sym (others t m is)
 
--- where all answers stay
-pub answers_same : {V : Type 0} (before after : Side → List ℕ → V) (keys : List ℕ) (values : List V) → ((t : Side) (m : List ℕ) → after t m ≡ before t m) → AreAnswers before keys values → AreAnswers after keys values
-answers_same {V} before after keys values same answers t m place d bytes there = answers t m place d bytes there ∙ sym (same t m)
-
 -- where a party has a place, its answer goes there
 pub answers_set : {V : Type 0} (before after : Side → List ℕ → V) (keys : List ℕ) (values : List V) (s : Side) (n : List ℕ) (place : ℕ) (v : V) → place_in keys s n ≡ Some place → AreBytes (trimmed n) → place < length values → ((t : Side) (m : List ℕ) → alike s n t m ≡ false → after t m ≡ before t m) → ((t : Side) (m : List ℕ) (d : V) → alike s n t m ≡ true → get_or values place d ≡ before t m → after t m ≡ v) → AreAnswers before keys values → AreAnswers after keys (set values place v)
 answers_set {V} before after keys values s n place v at own_bytes room others own answers t m other d bytes there =

@@ -1,5 +1,5 @@
 -- Whether a side with a number is among records, one record further (representation).
-use Rattle.std.proofs.Common.{◌≡◌, ℕ, Bool, true, false, ◌||◌, List, [], ◌∷◌, ◌++◌, Some, None, refl, sym, ap, ◌∙◌}
+use Rattle.std.proofs.Common.{◌≡◌, ℕ, Bool, true, false, ◌||◌, List, [], ◌∷◌, ◌++◌, Some, refl, sym, ap, ◌∙◌}
 use Rattle.std.specs.List.{list_any}
 use Rattle.std.proofs.lemmas.List.Folds.{list_any-append}
 use Rattle.std.proofs.lemmas.Bool.{false≢true}
@@ -36,9 +36,6 @@ other_not_found t m before r other =
 
 pub party_passes : (t : Side) (m : List ℕ) (before : List Record) (r : Record) (party : InterestedParty) → party_in r ≡ Some party → alike party.side party.number t m ≡ false → list_any (is_interested_party t m) (before ++ r ∷ []) ≡ list_any (is_interested_party t m) before
 party_passes t m before r party is other = other_not_found t m before r (ap (party_is t m) is ∙ other)
-
-pub none_found : (t : Side) (m : List ℕ) (before : List Record) (r : Record) → party_in r ≡ None → list_any (is_interested_party t m) (before ++ r ∷ []) ≡ list_any (is_interested_party t m) before
-none_found t m before r is = other_not_found t m before r (ap (party_is t m) is)
 
 neither : (a b : Bool) → (a || b) ≡ false → (a ≡ false) × (b ≡ false)
 neither false b e = (refl, e)

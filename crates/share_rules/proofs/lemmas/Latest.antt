@@ -42,28 +42,10 @@ party_passes office t m r more party is other =
     ∙ ap (λ (o : Option TerritoryRow). else_take (latest office t m more) (if counting_row_is office t m o then shares_in o else None)) (no_row_in r party is)
     ∙ else_none (latest office t m more)
 
--- a record that is no interested party and no territory row changes nothing
-pub other_passes : (office : Office) (t : Side) (m : List ℕ) (r : Record) (more : List Record) → party_in r ≡ None → row_in r ≡ None → latest office t m (r ∷ more) ≡ latest office t m more
-other_passes office t m r more no_party no_row =
-    latest_on office t m r more (ap (party_is t m) no_party)
-    ∙ ap (λ (o : Option TerritoryRow). else_take (latest office t m more) (if counting_row_is office t m o then shares_in o else None)) no_row
-    ∙ else_none (latest office t m more)
-
 row_on : (office : Office) (t : Side) (m : List ℕ) (r : Record) (more : List Record) (row : TerritoryRow) → row_in r ≡ Some row → latest office t m (r ∷ more) ≡ else_take (latest office t m more) (if (row_is t m (Some row) && counts office row) then shares_in (Some row) else None)
 row_on office t m r more row is =
     latest_on office t m r more (ap (party_is t m) (no_party_in r row is))
     ∙ ap (λ (o : Option TerritoryRow). else_take (latest office t m more) (if counting_row_is office t m o then shares_in o else None)) is
-
-and_false : (a : Bool) → (a && false) ≡ false
-and_false true = refl
-and_false false = refl
-
--- a row that does not count
-pub row_idles : (office : Office) (t : Side) (m : List ℕ) (r : Record) (more : List Record) (row : TerritoryRow) → row_in r ≡ Some row → counts office row ≡ false → latest office t m (r ∷ more) ≡ latest office t m more
-row_idles office t m r more row is idle =
-    row_on office t m r more row is
-    ∙ ap (λ (b : Bool). else_take (latest office t m more) (if b then shares_in (Some row) else None)) (ap (λ (b : Bool). row_is t m (Some row) && b) idle ∙ and_false (row_is t m (Some row)))
-    ∙ else_none (latest office t m more)
 
 -- a row of another party
 pub row_passes : (office : Office) (t : Side) (m : List ℕ) (r : Record) (more : List Record) (row : TerritoryRow) → row_in r ≡ Some row → alike row.side row.number t m ≡ false → latest office t m (r ∷ more) ≡ latest office t m more

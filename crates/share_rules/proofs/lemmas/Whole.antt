@@ -7,9 +7,9 @@ use Rattle.std.proofs.lemmas.List.{map_push}
 use Rattle.std.proofs.lemmas.List.Sums.{sum_by_push}
 use Rattle.cwr_files.specs.declared.transmission.Transaction.{Transaction}
 use Rattle.cwr_files.specs.Sentences.{Sentence, first_that_holds, sentence}
-use Rattle.share_rules.specs.Fault.{collects_too_much, fault_of, sentences}
+use Rattle.share_rules.specs.Fault.{collects_too_much, fault_of, sentences, sum_limit}
 use Rattle.share_rules.specs.Parties.{Interest, collected, interests, share_in}
-use Rattle.share_rules.specs.Weights.{AreWholeWeights, holder_of, total, unclaimed_beside, weights_of}
+use Rattle.share_rules.specs.Weights.{AreWholeWeights, holder_of, total, unclaimed_beside, weights_of, whole_right}
 use Rattle.share_rules.specs.declared.holder.Holder.{Holder}
 use Rattle.share_rules.specs.declared.kind.Kind.{Kind}
 use Rattle.share_rules.specs.declared.kind.Kind.TheVariants.{Performing, Mechanical}
@@ -46,7 +46,7 @@ not_two false b c e = not_one b c false (two_of b c e)
     two_of false true e = absurd (false≢true (sym e))
     two_of false false e = refl
 
-low : (n : ℕ) → nat_lt 10006 n ≡ false → n ≤ 10006
+low : (n : ℕ) → nat_lt sum_limit n ≡ false → n ≤ sum_limit
 low n e = grind (arith, nat_tests)
 
 weights_are : (right : Kind) (sender : List ℕ) (office : Office) (is : List Interest) → map (λ (h : Holder). h.weight) (map (holder_of right sender office) is) ≡ map (share_in right) (map (collected office) is)
@@ -54,7 +54,7 @@ weights_are right sender office [] = refl
 weights_are right sender office (i ∷ more) = ap (λ (ws : List ℕ). share_in right (collected office i) ∷ ws) (weights_are right sender office more)
 
 -- a transaction without a fault collects in no right more than the limit
-clean_in : (right : Kind) (office : Office) (t : Transaction) → fault_of office t ≡ None → sum (map (share_in right) (map (collected office) (interests t.records))) ≤ 10006
+clean_in : (right : Kind) (office : Office) (t : Transaction) → fault_of office t ≡ None → sum (map (share_in right) (map (collected office) (interests t.records))) ≤ sum_limit
 clean_in Performing office t e = low _ (not_one _ _ _ (clean_collects office t e))
 clean_in Mechanical office t e = low _ (not_two _ _ _ (clean_collects office t e))
 
@@ -66,6 +66,6 @@ clean_is_whole right sender office t e =
     let claimed = ap sum (weights_are right sender office (interests t.records)) in
     let most = clean_in right office t e in
     let rest = unclaimed_beside holders in
-    let all : total (holders ++ rest ∷ []) ≡ total holders + (max 10000 (total holders) - total holders) =
+    let all : total (holders ++ rest ∷ []) ≡ total holders + (max whole_right (total holders) - total holders) =
     ap sum (map_push (λ (h : Holder). h.weight) holders rest) ∙ sum_by_push (λ (n : ℕ). n) (map (λ (h : Holder). h.weight) holders) rest.weight in
     (omega (arith, all), omega (arith, all, claimed, most))

@@ -1,5 +1,5 @@
 -- What the options of the program give, and what its words are read as.
-use Rattle.std.proofs.Common.{sym, ◌≡◌, ◌≢◌, ◌⊎◌, ◌∙◌, inl, inr, ◌^◌, ◌<◌, ◌&&◌, ap, ℕ, Bool, Option, List, true, false, refl, subst, [], ◌∷◌, Some, None, Result, Ok, Err, nat_lt, option_and_then, option_map}
+use Rattle.std.proofs.Common.{◌≡◌, ◌⊎◌, ◌∙◌, inl, inr, ◌^◌, ◌<◌, ◌&&◌, ap, ℕ, Bool, Option, List, true, false, refl, subst, [], ◌∷◌, Some, None, Result, Ok, Err, nat_lt, option_and_then, option_map}
 use Rattle.std.proofs.lemmas.Bool.{ltb-true, lt-ltb}
 use Rattle.std.specs.Char.{digit_value}
 use Rattle.std.specs.List.{list_all}
@@ -8,7 +8,7 @@ use Rattle.clap.proofs.WalkLemmas.{both, one_text-rows}
 use Rattle.clap.specs.Matches.{ReadsOne, one_text, subcommand_name_of}
 use Rattle.clap.specs.Simple.{subcommand_rows, subcommand_rows_of}
 use Rattle.clap.specs.declared.error.kind.ErrorKind.{ErrorKind}
-use Rattle.clap.specs.declared.error.kind.ErrorKind.TheVariants.{DisplayHelp, OutOfMemory}
+use Rattle.clap.specs.declared.error.kind.ErrorKind.TheVariants.{OutOfMemory}
 use Rattle.clap.specs.declared.parser.matches.ArgMatches.{ArgMatches}
 use Rattle.clap.specs.declared.parser.matches.ArgMatches.TheViews.{out-ArgMatches, out-SubCommand}
 use Rattle.clap.specs.declared.parser.matches.SubCommand.{SubCommand}
@@ -20,7 +20,7 @@ use Rattle.clap.specs.Walk.{Row, Text, rows_of}
 use Rattle.clap.specs.declared.parser.matches.Found.{Found}
 use Rattle.share_rules.specs.Office.{IsOfficeOf}
 use Rattle.share_rules.specs.declared.office.Office.{Office}
-use Rattle.society_arguments.specs.Words.{Asked, AsksAudit, AsksToReplay, AsksHelp, AsksReplay, AsksServe, AsksToAudit, AsksToServe, Serving, WantsAudit, WantsReplay, WantsServing, HasBadName, HasBadWords, IsReadAs, IsRefusedAs, IsWrong, at_office, number_given, number_spelled, serving_of}
+use Rattle.society_arguments.specs.Words.{Asked, AsksAudit, AsksToReplay, AsksHelp, AsksReplay, AsksServe, AsksToAudit, AsksToServe, WantsAudit, WantsReplay, WantsServing, HasBadName, HasBadWords, IsReadAs, IsRefusedAs, IsWrong, at_office, number_given, number_spelled, serving_of}
 use Rattle.society_arguments.specs.declared.words.Database.{Database}
 use Rattle.society_arguments.specs.declared.words.Listening.{Listening}
 use Rattle.society_arguments.specs.declared.words.Words.{Words}
@@ -67,17 +67,9 @@ entered_from : {Z : Type 0} (o : Option (Box SubCommand Z)) (name : Text) (rows 
 entered_from None name rows named given = cc
 entered_from (Some b) name rows named given = cc
 
-none_from : {Z : Type 0} (o : Option (Box SubCommand Z)) → option_map (λ b. (out-SubCommand (box_value b)).name.now) o ≡ None → subcommand_rows o ≡ None
-none_from None named = refl
-none_from (Some b) named = cc
-
 -- the command that the words name, and what they give to its options
 pub entered_is : (m : ArgMatches) (name : Text) (rows : List Row) → subcommand_name_of m ≡ Some name → option_map (λ p. p.1) (subcommand_rows_of m) ≡ Some rows → subcommand_rows_of m ≡ Some (name, rows)
 entered_is m name rows named given = entered_from (out-ArgMatches m).subcommand name rows named given
-
--- and where they name none
-pub not_entered : (m : ArgMatches) → subcommand_name_of m ≡ None → subcommand_rows_of m ≡ None
-not_entered m named = none_from (out-ArgMatches m).subcommand named
 
 -- words that are read as a replay ask for one
 pub asks_for : (a : Asked) (office : Office) → IsReadAs a (words.Replay office) → AsksToReplay a office

@@ -8,9 +8,8 @@ use Rattle.std.proofs.lemmas.Bool.{cases_lt, false≢true}
 use Rattle.std.proofs.lemmas.Bool.Decides.{nat_tests}
 use Rattle.std.proofs.lemmas.List.Elements.{filter-append}
 use Rattle.cwr_files.specs.FileFault.{file_fault}
-use Rattle.cwr_files.specs.declared.fault.FileFault.{FileFault}
 use Rattle.work_ids.specs.Numbers.{is_pool_number}
-use Rattle.work_ids.specs.Segments.{is_transmission_number, most_in, segment_of, sequence_of}
+use Rattle.work_ids.specs.Segments.{greatest_rank, is_transmission_number, most_in, segment_of, sequence_of}
 use Rattle.work_ids.specs.SenderKey.{is_sender_key}
 use Rattle.sender_segments.specs.Ascends.{Ascends}
 use Rattle.sender_segments.specs.Ways.{AreRight, End, IsWithinEnd, leads_to, numbers_up_to}
@@ -355,13 +354,8 @@ sound_with_pool b pool order sound entry is unpaid = record {
     from q o there = inserted_from nat_cmp_total exact_numbers b.pools pool order q o there
 
 -- in a sound book no front is past the last number of the last year
-pub sound_front : (b : Book) (s : List ℕ) → IsSound b → front b s ≤ 1999999
+pub sound_front : (b : Book) (s : List ℕ) → IsSound b → front b s ≤ greatest_rank
 sound_front b s sound = front_within b.transmissions b.ends s (sound_order b sound s)
-
--- no body of a sound book has a file fault
-pub no_fault : (b : Book) (s : List ℕ) (n : ℕ) (body : List ℕ) (f : FileFault) → IsSound b → body_at b s n ≡ Some body → file_fault s body ≡ Some f → ⊥
-no_fault b s n body f sound there fault =
-    false≢true (ap is_none (sym fault) ∙ second_holds (is_sender_key s && is_transmission_number n) (is_none (file_fault s body)) (sound.transmissions s n body there))
 
 none_is : {A : Type 0} (o : Option A) → is_none o ≡ true → o ≡ None
 none_is None e = refl

@@ -50,10 +50,6 @@ module _ (weigh : CutWork → List Holder) (of_these : List ℕ → Bool) where
         ∙ sym (ap (map (claimant_by weigh)) (filter-append (names_recording isrc) works more) ∙ map-append (claimant_by weigh) (filter (names_recording isrc) works) (filter (names_recording isrc) more));
   }
 
-  -- nothing more
-  pub adds_none : (old : List Candidate) → AddsCandidates weigh of_these [] old old
-  adds_none old = λ works stand. subst (λ (ws : List CutWork). StandFor weigh of_these ws old) (sym (append-nil works)) stand
-
   -- some works, and then others
   pub adds_then : (a b : List CutWork) (old mid new : List Candidate) → AddsCandidates weigh of_these a old mid → AddsCandidates weigh of_these b mid new → AddsCandidates weigh of_these (a ++ b) old new
   adds_then a b old mid new first second = λ works stand. subst (λ (ws : List CutWork). StandFor weigh of_these ws new) (append_assoc works a b) (second (works ++ a) (first works stand))
@@ -113,18 +109,6 @@ added_by of_these sender work of_work named listed holders isrcs old new (Ok x) 
     subst (AddsClaimant (claimant sender work of_work) of_these named old)
     (sym (appended ∙ ap (λ (hs : List Holder). old ++ map (candidate_with sender work hs) isrcs) same ∙ ap (λ (is : List (List ℕ)). old ++ map (candidate_with sender work of_work) is) these))
     (work_adds of_these sender work of_work named listed old once_each)
-
--- it adds none where it names none of them
-pub work_adds_none : (of_these : List ℕ → Bool) (one : Claimant) (named : List (List ℕ)) (old : List Candidate) → ListsOnce of_these named [] → AddsClaimant one of_these named old old
-work_adds_none of_these one named old once_each = λ x is.
-    sym (append-nil (claimants_among old x)) ∙ ap (λ (ws : List Claimant). claimants_among old x ++ ws) (by_case x (list_any (bytes_eq x) named) (once_each x is))
-  where
-    by_case : (x : List ℕ) (b : Bool) → ◌≡◌ {A = List (List ℕ)} [] (cond b (x ∷ []) []) → [] ≡ cond b (one ∷ []) []
-    by_case x true none = absurd (not_listed none)
-      where
-        not_listed : ◌≡◌ {A = List (List ℕ)} [] (x ∷ []) → ⊥
-        not_listed h = cc
-    by_case x false none = refl
 
 -- a work that is added with the number of its transaction is a work of the cut more
 pub as_numbered : {X E : Type 0} (weigh : CutWork → List Holder) (of_these : List ℕ → Bool) (sender work : List ℕ) (t : Transaction) (old new : List Candidate) (result : Result X E) → number_of_work t ≡ Ok work →

@@ -1,5 +1,5 @@
 -- What a table of candidates' places says of each recording.
-use Rattle.std.proofs.Common.{◌≡◌, ◌≤◌, All, ℕ, ◌+◌, Bool, true, false, cond, List, [], ◌∷◌, ◌++◌, length, map, Option, Some, None, slice_get, is_some, option_map, Bor, refl, ap, sym, subst, ◌∙◌, arith, length-append, append_assoc, append-nil}
+use Rattle.std.proofs.Common.{◌≡◌, ℕ, ◌+◌, Bool, true, false, cond, List, [], ◌∷◌, ◌++◌, length, map, Option, Some, None, slice_get, is_some, option_map, Bor, refl, ap, sym, subst, ◌∙◌, arith, length-append, append_assoc, append-nil}
 use Rattle.std.proofs.lemmas.Option.{slice_get-get_or, slice_get_past}
 use Rattle.std.specs.BTreeMap as tree
 use Rattle.std.specs.BTreeMap.{BTreeMap}
@@ -7,12 +7,9 @@ use Rattle.std.specs.List.{AllByRecursion, enumerate_from, filter}
 use Rattle.std.specs.Ordering.{eq_by_cmp}
 use Rattle.std.specs.Slice.{IsItemAt}
 use Rattle.std.specs.Str.{bytes_eq}
-use Rattle.std.proofs.lemmas.List.Elements.{All-from_recursion, recursion_from_All}
 use Rattle.std.proofs.lemmas.Map.Text.{is_eq-slice_cmp}
 use Rattle.std.proofs.lemmas.Slice.Eq.{bytes_eq-Decides}
-use Rattle.pool_split.specs.Credits.{HasWeights, IsPayable}
-use Rattle.pool_split.specs.declared.claim.Claim.{Claim}
-use Rattle.society_core.specs.Claims.{claims_among, Indexes, found_of, is_candidate_for, places_for, sole_candidate}
+use Rattle.society_core.specs.Claims.{Indexes, found_of, is_candidate_for, places_for, sole_candidate}
 use Rattle.society_core.specs.Keys.{bytes_cmp}
 use Rattle.society_core.specs.Owners.{sole}
 use Rattle.society_core.specs.declared.claim_list.Candidate.{Candidate}
@@ -128,37 +125,3 @@ table_more old new xs x known before is updates q =
 pub got_item : {X : Type 0} (xs : List X) (i : ℕ) (r : Option (Bor X)) → IsItemAt xs i r → option_map (λ (x : Bor X). x.now) r ≡ slice_get xs i
 got_item xs i None h = sym (slice_get_past xs i h.3)
 got_item xs i (Some x) h = sym (slice_get-get_or xs i x.now h.3.0 ∙ ap (λ y. Some y) (sym h.1))
-
--- claims have the ISRCs of their recordings
-pub claims_isrcs : (points : List (List ℕ × ℕ)) (candidates : List Candidate) → map (λ (claim : Claim). claim.isrc) (claims_among points candidates) ≡ map (λ (e : List ℕ × ℕ). e.0) points
-claims_isrcs [] candidates = refl
-claims_isrcs (e ∷ points) candidates = ap (λ (r : List (List ℕ)). e.0 ∷ r) (claims_isrcs points candidates)
-
--- and their points
-pub claims_points : (points : List (List ℕ × ℕ)) (candidates : List Candidate) → map (λ (claim : Claim). claim.points) (claims_among points candidates) ≡ map (λ (e : List ℕ × ℕ). e.1) points
-claims_points [] candidates = refl
-claims_points (e ∷ points) candidates = ap (λ (r : List ℕ). e.1 ∷ r) (claims_points points candidates)
-
-still_weighed : (q : List ℕ) (xs : List Candidate) → AllByRecursion (λ (c : Candidate). HasWeights (Some c.holders)) xs → AllByRecursion (λ (c : Candidate). HasWeights (Some c.holders)) (filter (is_candidate_for q) xs)
-still_weighed q [] h = tt
-still_weighed q (x ∷ xs) h =
-    let rest = still_weighed q xs h.1 in
-    elim (bytes_eq x.isrc q) as (λ b. AllByRecursion (λ (c : Candidate). HasWeights (Some c.holders)) (cond b (x ∷ filter (is_candidate_for q) xs) (filter (is_candidate_for q) xs))) [
-      | true ↦ (h.0, rest)
-      | false ↦ rest
-    ]
-
-sole_weighed : (xs : List Candidate) → AllByRecursion (λ (c : Candidate). HasWeights (Some c.holders)) xs → HasWeights (option_map (λ (c : Candidate). c.holders) (sole xs))
-sole_weighed [] h = tt
-sole_weighed (x ∷ []) h = h.0
-sole_weighed (x ∷ y ∷ more) h = tt
-
-payable_each : (points : List (List ℕ × ℕ)) (candidates : List Candidate) → AllByRecursion (λ (e : List ℕ × ℕ). 1 ≤ e.1) points → AllByRecursion (λ (c : Candidate). HasWeights (Some c.holders)) candidates → AllByRecursion IsPayable (claims_among points candidates)
-payable_each [] candidates h weighed = tt
-payable_each (e ∷ points) candidates h weighed =
-    (record { points = h.0; holders = sole_weighed (filter (is_candidate_for e.0) candidates) (still_weighed e.0 candidates weighed) }, payable_each points candidates h.1 weighed)
-
--- they can be paid where each recording has points and the holders of each candidate have weights
-pub claims_payable : (points : List (List ℕ × ℕ)) (candidates : List Candidate) → All (λ (e : List ℕ × ℕ). 1 ≤ e.1) points → AllByRecursion (λ (c : Candidate). HasWeights (Some c.holders)) candidates → All IsPayable (claims_among points candidates)
-claims_payable points candidates h weighed =
-    All-from_recursion IsPayable (claims_among points candidates) (payable_each points candidates (recursion_from_All (λ (e : List ℕ × ℕ). 1 ≤ e.1) points h) weighed)

@@ -1,5 +1,5 @@
 -- What holds of an order that nothing refuses.
-use Rattle.std.proofs.Common.{◌≡◌, ◌+◌, ◌<◌, ◌&&◌, ◌||◌, ℕ, suc, add-one, drop, drop-cons, get_or, length, Bool, true, false, cond, List, [], ◌∷◌, Option, Some, None, is_some, refl, ap, sym, subst, ◌∙◌, ⊎_elim}
+use Rattle.std.proofs.Common.{◌≡◌, ◌&&◌, ◌||◌, ℕ, Bool, true, false, cond, List, [], ◌∷◌, Option, Some, None, is_some, refl, ap, sym, subst, ◌∙◌, ⊎_elim}
 use Rattle.std.specs.FinMap as finite
 use Rattle.std.specs.List.{find, list_all, list_any}
 use Rattle.std.specs.Ordering.{eq_by_cmp, nat_cmp}
@@ -64,28 +64,6 @@ entry_of_close b pool order number e =
     (both_hold (is_pool_number pool) (list_all (is_applied b) order.cut) number
     (none_refused (cut_refusal b) (is_applied b) order.cut (cut_passes b) (first_none (first_refusal (cut_refusal b) order.cut) (first_refusal (return_refusal b) order.returns) e)))
     (none_refused (return_refusal b) (λ (key : ReturnKey). is_some (return_at b key)) order.returns (return_passes b) (second_none (first_refusal (cut_refusal b) order.cut) (first_refusal (return_refusal b) order.returns) e))
-
--- an element that gives rise to no refusal is passed over
-pub next_due : {X : Type 0} (f : X → Option Refusal) (xs : List X) (i : ℕ) (x : X) → i < length xs → x ≡ get_or xs i x → f x ≡ None → first_refusal f (drop i xs) ≡ first_refusal f (drop (i + 1) xs)
-next_due f xs i x within is none =
-    let at : drop i xs ≡ x ∷ drop (suc i) xs = rw (drop-cons xs i x) (ap (λ z. z ∷ drop (suc i) xs) (sym is)) in
-    ap (first_refusal f) at
-    ∙ ap (λ (o : Option Refusal). refusal_or_later o (first_refusal f (drop (suc i) xs))) none
-    ∙ ap (λ (k : ℕ). first_refusal f (drop k xs)) (sym (add-one i))
-
--- an element that gives rise to a refusal is the first
-pub due_here : {X : Type 0} (f : X → Option Refusal) (xs : List X) (i : ℕ) (x : X) (r : Refusal) → i < length xs → x ≡ get_or xs i x → f x ≡ Some r → first_refusal f (drop i xs) ≡ Some r
-due_here f xs i x r within is due =
-    let at : drop i xs ≡ x ∷ drop (suc i) xs = rw (drop-cons xs i x) (ap (λ z. z ∷ drop (suc i) xs) (sym is)) in
-    ap (first_refusal f) at ∙ ap (λ (o : Option Refusal). refusal_or_later o (first_refusal f (drop (suc i) xs))) due
-
--- a cut that is in its sender's line is not refused
-pub cut_free : (b : Book) (key : TransmissionKey) → is_applied b key ≡ true → cut_refusal b key ≡ None
-cut_free b key is = ap (λ (t : Bool). cond t None (Some (refusals.Cut key.sender (front b key.sender)))) is
-
--- a cut that is not is refused
-pub cut_due : (b : Book) (key : TransmissionKey) → is_applied b key ≡ false → cut_refusal b key ≡ Some (refusals.Cut key.sender (front b key.sender))
-cut_due b key is = ap (λ (t : Bool). cond t None (Some (refusals.Cut key.sender (front b key.sender)))) is
 
 -- no entry passes a test that none is found by
 not_found : {X : Type 0} (test : X → Bool) (es : List (ℕ × X)) (q : ℕ) (x : X) → find (λ (e : ℕ × X). test e.1) es ≡ None → finite.find nat_cmp q es ≡ Some x → test x ≡ false

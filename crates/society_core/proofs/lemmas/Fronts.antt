@@ -6,7 +6,7 @@ use Rattle.std.specs.FinMap as finite
 use Rattle.std.proofs.lemmas.Bool.{false≢true, cases_lt, cases_Bool}
 use Rattle.std.proofs.lemmas.Bool.Decides.{eqb_tells, nat_tests}
 use Rattle.std.proofs.lemmas.List.Folds.{list_all-append}
-use Rattle.work_ids.specs.Segments.{base_of, most_in, segment_of, sequence_of}
+use Rattle.work_ids.specs.Segments.{base_of, greatest_rank, most_in, segment_of, sequence_of}
 use Rattle.sender_segments.specs.Ways.{AreRight, End, IsGap, StatedEnds, Way, greatest_passing, is_reached, leads_to, numbers_up_to, on_by, way_to}
 use Rattle.sender_segments.proofs.lemmas.Grows.{front_only as only_front}
 use Rattle.sender_segments.proofs.lemmas.Ranks.{bases_order, number_is, room_before}
@@ -229,7 +229,7 @@ module _ (m : Transmissions) (ends : Ends) (s : List ℕ) where
             omega (arith, made.is, made.within, far, above)
 
     -- no front is past the last number of the last year
-    pub front_within : front_in m ends s ≤ 1999999
+    pub front_within : front_in m ends s ≤ greatest_rank
     front_within =
         let made = number_is (front_in m ends s) in
         let top = last_number (segment_of (front_in m ends s)) (⊎_elim plain dated (cases_lt (segment_of (front_in m ends s)) 1)) in
@@ -246,6 +246,6 @@ module _ (m : Transmissions) (ends : Ends) (s : List ℕ) where
             let next = by.3 in
             omega (arith, year, next, at)
 
-        last_number : (g : ℕ) → g ≤ 100 → base_of g + most_in g ≤ 1999999
+        last_number : (g : ℕ) → g ≤ 100 → base_of g + most_in g ≤ greatest_rank
         last_number zero h = omega arith
         last_number (suc y) h = omega (arith, h)

@@ -1,35 +1,23 @@
 -- What holds of two books where a sender's line goes on from one to the other, and that a transmission or an end which comes lets it go on.
-use Rattle.std.proofs.Common.{◌≡◌, ◌≢◌, ℕ, ◌≤◌, ◌++◌, ◌||◌, append-nil, Bool, true, false, List, None, bytes_eq, filter, nat_le, refl, ap, sym, subst, ◌∙◌, arith}
+use Rattle.std.proofs.Common.{◌≡◌, ◌≢◌, ℕ, ◌≤◌, ◌++◌, append-nil, Bool, true, false, List, None, bytes_eq, filter, nat_le, refl, ap, sym, subst, ◌∙◌, arith}
 use Rattle.std.specs.FinMap as finite
 use Rattle.std.proofs.lemmas.Bool.{false≢true}
 use Rattle.std.proofs.lemmas.List.Elements.{filter-append}
 use Rattle.std.proofs.lemmas.Slice.Eq.{bytes_eq-Decides}
 use Rattle.sender_segments.specs.Ways.{AreRight, End, IsWithinEnd, numbers_up_to}
-use Rattle.society_core.specs.Book.{Book, IsSound, body_at, end_at, ends_of, front, is_end_entry, is_entry, is_in_line, is_one_of, line, numbers_to, transmissions_to, with_end, with_transmission}
+use Rattle.society_core.specs.Book.{Book, IsSound, body_at, end_at, ends_of, front, is_end_entry, is_entry, is_in_line, line, numbers_to, transmissions_to, with_end, with_transmission}
 use Rattle.society_core.specs.Growth.{GoesOn}
 use Rattle.society_core.specs.Headline.{AlikeToTheGap}
 use Rattle.society_core.proofs.lemmas.Books.{AllBelow, added_keeps, some_body, sound_order, stated_grows, taken_grows, taken_order}
 use Rattle.society_core.proofs.lemmas.ClosedPools.{PaysAlike}
 use Rattle.society_core.proofs.lemmas.Gaps.{alike_over}
 use Rattle.society_core.proofs.lemmas.KeptFronts.{other_end_front, other_front}
-use Rattle.society_core.proofs.lemmas.LineNumbers.{ascends_within, in_line_of_to, in_line_within, line_is, none_up_to, one_of_either, there_in_line}
+use Rattle.society_core.proofs.lemmas.LineNumbers.{in_line_of_to, in_line_within, line_is, none_up_to, there_in_line}
 
 module _ (a b : Book) (s : List ℕ) (more : List ℕ) (goes : GoesOn a b s more) where
   -- another sender's front stays
   pub front_stays : (t : List ℕ) → t ≢ s → front b t ≡ front a t
   front_stays t other = sym (goes.others t other).same_front
-
-  -- no front falls
-  pub front_rises : (t : List ℕ) → front a t ≤ front b t
-  front_rises t = by_case (bytes_eq t s) refl
-    where
-      by_case : (c : Bool) → bytes_eq t s ≡ c → front a t ≤ front b t
-      by_case true is =
-          let same : t ≡ s = (bytes_eq-Decides t s).0 is in
-          subst (λ (q : List ℕ). front a q ≤ front b q) (sym same) (ascends_within (front a s) (front b s) more goes.rises)
-      by_case false is =
-          let stays = front_stays t (λ same. false≢true (sym is ∙ (bytes_eq-Decides t s).1 same)) in
-          omega (arith, stays)
 
   either_sender : (P : List ℕ → Type 0) → P s → ((t : List ℕ) → AlikeToTheGap a b t → P t) → (t : List ℕ) → P t
   either_sender P its other t = by_case (bytes_eq t s) refl
@@ -37,13 +25,6 @@ module _ (a b : Book) (s : List ℕ) (more : List ℕ) (goes : GoesOn a b s more
       by_case : (c : Bool) → bytes_eq t s ≡ c → P t
       by_case true is = subst P (sym ((bytes_eq-Decides t s).0 is)) its
       by_case false is = other t (goes.others t (λ same. false≢true (sym is ∙ (bytes_eq-Decides t s).1 same)))
-
-  -- what is in a line stays in it
-  pub applied_stays : (t : List ℕ) (n : ℕ) → is_in_line a t n ≡ true → is_in_line b t n ≡ true
-  applied_stays t n =
-      either_sender (λ q. is_in_line a q n ≡ true → is_in_line b q n ≡ true)
-      (λ h. ap (λ (ns : List ℕ). is_one_of ns n) goes.grown ∙ one_of_either (line a s) more n ∙ ap (λ (t : Bool). t || is_one_of more n) h)
-      (λ q alike h. sym (ap (λ (ns : List ℕ). is_one_of ns n) alike.same_line) ∙ h) t
 
   -- with its body
   pub body_stays : (t : List ℕ) (n : ℕ) → is_in_line a t n ≡ true → body_at b t n ≡ body_at a t n

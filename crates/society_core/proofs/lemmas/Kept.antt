@@ -9,7 +9,6 @@ use Rattle.std.specs.BTreeMap.{is_at}
 use Rattle.std.specs.Map.{lookup}
 use Rattle.std.specs.List.Sorted.{IsStrictlySortedBy}
 use Rattle.std.specs.declared.cmp.Ordering.{Ordering}
-use Rattle.std.proofs.lemmas.Bool.{false≢true}
 use Rattle.std.proofs.lemmas.Map.Lookups.{CmpEqualImpliesEq}
 use Rattle.society_core.proofs.lemmas.KeysOfMaps.{entries_in_order}
 
@@ -64,11 +63,6 @@ module _ {K V X : Type 0} {R : K → K → Ordering} (total : IsTotalOrder R) (e
   keys_in_order es h =
       ap (map (λ (e : K × X). e.0)) (entries_in_order total exact (shown_of es) (subst (IsStrictlySortedBy R) (sym (keys_of-shown es)) h))
       ∙ keys_of-shown es
-
--- where none is lent, none is there
-pub none_lent : {V X : Type 0} (shown : V → X) (o : Option (Bor V)) (p : Option X) → option_map (λ (b : Bor V). shown b.now) o ≡ p → is_some o ≡ false → is_some p ≡ false
-none_lent shown None p e h = ap is_some (sym e)
-none_lent shown (Some b) p e h = absurd (false≢true (sym h))
 
 -- pairs taken apart and put together
 pub pairs_same : {K V : Type 0} (es : List (K × V)) → map (λ (e : K × V). (e.0, e.1)) es ≡ es

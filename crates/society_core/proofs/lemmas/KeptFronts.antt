@@ -1,6 +1,5 @@
 -- The fronts that are kept: a front of 0 for a sender that has none changes no front, and those of others stay.
-use Rattle.std.specs.Result.{is_err}
-use Rattle.std.proofs.Common.{◌≡◌, ◌≢◌, ◌+◌, Result, Ok, Err, OnOk, ℕ, Bool, true, false, cond, List, Option, Some, None, BTreeMap, filter, is_some, unwrap_or, refl, ap, subst, sym, ◌∙◌, ⊎_elim}
+use Rattle.std.proofs.Common.{◌≡◌, ◌≢◌, ◌+◌, ℕ, Bool, true, false, cond, List, Option, Some, None, BTreeMap, filter, is_some, unwrap_or, refl, ap, subst, sym, ◌∙◌, ⊎_elim}
 use Rattle.std.specs.BTreeMap as tree
 use Rattle.std.specs.BTreeMap.{is_at}
 use Rattle.std.specs.FinMap as finite
@@ -122,14 +121,6 @@ other_end_front b s g end sound free entry below t apart =
     let numbers = same_numbers (ends_of b t) (ends_of after t) (λ h e is. sym (stated h) ∙ is) (front b t) (front_led b.transmissions b.ends t) in
     (same, ap (λ (ns : List ℕ). filter (is_one_of ns) (numbers_of b t)) (sym numbers.0 ∙ ap (λ (f : ℕ). numbers_up_to (ends_of after t) f) same))
 
--- a front that is put for a sender, and the others as they were
-pub front_put : (kept new : BTreeMap (List ℕ) ℕ) (sender : List ℕ) (n : ℕ) → ((q : List ℕ) → tree.get bytes_cmp new q ≡ cond (is_at (bytes_cmp sender) q) (Some n) (tree.get bytes_cmp kept q)) → (s : List ℕ) → unwrap_or (tree.get bytes_cmp new s) 0 ≡ cond (is_at (bytes_cmp sender) s) n (unwrap_or (tree.get bytes_cmp kept s) 0)
-front_put kept new sender n puts s = ap (λ (o : Option ℕ). unwrap_or o 0) (puts s) ∙ by_case (is_at (bytes_cmp sender) s)
-  where
-    by_case : (c : Bool) → unwrap_or (cond c (Some n) (tree.get bytes_cmp kept s)) 0 ≡ cond c n (unwrap_or (tree.get bytes_cmp kept s) 0)
-    by_case true = refl
-    by_case false = refl
-
 -- so the fronts that are kept are those of what is kept then, where those of the others stay
 pub fronts_raised : (kept new : BTreeMap (List ℕ) ℕ) (m n : Transmissions) (ends others : Ends) (sender : List ℕ) (f : ℕ)
     → ((s : List ℕ) → unwrap_or (tree.get bytes_cmp kept s) 0 ≡ front_in m ends s)
@@ -145,8 +136,3 @@ fronts_raised kept new m n ends others sender f are puts is stay s =
     puts s ∙ ap (λ (c : Bool). cond c f (unwrap_or (tree.get bytes_cmp kept s) 0)) there
     ∙ are s ∙ stay s (λ same. false≢true (sym there ∙ subst (λ (q : List ℕ). is_at (bytes_cmp sender) q ≡ true) (sym same) (ap is_eq (tied_itself nat_list_cmp_total sender)))))
     (cases_Bool (is_at (bytes_cmp sender) s))
-
--- what holds where a call went well, once it did
-pub where_ok : {T E P : Type 0} (r : Result T E) → false ≡ is_err r → OnOk r P → P
-where_ok (Ok x) h p = p
-where_ok (Err e) h p = absurd (false≢true h)

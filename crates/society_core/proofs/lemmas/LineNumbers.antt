@@ -301,9 +301,6 @@ module _ (b : Book) (s : List ℕ) where
     pub in_line_within : (n : ℕ) → is_in_line b s n ≡ true → n ≤ front b s
     in_line_within n h = (ascends_bounds 0 (front b s) (line b s) n line_rises_to h).1
 
-    pub in_line_first : (n : ℕ) → is_in_line b s n ≡ true → 1 ≤ n
-    in_line_first n h = let above = (ascends_bounds 0 (front b s) (line b s) n line_rises_to h).0 in omega (arith, above)
-
     -- up to the front stands the whole line
     pub whole_line : numbers_to b s (front b s) ≡ line b s
     whole_line = all_up_to 0 (front b s) (front b s) (line b s) line_rises_to (omega arith)

@@ -24,14 +24,3 @@ not_passed p n e =
   where
     apart : ◌≡◌ {A = Option ℕ} (Some n) None → ⊥
     apart e = cc
-
--- a number that passed
-pub passed : (p : ℕ → Bool) (n m : ℕ) → number_where p n ≡ Some m → p n ≡ true
-passed p n m e =
-    ⊎_elim
-    (λ (yes : p n ≡ true). yes)
-    (λ (no : p n ≡ false). let none : None ≡ Some m = sym (ap (λ (t : Bool). cond t (Some n) None) no) ∙ e in absurd (apart none))
-    (cases_Bool (p n))
-  where
-    apart : ◌≡◌ {A = Option ℕ} None (Some m) → ⊥
-    apart e = cc

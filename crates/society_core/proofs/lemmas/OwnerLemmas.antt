@@ -150,9 +150,6 @@ module _ (office : Office) (book : Book) (key : TransmissionKey) where
   abbrev From : ℕ → ℕ → WorkVersion → Type 0
   From number place v = (v.transmission ≡ number) × (place ≤ v.place)
 
-  abbrev UpTo : ℕ → WorkVersion → Type 0
-  UpTo number v = v.transmission ≤ number
-
   -- a transaction that is the version of its work at the cut
   one_version : (number place : ℕ) (t : Transaction) → slice_get (transactions_sent book key.sender number) place ≡ Some t → is_version_at office book key number place (number_of_work t) ≡ true → IsVersion (At number place) (cut_work key.sender t)
   one_version number place t there is = by_work (number_of_work t) refl is

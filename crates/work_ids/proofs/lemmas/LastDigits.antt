@@ -4,7 +4,7 @@ use Rattle.std.specs.List.{list_all}
 use Rattle.std.specs.Str.Parse.{digits_value}
 use Rattle.std.proofs.lemmas.Bool.Decides.{nat_tests}
 use Rattle.std.proofs.lemmas.Int.Digits.{digits_value_more, digits_value_push}
-use Rattle.std.proofs.lemmas.List.{drop-set, length-append, take_all}
+use Rattle.std.proofs.lemmas.List.{drop-set, take_all}
 use Rattle.std.proofs.lemmas.List.Folds.{list_all-append}
 use Rattle.std.proofs.lemmas.List.Sums.{AllPass-from_list_all}
 use Rattle.std.proofs.Math.Nat.{pow-suc}
@@ -32,12 +32,6 @@ digits-none rest bytes = refl
 -- the last digit of a number is a digit
 pub last_is_digit : (number : ℕ) → is_digit (48 + number % 10) ≡ true
 last_is_digit number = grind (arith, nat_tests)
-
-pub length-last_digits : (width number : ℕ) → length (last_digits width number) ≡ width
-unfolding last_digits
-length-last_digits zero number = refl
-length-last_digits (suc width) number =
-    length-append (last_digits width (number / 10)) ((48 + number % 10) ∷ []) ∙ (omega (arith, length-last_digits width (number / 10)))
 
 -- the last digits are digits
 pub are_last_digits : (width number : ℕ) → list_all is_digit (last_digits width number) ≡ true

@@ -1,41 +1,12 @@
 -- What the numbers of a line tell: which it has, what is up to one of them, and the verdicts of its last transmission.
-use Rattle.std.proofs.Common.{◌≡◌, ◌≢◌, ℕ, ◌<◌, ◌≤◌, ◌==◌, ◌||◌, Bool, true, false, cond, List, [], ◌∷◌, ◌++◌, nat_le, refl, ap, sym, ◌∙◌, arith, ⊎_elim}
-use Rattle.std.proofs.lemmas.Bool.{false≢true}
+use Rattle.std.proofs.Common.{◌≡◌, ◌≢◌, ℕ, ◌<◌, ◌≤◌, ◌==◌, Bool, true, false, cond, List, [], ◌∷◌, ◌++◌, nat_le, refl, ap, sym, ◌∙◌, arith, ⊎_elim}
 use Rattle.std.proofs.lemmas.Bool.Decides.{eqb_tells, nat_tests}
-use Rattle.std.proofs.lemmas.List.{append-nil}
-use Rattle.std.proofs.lemmas.List.Elements.{filter-append}
 use Rattle.works_core.specs.Line.{verdicts_at, verdicts_behind}
-use Rattle.works_core.specs.Numbered.{IsRising, JudgedTransmission, has_number, last_number, up_to}
+use Rattle.works_core.specs.Numbered.{IsRising, JudgedTransmission, last_number, up_to}
 use Rattle.works_core.specs.Verdicts.{behind, verdicts_from}
 use Rattle.works_core.specs.Versions.{Placed, judged_of, placed_behind, placed_behind_all, placed_line}
 use Rattle.works_core.specs.declared.judged.Judged.{Judged}
 use Rattle.works_core.proofs.lemmas.KeptLemmas.{judged_of-behind}
-
--- the last number of a line with one more transmission is that one's
-pub last_push : (low : ℕ) (line : List JudgedTransmission) (x : JudgedTransmission) → last_number low (line ++ x ∷ []) ≡ x.number
-last_push low [] x = refl
-last_push low (y ∷ line) x = last_push y.number line x
-
--- what a line has, it has with more behind it
-pub has_still : (number : ℕ) (line more : List JudgedTransmission) → has_number number line ≡ true → has_number number (line ++ more) ≡ true
-has_still number [] more has = absurd (false≢true has)
-has_still number (y ∷ line) more has = by_case (y.number == number) has (has_still number line more)
-  where
-    by_case : (b : Bool) → (b || has_number number line) ≡ true → (has_number number line ≡ true → has_number number (line ++ more) ≡ true) → (b || has_number number (line ++ more)) ≡ true
-    by_case true h later = refl
-    by_case false h later = later h
-
--- and it has its last transmission
-pub has_last : (line : List JudgedTransmission) (x : JudgedTransmission) → has_number x.number (line ++ x ∷ []) ≡ true
-has_last [] x = ap (λ (b : Bool). b || false) (same_number x.number)
-  where
-    same_number : (n : ℕ) → (n == n) ≡ true
-    same_number n = grind (arith, nat_tests)
-has_last (y ∷ line) x = by_case (y.number == x.number) (has_last line x)
-  where
-    by_case : (b : Bool) → has_number x.number (line ++ x ∷ []) ≡ true → (b || has_number x.number (line ++ x ∷ [])) ≡ true
-    by_case true later = refl
-    by_case false later = later
 
 -- the last number of a line that rises is not below where it begins
 pub last_not_below : (low : ℕ) (line : List JudgedTransmission) → IsRising low line → low ≤ last_number low line
@@ -56,16 +27,6 @@ up_to_all low number (x ∷ line) rising within =
   where
     not_above : (a b : ℕ) → a ≤ b → nat_le a b ≡ true
     not_above a b h = grind (arith, nat_tests, h)
-
--- one more transmission above a number is not up to it
-pub up_to_below : (number : ℕ) (line : List JudgedTransmission) (x : JudgedTransmission) → number < x.number → up_to number (line ++ x ∷ []) ≡ up_to number line
-up_to_below number line x above =
-    filter-append (λ (y : JudgedTransmission). nat_le y.number number) line (x ∷ [])
-    ∙ ap (λ (b : Bool). up_to number line ++ cond b (x ∷ []) []) (stops number x.number above)
-    ∙ append-nil (up_to number line)
-  where
-    stops : (a b : ℕ) → a < b → nat_le b a ≡ false
-    stops a b h = grind (arith, nat_tests, h)
 
 -- the verdicts of a transmission above a line stand behind all of the line
 verdicts_behind-last : (low : ℕ) (past : List Placed) (line : List JudgedTransmission) (x : JudgedTransmission) → IsRising low line → last_number low line < x.number → verdicts_behind (judged_of past) x.number (line ++ x ∷ []) ≡ verdicts_from (judged_of (placed_behind_all past line)) x.judged

@@ -74,10 +74,6 @@ pub last_registered : (w : List ℕ) (past : List Placed) → is_some (last_inde
 last_registered w [] = refl
 last_registered w (t ∷ past) = one_more t.judged (judged_of past) w (accepted_in past) (last_index w past) (last_registered w past)
 
-pub none_from_is_some : (o : Option ℕ) → is_some o ≡ false → o ≡ None
-none_from_is_some None e = refl
-none_from_is_some (Some i) e = absurd (false≢true (sym e))
-
 pub none_is_none : {A : Type 0} (k : A) → ◌≡◌ {A = Option A} None (Some k) → ⊥
 none_is_none k e = cc
 
@@ -99,13 +95,6 @@ versions_of-le w (t ∷ past) = more (is_accepted (judged_of past) t.judged) (co
     more true true h = omega arith
     more true false h = omega arith
     more false c h = h
-
--- a transaction that is not accepted changes nothing of what is kept
-pub last_index-kept : (past : List Placed) (t : Placed) (w : List ℕ) → is_accepted (judged_of past) t.judged ≡ false → last_index w (t ∷ past) ≡ last_index w past
-last_index-kept past t w e = ap (λ (b : Bool). if b && concerns w t.judged then Some (accepted_in past) else last_index w past) e
-
-pub linked_versions-kept : (past : List Placed) (t : Placed) → is_accepted (judged_of past) t.judged ≡ false → linked_versions (t ∷ past) ≡ linked_versions past
-linked_versions-kept past t e = ap (λ (b : Bool). if b then linked_versions past ++ linked_version past t ∷ [] else linked_versions past) e
 
 -- one that is accepted becomes the last version of its work
 pub last_index-accepted : (past : List Placed) (t : Placed) (w : List ℕ) → is_accepted (judged_of past) t.judged ≡ true → last_index w (t ∷ past) ≡ cond (concerns w t.judged) (Some (accepted_in past)) (last_index w past)
@@ -216,24 +205,6 @@ version_found w (t ∷ past) i d e =
     ∙ version_found w past i d there
     ∙ ap (λ (l : LinkedVersion). Some l.version) (sym (front_kept past t i d (last_at w past i there).within)))
     (cases_Bool (is_version w past t))
-
-either_more : (b : Bool) (m n : ℕ) → m ≤ n → (if b then m + 1 else m) ≤ (if b then n + 1 else n)
-either_more true m n h = omega arith
-either_more false m n h = h
-
-same_or_more : (b : Bool) (m n : ℕ) → m ≤ n → m ≤ (if b then n + 1 else n)
-same_or_more true m n h = omega arith
-same_or_more false m n h = h
-
--- there are at most so many works as transactions are accepted
-pub works_in-le : (past : List Placed) → works_in (judged_of past) ≤ accepted_in past
-works_in-le [] = omega arith
-works_in-le (t ∷ past) = more t.judged (works_in-le past)
-  where
-    more : (x : Judged) → works_in (judged_of past) ≤ accepted_in past → works_in (x ∷ judged_of past) ≤ (if is_accepted (judged_of past) x then accepted_in past + 1 else accepted_in past)
-    more (Faulty f) h = h
-    more (Clean Nwr u) h = either_more (not (is_registered u (judged_of past))) (works_in (judged_of past)) (accepted_in past) h
-    more (Clean Rev u) h = same_or_more (is_registered u (judged_of past)) (works_in (judged_of past)) (accepted_in past) h
 
 -- how many works there are once an accepted transaction has come
 pub works_in-taken : (past : List Judged) (kind : TransactionKind) (u : List ℕ) (last : Option ℕ) → is_accepted past (Clean kind u) ≡ true → is_some last ≡ is_registered u past → works_in past + (if is_some last then 0 else 1) ≡ works_in (Clean kind u ∷ past)

@@ -1,5 +1,5 @@
 use Rattle.std.proofs.Common.{◌≡◌, ◌≤◌, ◌+◌, ℕ, Some, true, sym, ap, ◌∙◌, option_map, arith, subst}
-use Rattle.work_ids.specs.Segments.{base_of, index_of, segment_of, sequence_of}
+use Rattle.work_ids.specs.Segments.{base_of, greatest_rank, index_of, segment_of, sequence_of}
 use Rattle.work_ids.specs.declared.segment.Segment.TheVariants.{Year}
 use Rattle.sender_segments.specs.Ways.{End, end_stated, is_reached}
 use Rattle.sender_segments.proofs.lemmas.Ranks.{base_within, room_before}
@@ -26,5 +26,5 @@ loop-front-preserved g c =
     let over : e.last ≤ sequence_of c.loop-front.front = (let a = c.if-last-sequence.true in let b = c.sequence.ensures in let l = c.last.ensures.value in omega (arith, a, b, l)) in
     record {
       reached = subst (λ (n : ℕ). is_reached there ends n ≡ true) to (over_reached ends c.requires.right there c.loop-front.front e c.loop-front.invariant.reached ended over);
-      limit = subst (λ (n : ℕ). n ≤ 1999999) to (base_within e.next (c.requires.years (segment_of c.loop-front.front) e ended));
+      limit = subst (λ (n : ℕ). n ≤ greatest_rank) to (base_within e.next (c.requires.years (segment_of c.loop-front.front) e ended));
     }

@@ -1,5 +1,5 @@
 use Rattle.std.proofs.Common.{◌≡◌, ◌<◌, ◌≤◌, ℕ, Some, true, sym, ap, ◌∙◌, option_map, arith, subst}
-use Rattle.work_ids.specs.Segments.{base_of, index_of, segment_of}
+use Rattle.work_ids.specs.Segments.{base_of, greatest_rank, index_of, segment_of}
 use Rattle.work_ids.specs.declared.segment.Segment.TheVariants.{Year}
 use Rattle.sender_segments.specs.Ways.{End, end_stated, leads_to}
 use Rattle.sender_segments.proofs.lemmas.LedTo.{base_is, base_segment, bases_back, led_over, skips, stops}
@@ -21,7 +21,7 @@ loop-at-preserved g c =
     record {
       led = subst (λ (n : ℕ). leads_to ends n ≡ true) to (led_over ends c.requires.right at e c.loop-at.invariant.led ended);
       base = subst (λ (n : ℕ). n ≡ base_of (segment_of n)) to (sym (ap base_of (base_segment e.next)));
-      limit = subst (λ (n : ℕ). n ≤ 1999999) to (base_within e.next (c.requires.years (segment_of at) e ended));
+      limit = subst (λ (n : ℕ). n ≤ greatest_rank) to (base_within e.next (c.requires.years (segment_of at) e ended));
       past = λ over. skips ends c.requires.right at c.args.rank e c.loop-at.invariant.led ended later (bases_back (segment_of c.args.rank) e.next (omega (arith, its, sequence, over, to)));
     }
 

@@ -6,7 +6,7 @@ use Rattle.share_rules.proofs.holding.many_holders.Goals as goal
 
 pub returns : goal.returns
 returns c =
-    let from : ℕ → List Holder = holders_from c.args.kind c.args.sender.now c.args.office.now c.args.records.now in
+    let from : ℕ → List Holder = holders_from c.args.basis.now c.args.records.now in
     let start : c.loop-end.end ≡ 0 = omega (arith, c.loop-end-test.false) in
     c.reverse.ensures.items
     ∙ ap reverse c.loop-end.invariant.held

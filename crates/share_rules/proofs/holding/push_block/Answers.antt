@@ -5,4 +5,4 @@ use Rattle.share_rules.proofs.lemmas.Blocks.{one_for_all}
 use Rattle.share_rules.proofs.holding.push_block.Goals as goal
 
 pub note_all-requires-clause-none : goal.note_all-requires-clause-none
-note_all-requires-clause-none c = one_for_all (λ (s : Side) (n : List ℕ). latest c.args.office.now s n []) c.of-keys.result.keys None (λ t m. refl)
+note_all-requires-clause-none c = one_for_all (λ (s : Side) (n : List ℕ). latest c.args.basis.now.office.now s n []) c.of-keys.result.keys None (λ t m. refl)

@@ -6,8 +6,8 @@ abbrev pub invariant-loop-index : goal.invariant-loop-index
 invariant-loop-index l = record {
   order : l.start ≤ l.index;
   within : l.index ≤ l.fn.end;
-  held : l.holders.items ≡ reverse (holders_from l.kind l.sender l.office l.records l.index);
-  kept : AreLatest l.office l.keys.keys l.latest (drop l.index l.records);
+  held : l.holders.items ≡ reverse (holders_from l.basis l.records l.index);
+  kept : AreLatest l.basis.office.now l.keys.keys l.latest (drop l.index l.records);
 }
 
 abbrev pub decreases-loop-index : goal.decreases-loop-index

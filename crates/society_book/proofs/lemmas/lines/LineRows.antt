@@ -217,10 +217,6 @@ same_work w n back_w back_n =
     (λ e. (bytes_eq-Decides (without_trailing_blanks w) (without_trailing_blanks n)).1 (ap without_trailing_blanks (sym ((bytes_eq-Decides n w).0 e))))
 
 module _ (s w : List ℕ) (back : IsBack w) where
-  -- the rows of a transaction that are of the work
-  abbrev of_it : List Placed → Placed → List Row
-  of_it past t = filter (is_of_work w) (version_told s t (verdict_of (judged_of past) t.judged))
-
   taken_row : (past : List Placed) (t : Placed) (n : List ℕ) (r k : ℕ) → number_in t.judged ≡ n → IsBack n → IsTaken (judged_of past) t.judged k r → is_accepted (judged_of past) t.judged && concerns w t.judged ≡ bytes_eq n w →
       filter (is_of_work w) (version_told s t (Accepted k r)) ≡ cond (is_version w past t) (version_row s w (version_of w past t) ∷ []) []
   taken_row past t n r k same back_n is concerned =

@@ -1,5 +1,5 @@
 -- The rows of a sender's ends, and the lists of ends that are read of them.
-use Rattle.std.proofs.Common.{◌≡◌, ◌∙◌, ◌<◌, ◌≤◌, ◌+◌, ◌-◌, ◌&&◌, ◌==◌, ◌++◌, ℕ, suc, Bool, true, false, cond, List, [], ◌∷◌, Option, Some, None, find, filter, is_none, option_map, refl, ap, ap₂, sym, subst, arith, bytes_eq, IsPermutation}
+use Rattle.std.proofs.Common.{◌≡◌, ◌∙◌, ◌<◌, ◌≤◌, ◌&&◌, ◌==◌, ◌++◌, ℕ, Bool, true, false, cond, List, [], ◌∷◌, Option, Some, None, find, filter, is_none, option_map, refl, ap, ap₂, sym, subst, bytes_eq, IsPermutation}
 use Rattle.std.specs.FinMap as finite
 use Rattle.std.specs.List.{AllByRecursion, list_all}
 use Rattle.std.specs.Option.{option_or}
@@ -14,7 +14,6 @@ use Rattle.sqlite_trees.specs.Tree.{Trees}
 use Rattle.sqlite_value.specs.declared.value.Value.TheVariants.{Text}
 use Rattle.sqlite_value.specs.Order.{Row}
 use Rattle.sender_segments.specs.Ways.{AreRight, End, LeadToYears, StatedEnds, end_stated}
-use Rattle.sender_segments.proofs.lemmas.Ranks.{base_within, bases_order, number_is}
 use Rattle.society_core.specs.Book.{Book, end_at, ends_of, with_end}
 use Rattle.society_core.specs.Ends.{fault_stated, place_stated}
 use Rattle.society_core.specs.Keys.{segment_key}
@@ -36,7 +35,7 @@ use Rattle.society_book.proofs.lemmas.rows_alike.NamedRows.{HasName, keyed_as_na
 use Rattle.society_book.proofs.lemmas.rows_alike.RowLemmas.{all_rows, only}
 use Rattle.society_book.proofs.lemmas.shown.VerdictRows.{filter_both}
 use Rattle.work_ids.specs.SegmentEnds.{StatedEnd}
-use Rattle.work_ids.specs.Segments.{base_of, most_in, segment_of}
+use Rattle.work_ids.specs.Segments.{most_in}
 
 -- keys of segments that are the same are one
 pub same_segment_is : (a b : SegmentKey) → same_segment_key a b ≡ true → a ≡ b
@@ -227,14 +226,3 @@ pub listed_years : (list : List StatedEnd) → list_all is_faultless list ≡ tr
 listed_years list all = λ g end there.
     let listed = is_listed list all g end there in
     subst (λ (e : End). e.next ≤ 100) listed.is (stated_year listed.stated listed.right)
-
--- the first rank behind an end is above each of its segment
-pub leads_later : (ends : StatedEnds) → AreRight ends → LeadToYears ends → (rank : ℕ) (end : End) → ends (segment_of rank) ≡ Some end → (rank < base_of end.next) × (base_of end.next ≤ 1999999)
-leads_later ends right years rank end there =
-    let g = segment_of rank in
-    let later = right.later g end there in
-    let k = end.next - suc g in
-    let at : suc g + k ≡ end.next = omega (arith, later) in
-    let far = subst (λ (h : ℕ). base_of g + most_in g < base_of h) at (bases_order g k) in
-    let made = number_is rank in
-    (omega (arith, made.is, made.within, far), base_within end.next (years g end there))

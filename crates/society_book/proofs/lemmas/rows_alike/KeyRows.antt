@@ -114,9 +114,6 @@ transmission_listed b db has key found lists =
     only (transmission_row key) (body_at b key.sender key.number) found
     (found_by_key HasKeyForm is_transmission_row transmission_key_of (λ r. both_same (text_at 0 r) (whole_number_at 1 r)) key key.sender key.number (λ r form. keyed key.sender key.number r form) layout.transmissions (transmission_rows b) 2 db found has (λ q. transmissions_formed q (body_at b q.sender q.number)) lists)
 
-pub transmission_found : (o : Office) (b : Book) (db : Trees) → HoldsBook o b db → (key : TransmissionKey) (found : List Row) → Lists layout.transmissions (has_key (Text key.sender ∷ Int (pos key.number) ∷ [])) 2 db found → found ≡ row_of_some (transmission_row key) (body_at b key.sender key.number)
-transmission_found o b db holds key found lists = transmission_listed b db holds.kept.transmissions key found lists
-
 -- and it shows its bytes
 pub return_shows_by : (b : Book) (db : Trees) → HasRows is_return_row (return_rows b) (rows_in layout.returns db) → (key : ReturnKey) → IsRefilled key → (found : List Row) → Lists layout.returns (has_key (Text (without_trailing_blanks key.reporter) ∷ Int (pos key.number) ∷ [])) 2 db found → ShowBody (return_at b key) found
 return_shows_by b db has key whole found lists = shows (return_at b key) (return_listed b db has key whole found lists)

@@ -64,12 +64,6 @@ module _ {X : Type 0} (row : ℕ → X → Row) (Less_than : Row → Row → Typ
   lines_rise p [] = tt
   lines_rise p (x ∷ xs) = (all_above p (p + 1) x xs (omega arith), lines_rise (p + 1) xs)
 
-some_one : {X : Type 0} (x y : X) → ◌≡◌ {A = Option X} (Some x) (Some y) → x ≡ y
-some_one x y e = cc
-
-none_of_it : {X : Type 0} (x : X) → ◌≡◌ {A = List X} [] (x ∷ []) → ⊥
-none_of_it x e = cc
-
 -- lines that are read one by one are read back
 module _ {X : Type 0} (row : ℕ → X → Row) (read : Row → Option X) (IsTold : X → Type 0) (back : (p : ℕ) (x y : X) → IsTold x → Some y ≡ read (row p x) → y ≡ x) where
   pub lines_back : (p : ℕ) (xs ys : List X) → AllByRecursion IsTold xs → map Some ys ≡ map read (map (λ l. row l.0 l.1) (enumerate_from p xs)) → ys ≡ xs

@@ -1,18 +1,12 @@
 -- A question on a connection is a question on the store over it.
-use Rattle.std.proofs.Common.{◌≡◌, ◌≤◌, ◌⊎◌, inl, inr, ℕ, Result, Bool, true, false, ◌&&◌, IsTrue, ⊎_elim, refl, ap, subst, sym, ◌∙◌, arith}
+use Rattle.std.proofs.Common.{◌≡◌, ◌≤◌, ◌⊎◌, inl, inr, ℕ, Bool, true, false, ◌&&◌, IsTrue, ⊎_elim, refl, ap, subst, sym, ◌∙◌, arith}
 use Rattle.std.proofs.lemmas.Bool.{false≢true}
 use Rattle.share_rules.specs.declared.office.Office.{Office}
 use Rattle.society_core.specs.Book.{Book}
 use Rattle.society_core.specs.State.{ChangesNothing, Goes, HasFailed}
 use Rattle.society_book.specs.BookRows.{book_of}
 use Rattle.society_book.specs.Kept.{AsksOf, HoldsOwnBook, IsOfficeBook, LeftBy, Rests, tables_state}
-use Rattle.sqlite.specs.Held.{Held, state}
-use Rattle.sqlite.specs.State.{HasCleanDisk, IsRolledBack, State, Survives}
-use Rattle.sqlite.proofs.Callers.{survives_begin}
-use Rattle.sqlite.proofs.StateLemmas.{survives_then}
-use Rattle.sqlite_trees.specs.declared.store.Store.{Ghosts}
-use Rattle.society_rows.specs.Reads.{Reads}
-use Rattle.society_rows.specs.declared.fault.RowFault.{RowFault}
+use Rattle.sqlite.specs.State.{State, Survives}
 use Rattle.sqlite.specs.Effect.{Database}
 use Rattle.sqlite_trees.specs.Tree.{Trees}
 use Rattle.sqlite_trees.specs.View.{doubt}
@@ -92,18 +86,3 @@ module _ (o : Office) (old new : State) (asks_of : AsksOf old new) where
 
   pub asks : (f g : ℕ) → f ≤ g → Rests o old → ChangesNothing (tables_state o old f) (tables_state o new g)
   asks f g more rests = record { goes = goes f g more; same = λ clean. ap (λ (db : Database). book_of db.trees) (same_now rests clean) }
-
--- a reading in a transaction that is rolled back is a question
-pub asked : {S X : Type 0} (g : Ghosts S) (old begun : Held S) (mid new : State) (result : Result X RowFault) (Found : Trees → X → Type 0) → begun ≡ record old { in_transaction = true } → Reads (state g begun) mid result Found → (HasCleanDisk new → IsRolledBack mid new) → Survives mid new (λ _. ⊥) → AsksOf (state g old) new
-asked g old begun mid new result Found begins reads undone survives =
-    let read : Reads (state g (record old { in_transaction = true })) mid result Found = subst (λ h. Reads (state g h) mid result Found) begins reads in
-    let all : Survives (state g (record old { in_transaction = true })) new (λ _. ⊥) = survives_then (state g (record old { in_transaction = true })) mid new (λ _. ⊥) (λ _. ⊥) (λ _. ⊥) (λ clean db never. never) (λ clean db never. never) read.survives survives in
-    let clean_mid : HasCleanDisk new → HasCleanDisk mid = λ clean. (let fell = survives.clean in omega (clean, arith)) in
-    record {
-      was_open = λ clean is_open. (read.kept (clean_mid clean) refl).was_open ((undone clean).was_open is_open);
-      undone = λ clean is_open.
-          let committed : mid.committed ≡ (state g old).committed = (read.kept (clean_mid clean) refl).committed ((undone clean).was_open is_open) in
-          let shown = (undone clean).undone is_open in
-          (shown.0 ∙ committed, shown.1 ∙ committed);
-      survives = survives_begin g old new (λ _. ⊥) all;
-    }

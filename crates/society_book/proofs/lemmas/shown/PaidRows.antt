@@ -33,9 +33,6 @@ use Rattle.society_book.proofs.lemmas.rows_alike.RowLemmas.{all_rows}
 use Rattle.work_ids.specs.Blanks.{fill, without_trailing_blanks}
 use Rattle.work_ids.specs.Numbers.{is_pool_number}
 
-tied_numbers : (n m : ℕ) → eq_by_cmp nat_cmp n m ≡ true → n ≡ m
-tied_numbers n m h = grind (arith, nat_tests)
-
 -- ---- the payer of a return
 
 module _ (b : Book) (key : ReturnKey) where

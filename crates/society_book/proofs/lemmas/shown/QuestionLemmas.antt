@@ -1,5 +1,5 @@
 -- What questions of the tables, asked one after another, find.
-use Rattle.std.proofs.Common.{◌≡◌, inl, IsTrue, Result, Ok, Err, IfOk, OnOk, refl, subst, sym, arith, ◌∙◌}
+use Rattle.std.proofs.Common.{◌≡◌, IsTrue, Result, Ok, Err, IfOk, OnOk, subst, sym, arith, ◌∙◌}
 use Rattle.share_rules.specs.declared.office.Office.{Office}
 use Rattle.society_core.specs.Book.{Book}
 use Rattle.society_rows.specs.declared.fault.RowFault.{RowFault}
@@ -73,15 +73,4 @@ as_asked old new (Err fault) Found IsFound asked finds = record {
   was_open = asked.was_open;
   undone = asked.undone;
   survives = asked.survives;
-}
-
--- a connection of which nothing was asked, for want of what to ask
-pub not_asked : {X : Type 0} (s : State) (fault : RowFault) (Found : Trees → X → Type 0) → (IsTrue s.is_open → s.now ≡ s.committed) → Rows.Asks {X = X} s s (Err fault) Found
-not_asked s fault Found settled = record {
-  settled = settled;
-  found = λ clean has. tt;
-  answered = λ clean. tt;
-  was_open = λ clean is_open. is_open;
-  undone = λ clean is_open. (settled is_open, refl);
-  survives = record { clean = omega arith; shield = λ h. h; counts = omega arith; limit = refl; closes = λ clean is. inl is; crash = λ clean db h. inl h };
 }

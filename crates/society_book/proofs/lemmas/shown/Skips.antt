@@ -110,9 +110,6 @@ module _ (ends : StatedEnds) (right : AreRight ends) (front : ℕ) where
     pub rise : SkipsRise 0 list first
     pub skipped : (n : ℕ) → 1 ≤ sequence_of n → segment_of n < segment_of first → is_skipped list n ≡ not (leads_to ends n)
 
-  pub none_yet : AreSkippedTo 0 []
-  none_yet = record { led = refl; begins = refl; within = omega arith; rise = omega arith; skipped = λ n some before. let none : segment_of n < 0 = before in absurd (omega (arith, none)) }
-
   module _ (first : ℕ) (list : List Skip) (so_far : AreSkippedTo first list) where
     abbrev g : ℕ
     g = segment_of first

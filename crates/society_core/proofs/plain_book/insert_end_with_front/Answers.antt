@@ -10,6 +10,7 @@ use Rattle.society_core.proofs.lemmas.Kept.{one_kept}
 use Rattle.society_core.proofs.lemmas.KeptFronts.{fronts_raised, other_stated, same_front, stated_reaches}
 use Rattle.society_core.proofs.lemmas.KeyOrders.{exact_segments, segments_total}
 use Rattle.society_core.proofs.plain_book.insert_end_with_front.Goals as goal
+use Rattle.work_ids.specs.Segments.{greatest_rank}
 
 pub raise_front-requires-clause-reached : goal.raise_front-requires-clause-reached
 raise_front-requires-clause-reached c =
@@ -19,7 +20,7 @@ raise_front-requires-clause-reached c =
     let put = one_kept segments_total exact_segments end_stated c.args.ends.now.entries c.insert.new.self.entries c.args.key c.args.end c.in_ok-insert.ensures.updates.0 in
     let is : unwrap_or (tree.get bytes_cmp c.keep_front.new.fronts s) 0 ≡ front_in m ends s = c.keep_front.ensures.same s ∙ c.requires.fronts s in
     subst (λ (t : Ends). IsReachedBy c.keep_front.new.fronts m t s) (sym put)
-    (subst (λ (n : ℕ). (is_reached (is_among m s) (ends_among (finite.insert ends c.args.key (end_stated c.args.end)) s) n ≡ true) × (n ≤ 1999999)) (sym is)
+    (subst (λ (n : ℕ). (is_reached (is_among m s) (ends_among (finite.insert ends c.args.key (end_stated c.args.end)) s) n ≡ true) × (n ≤ greatest_rank)) (sym is)
     (stated_reaches m ends c.args.key (end_stated c.args.end) c.requires.free, front_within m ends s (c.requires.orderly s)))
 
 pub raise_front-requires-clause-orderly : goal.raise_front-requires-clause-orderly

@@ -10,6 +10,7 @@ use Rattle.society_core.proofs.lemmas.Kept.{one_kept}
 use Rattle.society_core.proofs.lemmas.KeptFronts.{fronts_raised, other_there, same_front, taken_reaches}
 use Rattle.society_core.proofs.lemmas.KeyOrders.{exact_transmissions, transmissions_total}
 use Rattle.society_core.proofs.plain_book.insert_with_front.Goals as goal
+use Rattle.work_ids.specs.Segments.{greatest_rank}
 
 pub raise_front-requires-clause-reached : goal.raise_front-requires-clause-reached
 raise_front-requires-clause-reached c =
@@ -19,7 +20,7 @@ raise_front-requires-clause-reached c =
     let put = one_kept transmissions_total exact_transmissions (λ (v : Vec ℕ Global). v.items) c.args.transmissions.now.entries c.insert.new.self.entries c.args.key c.args.body c.in_ok-insert.ensures.updates.0 in
     let is : unwrap_or (tree.get bytes_cmp c.keep_front.new.fronts s) 0 ≡ front_in m ends s = c.keep_front.ensures.same s ∙ c.requires.fronts s in
     subst (λ (t : Transmissions). IsReachedBy c.keep_front.new.fronts t ends s) (sym put)
-    (subst (λ (n : ℕ). (is_reached (is_among (finite.insert m c.args.key c.args.body.items) s) (ends_among ends s) n ≡ true) × (n ≤ 1999999)) (sym is)
+    (subst (λ (n : ℕ). (is_reached (is_among (finite.insert m c.args.key c.args.body.items) s) (ends_among ends s) n ≡ true) × (n ≤ greatest_rank)) (sym is)
     (taken_reaches m ends c.args.key c.args.body.items c.requires.free, front_within m ends s (c.requires.orderly s)))
 
 pub raise_front-requires-clause-orderly : goal.raise_front-requires-clause-orderly
