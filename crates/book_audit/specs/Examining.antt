@@ -1,6 +1,7 @@
 -- What an examination in a transaction finds of the rows, and what its faults say.
 use Rattle.std.specs.Prelude.{◌≡◌, IfErr, IfOk, IsTrue, OnOk, Result}
 use Rattle.share_rules.specs.declared.office.Office.{Office}
+use Rattle.sqlite.specs.Effect.{Database}
 use Rattle.sqlite.specs.State.{HasCleanDisk, KeepsCommit, State, Survives}
 use Rattle.sqlite_trees.specs.Tree.{Trees}
 use Rattle.society_rows.specs.Effects.{MayFail}
@@ -31,14 +32,18 @@ Judges Wrong audit.Memory = Unit {0}
 Judges Wrong audit.Store = ⊥
 Judges Wrong audit.Damaged = Wrong
 
--- Readings in a transaction that judge the rows: over layout 3 the database is as it was and its rows say this, or the fault says why
--- not; nothing is committed, and a crash leaves what it left before.
-pub record Examines {X : Type 0} (Wrong : Trees → Type 0) (old new : State) (result : Result X AuditFault) (Finds : Trees → X → Type 0) : Type 0 where
-  pub finds : HasCleanDisk new → IsTrue old.in_transaction → HasLayout old.now → IfOk result (λ x. (new.now ≡ old.now) × Finds old.now.trees x)
+-- Statements in a transaction that judge the rows: over layout 3 this is said of the database before and after, or the fault says why not;
+-- nothing is committed, and a crash leaves what it left before.
+pub record Judged {X : Type 0} (Wrong : Trees → Type 0) (old new : State) (result : Result X AuditFault) (Says : Database → Database → X → Type 0) : Type 0 where
+  pub says : HasCleanDisk new → IsTrue old.in_transaction → HasLayout old.now → IfOk result (Says old.now new.now)
   pub inside : HasCleanDisk new → IsTrue old.in_transaction → OnOk result (IsTrue new.in_transaction)
   pub kept : HasCleanDisk new → IsTrue old.in_transaction → KeepsCommit old new
   pub survives : Survives old new (λ _. ⊥)
   pub faults : HasCleanDisk new → IsTrue old.in_transaction → HasLayout old.now → IfErr result (AuditFaultSays Wrong old new)
+
+-- readings: the database is as it was, and its rows say this
+abbrev pub Examines : {X : Type 0} → (Trees → Type 0) → State → State → Result X AuditFault → (Trees → X → Type 0) → Type 0
+Examines Wrong old new result Finds = Judged Wrong old new result (λ before after x. (after ≡ before) × Finds before.trees x)
 
 -- nothing is wrong
 abbrev pub Never : Trees → Type 0

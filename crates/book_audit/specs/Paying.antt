@@ -8,7 +8,7 @@ use Rattle.pool_split.specs.declared.claim.Credit.{Credit}
 use Rattle.share_rules.specs.declared.office.Office.{Office}
 use Rattle.sqlite_trees.specs.Tree.{Trees}
 use Rattle.society_core.specs.Book.{Book, IsSound, order_at}
-use Rattle.society_core.specs.Candidates.{ReachesCut}
+use Rattle.society_core.specs.Candidates.{CanBePaid, ReachesCut}
 use Rattle.society_core.specs.Orders.{Order}
 use Rattle.society_core.specs.Pools.{credits_of}
 use Rattle.society_rows.specs.Layout as layout
@@ -18,6 +18,10 @@ use Rattle.society_book.specs.Columns.{HasRows}
 use Rattle.society_book.specs.DerivedRows.{front_rows, is_named, tells_recordings, tells_verdict, tells_version, told_to_front}
 use Rattle.society_book.specs.Kept.{HoldsBook, HoldsOwnBook}
 use Rattle.society_book.specs.Sources.{HasEnds, HoldsWorks, KeepsBodies}
+use Rattle.society_closings.specs.Closings.{ListsOrder, is_reported}
+use Rattle.society_closings.specs.CutWorks.{Wants}
+use Rattle.society_closings.specs.declared.wanted.Wanted.{Wanted}
+use Rattle.society_closings.specs.declared.works_by_recording.WorksByRecording.{WorksByRecording}
 use Rattle.book_audit.specs.Audited.{IsNumbered, IsRegistered}
 use Rattle.book_audit.specs.Balances.{ComesTo, HasBalances}
 use Rattle.book_audit.specs.Credits.{AreCreditsOf, HasCredits}
@@ -49,6 +53,26 @@ credits_by office book closed = flat_map (λ (c : ClosedPool). credits_of office
 abbrev pub FindsPaid : Office → List ClosedPool → List ClosedPool → Trees → Totals → Type 0
 FindsPaid office all some db totals =
     (book : Book) → HoldsWorks office book db → AreReachedIn book all → PayIn office book db some × ComesTo totals (credits_by office book some)
+
+-- the tables have the works of no book of this office out of which each of these pools can be paid
+abbrev pub CannotPayAll : Office → List ClosedPool → Trees → Type 0
+CannotPayAll office closed db = (book : Book) → HoldsWorks office book db → AllByRecursion (λ (c : ClosedPool). CanBePaid book c.order) closed → ⊥
+
+-- nor of another
+abbrev pub CannotPayAny : List ClosedPool → Trees → Type 0
+CannotPayAny closed db = (office : Office) → CannotPayAll office closed db
+
+-- what an order looks for is wanted, by each book whose works the tables have
+abbrev pub WantsOrder : Order → Trees → Wanted → Type 0
+WantsOrder order db wanted = (office : Office) (book : Book) → HoldsWorks office book db → Wants wanted order.cut (is_reported book order)
+
+-- so of each of these pools
+abbrev pub WantsAll : List ClosedPool → Trees → Wanted → Type 0
+WantsAll closed db wanted = AllByRecursion (λ (c : ClosedPool). WantsOrder c.order db wanted) closed
+
+-- the works are listed that each of these pools looks for
+abbrev pub ListsAll : List ClosedPool → Trees → WorksByRecording → Type 0
+ListsAll closed db works = AllByRecursion (λ (c : ClosedPool). ListsOrder c.order db works) closed
 
 -- these are the numbers of the pools
 abbrev pub AreNumbersOf : List ClosedPool → BTreeSet ℕ → Type 0

@@ -3,8 +3,8 @@ ghost use Rattle.std.specs.Prelude.{◌≡◌, map, IfErr, IfOk, Ok};
 ghost use Rattle.book_audit.specs.Examining.{Examines};
 ghost use Rattle.book_audit.specs.Credits.{FindsCredits, HasCredits, HasNoPool, IsNot, credit_lines};
 ghost use Rattle.book_audit.specs.CreditSteps.{HasLines, ListsOnly};
-ghost use Rattle.society_closings.specs.Blamed.{CannotPay};
-ghost use Rattle.society_closings.specs.Closings.{PaysBy};
+ghost use Rattle.society_closings.specs.Blamed.{CannotPayAmong};
+ghost use Rattle.society_closings.specs.Closings.{PaysAmong};
 ghost use Rattle.society_rows.specs.Between.{within};
 ghost use Rattle.society_rows.specs.Rows.{credit_values};
 
@@ -13,25 +13,26 @@ use crate::alike::are_rows;
 use crate::reading::{ask, worked_out};
 use pool_split::Credit;
 use share_rules::Office;
-use society_closings::{credits_in, line_rows, texts_of};
+use society_closings::{WorksByRecording, credits_in, line_rows, texts_of};
 use society_core::PoolOrder;
 use society_rows::{CreditRow, Question, RowFault};
 use sqlite::{Alter, Transaction};
 use std::alloc::Global;
 use work_ids::PoolNumber;
 
-/// What an order pays by the tables; `Damaged` where no book whose works they have can pay it, and `Memory` or `Store` where memory or the
-/// database failed.
+/// What an order pays by the tables, out of works that are listed. Where these are those that the order looks for: `Damaged` where no book
+/// whose works the tables have can pay it, and `Memory` or `Store` where memory or the database failed.
 pub fn paid_by<S: Alter>(
     alloc: Global,
     tx: &mut Transaction<'_, S>,
     office: &Office,
     order: &PoolOrder,
+    works: &WorksByRecording,
 ) -> Result<Vec<Credit>, AuditFault>
     ensures same_reference { tx.new.conn.ghost_name ≡ tx.old.conn.ghost_name }
-    ensures examined { within S.Store tx.old tx.new (Examines (CannotPay office.now order.now)) result (λ db credits. PaysBy office.now order.now db credits.items) }
+    ensures examined { within S.Store tx.old tx.new (Examines (CannotPayAmong office.now order.now works.now)) result (λ db credits. PaysAmong office.now order.now works.now db credits.items) }
 {
-    Ok(credits_in(alloc, tx, office, order)?)
+    Ok(credits_in(alloc, tx, office, order, works)?)
 }
 
 // That the lines of a pool's credits are these; else `Damaged`.
@@ -67,19 +68,20 @@ fn lines_agree<S: Alter>(
     are_lines(tx, pool, wanted.as_slice())
 }
 
-/// What a pool pays by the tables, worked out anew, where the lines of its credits are just these; else `Damaged`, and `Memory` or `Store`
-/// where memory or the database failed.
+/// What a pool pays by the tables, worked out anew out of works that are listed, where the lines of its credits are just these; else
+/// `Damaged`, and `Memory` or `Store` where memory or the database failed.
 pub fn credits_agree<S: Alter>(
     alloc: Global,
     tx: &mut Transaction<'_, S>,
     office: &Office,
     pool: PoolNumber,
     order: &PoolOrder,
+    works: &WorksByRecording,
 ) -> Result<Vec<Credit>, AuditFault>
     ensures same_reference { tx.new.conn.ghost_name ≡ tx.old.conn.ghost_name }
-    ensures examined { within S.Store tx.old tx.new (Examines (HasNoPool office.now pool order.now)) result (FindsCredits office.now pool order.now) }
+    ensures examined { within S.Store tx.old tx.new (Examines (HasNoPool office.now pool order.now works.now)) result (FindsCredits office.now pool order.now works.now) }
 {
-    let credits = paid_by(alloc, tx, office, order)?;
+    let credits = paid_by(alloc, tx, office, order, works)?;
     lines_agree(alloc, tx, pool.value(), credits.as_slice())?;
     Ok(credits)
 }

@@ -29,6 +29,7 @@ pub use auditing::audit;
 pub use credits::paid_by;
 pub use entries::entries_in;
 pub use lines::{run_of, settled_line};
+pub use paying::works_of;
 pub use pool_orders::ClosedPool;
 pub use reading::worked_out;
 pub use standing::orders_in;

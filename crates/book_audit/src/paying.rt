@@ -1,7 +1,9 @@
 //! What closed pools pay, worked out anew and compared with the lines of credits and with the balances.
-ghost use Rattle.std.specs.Prelude.{◌≡◌, IfOk};
+ghost use Rattle.std.specs.Prelude.{◌≡◌, IfOk, OnOk};
 ghost use Rattle.book_audit.specs.Examining.{Examines, HoldsNot};
-ghost use Rattle.book_audit.specs.Paying.{AreNumbersOf, CompletesBook, DeniesPools, FindsPaid, FindsPools, LackPools};
+ghost use Rattle.book_audit.specs.Paying.{AreNumbersOf, CannotPayAny, CompletesBook, DeniesPools, FindsPaid, FindsPools, LackPools, ListsAll, WantsAll, WantsOrder};
+ghost use Rattle.society_closings.specs.Blamed.{LackReturns};
+ghost use Rattle.society_closings.specs.CutWorks.{WantsMore};
 ghost use Rattle.society_rows.specs.Between.{within};
 
 use crate::AuditFault;
@@ -12,9 +14,77 @@ use crate::pool_orders::ClosedPool;
 use crate::standing::orders_in;
 use crate::totals::Totals;
 use share_rules::Office;
+use society_closings::{Wanted, WorksByRecording};
+use society_core::PoolOrder;
 use sqlite::{Alter, Transaction};
 use std::alloc::{AllocError, Global};
 use std::collections::BTreeSet;
+
+// Adds what the pool of an order looks for; `Damaged` where no book whose works the tables have has all of its returns.
+fn add_order<S: Alter>(
+    alloc: Global,
+    tx: &mut Transaction<'_, S>,
+    order: &PoolOrder,
+    wanted: &mut Wanted,
+) -> Result<(), AuditFault>
+    ensures same_reference { tx.new.conn.ghost_name ≡ tx.old.conn.ghost_name }
+    ensures more { OnOk result (WantsMore wanted.old wanted.new) }
+    ensures examined { within S.Store tx.old tx.new (Examines (LackReturns order.now.returns)) result (λ db _. WantsOrder order.now db wanted.new) }
+{
+    wanted.add_order(alloc, tx, order)?;
+    Ok(())
+}
+
+// What closed pools look for; `Damaged` where no book whose works the tables have can pay them.
+fn wanted_by<S: Alter>(
+    alloc: Global,
+    tx: &mut Transaction<'_, S>,
+    closed: &[ClosedPool],
+) -> Result<Wanted, AuditFault>
+    ensures same_reference { tx.new.conn.ghost_name ≡ tx.old.conn.ghost_name }
+    ensures examined { within S.Store tx.old tx.new (Examines (CannotPayAny closed.now)) result (WantsAll closed.now) }
+{
+    let mut wanted = Wanted::new(alloc);
+    for one in closed {
+        add_order(alloc, tx, &one.order, &mut wanted)?;
+    }
+    Ok(wanted)
+}
+
+/// The works that closed pools look for, found in one pass for all of them; `Damaged` where no book whose works the tables have can pay
+/// them, and `Memory` or `Store` where memory or the database failed.
+pub fn works_of<S: Alter>(
+    alloc: Global,
+    tx: &mut Transaction<'_, S>,
+    closed: &[ClosedPool],
+) -> Result<WorksByRecording, AuditFault>
+    ensures same_reference { tx.new.conn.ghost_name ≡ tx.old.conn.ghost_name }
+    ensures examined { within S.Store tx.old tx.new (Examines (CannotPayAny closed.now)) result (ListsAll closed.now) }
+{
+    let wanted = wanted_by(alloc, tx, closed)?;
+    Ok(wanted.works(alloc, tx)?)
+}
+
+// What accounts have come to by closed pools, where the lines of their credits are what they pay out of works that are listed; else
+// `Damaged`.
+fn totals_among<S: Alter>(
+    alloc: Global,
+    tx: &mut Transaction<'_, S>,
+    office: &Office,
+    closed: &[ClosedPool],
+    works: &WorksByRecording,
+) -> Result<Totals, AuditFault>
+    ensures same_reference { tx.new.conn.ghost_name ≡ tx.old.conn.ghost_name }
+    ensures examined { within S.Store tx.old tx.new (Examines (λ db. ListsAll closed.now db works.now → LackPools office.now closed.now db)) result
+        (λ db totals. ListsAll closed.now db works.now → FindsPaid office.now closed.now closed.now db totals) }
+{
+    let mut totals = Totals::new(alloc);
+    for one in closed {
+        let credits = credits_agree(alloc, tx, office, one.pool, &one.order, works)?;
+        totals.add(credits.as_slice())?;
+    }
+    Ok(totals)
+}
 
 // What accounts have come to by closed pools, where the lines of their credits are what they pay; else `Damaged`.
 fn totals_of<S: Alter>(
@@ -26,12 +96,8 @@ fn totals_of<S: Alter>(
     ensures same_reference { tx.new.conn.ghost_name ≡ tx.old.conn.ghost_name }
     ensures examined { within S.Store tx.old tx.new (Examines (LackPools office.now closed.now)) result (FindsPaid office.now closed.now closed.now) }
 {
-    let mut totals = Totals::new(alloc);
-    for one in closed {
-        let credits = credits_agree(alloc, tx, office, one.pool, &one.order)?;
-        totals.add(credits.as_slice())?;
-    }
-    Ok(totals)
+    let works = works_of(alloc, tx, closed)?;
+    totals_among(alloc, tx, office, closed, &works)
 }
 
 // The numbers of closed pools.

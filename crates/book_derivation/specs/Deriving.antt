@@ -1,8 +1,8 @@
 -- What statements do that write what is derived of a book to tables that have its own rows alone.
-use Rattle.std.specs.Prelude.{◌≡◌, IfErr, IfOk, IsTrue, OnOk, Result, [], ◌∷◌, drop, take}
+use Rattle.std.specs.Prelude.{◌≡◌, Result, [], ◌∷◌, drop, take}
 use Rattle.std.specs.List.{AllByRecursion}
 use Rattle.share_rules.specs.declared.office.Office.{Office}
-use Rattle.sqlite.specs.State.{HasCleanDisk, KeepsCommit, State, Survives}
+use Rattle.sqlite.specs.State.{State}
 use Rattle.sqlite_trees.specs.Tree.{Trees}
 use Rattle.society_core.specs.Book.{Book, IsSound}
 use Rattle.society_rows.specs.Layout as layout
@@ -11,7 +11,7 @@ use Rattle.society_rows.specs.Stored.{HasLayout}
 use Rattle.society_book.specs.BookRows.{AreOfBook}
 use Rattle.society_book.specs.Kept.{HoldsOwnBook}
 use Rattle.book_audit.specs.Audited.{IsRegistered}
-use Rattle.book_audit.specs.Examining.{AuditFaultSays}
+use Rattle.book_audit.specs.Examining.{Judged}
 use Rattle.book_audit.specs.declared.audit_fault.AuditFault.{AuditFault}
 
 -- every table but those of what is derived is as it was
@@ -19,14 +19,10 @@ pub record KeepsOwn (old new : Trees) : Type 0 where
   pub first : AllByRecursion (λ t. new t.tree ≡ old t.tree) (take 6 all_tables)
   pub later : AllByRecursion (λ t. new t.tree ≡ old t.tree) (drop 12 all_tables)
 
--- Statements in a transaction that write what is derived of a book: over layout 3 the tables of the book itself are as they were and this is
--- said of the tables before and after, or the fault says why not; nothing is committed, and a crash leaves what it left before.
-pub record Derives {X : Type 0} (Wrong : Trees → Type 0) (old new : State) (result : Result X AuditFault) (Says : Trees → Trees → X → Type 0) : Type 0 where
-  pub says : HasCleanDisk new → IsTrue old.in_transaction → HasLayout old.now → IfOk result (λ x. HasLayout new.now × KeepsOwn old.now.trees new.now.trees × Says old.now.trees new.now.trees x)
-  pub inside : HasCleanDisk new → IsTrue old.in_transaction → OnOk result (IsTrue new.in_transaction)
-  pub kept : HasCleanDisk new → IsTrue old.in_transaction → KeepsCommit old new
-  pub survives : Survives old new (λ _. ⊥)
-  pub faults : HasCleanDisk new → IsTrue old.in_transaction → HasLayout old.now → IfErr result (AuditFaultSays Wrong old new)
+-- statements that write what is derived of a book: the tables of the book itself are as they were, and this is said of the tables before and after
+abbrev pub Derives : {X : Type 0} → (Trees → Type 0) → State → State → Result X AuditFault → (Trees → Trees → X → Type 0) → Type 0
+Derives Wrong old new result Says =
+    Judged Wrong old new result (λ before after x. HasLayout after × KeepsOwn before.trees after.trees × Says before.trees after.trees x)
 
 -- nothing is derived of senders' lines
 abbrev pub HasNoLines : Trees → Type 0

@@ -14,11 +14,12 @@ use Rattle.society_rows.specs.Layout.{all_tables}
 use Rattle.society_rows.specs.Stored.{AreNumbered, KeepsOthers, rows_in}
 use Rattle.society_book.specs.Kept.{HoldsOwnBook}
 use Rattle.society_book.specs.Sources.{DerivesWorks, HoldsWorks}
-use Rattle.society_closings.specs.Closings.{PaysBy}
+use Rattle.society_closings.specs.Closings.{PaysAmong}
+use Rattle.society_closings.specs.declared.works_by_recording.WorksByRecording.{WorksByRecording}
 use Rattle.book_audit.specs.Balances.{ComesTo, HasBalances, balance_row}
 use Rattle.book_audit.specs.Credits.{credit_lines}
 use Rattle.book_audit.specs.OwnRows.{HoldsReached}
-use Rattle.book_audit.specs.Paying.{AreReachedIn, HoldsUnpaid, credits_by}
+use Rattle.book_audit.specs.Paying.{AreReachedIn, CannotPayAll, HoldsUnpaid, ListsAll, credits_by}
 use Rattle.book_audit.specs.declared.pool_orders.ClosedPool.{ClosedPool}
 use Rattle.book_audit.specs.declared.totals.Totals.{Totals}
 use Rattle.book_derivation.specs.Deriving.{HasNoMoney}
@@ -32,9 +33,9 @@ pub record AddsLines (lines : List Row) (old new : Trees) : Type 0 where
 abbrev pub AddsCredits : ℕ → List Credit → Trees → Trees → Type 0
 AddsCredits pool credits = AddsLines (credit_lines pool credits)
 
--- these are the credits that a pool pays by the tables, and their lines are added
-pub record WritesPool (office : Office) (pool : ℕ) (order : Order) (old new : Trees) (credits : List Credit) : Type 0 where
-  pub pays : PaysBy office order old credits
+-- these are the credits that a pool pays by the tables, where the works are listed that it looks for, and their lines are added
+pub record WritesPool (office : Office) (pool : ℕ) (order : Order) (works : WorksByRecording) (old new : Trees) (credits : List Credit) : Type 0 where
+  pub pays : PaysAmong office order works old credits
   pub adds : AddsCredits pool credits old new
 
 -- the lines of all credits of closed pools by a book, one pool after another
@@ -47,9 +48,13 @@ pub record WritesCredits (office : Office) (closed : List ClosedPool) (old new :
   pub lines : (book : Book) → HoldsWorks office book old → AreReachedIn book closed → IsPermutation (lines_by office book closed ++ rows_in layout.credits_table old) (rows_in layout.credits_table new)
   pub comes : (book : Book) → HoldsWorks office book old → AreReachedIn book closed → ComesTo totals (credits_by office book closed)
 
--- the tables have the works of no book out of which each of these pools can be paid
-abbrev pub CannotPayAll : Office → List ClosedPool → Trees → Type 0
-CannotPayAll office closed db = (book : Book) → HoldsWorks office book db → AllByRecursion (λ (c : ClosedPool). CanBePaid book c.order) closed → ⊥
+-- so where the works are listed that each of them looks for
+abbrev pub WritesListed : Office → List ClosedPool → WorksByRecording → Trees → Trees → Totals → Type 0
+WritesListed office closed works old new totals = ListsAll closed old works → WritesCredits office closed old new totals
+
+-- then the tables have the works of no book out of which each of these pools can be paid
+abbrev pub CannotPayListed : Office → List ClosedPool → WorksByRecording → Trees → Type 0
+CannotPayListed office closed works db = ListsAll closed db works → CannotPayAll office closed db
 
 -- the balance of an account that has come to these units is added, and nothing else
 pub record AddsBalance (account : List ℕ) (units : ℕ) (old new : Trees) : Type 0 where

@@ -2,16 +2,17 @@
 ghost use Rattle.std.specs.Prelude.{◌≡◌, map};
 ghost use Rattle.book_audit.specs.Examining.{Never};
 ghost use Rattle.book_derivation.specs.Deriving.{Derives};
-ghost use Rattle.book_derivation.specs.Money.{AddsCredits, AddsLines, CannotPayAll, WritesCredits, WritesPool};
-ghost use Rattle.society_closings.specs.Blamed.{CannotPay};
+ghost use Rattle.book_audit.specs.Paying.{CannotPayAll};
+ghost use Rattle.book_derivation.specs.Money.{AddsCredits, AddsLines, CannotPayListed, WritesCredits, WritesListed, WritesPool};
+ghost use Rattle.society_closings.specs.Blamed.{CannotPayAmong};
 ghost use Rattle.society_rows.specs.Between.{within};
 ghost use Rattle.society_rows.specs.Rows.{credit_values};
 
 use crate::writing::wrote;
-use book_audit::{AuditFault, ClosedPool, Totals, paid_by, worked_out};
+use book_audit::{AuditFault, ClosedPool, Totals, paid_by, worked_out, works_of};
 use pool_split::Credit;
 use share_rules::Office;
-use society_closings::{line_rows, texts_of};
+use society_closings::{WorksByRecording, line_rows, texts_of};
 use society_core::PoolOrder;
 use society_rows::{CreditRow, add_credits};
 use sqlite::{Alter, Transaction};
@@ -44,24 +45,46 @@ fn write_lines<S: Alter>(
     add_lines(tx, lines.as_slice())
 }
 
-// What a pool pays by the tables, whose lines are written; `Damaged` where no book whose works they have can pay it.
+// What a pool pays by the tables out of works that are listed, whose lines are written; `Damaged` where no book whose works the tables have
+// can pay it.
 fn write_pool<S: Alter>(
     alloc: Global,
     tx: &mut Transaction<'_, S>,
     office: &Office,
     pool: PoolNumber,
     order: &PoolOrder,
+    works: &WorksByRecording,
 ) -> Result<Vec<Credit>, AuditFault>
     ensures same_reference { tx.new.conn.ghost_name ≡ tx.old.conn.ghost_name }
-    ensures derives { within S.Store tx.old tx.new (Derives (CannotPay office.now order.now)) result (λ before after credits. WritesPool office.now pool order.now before after credits.items) }
+    ensures derives { within S.Store tx.old tx.new (Derives (CannotPayAmong office.now order.now works.now)) result (λ before after credits. WritesPool office.now pool order.now works.now before after credits.items) }
 {
-    let credits = paid_by(alloc, tx, office, order)?;
+    let credits = paid_by(alloc, tx, office, order, works)?;
     write_lines(alloc, tx, pool.value(), credits.as_slice())?;
     Ok(credits)
 }
 
+// What accounts come to by closed pools, the lines of whose credits are written, out of works that are listed.
+fn write_each<S: Alter>(
+    alloc: Global,
+    tx: &mut Transaction<'_, S>,
+    office: &Office,
+    closed: &[ClosedPool],
+    works: &WorksByRecording,
+) -> Result<Totals, AuditFault>
+    ensures same_reference { tx.new.conn.ghost_name ≡ tx.old.conn.ghost_name }
+    ensures derives { within S.Store tx.old tx.new (Derives (CannotPayListed office.now closed.now works.now)) result (WritesListed office.now closed.now works.now) }
+{
+    let mut totals = Totals::new(alloc);
+    for one in closed {
+        let credits = write_pool(alloc, tx, office, one.pool, &one.order, works)?;
+        totals.add(credits.as_slice())?;
+    }
+    Ok(totals)
+}
+
 /// What accounts come to by closed pools, the lines of whose credits are written; `Damaged` where no book whose works the tables have can
-/// pay them, and `Memory` or `Store` where memory or the database failed. Memory is that of the accounts and of one pool's credits.
+/// pay them, and `Memory` or `Store` where memory or the database failed. Memory is that of the accounts, of the works that the pools look
+/// for and of one pool's credits.
 pub(crate) fn write_credits<S: Alter>(
     alloc: Global,
     tx: &mut Transaction<'_, S>,
@@ -71,10 +94,6 @@ pub(crate) fn write_credits<S: Alter>(
     ensures same_reference { tx.new.conn.ghost_name ≡ tx.old.conn.ghost_name }
     ensures derives { within S.Store tx.old tx.new (Derives (CannotPayAll office.now closed.now)) result (WritesCredits office.now closed.now) }
 {
-    let mut totals = Totals::new(alloc);
-    for one in closed {
-        let credits = write_pool(alloc, tx, office, one.pool, &one.order)?;
-        totals.add(credits.as_slice())?;
-    }
-    Ok(totals)
+    let works = works_of(alloc, tx, closed)?;
+    write_each(alloc, tx, office, closed, &works)
 }

@@ -6,15 +6,17 @@ use Rattle.society_core.specs.Book.{Book, is_applied, is_one_of, numbers_to, ret
 use Rattle.society_core.specs.Candidates.{AreFor, CanBePaid, ReachesCut}
 use Rattle.society_core.specs.Orders.{Order}
 use Rattle.society_core.specs.Owners.{works_of_cut}
-use Rattle.society_core.specs.Points.{Tallies, rows_named}
+use Rattle.society_core.specs.Points.{Tallies, is_tallied, rows_named}
 use Rattle.society_core.specs.declared.claim_list.Candidate.{Candidate}
 use Rattle.society_core.specs.declared.points.Tally.{Tally}
 use Rattle.society_core.specs.declared.return_key.ReturnKey.{ReturnKey}
 use Rattle.society_core.specs.declared.transmission_key.TransmissionKey.{TransmissionKey}
 use Rattle.society_book.specs.Sources.{HoldsWorks}
-use Rattle.society_closings.specs.CutWorks.{ChoosesNaming, NotesRecordings, notes_of_sender}
+use Rattle.society_closings.specs.CutWorks.{ChoosesNaming, ListsWorks, NotesRecordings, notes_of_sender, wants_for}
+use Rattle.society_closings.specs.Closings.{ListsOrder}
 use Rattle.society_closings.specs.declared.chosen.Chosen.{Chosen}
 use Rattle.society_closings.specs.declared.named_works.NamedWorks.{NamedWorks}
+use Rattle.society_closings.specs.declared.works_by_recording.WorksByRecording.{WorksByRecording}
 use Rattle.sqlite_trees.specs.Tree.{Trees}
 
 -- the tables have the works of no book
@@ -48,9 +50,14 @@ LackSenders office cut of_these named db =
     (book : Book) → HoldsWorks office book db → NotesRecordings db of_these named
     → list_all (λ key. notes_of_sender named key.sender) cut ≡ true → list_all (is_applied book) cut ≡ true → ⊥
 
--- the tables have the works of no book in which the cut of an order is reached
-abbrev pub LackCut : Office → Order → Trees → Type 0
-LackCut office order db = (book : Book) → HoldsWorks office book db → ReachesCut book order → ⊥
+-- the tables have the works of no book in which the cut of an order is reached, where the works are listed that it looks for
+abbrev pub LackCut : Office → Order → Tally → WorksByRecording → Trees → Type 0
+LackCut office order tally works db = ListsWorks (wants_for order.cut (is_tallied tally)) db works → (book : Book) → HoldsWorks office book db → ReachesCut book order → ⊥
+
+-- they have those of none in which this is the tally of the order's returns besides
+abbrev pub LackTallied : Office → Order → Tally → WorksByRecording → Trees → Type 0
+LackTallied office order tally works db =
+    ListsWorks (wants_for order.cut (is_tallied tally)) db works → (book : Book) → HoldsWorks office book db → ReachesCut book order → Tallies tally (rows_named book order) → length (rows_named book order) ≤ 10000000 → ⊥
 
 -- a tally and candidates are those of an order in no book
 abbrev pub BelongNowhere : Tally → List Candidate → Order → Type 0
@@ -61,3 +68,7 @@ BelongNowhere tally candidates order =
 -- the tables have the works of no book out of which the pool of an order can be paid
 abbrev pub CannotPay : Office → Order → Trees → Type 0
 CannotPay office order db = (book : Book) → HoldsWorks office book db → CanBePaid book order → ⊥
+
+-- so where the works are listed that the order looks for
+abbrev pub CannotPayAmong : Office → Order → WorksByRecording → Trees → Type 0
+CannotPayAmong office order works db = ListsOrder order db works → CannotPay office order db

@@ -25,11 +25,12 @@ use Rattle.society_core.specs.declared.claim_list.Candidate.{Candidate}
 use Rattle.society_core.specs.declared.return_key.ReturnKey.{ReturnKey}
 use Rattle.society_core.specs.declared.points.Tally.{Tally}
 use Rattle.society_core.specs.declared.transmission_key.TransmissionKey.{TransmissionKey}
-use Rattle.society_closings.specs.CutWorks.{Chooses, ChoosesNaming, NotesRecordings, is_chosen, notes_of_sender, works_chosen}
+use Rattle.society_closings.specs.CutWorks.{Chooses, ChoosesNaming, ListsWorks, NotesRecordings, is_chosen, notes_of_sender, wants_for, works_chosen}
 use Rattle.society_book.specs.Shown.{ShowBody}
 use Rattle.society_book.specs.Sources.{HoldsWorks}
 use Rattle.society_closings.specs.declared.chosen.Chosen.{Chosen}
 use Rattle.society_closings.specs.declared.named_works.NamedWorks.{NamedWorks}
+use Rattle.society_closings.specs.declared.works_by_recording.WorksByRecording.{WorksByRecording}
 use Rattle.works_core.specs.declared.version.WorkVersion.{WorkVersion}
 
 -- the candidates of the versions at a sender's cut are added that stand in one transmission
@@ -56,15 +57,10 @@ AreForCut kind office tally cut named db candidates =
     → list_all (λ key. notes_of_sender named key.sender) cut ≡ true → list_all (is_applied book) cut ≡ true
     → AreFor kind office tally (flat_map (versions_at_cut office book) cut) candidates
 
--- they are the candidates of the works of an order's cut
-abbrev pub AreForOrder : Kind → Office → Tally → Order → Trees → List Candidate → Type 0
-AreForOrder kind office tally order db candidates =
-    (book : Book) → HoldsWorks office book db → ReachesCut book order → AreFor kind office tally (works_of_cut office book order) candidates
-
--- the works of these senders are noted that name one of these recordings
-abbrev pub NotesCut : List TransmissionKey → List (List ℕ) → Trees → NamedWorks → Type 0
-NotesCut cut recordings db named =
-    ((sender : List ℕ) → notes_of_sender named sender ≡ list_any (λ key. bytes_eq key.sender sender) cut) × NotesRecordings db (λ isrc. list_any (bytes_eq isrc) recordings) named
+-- they are the candidates of the works of an order's cut, where the works are listed that it looks for
+abbrev pub AreForOrder : Kind → Office → Tally → Order → WorksByRecording → Trees → List Candidate → Type 0
+AreForOrder kind office tally order works db candidates =
+    ListsWorks (wants_for order.cut (is_tallied tally)) db works → (book : Book) → HoldsWorks office book db → ReachesCut book order → AreFor kind office tally (works_of_cut office book order) candidates
 
 -- the version of one work more is chosen, by which it stands at a cut
 abbrev pub ChoosesMore : {E : Type 0} → List ℕ → Option WorkVersion → Chosen → Result (Unit {0}) E → Chosen → Type 0
@@ -99,6 +95,16 @@ abbrev pub TalliesReturns : List ReturnKey → Trees → Tally → Type 0
 TalliesReturns keys db tally =
     (office : Office) (book : Book) → HoldsWorks office book db → length keys ≤ 1000
     → Tallies tally (flat_map (rows_of_return book) keys) × (length (flat_map (rows_of_return book) keys) ≤ 10000000)
+
+-- the performances of an order's returns are counted, at most 10,000,000 of them
+abbrev pub TalliesOrder : Order → Trees → Tally → Type 0
+TalliesOrder order db tally =
+    (office : Office) (book : Book) → HoldsWorks office book db → Tallies tally (rows_named book order) × (length (rows_named book order) ≤ 10000000)
+
+-- by this tally of its returns an order pays these credits, where the works are listed that it looks for
+abbrev pub PaysTallied : Office → Order → Tally → WorksByRecording → Trees → List Credit → Type 0
+PaysTallied office order tally works db credits =
+    ListsWorks (wants_for order.cut (is_tallied tally)) db works → (book : Book) → HoldsWorks office book db → ReachesCut book order → Tallies tally (rows_named book order) → credits ≡ credits_of office book order
 
 -- by the tally of an order's returns and its candidates it has these credits
 abbrev pub PaysByTally : Tally → List Candidate → Order → Result (Vec Credit Global) RowFault → Type 0

@@ -1,6 +1,6 @@
 -- What is written of a pool that is closed.
-use Rattle.std.specs.Prelude.{ℕ, ◌≡◌, ◌≢◌, List, [], ◌∷◌, ◌++◌, None, IsPermutation, bytes_eq, filter}
-use Rattle.std.specs.List.{AllByRecursion}
+use Rattle.std.specs.Prelude.{ℕ, ◌≡◌, ◌≢◌, Bool, List, [], ◌∷◌, ◌++◌, None, IsPermutation, bytes_eq, filter}
+use Rattle.std.specs.List.{AllByRecursion, list_any}
 use Rattle.sqlite_trees.specs.Tree.{Trees}
 use Rattle.sqlite_value.specs.Order.{Row}
 use Rattle.society_rows.specs.Layout as layout
@@ -14,12 +14,15 @@ use Rattle.society_core.specs.Answers.{close_refusal}
 use Rattle.society_core.specs.Book.{Book, order_at, with_pool}
 use Rattle.society_core.specs.Candidates.{ReachesCut}
 use Rattle.society_core.specs.Orders.{Order}
+use Rattle.society_core.specs.Points.{is_performance_of, rows_named}
 use Rattle.society_core.specs.Pools.{credits_of}
 use Rattle.society_book.specs.BookRows.{mechanical_row}
 use Rattle.society_book.specs.Sources.{HoldsWorks}
 use Rattle.society_book.specs.DerivedRows.{balance_rows_by}
 use Rattle.society_book.specs.Kept.{HoldsBook}
 use Rattle.society_book.specs.Shown.{AddsEach, AddsPool}
+use Rattle.society_closings.specs.CutWorks.{ListsWorks, wants_for}
+use Rattle.society_closings.specs.declared.works_by_recording.WorksByRecording.{WorksByRecording}
 use Rattle.sqlite.specs.Effect.{Database}
 use Rattle.work_ids.specs.Account.{account_text}
 
@@ -61,6 +64,18 @@ ClosesWith pool order credits old new =
 -- tables that have what a pool is paid by, of a book in which the cut of an order is reached, pay these credits by it
 abbrev pub PaysBy : Office → Order → Trees → List Credit → Type 0
 PaysBy office order db credits = (book : Book) → HoldsWorks office book db → ReachesCut book order → credits ≡ credits_of office book order
+
+-- whether a recording is one that the returns of an order report
+abbrev pub is_reported : Book → Order → List ℕ → Bool
+is_reported book order isrc = list_any (is_performance_of isrc) (rows_named book order)
+
+-- the works are listed that an order looks for, by each book whose works the tables have
+abbrev pub ListsOrder : Order → Trees → WorksByRecording → Type 0
+ListsOrder order db works = (office : Office) (book : Book) → HoldsWorks office book db → ListsWorks (wants_for order.cut (is_reported book order)) db works
+
+-- where these are listed, the order pays these credits by the tables
+abbrev pub PaysAmong : Office → Order → WorksByRecording → Trees → List Credit → Type 0
+PaysAmong office order works db credits = ListsOrder order db works → PaysBy office order db credits
 
 -- tables of an office that held a book in which a pool is not closed, and in which nothing refuses its order, hold the book with the pool
 abbrev pub ClosesPool : Office → ℕ → Order → Trees → Trees → Type 0

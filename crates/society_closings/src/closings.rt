@@ -212,7 +212,7 @@ fn pay_out<S: Alter>(
 }
 
 /// Adds all that is written of a pool that is closed by an order and pays these credits.
-pub fn write_pool<S: Alter>(
+pub(crate) fn write_pool<S: Alter>(
     alloc: Global,
     tx: &mut Transaction<'_, S>,
     pool: u32,

@@ -13,7 +13,8 @@ ghost use Rattle.society_closings.specs.Readable.{ShowTransmission};
 ghost use Rattle.society_closings.specs.Choosing.{AddsWorks, AddsOfTransmission, AddsChosen, AddsOfSender, AreForCut, AreForOrder, AddsShown, work_chosen};
 
 use crate::chosen::{Chosen, chosen_of};
-use crate::named_works::{NamedWorks, named_works};
+use crate::named_works::NamedWorks;
+use crate::works_by_recording::WorksByRecording;
 use cwr_files::{ReadFault, Transaction, Transmission, read_transmission};
 use share_rules::{Kind, Office};
 use society_core::{Candidate, PoolOrder, Tally, TransmissionKey, Weighing, add_candidates};
@@ -239,7 +240,9 @@ fn candidates_of<S: Alter>(
     Ok(candidates)
 }
 
-/// The candidates for the recordings of a tally: of all works of an order's cut those whose version there names one.
+/// The candidates for the recordings of a tally: of all works of an order's cut those whose version there names one, out of the works that
+/// are listed. Where the disk told the truth, an error says that memory ran out, that a count has no room, that the medium may have failed,
+/// or that the tables have the works of no book in which the cut is reached. Public for its tests.
 pub fn candidates_in<S: Alter>(
     alloc: Global,
     kind: Kind,
@@ -247,12 +250,13 @@ pub fn candidates_in<S: Alter>(
     office: &Office,
     tally: &Tally,
     order: &PoolOrder,
+    works: &WorksByRecording,
 ) -> Result<Vec<Candidate>, RowFault>
     ensures same_reference { tx.new.conn.ghost_name ≡ tx.old.conn.ghost_name }
-    ensures looks { within S.Store tx.old tx.new Looks result (λ db candidates. AreForOrder kind office.now tally.now order.now db candidates.items) }
-    ensures errs { within S.Store tx.old tx.new (Errs (LackCut office.now order.now)) result }
+    ensures looks { within S.Store tx.old tx.new Looks result (λ db candidates. AreForOrder kind office.now tally.now order.now works.now db candidates.items) }
+    ensures errs { within S.Store tx.old tx.new (Errs (LackCut office.now order.now tally.now works.now)) result }
 {
     let recordings = tally.recordings(alloc)?;
-    let named = named_works(alloc, tx, recordings.as_slice(), order.cut())?;
+    let named = works.named(alloc, recordings.as_slice(), order.cut())?;
     candidates_of(alloc, kind, tx, office, tally, order.cut(), &named)
 }

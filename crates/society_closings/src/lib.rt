@@ -11,7 +11,11 @@ mod cut_works;
 mod named_works;
 mod paying;
 mod totals;
+mod wanted;
+mod works_by_recording;
 
-pub use closings::{line_rows, texts_of, write_pool};
+pub use closings::{line_rows, texts_of};
 pub use cut_works::candidates_in;
 pub use paying::{close, credits_in};
+pub use wanted::Wanted;
+pub use works_by_recording::WorksByRecording;

@@ -2,18 +2,20 @@
 ghost use Rattle.std.specs.Prelude.{◌≡◌, ◌≤◌, [], List, ℕ, Option, length, unwrap_or, IfErr, OnOk, ⊤};
 ghost use Rattle.perf_returns.specs.Returns.{performances_in};
 ghost use Rattle.society_core.specs.Orders.{IsOrder};
-ghost use Rattle.society_closings.specs.Closings.{ClosesPool, PaysBy};
+ghost use Rattle.society_closings.specs.Closings.{ClosesPool, PaysAmong, PaysBy};
 ghost use Rattle.society_book.specs.Errors.{Blames};
 ghost use Rattle.society_book.specs.Shown.{AddsAlone, ShowBody};
 ghost use Rattle.society_book.specs.Steps.{DoesOpen, Looks};
 ghost use Rattle.society_rows.specs.Between.{between, within};
 ghost use Rattle.society_rows.specs.Effects.{Errs};
-ghost use Rattle.society_closings.specs.Blamed.{BelongNowhere, CannotPay, LackReturn, LackReturns};
+ghost use Rattle.society_closings.specs.Blamed.{BelongNowhere, CannotPayAmong, LackReturn, LackReturns, LackTallied};
 ghost use Rattle.society_closings.specs.Readable.{ShowReturn};
-ghost use Rattle.society_closings.specs.Choosing.{TalliesReturn, TalliesReturns, PaysByTally, TalliesKept};
+ghost use Rattle.society_closings.specs.Choosing.{PaysByTally, PaysTallied, TalliesKept, TalliesReturn, TalliesReturns};
 
 use crate::closings::write_pool;
 use crate::cut_works::candidates_in;
+use crate::wanted::Wanted;
+use crate::works_by_recording::WorksByRecording;
 use perf_returns::{ReturnError, read_return};
 use pool_split::{Credit, are_payable, credits};
 use share_rules::Office;
@@ -59,8 +61,8 @@ fn add_return<S: Alter>(
     add_performances(alloc, rows.as_slice(), tally)
 }
 
-// The tally of all performances of these returns.
-fn tally_of<S: Alter>(
+/// The tally of all performances of these returns.
+pub(crate) fn tally_of<S: Alter>(
     alloc: Global,
     tx: &mut Transaction<'_, S>,
     returns: &[ReturnKey],
@@ -94,9 +96,43 @@ fn credits_by(
     Ok(credits(alloc, order.amount(), &claims)?)
 }
 
-/// What an order pays by the tables. Where the disk told the truth, an error says that memory ran out, that a count has no
-/// room, that the medium may have failed, or that no book whose works the tables have can pay the order.
+// What an order pays by the tables, by the tally of its returns and the works that are listed.
+fn credits_for<S: Alter>(
+    alloc: Global,
+    tx: &mut Transaction<'_, S>,
+    office: &Office,
+    order: &PoolOrder,
+    tally: &Tally,
+    works: &WorksByRecording,
+) -> Result<Vec<Credit>, RowFault>
+    ensures same_reference { tx.new.conn.ghost_name ≡ tx.old.conn.ghost_name }
+    ensures looks { within S.Store tx.old tx.new Looks result (λ db credits. PaysTallied office.now order.now tally.now works.now db credits.items) }
+    ensures errs { within S.Store tx.old tx.new (Errs (LackTallied office.now order.now tally.now works.now)) result }
+{
+    let candidates = candidates_in(alloc, order.kind(), tx, office, tally, order, works)?;
+    credits_by(alloc, tally, &candidates, order)
+}
+
+/// What an order pays by the tables, out of works that are listed. Where the disk told the truth, and these are those that the order looks
+/// for, an error says that memory ran out, that a count has no room, that the medium may have failed, or that no book whose works the
+/// tables have can pay the order.
 pub fn credits_in<S: Alter>(
+    alloc: Global,
+    tx: &mut Transaction<'_, S>,
+    office: &Office,
+    order: &PoolOrder,
+    works: &WorksByRecording,
+) -> Result<Vec<Credit>, RowFault>
+    ensures same_reference { tx.new.conn.ghost_name ≡ tx.old.conn.ghost_name }
+    ensures looks { within S.Store tx.old tx.new Looks result (λ db credits. PaysAmong office.now order.now works.now db credits.items) }
+    ensures errs { within S.Store tx.old tx.new (Errs (CannotPayAmong office.now order.now works.now)) result }
+{
+    let tally = tally_of(alloc, tx, order.returns())?;
+    credits_for(alloc, tx, office, order, &tally, works)
+}
+
+// What an order pays by the tables.
+fn credits_of_order<S: Alter>(
     alloc: Global,
     tx: &mut Transaction<'_, S>,
     office: &Office,
@@ -104,12 +140,12 @@ pub fn credits_in<S: Alter>(
 ) -> Result<Vec<Credit>, RowFault>
     ensures same_reference { tx.new.conn.ghost_name ≡ tx.old.conn.ghost_name }
     ensures looks { within S.Store tx.old tx.new Looks result (λ db credits. PaysBy office.now order.now db credits.items) }
-    ensures errs { within S.Store tx.old tx.new (Errs (CannotPay office.now order.now)) result }
     ensures kept { IsOrder order.now }
 {
-    let tally = tally_of(alloc, tx, order.returns())?;
-    let candidates = candidates_in(alloc, order.kind(), tx, office, &tally, order)?;
-    credits_by(alloc, &tally, &candidates, order)
+    let mut wanted = Wanted::new(alloc);
+    let tally = wanted.add_order(alloc, tx, order)?;
+    let works = wanted.works(alloc, tx)?;
+    credits_for(alloc, tx, office, order, &tally, &works)
 }
 
 // Closes a pool in a transaction.
@@ -123,7 +159,7 @@ fn close_inside<S: Alter>(
     ensures same_reference { tx.new.conn.ghost_name ≡ tx.old.conn.ghost_name }
     ensures does { within S.Store tx.old tx.new DoesOpen result (λ before after _. ClosesPool office.now pool order.now before.trees after.trees × ⊤) }
 {
-    let credits = credits_in(alloc, tx, office, order)?;
+    let credits = credits_of_order(alloc, tx, office, order)?;
     write_pool(alloc, tx, pool.value(), order, &credits)
 }
 

@@ -217,7 +217,7 @@ impl<S: Alter> Tables<S> {
     // Refused where the store has counted all the failures that it can.
     fn counts_on(&self) -> Result<(), StoreFault>
         ensures room { IfOk result (λ _. self.now.failures < 2 ^ 64 - 1) }
-        ensures refused { IfErr result (λ fault. (fault ≡ Refused) × (self.now.failures ≡ 2 ^ 64 - 1)) }
+        ensures fault { IfErr result (λ fault. (fault ≡ Refused) × (self.now.failures ≡ 2 ^ 64 - 1)) }
     {
         if self.failures == u64::MAX {
             Err(StoreFault::Refused)

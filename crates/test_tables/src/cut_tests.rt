@@ -1,4 +1,5 @@
 //! The candidates of a pool, out of tables to which works of two senders have come.
+ghost use Rattle.std.specs.Prelude.{◌≡◌};
 
 use crate::checks::told;
 use crate::left::{office, without_tables};
@@ -6,10 +7,10 @@ use cwr_files::FileReader;
 use perf_returns::read_return;
 use share_rules::{Kind, Office};
 use society_arrivals::arrive;
-use society_closings::candidates_in;
+use society_closings::{Wanted, candidates_in};
 use society_core::{Candidate, PoolOrder, Tally};
-use society_rows::{Found, Idle, OfficeRow, create, layout_found};
-use sqlite::Alter;
+use society_rows::{Found, Idle, OfficeRow, RowFault, create, layout_found};
+use sqlite::{Alter, Transaction};
 use std::alloc::{AllocError, Global};
 use std::str;
 use std::test::Fail;
@@ -64,6 +65,23 @@ fn fill<S: Alter>(alloc: Global, conn: &mut Idle<S>, office: &Office) -> Result<
     put_all(alloc, conn, office)
 }
 
+/// The candidates for the recordings of a tally, out of the works that an order looks for.
+fn candidates_for<S: Alter>(
+    alloc: Global,
+    tx: &mut Transaction<'_, S>,
+    office: &Office,
+    tally: &Tally,
+    order: &PoolOrder,
+) -> Result<Vec<Candidate>, RowFault>
+    ensures { tx.new.conn.ghost_name ≡ tx.old.conn.ghost_name }
+{
+    let recordings = tally.recordings(alloc)?;
+    let mut wanted = Wanted::new(alloc);
+    wanted.add(order.cut(), recordings.as_slice())?;
+    let works = wanted.works(alloc, tx)?;
+    candidates_in(alloc, order.kind(), tx, office, tally, order, &works)
+}
+
 /// The candidates for the first two recordings where the one sender is cut at this number.
 fn found<S: Alter>(
     alloc: Global,
@@ -72,15 +90,14 @@ fn found<S: Alter>(
     cut: u64,
 ) -> Result<Vec<Candidate>, Fail> {
     let (one, other) = (SenderKey::from_bytes(ONE)?, SenderKey::from_bytes(OTHER)?);
-    let kind = Kind::Performing;
-    let order = PoolOrder::new(alloc, kind, 100, &[(one, cut), (other, 1)], &[]);
+    let order = PoolOrder::new(alloc, Kind::Performing, 100, &[(one, cut), (other, 1)], &[]);
     let order = order.ok().ok_or("an order")?;
     let body = b"isrc,plays,seconds\nATABC2600001,10,200\nATABC2600002,10,200\n";
     let performances = read_return(alloc, body).ok().ok_or("a return")?;
     let mut tally = Tally::new(alloc);
     tally.add_all(performances.rows.as_slice())?;
     let mut tx = conn.connection.transaction();
-    let candidates = candidates_in(alloc, kind, &mut tx, office, &tally, &order);
+    let candidates = candidates_for(alloc, &mut tx, office, &tally, &order);
     tx.rollback();
     Ok(candidates.ok().ok_or("candidates")?)
 }

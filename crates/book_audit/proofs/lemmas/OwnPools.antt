@@ -19,7 +19,11 @@ use Rattle.society_closings.proofs.lemmas.money.Payments.{cut_reached}
 use Rattle.work_ids.specs.Account.{account_text}
 use Rattle.book_audit.specs.Balances.{HasBalances, row_of_account}
 use Rattle.book_audit.specs.Credits.{AreCreditsOf}
-use Rattle.book_audit.specs.Paying.{AreApart, AreClosedIn, AreNumbersOf, AreReachedIn, credits_by}
+use Rattle.book_audit.specs.Paying.{AreApart, AreClosedIn, AreNumbersOf, AreReachedIn, CannotPayAny, credits_by}
+use Rattle.book_audit.proofs.lemmas.credits.Payable.{payable}
+use Rattle.society_closings.proofs.lemmas.cuts.WorksHeld.{works_of}
+use Rattle.society_core.specs.Candidates.{CanBePaid}
+use Rattle.std.specs.List.{AllByRecursion}
 use Rattle.book_audit.specs.OwnRows.{HoldsReached}
 use Rattle.book_audit.specs.Pools.{orders_by}
 use Rattle.book_audit.specs.declared.pool_orders.ClosedPool.{ClosedPool}
@@ -59,3 +63,11 @@ module _ (o : Office) (b : Book) (db : Trees) (holds : HoldsBook o b db) (closed
   balances_own are account =
       subst (λ (l : List Row). IsPermutation l (filter (is_named account) (rows_in layout.balances db)))
       (sym (same_rows (credits_by o b closed) (all_credits o b) (credits_of_all o b closed are whole) account)) (holds.derived.balances account)
+
+-- the pools of a book that the tables hold can be paid
+payable_there : (o : Office) (b : Book) (db : Trees) → HoldsBook o b db → (some : List ClosedPool) → AreClosedIn b some → AllByRecursion (λ (c : ClosedPool). CanBePaid b c.order) some
+payable_there o b db holds [] there = tt
+payable_there o b db holds (c ∷ some) there = ((payable o b db holds c.pool c.order there.0).2, payable_there o b db holds some there.1)
+
+pub all_payable : (o : Office) (b : Book) (db : Trees) → HoldsBook o b db → (closed : List ClosedPool) → CannotPayAny closed db → AreClosedIn b closed → ⊥
+all_payable o b db holds closed cannot there = cannot o b (works_of o b db holds) (payable_there o b db holds closed there)

@@ -1,5 +1,5 @@
 -- Writes of what is derived, each to one table.
-use Rattle.std.proofs.Common.{◌≡◌, ◌≢◌, ◌++◌, Bool, true, false, List, IsPermutation, Result, Ok, Err, IfErr, IfOk, OnOk, arith, cond, refl, subst, sym, drop, take}
+use Rattle.std.proofs.Common.{◌≡◌, ◌≢◌, ◌≤◌, ◌++◌, Bool, true, false, List, IsPermutation, Result, Ok, Err, IfErr, IfOk, OnOk, arith, cond, refl, subst, sym, drop, take}
 use Rattle.std.specs.List.{AllByRecursion}
 use Rattle.std.specs.Result.{IsErrAnd}
 use Rattle.sqlite.specs.Effect.{Database}
@@ -106,44 +106,34 @@ derives_puts table row old new r done derived writes blamed went failed =
 
 -- ---- the tables of what is derived
 
-pub fronts_derived : IsDerived layout.fronts
+-- a table is one of them by its tree
+derived_by_tree : (t : Table) → 10 ≤ t.tree → t.tree ≤ 20 → IsDerived t
 unfolding all_tables written_out
-fronts_derived = record {
+derived_by_tree t from to = record {
   first = (λ e. omega (arith, e), (λ e. omega (arith, e), (λ e. omega (arith, e), (λ e. omega (arith, e), (λ e. omega (arith, e), (λ e. omega (arith, e), tt))))));
   later = (λ e. omega (arith, e), (λ e. omega (arith, e), tt));
 }
+
+pub fronts_derived : IsDerived layout.fronts
+unfolding written_out
+fronts_derived = derived_by_tree layout.fronts (omega arith) (omega arith)
 
 pub verdicts_derived : IsDerived layout.verdicts
-unfolding all_tables written_out
-verdicts_derived = record {
-  first = (λ e. omega (arith, e), (λ e. omega (arith, e), (λ e. omega (arith, e), (λ e. omega (arith, e), (λ e. omega (arith, e), (λ e. omega (arith, e), tt))))));
-  later = (λ e. omega (arith, e), (λ e. omega (arith, e), tt));
-}
+unfolding written_out
+verdicts_derived = derived_by_tree layout.verdicts (omega arith) (omega arith)
 
 pub versions_derived : IsDerived layout.versions
-unfolding all_tables written_out
-versions_derived = record {
-  first = (λ e. omega (arith, e), (λ e. omega (arith, e), (λ e. omega (arith, e), (λ e. omega (arith, e), (λ e. omega (arith, e), (λ e. omega (arith, e), tt))))));
-  later = (λ e. omega (arith, e), (λ e. omega (arith, e), tt));
-}
+unfolding written_out
+versions_derived = derived_by_tree layout.versions (omega arith) (omega arith)
 
 pub recordings_derived : IsDerived layout.recordings
-unfolding all_tables written_out
-recordings_derived = record {
-  first = (λ e. omega (arith, e), (λ e. omega (arith, e), (λ e. omega (arith, e), (λ e. omega (arith, e), (λ e. omega (arith, e), (λ e. omega (arith, e), tt))))));
-  later = (λ e. omega (arith, e), (λ e. omega (arith, e), tt));
-}
+unfolding written_out
+recordings_derived = derived_by_tree layout.recordings (omega arith) (omega arith)
 
 pub credits_table_derived : IsDerived layout.credits_table
-unfolding all_tables written_out
-credits_table_derived = record {
-  first = (λ e. omega (arith, e), (λ e. omega (arith, e), (λ e. omega (arith, e), (λ e. omega (arith, e), (λ e. omega (arith, e), (λ e. omega (arith, e), tt))))));
-  later = (λ e. omega (arith, e), (λ e. omega (arith, e), tt));
-}
+unfolding written_out
+credits_table_derived = derived_by_tree layout.credits_table (omega arith) (omega arith)
 
 pub balances_derived : IsDerived layout.balances
-unfolding all_tables written_out
-balances_derived = record {
-  first = (λ e. omega (arith, e), (λ e. omega (arith, e), (λ e. omega (arith, e), (λ e. omega (arith, e), (λ e. omega (arith, e), (λ e. omega (arith, e), tt))))));
-  later = (λ e. omega (arith, e), (λ e. omega (arith, e), tt));
-}
+unfolding written_out
+balances_derived = derived_by_tree layout.balances (omega arith) (omega arith)

@@ -4,6 +4,7 @@ pub mod CutSets
 pub mod CutNames
 pub mod CutCandidates
 pub mod CutNotes
+pub mod CutLists
 pub mod CutChoices
 pub mod WorksHeld
 pub mod ReadRows

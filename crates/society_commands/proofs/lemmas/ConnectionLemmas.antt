@@ -1,5 +1,5 @@
 -- Connections come one after another: their requests are one run, and their lines stand behind one another.
-use Rattle.std.proofs.Common.{◌≡◌, ℕ, ◌+◌, Bool, List, [], ◌∷◌, ◌++◌, Option, Some, None, Result, Ok, Err, arith, false, ap, append_assoc, append-nil, inl, inr, length, refl, subst, sym, zero, ◌∙◌}
+use Rattle.std.proofs.Common.{◌≡◌, ℕ, ◌+◌, Bool, List, [], ◌∷◌, ◌++◌, Option, Some, None, Result, Ok, Err, arith, false, ap, append_assoc, append-nil, inl, inr, length, subst, sym, zero, ◌∙◌}
 use Rattle.std.specs.Prelude.{IfOk, IfErr, codes}
 use Rattle.std.specs.Io.KnownBytes.{Appends}
 use Rattle.std.specs.List.{AllByRecursion}
@@ -11,7 +11,7 @@ use Rattle.http_desk.specs.Serves.{AreAnswered, IsGivenUp, IsServed}
 use Rattle.http_desk.specs.declared.connection.Served.{Served}
 use Rattle.http_desk.specs.declared.counted.Counted.{Counted}
 use Rattle.http_desk.specs.declared.fault.DeskFault.{DeskFault}
-use Rattle.http_desk.proofs.lemmas.AnsweredLemmas.{answered_on, none_answered}
+use Rattle.http_desk.proofs.lemmas.AnsweredLemmas.{answered_on}
 use Rattle.society_core.specs.Requests.{Reply}
 use Rattle.society_core.specs.State.{Rises, State}
 use Rattle.sqlite.specs.State as connection
@@ -19,7 +19,7 @@ use Rattle.share_rules.specs.declared.office.Office.{Office}
 use Rattle.society_arguments.specs.declared.words.Listening.{Listening}
 use Rattle.society_commands.specs.Doors.{CameIn}
 use Rattle.society_commands.specs.declared.host.Listen.{Ghosts as Listens}
-use Rattle.society_commands.specs.Connections.{ServesOne, Connection, IsCounted, IsOver, Prints, ServesConnections, ServesDatabase, ServesStore, StopsServingDatabase, StopsServingStore, connection_line, connection_lines, parts_brought, replies_given, requests_of}
+use Rattle.society_commands.specs.Connections.{ServesOne, Connection, IsCounted, IsOver, Prints, ServesConnections, ServesDatabase, ServesStore, StopsServingDatabase, StopsServingStore, connection_line, connection_lines, parts_brought, replies_given}
 
 -- ---- what is printed
 
@@ -46,9 +46,6 @@ appends_nothing None = tt
 appends_nothing (Some zs) = sym (append-nil zs)
 
 module _ {W : Type 0} (contents : W → Option (List ℕ)) where
-  pub prints_nothing : (out : Counted W) → Prints contents out out []
-  prints_nothing out = inr (refl, appends_nothing (contents (inner_of out)))
-
   pub prints_on : (a b c : Counted W) (xs ys : List ℕ) → Prints contents a b xs → Prints contents b c ys → Prints contents a c (xs ++ ys)
   prints_on a b c xs ys (inl failed) (inl again) = inl (rises_on (failures_of a) (failures_of b) (failures_of c) failed again)
   prints_on a b c xs ys (inl failed) (inr (same, more)) = inl (rises_kept (failures_of a) (failures_of b) (failures_of c) failed same)
@@ -77,16 +74,6 @@ parts_more cs c = flat_map-append (λ (d : Connection). d.parts) cs (c ∷ []) �
 replies_more : (cs : List Connection) (c : Connection) → replies_given (cs ++ c ∷ []) ≡ replies_given cs ++ c.replies
 replies_more cs c = flat_map-append (λ (d : Connection). d.replies) cs (c ∷ []) ∙ ap (λ (v : List Reply). replies_given cs ++ v) (append-nil c.replies)
 
--- no connection came yet
-pub serves_none : {S W : Type 0} (state : S → State) (desk : S) (contents : W → Option (List ℕ)) (out : Counted W) → ServesConnections state desk desk contents out out 0
-serves_none state desk contents out = record {
-  connections = [];
-  number = refl;
-  counted = tt;
-  answers = none_answered state desk;
-  printed = prints_nothing contents out;
-}
-
 -- one more connection came
 pub serves_more : {S W : Type 0} (state : S → State) (old mid new : S) (contents : W → Option (List ℕ)) (first out new_out : Counted W) (count : ℕ) (outcome : Result Served DeskFault)
     → ServesConnections state old mid contents first out count → ServesOne state mid new outcome → Prints contents out new_out (connection_line (count + 1) outcome)
@@ -108,10 +95,6 @@ serves_more state old mid new contents first out new_out count outcome so b prin
           (sym (lines_more 1 cs c ∙ ap (λ (n : ℕ). connection_lines 1 cs ++ connection_line n outcome) number))
           (prints_on contents first out new_out (connection_lines 1 cs) (connection_line (count + 1) outcome) so.printed printed);
     }
-
--- a connection that is not served brings nothing
-pub brings_nothing : {S : Type 0} (state : S → State) (desk : S) (outcome : Result Served DeskFault) → requests_of outcome ≡ 0 → ServesOne state desk desk outcome
-brings_nothing state desk outcome none = record { parts = []; replies = []; count = none; answers = none_answered state desk }
 
 -- a connection that was served, or given up, brought the requests of which that is told
 pub brings : {S R W : Type 0} (state : S → State) (remaining : R → Option (List ℕ)) (contents : W → Option (List ℕ)) (desk new_desk : S) (reader new_reader : Counted R) (writer new_writer : Counted W) (turns : ℕ)

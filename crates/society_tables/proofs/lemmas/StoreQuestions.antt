@@ -1,9 +1,8 @@
 -- What every question of a store promises, by what became of its connection.
-use Rattle.std.proofs.Common.{◌≡◌, ⊎_elim, ◌≤◌, ◌<◌, ◌-◌, ◌^◌, inl, ℕ, ◌&&◌, IsTrue, Result, Ok, Err, IfOk, IfErr, refl, subst, sym, arith}
+use Rattle.std.proofs.Common.{◌≡◌, ◌≤◌, ◌<◌, ◌-◌, ◌^◌, inl, ℕ, ◌&&◌, IsTrue, Result, Ok, Err, IfOk, IfErr, refl, subst, sym, arith}
 use Rattle.std.specs.Coded.{Coded, Coded-set, code_by, coded×, coded_ℕ, coded_list}
 use Rattle.std.specs.FinMap as finite
 use Rattle.std.proofs.Math.Logic.{∥∥₁_elim, ∥∥₁_map}
-use Rattle.std.proofs.lemmas.Bool.{cases_lt}
 use Rattle.share_rules.specs.declared.office.Office.{Office}
 use Rattle.society_core.specs.Book.{Book}
 use Rattle.society_core.specs.Keys.{coded_end, coded_return_key, coded_segment_key, coded_transmission_key}
@@ -139,11 +138,6 @@ one_known_end x y = Coded-set known_end.the_row.coded x y
 
 pub one_number : (n m : ℕ) → IsAlone (n ≡ m)
 one_number n m = Coded-set coded_ℕ n m
-
--- a count that is not at its greatest is below it
-pub below_greatest : (f : ℕ) → f < 2 ^ 64 → (f ≡ 18446744073709551615 → ⊥) → f < 2 ^ 64 - 1
-below_greatest f small h =
-    ⊎_elim (λ (below : f < 2 ^ 64 - 1). below) (λ (reached : 2 ^ 64 - 1 ≤ f). absurd (h (omega (arith, small, reached)))) (cases_lt f (2 ^ 64 - 1))
 
 pub one_payment : (x y : Payment) → IsAlone (x ≡ y)
 one_payment x y = Coded-set payment.the_row.coded x y

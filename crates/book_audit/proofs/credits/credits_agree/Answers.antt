@@ -3,8 +3,8 @@ use Rattle.std.specs.declared.alloc.Global.{Global}
 use Rattle.sqlite.specs.Held.{state}
 use Rattle.sqlite_trees.specs.Tree.{Trees}
 use Rattle.pool_split.specs.declared.claim.Credit.{Credit}
-use Rattle.society_closings.specs.Blamed.{CannotPay}
-use Rattle.society_closings.specs.Closings.{PaysBy}
+use Rattle.society_closings.specs.Blamed.{CannotPayAmong}
+use Rattle.society_closings.specs.Closings.{PaysAmong}
 use Rattle.book_audit.proofs.lemmas.Examinations.{examines_as, examines_not, examines_then}
 use Rattle.book_audit.specs.Credits.{FindsCredits, HasCredits, HasNoPool, IsNot, credit_lines}
 use Rattle.book_audit.specs.CreditSteps.{ListsOnly}
@@ -17,16 +17,18 @@ returns-in_err-credits-clause-examined g c =
     let o = c.args.office.now in
     let pool = c.args.pool in
     let order = c.args.order.now in
+    let works = c.args.works.now in
     let old = state g.S.Store c.args.tx.now.conn.now in
-    examines_not {X = Vec Credit Global} {Y = Vec Credit Global} (CannotPay o order) (HasNoPool o pool order) old (state g.S.Store c.paid_by.new.tx.conn.now) c.in_err-credits.field-0.0 c.from_residual.result (λ db credits. PaysBy o order db credits.items) (FindsCredits o pool order)
+    examines_not {X = Vec Credit Global} {Y = Vec Credit Global} (CannotPayAmong o order works) (HasNoPool o pool order works) old (state g.S.Store c.paid_by.new.tx.conn.now) c.in_err-credits.field-0.0 c.from_residual.result (λ db credits. PaysAmong o order works db credits.items) (FindsCredits o pool order works)
     c.in_err-credits.ensures.examined c.from_residual.ensures.1
-    (λ cannot b holds is. let can = payable o b old.now.trees holds pool order is in cannot b can.0 can.2)
+    (λ cannot listed b holds is. let can = payable o b old.now.trees holds pool order is in cannot listed b can.0 can.2)
 
 pub returns-in_err-lines_agree-clause-examined : goal.returns-in_err-lines_agree-clause-examined
 returns-in_err-lines_agree-clause-examined g c =
     let o = c.args.office.now in
     let pool = c.args.pool in
     let order = c.args.order.now in
+    let works = c.args.works.now in
     let number = c.value.result in
     let credits = c.as_slice.result.now in
     let paid = c.in_ok-credits.credits in
@@ -35,17 +37,18 @@ returns-in_err-lines_agree-clause-examined g c =
     let new = state g.S.Store c.lines_agree.new.tx.conn.now in
     let result = c.from_residual-in_err-lines_agree.result in
     let Others : Trees → Type 0 = IsNot (ListsOnly number (credit_lines number credits)) in
-    examines_then {X = Vec Credit Global} {Y = Vec Credit Global} (CannotPay o order) Others (HasNoPool o pool order) old mid new paid result (λ db found. PaysBy o order db found.items) (FindsCredits o pool order) (FindsCredits o pool order)
+    examines_then {X = Vec Credit Global} {Y = Vec Credit Global} (CannotPayAmong o order works) Others (HasNoPool o pool order works) old mid new paid result (λ db found. PaysAmong o order works db found.items) (FindsCredits o pool order works) (FindsCredits o pool order works)
     c.in_ok-credits.ensures.examined
-    (examines_not {X = Unit {0}} {Y = Vec Credit Global} Others Others mid new c.in_err-lines_agree.field-0.0 result (λ db _. HasCredits number credits db) (FindsCredits o pool order) c.in_err-lines_agree.ensures.examined c.from_residual-in_err-lines_agree.ensures.1 (λ no. no))
+    (examines_not {X = Unit {0}} {Y = Vec Credit Global} Others Others mid new c.in_err-lines_agree.field-0.0 result (λ db _. HasCredits number credits db) (FindsCredits o pool order works) c.in_err-lines_agree.ensures.examined c.from_residual-in_err-lines_agree.ensures.1 (λ no. no))
     (λ y pays found. found)
-    (no_pool o old.now.trees pool order number credits paid.items c.value.ensures.value c.as_slice.ensures.value)
+    (no_pool o old.now.trees pool order number works credits paid.items c.value.ensures.value c.as_slice.ensures.value)
 
 pub returns-clause-examined : goal.returns-clause-examined
 returns-clause-examined g c =
     let o = c.args.office.now in
     let pool = c.args.pool in
     let order = c.args.order.now in
+    let works = c.args.works.now in
     let number = c.value.result in
     let credits = c.as_slice.result.now in
     let paid = c.in_ok-credits.credits in
@@ -54,8 +57,8 @@ returns-clause-examined g c =
     let new = state g.S.Store c.lines_agree.new.tx.conn.now in
     let Others : Trees → Type 0 = IsNot (ListsOnly number (credit_lines number credits)) in
     let Shows : Trees → Vec Credit Global → Type 0 = λ db found. (found ≡ paid) × HasCredits number credits db in
-    examines_then {X = Vec Credit Global} {Y = Vec Credit Global} (CannotPay o order) Others (HasNoPool o pool order) old mid new paid (Ok paid) (λ db found. PaysBy o order db found.items) Shows (FindsCredits o pool order)
+    examines_then {X = Vec Credit Global} {Y = Vec Credit Global} (CannotPayAmong o order works) Others (HasNoPool o pool order works) old mid new paid (Ok paid) (λ db found. PaysAmong o order works db found.items) Shows (FindsCredits o pool order works)
     c.in_ok-credits.ensures.examined
     (examines_as {X = Unit {0}} {Y = Vec Credit Global} Others Others mid new tt (Ok paid) (λ db _. HasCredits number credits db) Shows c.in_ok-lines_agree.ensures.examined (λ has. (refl, has)) (λ has. tt))
-    (λ y pays found. subst (λ (list : Vec Credit Global). FindsCredits o pool order old.now.trees list) (sym found.0) (has_pool o old.now.trees pool order number credits paid.items c.value.ensures.value c.as_slice.ensures.value found.1, pays))
-    (no_pool o old.now.trees pool order number credits paid.items c.value.ensures.value c.as_slice.ensures.value)
+    (λ y pays found. subst (λ (list : Vec Credit Global). FindsCredits o pool order works old.now.trees list) (sym found.0) (has_pool o old.now.trees pool order number works credits paid.items c.value.ensures.value c.as_slice.ensures.value found.1, pays))
+    (no_pool o old.now.trees pool order number works credits paid.items c.value.ensures.value c.as_slice.ensures.value)

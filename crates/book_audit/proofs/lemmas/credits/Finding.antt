@@ -5,7 +5,8 @@ use Rattle.share_rules.specs.declared.office.Office.{Office}
 use Rattle.sqlite_trees.specs.Tree.{Trees}
 use Rattle.sqlite_value.specs.declared.value.Value.TheVariants.{Int}
 use Rattle.society_core.specs.Orders.{Order}
-use Rattle.society_closings.specs.Closings.{PaysBy}
+use Rattle.society_closings.specs.Closings.{PaysAmong}
+use Rattle.society_closings.specs.declared.works_by_recording.WorksByRecording.{WorksByRecording}
 use Rattle.society_rows.specs.Layout as layout
 use Rattle.society_rows.specs.Reads.{Lists, has_key}
 use Rattle.book_audit.specs.Credits.{HasCredits, HasNoPool, IsNot, credit_lines}
@@ -13,14 +14,14 @@ use Rattle.book_audit.specs.CreditSteps.{ListsOnly}
 use Rattle.book_audit.proofs.lemmas.credits.CreditLines.{credits_shown}
 use Rattle.book_audit.proofs.lemmas.credits.Payable.{payable}
 
-module _ (o : Office) (db : Trees) (pool : ℕ) (order : Order) (number : ℕ) (credits paid : List Credit) (number_is : number ≡ pool) (same : credits ≡ paid) where
+module _ (o : Office) (db : Trees) (pool : ℕ) (order : Order) (number : ℕ) (works : WorksByRecording) (credits paid : List Credit) (number_is : number ≡ pool) (same : credits ≡ paid) where
   -- where its lines are not always those of what it pays, there is no book with this pool
-  pub no_pool : PaysBy o order db paid → IsNot (ListsOnly number (credit_lines number credits)) db → HasNoPool o pool order db
-  no_pool pays differ b holds is =
+  pub no_pool : PaysAmong o order works db paid → IsNot (ListsOnly number (credit_lines number credits)) db → HasNoPool o pool order works db
+  no_pool pays differ listed b holds is =
       let can = payable o b db holds pool order is in
       differ
       (λ rows lists.
-      credits_shown o b db holds pool order is rows (subst (λ (n : ℕ). Lists layout.credits_table (has_key (Int (pos n) ∷ [])) 2 db rows) number_is lists) ∙ sym (ap₂ credit_lines number_is (same ∙ pays b can.0 can.1)))
+      credits_shown o b db holds pool order is rows (subst (λ (n : ℕ). Lists layout.credits_table (has_key (Int (pos n) ∷ [])) 2 db rows) number_is lists) ∙ sym (ap₂ credit_lines number_is (same ∙ pays listed b can.0 can.1)))
 
   -- where they are those, they are the pool's
   pub has_pool : HasCredits number credits db → HasCredits pool paid db

@@ -240,12 +240,6 @@ module _ (b : Book) (sound : IsSound b) where
         pub faultless_read : order_fault order.amount cut returns ≡ None
         faultless_read = ap₂ (order_fault order.amount) whole_cut whole_returns ∙ faultless_again
 
-        -- and makes its order
-        pub order_read : (kind : Kind) (marks : List Row) → HasRows (is_of_pool 0) (mechanical_rows b) marks → kind ≡ kind_marked (filter (is_of_pool 0 p) marks) → order_of kind order.amount cut returns ≡ order
-        order_read kind marks has is =
-            let right : kind ≡ order.kind = is ∙ ap (λ (n : ℕ). kind_marked (filter (is_of_pool 0 n) marks)) same ∙ kind_given marks has in
-            ap (λ (k : Kind). order_of k order.amount cut returns) right ∙ ap₂ (order_of order.kind order.amount) whole_cut whole_returns ∙ order_again
-
   -- all rows of cuts are of the form
   pub all_cuts : (cuts : List Row) → HasRows (is_of_pool 0) (cut_rows b) cuts → AllByRecursion IsCut cuts
   all_cuts cuts has = all_rows (is_of_pool 0) (whole_number_at 0) own_pool IsCut (cut_rows b) cuts has (λ q. of_pool q (order_at b q) refl)

@@ -1,30 +1,28 @@
-use Rattle.std.proofs.Common.{◌≡◌, ◌∙◌, Ok}
 use Rattle.sqlite.specs.Held.{state}
-use Rattle.book_audit.proofs.lemmas.Examinations.{examines_as, examines_then}
-use Rattle.book_audit.proofs.lemmas.Paid.{paid_more}
-use Rattle.book_audit.proofs.lemmas.orders.Steps.{each_here}
-use Rattle.book_audit.specs.Credits.{FindsCredits, HasNoPool}
-use Rattle.book_audit.specs.Paying.{LackPools}
-use Rattle.book_audit.specs.declared.pool_orders.ClosedPool.{ClosedPool}
-use Rattle.society_core.specs.Book.{order_at}
-use Rattle.std.proofs.Common.{Some}
+use Rattle.sqlite_trees.specs.Tree.{Trees}
+use Rattle.book_audit.proofs.lemmas.Examinations.{examines_not, examines_then}
+use Rattle.book_audit.proofs.lemmas.OwnPools.{all_payable}
+use Rattle.book_audit.specs.Paying.{CannotPayAny, FindsPaid, LackPools, ListsAll}
+use Rattle.book_audit.specs.declared.totals.Totals.{Totals}
+use Rattle.society_closings.specs.declared.works_by_recording.WorksByRecording.{WorksByRecording}
 use Rattle.book_audit.proofs.paying.totals_of.Goals as goal
 
-pub loop-one-preserved : goal.loop-one-preserved
-loop-one-preserved g c =
-    let old = state g.S.Store c.args.tx.now.conn.now in
-    let mid = state g.S.Store c.loop-one.tx.conn.now in
-    let new = state g.S.Store c.credits_agree.new.tx.conn.now in
-    let db = old.now.trees in
+pub returns-in_err-works-clause-examined : goal.returns-in_err-works-clause-examined
+returns-in_err-works-clause-examined g c =
     let o = c.args.office.now in
     let closed = c.args.closed.now in
-    let i = c.loop-one.one-index in
-    let one = c.one-item.result in
-    let credits = c.in_ok-credits.credits in
-    record {
-      same_reference = c.credits_agree.ensures.same_reference ∙ c.loop-one.invariant.same_reference;
-      examined = examines_then (LackPools o closed) (HasNoPool o one.pool one.order) (LackPools o closed) old mid new tt (Ok tt) _ (λ db (done : Unit {0}). FindsCredits o one.pool one.order db credits) _ c.loop-one.invariant.examined
-          (examines_as (HasNoPool o one.pool one.order) (HasNoPool o one.pool one.order) mid new credits (Ok tt) _ _ c.in_ok-credits.ensures.examined (λ finds. finds) (λ finds. tt))
-          (λ y before finds. paid_more o closed i one db c.loop-one.totals c.add.new.self credits.items c.loop-one-test.true c.one-item.is before finds.0 finds.1 (rw c.as_slice.ensures.value at c.in_ok-add.ensures.added))
-          (λ before lacks book holds there. lacks book holds (each_here (λ (x : ClosedPool). order_at book x.pool ≡ Some x.order) closed i one c.loop-one-test.true c.one-item.is there));
-    }
+    let old = state g.S.Store c.args.tx.now.conn.now in
+    examines_not {X = WorksByRecording} {Y = Totals} (CannotPayAny closed) (LackPools o closed) old (state g.S.Store c.works_of.new.tx.conn.now) c.in_err-works.field-0.0 c.from_residual.result (ListsAll closed) (FindsPaid o closed closed)
+    c.in_err-works.ensures.examined c.from_residual.ensures.1 (λ cannot book holds there. all_payable o book old.now.trees holds closed cannot there)
+
+pub returns-clause-examined : goal.returns-clause-examined
+returns-clause-examined g c =
+    let o = c.args.office.now in
+    let closed = c.args.closed.now in
+    let works = c.in_ok-works.works in
+    let old = state g.S.Store c.args.tx.now.conn.now in
+    let mid = state g.S.Store c.works_of.new.tx.conn.now in
+    let new = state g.S.Store c.totals_among.new.tx.conn.now in
+    let Lack : Trees → Type 0 = λ db. ListsAll closed db works → LackPools o closed db in
+    examines_then (CannotPayAny closed) Lack (LackPools o closed) old mid new works c.totals_among.result _ (λ db (totals : Totals). ListsAll closed db works → FindsPaid o closed closed db totals) _ c.in_ok-works.ensures.examined c.totals_among.ensures.examined
+    (λ totals listed finds. finds listed) (λ listed lacks. lacks listed)

@@ -1,96 +1,31 @@
-use Rattle.std.proofs.Common.{◌∙◌, ◌+◌, [], List, Ok, Vec, refl, subst, take}
-use Rattle.std.proofs.lemmas.List.{take_all}
-use Rattle.std.specs.declared.alloc.Global.{Global}
+use Rattle.std.proofs.Common.{◌≡◌, Err, Ok, subst}
 use Rattle.sqlite.specs.Held.{state}
 use Rattle.sqlite_trees.specs.Tree.{Trees}
-use Rattle.pool_split.specs.declared.claim.Credit.{Credit}
-use Rattle.society_closings.specs.Blamed.{CannotPay}
-use Rattle.book_audit.specs.declared.pool_orders.ClosedPool.{ClosedPool}
+use Rattle.book_audit.specs.Paying.{CannotPayAll, CannotPayAny, ListsAll}
 use Rattle.book_audit.specs.declared.totals.Totals.{Totals}
-use Rattle.book_audit.proofs.lemmas.orders.Judging.{judges_on, no_answer}
-use Rattle.book_derivation.specs.Money.{CannotPayAll, WritesCredits, WritesPool}
-use Rattle.book_derivation.proofs.lemmas.Derivings.{derives_as, derives_not, derives_nothing, derives_then}
-use Rattle.book_derivation.proofs.lemmas.money.CreditSteps.{WritesSome, all_written, none_written, not_all, some_more}
+use Rattle.book_derivation.proofs.lemmas.Derivings.{derives_examined, derives_not, derives_then}
+use Rattle.book_derivation.specs.Money.{CannotPayListed, WritesCredits, WritesListed}
+use Rattle.society_closings.specs.declared.works_by_recording.WorksByRecording.{WorksByRecording}
 use Rattle.book_derivation.proofs.credits.write_credits.Goals as goal
 
-pub loop-one-init : goal.loop-one-init
-loop-one-init g c =
+pub returns-in_err-works-clause-derives : goal.returns-in_err-works-clause-derives
+returns-in_err-works-clause-derives g c =
     let o = c.args.office.now in
     let closed = c.args.closed.now in
     let old = state g.S.Store c.args.tx.now.conn.now in
-    let totals = c.new-totals.result in
-    record {
-      same_reference = refl;
-      derives = derives_nothing (CannotPayAll o closed) old tt (λ before after (done : Unit {0}). WritesSome o closed [] before after totals) (none_written o closed old.now.trees totals c.new-totals.ensures);
-    }
-
-pub returns-in_err-credits-clause-derives : goal.returns-in_err-credits-clause-derives
-returns-in_err-credits-clause-derives g c =
-    let o = c.args.office.now in
-    let closed = c.args.closed.now in
-    let i = c.loop-one.one-index in
-    let one = c.one-item.result in
-    let totals = c.loop-one.totals in
-    let old = state g.S.Store c.args.tx.now.conn.now in
-    let mid = state g.S.Store c.loop-one.tx.conn.now in
-    let new = state g.S.Store c.write_pool.new.tx.conn.now in
-    let r = c.from_residual.result in
-    let Nothing : Trees → Trees → Totals → Type 0 = λ before after done. ⊥ in
-    derives_then (CannotPayAll o closed) (CannotPay o one.order) (CannotPayAll o closed) old mid new tt r (λ before after (done : Unit {0}). WritesSome o closed (take i closed) before after totals) Nothing (WritesCredits o closed) c.loop-one.invariant.derives
-    (derives_not {X = Vec Credit Global} (CannotPay o one.order) (CannotPay o one.order) mid new c.in_err-credits.field-0.0 r (λ before after credits. WritesPool o one.pool one.order before after credits.items) Nothing c.in_err-credits.ensures.derives c.from_residual.ensures.1 (λ cannot. cannot))
-    (λ y own later before never. absurd never)
-    (λ own before cannot. not_all o closed i one c.loop-one-test.true c.one-item.is old.now.trees mid.now.trees totals before cannot)
-
-pub returns-in_err-add-clause-derives : goal.returns-in_err-add-clause-derives
-returns-in_err-add-clause-derives g c =
-    let o = c.args.office.now in
-    let closed = c.args.closed.now in
-    let i = c.loop-one.one-index in
-    let one = c.one-item.result in
-    let totals = c.loop-one.totals in
-    let old = state g.S.Store c.args.tx.now.conn.now in
-    let mid = state g.S.Store c.loop-one.tx.conn.now in
-    let new = state g.S.Store c.write_pool.new.tx.conn.now in
-    let r = c.from_residual-in_err-add.result in
-    let Nothing : Trees → Trees → Totals → Type 0 = λ before after done. ⊥ in
-    derives_then (CannotPayAll o closed) (CannotPay o one.order) (CannotPayAll o closed) old mid new tt r (λ before after (done : Unit {0}). WritesSome o closed (take i closed) before after totals) Nothing (WritesCredits o closed) c.loop-one.invariant.derives
-    (derives_as (CannotPay o one.order) (CannotPay o one.order) mid new c.in_ok-credits.credits r (λ before after (credits : Vec Credit Global). WritesPool o one.pool one.order before after credits.items) Nothing c.in_ok-credits.ensures.derives
-    (λ writes. no_answer r _ _ c.from_residual-in_err-add.ensures.1)
-    (λ writes. judges_on r c.in_err-add.field-0.0 ⊥ (CannotPay o one.order mid.now.trees) c.from_residual-in_err-add.ensures.1 c.in_err-add.ensures.judged (λ never. absurd never)))
-    (λ y own later before never. absurd never)
-    (λ own before cannot. not_all o closed i one c.loop-one-test.true c.one-item.is old.now.trees mid.now.trees totals before cannot)
-
-pub loop-one-preserved : goal.loop-one-preserved
-loop-one-preserved g c =
-    let o = c.args.office.now in
-    let closed = c.args.closed.now in
-    let i = c.loop-one.one-index in
-    let one = c.one-item.result in
-    let totals = c.loop-one.totals in
-    let old = state g.S.Store c.args.tx.now.conn.now in
-    let mid = state g.S.Store c.loop-one.tx.conn.now in
-    let new = state g.S.Store c.write_pool.new.tx.conn.now in
-    let credits = c.in_ok-credits.credits in
-    let Pays : Trees → Trees → Unit {0} → Type 0 = λ before after done. WritesPool o one.pool one.order before after credits.items in
-    record {
-      same_reference = c.write_pool.ensures.same_reference ∙ c.loop-one.invariant.same_reference;
-      derives =
-          derives_then (CannotPayAll o closed) (CannotPay o one.order) (CannotPayAll o closed) old mid new tt (Ok tt) (λ before after (done : Unit {0}). WritesSome o closed (take i closed) before after totals) Pays
-          (λ before after done. WritesSome o closed (take (i + 1) closed) before after c.add.new.self) c.loop-one.invariant.derives
-          (derives_as (CannotPay o one.order) (CannotPay o one.order) mid new credits (Ok tt) (λ before after (paid : Vec Credit Global). WritesPool o one.pool one.order before after paid.items) Pays c.in_ok-credits.ensures.derives (λ writes. writes) (λ writes. tt))
-          (λ y own later before writes.
-          some_more o closed i one c.loop-one-test.true c.one-item.is old.now.trees mid.now.trees totals before c.add.new.self new.now.trees credits.items writes (rw c.as_slice.ensures.value at c.in_ok-add.ensures.added))
-          (λ own before cannot. not_all o closed i one c.loop-one-test.true c.one-item.is old.now.trees mid.now.trees totals before cannot);
-    }
+    let new = state g.S.Store c.works_of.new.tx.conn.now in
+    let fault = c.in_err-works.field-0.0 in
+    derives_not {X = WorksByRecording} (CannotPayAny closed) (CannotPayAll o closed) old new fault c.from_residual.result (λ before after (works : WorksByRecording). (after ≡ before) × ListsAll closed before works) (WritesCredits o closed)
+    (derives_examined (CannotPayAny closed) old new (Err fault) (ListsAll closed) c.in_err-works.ensures.examined) c.from_residual.ensures.1 (λ cannot. cannot o)
 
 pub returns-clause-derives : goal.returns-clause-derives
 returns-clause-derives g c =
     let o = c.args.office.now in
     let closed = c.args.closed.now in
-    let i = c.loop-one.one-index in
+    let works = c.in_ok-works.works in
     let old = state g.S.Store c.args.tx.now.conn.now in
-    let new = state g.S.Store c.loop-one.tx.conn.now in
-    let totals = c.loop-one.totals in
-    derives_as (CannotPayAll o closed) (CannotPayAll o closed) old new tt (Ok totals) (λ before after (done : Unit {0}). WritesSome o closed (take i closed) before after totals) (WritesCredits o closed) c.loop-one.invariant.derives
-    (λ some. all_written o closed old.now.trees new.now.trees totals (subst (λ (l : List ClosedPool). WritesSome o closed l old.now.trees new.now.trees totals) (take_all i closed c.loop-one-test.false) some))
-    (λ some. tt)
+    let mid = state g.S.Store c.works_of.new.tx.conn.now in
+    let new = state g.S.Store c.write_each.new.tx.conn.now in
+    derives_then (CannotPayAny closed) (CannotPayListed o closed works) (CannotPayAll o closed) old mid new works c.write_each.result (λ before after (works : WorksByRecording). (after ≡ before) × ListsAll closed before works) (WritesListed o closed works) (WritesCredits o closed)
+    (derives_examined (CannotPayAny closed) old mid (Ok works) (ListsAll closed) c.in_ok-works.ensures.examined) c.write_each.ensures.derives
+    (λ totals own later listed writes. subst (λ (db : Trees). WritesListed o closed works db new.now.trees totals) listed.0 writes listed.1) (λ own listed lacks. subst (CannotPayListed o closed works) listed.0 lacks listed.1)

@@ -3,8 +3,8 @@ use Rattle.std.specs.declared.alloc.Global.{Global}
 use Rattle.sqlite.specs.Held.{state}
 use Rattle.sqlite_trees.specs.Tree.{Trees}
 use Rattle.pool_split.specs.declared.claim.Credit.{Credit}
-use Rattle.society_closings.specs.Blamed.{CannotPay}
-use Rattle.society_closings.specs.Closings.{PaysBy}
+use Rattle.society_closings.specs.Blamed.{CannotPayAmong}
+use Rattle.society_closings.specs.Closings.{PaysAmong}
 use Rattle.book_audit.specs.Examining.{Never}
 use Rattle.book_derivation.specs.Money.{AddsCredits, WritesPool}
 use Rattle.book_derivation.proofs.lemmas.Derivings.{derives_as, derives_examined, derives_not, derives_then}
@@ -15,17 +15,19 @@ pub returns-in_err-credits-clause-derives : goal.returns-in_err-credits-clause-d
 returns-in_err-credits-clause-derives g c =
     let o = c.args.office.now in
     let order = c.args.order.now in
+    let works = c.args.works.now in
     let pool = c.args.pool in
     let old = state g.S.Store c.args.tx.now.conn.now in
     let new = state g.S.Store c.paid_by.new.tx.conn.now in
     let fault = c.in_err-credits.field-0.0 in
-    derives_not (CannotPay o order) (CannotPay o order) old new fault c.from_residual.result (λ before after (paid : Vec Credit Global). (after ≡ before) × PaysBy o order before paid.items) (λ before after (paid : Vec Credit Global). WritesPool o pool order before after paid.items)
-    (derives_examined (CannotPay o order) old new (Err fault) (λ db paid. PaysBy o order db paid.items) c.in_err-credits.ensures.examined) c.from_residual.ensures.1 (λ cannot. cannot)
+    derives_not (CannotPayAmong o order works) (CannotPayAmong o order works) old new fault c.from_residual.result (λ before after (paid : Vec Credit Global). (after ≡ before) × PaysAmong o order works before paid.items) (λ before after (paid : Vec Credit Global). WritesPool o pool order works before after paid.items)
+    (derives_examined (CannotPayAmong o order works) old new (Err fault) (λ db paid. PaysAmong o order works db paid.items) c.in_err-credits.ensures.examined) c.from_residual.ensures.1 (λ cannot. cannot)
 
 pub returns-in_err-write_lines-clause-derives : goal.returns-in_err-write_lines-clause-derives
 returns-in_err-write_lines-clause-derives g c =
     let o = c.args.office.now in
     let order = c.args.order.now in
+    let works = c.args.works.now in
     let pool = c.args.pool in
     let old = state g.S.Store c.args.tx.now.conn.now in
     let mid = state g.S.Store c.paid_by.new.tx.conn.now in
@@ -33,8 +35,8 @@ returns-in_err-write_lines-clause-derives g c =
     let paid = c.in_ok-credits.credits in
     let r = c.from_residual-in_err-write_lines.result in
     let Nothing : Trees → Trees → Vec Credit Global → Type 0 = λ before after list. ⊥ in
-    derives_then (CannotPay o order) Never (CannotPay o order) old mid new paid r (λ before after (list : Vec Credit Global). (after ≡ before) × PaysBy o order before list.items) Nothing (λ before after list. WritesPool o pool order before after list.items)
-    (derives_examined (CannotPay o order) old mid (Ok paid) (λ db list. PaysBy o order db list.items) c.in_ok-credits.ensures.examined)
+    derives_then (CannotPayAmong o order works) Never (CannotPayAmong o order works) old mid new paid r (λ before after (list : Vec Credit Global). (after ≡ before) × PaysAmong o order works before list.items) Nothing (λ before after list. WritesPool o pool order works before after list.items)
+    (derives_examined (CannotPayAmong o order works) old mid (Ok paid) (λ db list. PaysAmong o order works db list.items) c.in_ok-credits.ensures.examined)
     (derives_not Never Never mid new c.in_err-write_lines.field-0.0 r (λ before after (done : Unit {0}). AddsCredits c.value.result c.as_slice.result.now before after) Nothing c.in_err-write_lines.ensures.derives c.from_residual-in_err-write_lines.ensures.1 (λ never. never))
     (λ list one two pays never. absurd never) (λ own pays never. absurd never)
 
@@ -42,6 +44,7 @@ pub returns-clause-derives : goal.returns-clause-derives
 returns-clause-derives g c =
     let o = c.args.office.now in
     let order = c.args.order.now in
+    let works = c.args.works.now in
     let pool = c.args.pool in
     let old = state g.S.Store c.args.tx.now.conn.now in
     let mid = state g.S.Store c.paid_by.new.tx.conn.now in
@@ -50,10 +53,10 @@ returns-clause-derives g c =
     let number = c.value.result in
     let credits = c.as_slice.result.now in
     let Adds : Trees → Trees → Vec Credit Global → Type 0 = λ before after list. (list ≡ paid) × AddsCredits number credits before after in
-    derives_then (CannotPay o order) Never (CannotPay o order) old mid new paid (Ok paid) (λ before after (list : Vec Credit Global). (after ≡ before) × PaysBy o order before list.items) Adds (λ before after list. WritesPool o pool order before after list.items)
-    (derives_examined (CannotPay o order) old mid (Ok paid) (λ db list. PaysBy o order db list.items) c.in_ok-credits.ensures.examined)
+    derives_then (CannotPayAmong o order works) Never (CannotPayAmong o order works) old mid new paid (Ok paid) (λ before after (list : Vec Credit Global). (after ≡ before) × PaysAmong o order works before list.items) Adds (λ before after list. WritesPool o pool order works before after list.items)
+    (derives_examined (CannotPayAmong o order works) old mid (Ok paid) (λ db list. PaysAmong o order works db list.items) c.in_ok-credits.ensures.examined)
     (derives_as Never Never mid new tt (Ok paid) (λ before after (done : Unit {0}). AddsCredits number credits before after) Adds c.in_ok-write_lines.ensures.derives (λ adds. (refl, adds)) (λ adds. tt))
     (λ list one two pays adds.
-    subst (λ (l : Vec Credit Global). WritesPool o pool order old.now.trees new.now.trees l.items) (sym adds.0)
-    (pool_written o pool number order old.now.trees mid.now.trees new.now.trees credits paid.items c.value.ensures.value c.as_slice.ensures.value pays.0 pays.1 adds.1))
+    subst (λ (l : Vec Credit Global). WritesPool o pool order works old.now.trees new.now.trees l.items) (sym adds.0)
+    (pool_written o pool number order works old.now.trees mid.now.trees new.now.trees credits paid.items c.value.ensures.value c.as_slice.ensures.value pays.0 pays.1 adds.1))
     (λ own pays never. absurd never)

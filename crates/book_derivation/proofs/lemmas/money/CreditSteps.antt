@@ -1,5 +1,10 @@
 -- The lines of what pools pay, added one pool after another.
-use Rattle.std.proofs.Common.{◌≡◌, ◌∙◌, ◌<◌, ◌+◌, ◌++◌, ◌∷◌, [], ℕ, List, IsPermutation, arith, get_or, length, take, ap, subst, sym}
+use Rattle.std.proofs.Common.{◌≡◌, ◌≢◌, ◌∙◌, ◌<◌, ◌+◌, ◌++◌, ◌∷◌, [], ℕ, List, IsPermutation, arith, get_or, length, take, ap, subst, sym, true}
+use Rattle.std.specs.List.{AllByRecursion}
+use Rattle.sqlite_schema.specs.declared.schema.Table.{Table}
+use Rattle.sqlite_trees.proofs.ListLemmas.{all_weaker}
+use Rattle.sqlite_value.specs.declared.value.Value.TheVariants.{Text}
+use Rattle.society_rows.specs.Reads.{has_at}
 use Rattle.std.proofs.lemmas.Grind.{flat_map-append}
 use Rattle.std.proofs.lemmas.List.{append-nil, take_more}
 use Rattle.std.proofs.lemmas.List.Sorted.{IsPermutation-refl}
@@ -15,19 +20,22 @@ use Rattle.society_rows.specs.Layout as layout
 use Rattle.society_rows.specs.Layout.{all_tables, written_out}
 use Rattle.society_rows.specs.Stored.{KeepsOthers, rows_in}
 use Rattle.society_book.specs.BookRows.{is_return_row, is_transmission_row, return_rows, transmission_rows}
-use Rattle.society_book.specs.Columns.{HasRows}
+use Rattle.society_book.specs.Columns.{HasRows, text_at}
 use Rattle.society_book.specs.DerivedRows.{is_named, tells_recordings, tells_version, told_to_front}
 use Rattle.society_book.specs.Sources.{HoldsWorks}
 use Rattle.society_book.proofs.lemmas.lines.RunTables.{rows_kept}
-use Rattle.society_closings.specs.Blamed.{CannotPay}
-use Rattle.society_closings.specs.Closings.{PaysBy}
+use Rattle.society_closings.specs.Blamed.{CannotPayAmong}
+use Rattle.society_closings.specs.Closings.{ListsOrder, PaysAmong}
+use Rattle.society_closings.specs.CutWorks.{IsListed, wants_for}
+use Rattle.society_closings.specs.Closings.{is_reported}
+use Rattle.society_closings.specs.declared.works_by_recording.WorksByRecording.{WorksByRecording}
 use Rattle.book_audit.specs.Balances.{ComesTo}
 use Rattle.book_audit.specs.Credits.{credit_lines}
-use Rattle.book_audit.specs.Paying.{AreReachedIn, credits_by}
+use Rattle.book_audit.specs.Paying.{AreReachedIn, CannotPayAll, ListsAll, credits_by}
 use Rattle.book_audit.specs.declared.pool_orders.ClosedPool.{ClosedPool}
 use Rattle.book_audit.specs.declared.totals.Totals.{Totals}
 use Rattle.book_audit.proofs.lemmas.orders.Steps.{each_here}
-use Rattle.book_derivation.specs.Money.{AddsCredits, CannotPayAll, WritesCredits, WritesPool, lines_by}
+use Rattle.book_derivation.specs.Money.{AddsCredits, WritesCredits, WritesPool, lines_by}
 use Rattle.book_derivation.proofs.lemmas.Additions.{added_behind, others_on, others_same}
 
 -- of all pools that are closed the lines of what some pay are added, and nothing else, and this is what accounts have come to by them
@@ -51,6 +59,18 @@ works_on o b old new keeps holds = record {
   };
 }
 
+-- so in the other direction
+others_back : (old new : Trees) → KeepsOthers layout.credits_table old new → KeepsOthers layout.credits_table new old
+others_back old new keeps =
+    all_weaker (λ (t : Table). t.tree ≢ layout.credits_table.tree → new t.tree ≡ old t.tree) (λ (t : Table). t.tree ≢ layout.credits_table.tree → old t.tree ≡ new t.tree) (λ t same apart. sym (same apart)) all_tables keeps
+
+-- and what an order looks for is listed still
+lists_on : (order : Order) (works : WorksByRecording) (old new : Trees) → KeepsOthers layout.credits_table old new → ListsOrder order old works → ListsOrder order new works
+unfolding all_tables written_out
+lists_on order works old new keeps lists o b holds isrc right =
+    subst (AllByRecursion (λ row. wants_for order.cut (is_reported b order) (text_at 0 row) isrc ≡ true → has_at 3 (Text isrc) row ≡ true → IsListed works isrc row))
+    (sym (rows_kept layout.recordings old new (keeps.1.1.1.1.1.1.1.1.1.0 (λ e. omega (arith, e))))) (lists o b (works_on o b new old (others_back old new keeps) holds) isrc right)
+
 -- no pool
 pub none_written : (o : Office) (all : List ClosedPool) (db : Trees) (totals : Totals) → ComesTo totals [] → WritesSome o all [] db db totals
 none_written o all db totals comes = record {
@@ -59,45 +79,49 @@ none_written o all db totals comes = record {
   comes = λ book works reached. comes;
 }
 
-module _ (o : Office) (closed : List ClosedPool) (i : ℕ) (one : ClosedPool) (within : i < length closed) (is : one ≡ get_or closed i one) (old mid : Trees) (before : Totals) (so_far : WritesSome o closed (take i closed) old mid before) where
+module _ (o : Office) (closed : List ClosedPool) (works : WorksByRecording) (i : ℕ) (one : ClosedPool) (within : i < length closed) (is : one ≡ get_or closed i one) (old mid : Trees) (before : Totals) (listed : ListsAll closed old works) (so_far : WritesSome o closed (take i closed) old mid before) where
+  -- what a pool looks for is listed still
+  here : ListsOrder one.order mid works
+  here = lists_on one.order works old mid so_far.others (each_here (λ (c : ClosedPool). ListsOrder c.order old works) closed i one within is listed)
+
   -- one pool more
-  pub some_more : (after : Totals) (new : Trees) (credits : List Credit) → WritesPool o one.pool one.order mid new credits → ((done : List Credit) → ComesTo before done → ComesTo after (done ++ credits)) → WritesSome o closed (take (i + 1) closed) old new after
+  pub some_more : (after : Totals) (new : Trees) (credits : List Credit) → WritesPool o one.pool one.order works mid new credits → ((done : List Credit) → ComesTo before done → ComesTo after (done ++ credits)) → WritesSome o closed (take (i + 1) closed) old new after
   some_more after new credits writes adds = record {
     others = others_on layout.credits_table old mid new so_far.others writes.adds.others;
-    lines = λ book works reached.
-        let its = paid book works reached in
+    lines = λ book held reached.
+        let its = paid book held reached in
         let L : List Row = lines_by o book (take i closed) in
-        let here : List Row = credit_lines one.pool (credits_of o book one.order) in
-        let whole : L ++ here ≡ lines_by o book (take (i + 1) closed) =
-        ap (λ (l : List Row). L ++ l) (sym (append-nil here)) ∙ sym (flat_map-append (λ (c : ClosedPool). credit_lines c.pool (credits_of o book c.order)) (take i closed) (one ∷ [])) ∙ ap (lines_by o book) (sym next) in
+        let behind : List Row = credit_lines one.pool (credits_of o book one.order) in
+        let whole : L ++ behind ≡ lines_by o book (take (i + 1) closed) =
+        ap (λ (l : List Row). L ++ l) (sym (append-nil behind)) ∙ sym (flat_map-append (λ (c : ClosedPool). credit_lines c.pool (credits_of o book c.order)) (take i closed) (one ∷ [])) ∙ ap (lines_by o book) (sym next) in
         subst (λ (l : List Row). IsPermutation (l ++ rows_in layout.credits_table old) (rows_in layout.credits_table new)) whole
-        (added_behind (rows_in layout.credits_table old) (rows_in layout.credits_table mid) (rows_in layout.credits_table new) L here (so_far.lines book works reached)
+        (added_behind (rows_in layout.credits_table old) (rows_in layout.credits_table mid) (rows_in layout.credits_table new) L behind (so_far.lines book held reached)
         (subst (λ (l : List Credit). IsPermutation (credit_lines one.pool l ++ rows_in layout.credits_table mid) (rows_in layout.credits_table new)) its writes.adds.rows));
-    comes = λ book works reached.
-        let its = paid book works reached in
+    comes = λ book held reached.
+        let its = paid book held reached in
         let whole : credits_by o book (take i closed) ++ credits ≡ credits_by o book (take (i + 1) closed) =
         ap (λ (l : List Credit). credits_by o book (take i closed) ++ l) (its ∙ sym (append-nil (credits_of o book one.order)))
         ∙ sym (flat_map-append (λ (c : ClosedPool). credits_of o book c.order) (take i closed) (one ∷ [])) ∙ ap (credits_by o book) (sym next) in
-        subst (ComesTo after) whole (adds (credits_by o book (take i closed)) (so_far.comes book works reached));
+        subst (ComesTo after) whole (adds (credits_by o book (take i closed)) (so_far.comes book held reached));
   }
     where
       next : take (i + 1) closed ≡ take i closed ++ one ∷ []
       next = take_more closed i one within ∙ ap (λ (z : ClosedPool). take i closed ++ z ∷ []) (sym is)
 
       paid : (book : Book) → HoldsWorks o book old → AreReachedIn book closed → credits ≡ credits_of o book one.order
-      paid book works reached = writes.pays book (works_on o book old mid so_far.others works) (each_here (λ (c : ClosedPool). ReachesCut book c.order) closed i one within is reached)
+      paid book held reached = writes.pays here book (works_on o book old mid so_far.others held) (each_here (λ (c : ClosedPool). ReachesCut book c.order) closed i one within is reached)
 
   -- where it cannot be paid, not all can
-  pub not_all : CannotPay o one.order mid → CannotPayAll o closed old
-  not_all cannot book works can = cannot book (works_on o book old mid so_far.others works) (each_here (λ (c : ClosedPool). CanBePaid book c.order) closed i one within is can)
+  pub not_all : CannotPayAmong o one.order works mid → CannotPayAll o closed old
+  not_all cannot book held can = cannot here book (works_on o book old mid so_far.others held) (each_here (λ (c : ClosedPool). CanBePaid book c.order) closed i one within is can)
 
 -- once all are written
 pub all_written : (o : Office) (closed : List ClosedPool) (old new : Trees) (totals : Totals) → WritesSome o closed closed old new totals → WritesCredits o closed old new totals
 all_written o closed old new totals some = record { others = some.others; lines = some.lines; comes = some.comes }
 
 -- what a pool pays by the tables, and its lines
-pub pool_written : (o : Office) (pool number : ℕ) (order : Order) (old mid new : Trees) (credits paid : List Credit) → number ≡ pool → credits ≡ paid → mid ≡ old → PaysBy o order old paid → AddsCredits number credits mid new → WritesPool o pool order old new paid
-pool_written o pool number order old mid new credits paid number_is same unchanged pays adds = record {
+pub pool_written : (o : Office) (pool number : ℕ) (order : Order) (works : WorksByRecording) (old mid new : Trees) (credits paid : List Credit) → number ≡ pool → credits ≡ paid → mid ≡ old → PaysAmong o order works old paid → AddsCredits number credits mid new → WritesPool o pool order works old new paid
+pool_written o pool number order works old mid new credits paid number_is same unchanged pays adds = record {
   pays = pays;
   adds = subst (λ (n : ℕ). AddsCredits n paid old new) number_is (subst (λ (l : List Credit). AddsCredits number l old new) same (subst (λ (db : Trees). AddsCredits number credits db new) unchanged adds));
 }

@@ -15,7 +15,8 @@ use Rattle.book_audit.specs.Paying.{AreClosedIn}
 use Rattle.book_audit.specs.Standing.{FindsOrders}
 use Rattle.book_audit.specs.declared.pool_orders.ClosedPool.{ClosedPool}
 use Rattle.book_audit.proofs.lemmas.orders.OwnOrders.{all_there}
-use Rattle.book_derivation.specs.Money.{CannotPayAll, HoldsLined, LacksLined}
+use Rattle.book_audit.specs.Paying.{CannotPayAll}
+use Rattle.book_derivation.specs.Money.{HoldsLined, LacksLined}
 
 -- an order that closes a pool of a sound book can be paid
 can_be_paid : (b : Book) → IsSound b → (pool : ℕ) (order : Order) → order_at b pool ≡ Some order → CanBePaid b order

@@ -7,7 +7,8 @@ use Rattle.book_audit.specs.OwnRows.{LacksReached}
 use Rattle.book_audit.specs.Standing.{FindsOrders}
 use Rattle.book_audit.specs.declared.pool_orders.ClosedPool.{ClosedPool}
 use Rattle.book_audit.specs.declared.totals.Totals.{Totals}
-use Rattle.book_derivation.specs.Money.{CannotPayAll, LacksLined, WritesBalances, WritesCredits}
+use Rattle.book_audit.specs.Paying.{CannotPayAll}
+use Rattle.book_derivation.specs.Money.{LacksLined, WritesBalances, WritesCredits}
 use Rattle.book_derivation.proofs.lemmas.Derivings.{derives_examined, derives_not, derives_then}
 use Rattle.book_derivation.proofs.lemmas.money.LinedBooks.{not_lined}
 use Rattle.book_derivation.proofs.lemmas.money.MoneyHeld.{money_written}

@@ -83,6 +83,11 @@ pub errs_on : (X : Type 0) {Y : Type 0} (First Wrong : Trees → Type 0) (old ne
 errs_on X First Wrong old new fault (Ok y) errs is also clean inside has = tt
 errs_on X First Wrong old new fault (Err e) errs is also clean inside has = subst (FaultSays Wrong old new) (sym is) (says_where Wrong First old new fault also (errs clean inside has))
 
+-- what is said of the rows follows
+pub errs_where : {X : Type 0} (First Wrong : Trees → Type 0) (old new : State) (r : Result X RowFault) → Errs First old new r → (First old.now.trees → Wrong old.now.trees) → Errs Wrong old new r
+errs_where First Wrong old new (Ok x) errs also clean inside has = tt
+errs_where First Wrong old new (Err e) errs also clean inside has = says_where Wrong First old new e also (errs clean inside has)
+
 -- an error of what is worked out of what was read
 pub errs_as : {X Y : Type 0} (Wrong : Trees → Type 0) (old new : State) (x : X) (r : Result Y RowFault) (A : Trees → X → Type 0) → Looks old new (Ok x) A → (A old.now.trees x → IfErr r (Blames (Wrong old.now.trees))) → Errs Wrong old new r
 errs_as Wrong old new x (Ok y) A first blames clean inside has = tt

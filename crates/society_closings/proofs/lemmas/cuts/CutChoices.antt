@@ -33,19 +33,6 @@ module _ (office : Office) (book : Book) (key : TransmissionKey) (known : List �
     within = chooses.within;
   }
 
-  -- a work that has no version at the cut has none chosen
-  pub chooses_none : (chosen : Chosen) → Chooses office book key known chosen → ◌≡◌ {A = Option WorkVersion} None (version_in office book key.sender work key.number) → Chooses office book key (λ other. known other || bytes_eq work other) chosen
-  chooses_none chosen chooses none = record {
-    versions = λ q. chooses.versions q ∙ by_case q (bytes_eq work q) refl (known q);
-    transmissions = chooses.transmissions;
-    within = chooses.within;
-  }
-    where
-      by_case : (q : List ℕ) (e : Bool) → bytes_eq work q ≡ e → (k : Bool) → cond k (version_in office book key.sender q key.number) None ≡ cond (k || e) (version_in office book key.sender q key.number) None
-      by_case q e is true = refl
-      by_case q false is false = refl
-      by_case q true is false = none ∙ ap (λ (x : List ℕ). version_in office book key.sender x key.number) ((bytes_eq-Decides work q).0 is)
-
   -- one that has a version has it chosen
   pub chooses_one : (old new : Chosen) (version : WorkVersion) → Chooses office book key known old → ◌≡◌ {A = Option WorkVersion} (Some version) (version_in office book key.sender work key.number) → ((q : List ℕ) → chosen_at new q ≡ cond (bytes_eq work q) (Some version) (chosen_at old q)) → ((number : ℕ) → contains nat_cmp new.transmissions number ≡ (version.transmission == number || contains nat_cmp old.transmissions number)) → Chooses office book key (λ other. known other || bytes_eq work other) new
   chooses_one old new version chooses some kept covers = record {

@@ -18,7 +18,7 @@ returns-clause-does g c =
     let pool = c.args.pool in
     let order = c.args.order.now in
     let old = state g.S.Store c.args.tx.now.conn.now in
-    let mid = state g.S.Store c.credits_in.new.tx.conn.now in
+    let mid = state g.S.Store c.credits_of_order.new.tx.conn.now in
     let new = state g.S.Store c.write_pool.new.tx.conn.now in
     does_then_open old mid new c.in_ok-credits.credits c.write_pool.result _ _ _ c.in_ok-credits.ensures.looks (rw (c.value.ensures.value, c.deref.ensures.value) at c.write_pool.ensures.does)
     (λ y pays closes. (

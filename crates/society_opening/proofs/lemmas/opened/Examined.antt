@@ -23,7 +23,7 @@ says_reading Wrong old new f audit.Damaged errs is = absurd (subst IsAside (sym 
 pub examines_failed : {X Y : Type 0} (Wrong : Trees → Type 0) (old new : State) (f : RowFault) (e : AuditFault) (A : Trees → X → Type 0) (B : Trees → Y → Type 0) → Looks {X = X} old new (Err f) A
     → (IsTrue old.in_transaction → ErrsByMedium {X = X} old new (Err f)) → e ≡ reading_fault_by f → Examines {X = Y} Wrong old new (Err e) B
 examines_failed Wrong old new f e A B looks errs is = record {
-  finds = λ clean inside has. tt;
+  says = λ clean inside has. tt;
   inside = λ clean inside. tt;
   kept = looks.kept;
   survives = looks.survives;

@@ -42,14 +42,6 @@ failed_office n o rows row.Unread = tt
 failed_office n o rows row.Overflow = tt
 failed_office n o rows (row.Refused error) = tt
 
--- nor of the database
-pub failed_outside : (e : RowFault) → IsOutside (open_fault_by (reading_fault_by e))
-failed_outside row.Memory = tt
-failed_outside row.Schema = tt
-failed_outside row.Unread = tt
-failed_outside row.Overflow = tt
-failed_outside (row.Refused error) = tt
-
 pub outside_told : (o : Office) (db : Database) (e : OpenFault) → IsOutside e → TellsDatabase o db e
 outside_told o db fault.Memory outside = tt
 outside_told o db fault.Store outside = tt
@@ -62,14 +54,6 @@ outside_told o db fault.Damaged outside = absurd outside
 abbrev is_empty : OpenFault → Bool
 is_empty fault.Empty = true
 is_empty _ = false
-
-pub outside_there : (e : OpenFault) → IsOutside e → e ≢ fault.Empty
-outside_there fault.Empty outside is = absurd outside
-outside_there fault.Memory outside is = absurd (false≢true (ap is_empty is))
-outside_there fault.Store outside is = absurd (false≢true (ap is_empty is))
-outside_there fault.Schema outside is = absurd outside
-outside_there fault.OtherOffice outside is = absurd outside
-outside_there fault.Damaged outside is = absurd outside
 
 opened_there : (f : AuditFault) → open_fault_by f ≢ fault.Empty
 opened_there audit.Memory is = absurd (false≢true (ap is_empty is))

@@ -90,7 +90,7 @@ over_fails Was Is old mid new x f r A B C first turns second is = over_not Was o
 
 -- what is examined is as it was
 pub over_examined : {X : Type 0} (Wrong : Trees → Type 0) (old new : State) (r : Result X AuditFault) (A : Trees → X → Type 0) → Examines Wrong old new r A → DoesOver HasLayout old new r (λ before after x. (after ≡ before) × A before.trees x)
-over_examined Wrong old new r A examined = record { says = examined.finds; inside = examined.inside; kept = examined.kept; survives = examined.survives }
+over_examined Wrong old new r A examined = record { says = examined.says; inside = examined.inside; kept = examined.kept; survives = examined.survives }
 
 -- what is said of databases of a kind is said of those of a narrower one
 pub over_where : {X E : Type 0} (Was Is : Database → Type 0) (old new : State) (r : Result X E) (A : Database → Database → X → Type 0) → ((db : Database) → Is db → Was db) → DoesOver Was old new r A → DoesOver Is old new r A

@@ -15,7 +15,7 @@ use Rattle.society_opening.specs.declared.open_fault.OpenFault.TheVariants as fa
 use Rattle.society_opening.proofs.lemmas.opened.Failing.{of_memory, opened_store}
 use Rattle.society_opening.proofs.lemmas.opened.Passing.{IsAside}
 use Rattle.book_derivation.specs.Writing.{writing_fault_by}
-use Rattle.book_derivation.proofs.lemmas.Derivings.{says_on}
+use Rattle.book_audit.proofs.lemmas.Examinations.{says_on}
 
 -- a failed write says that the medium may have failed, or nothing
 pub says_writing : (Wrong : Trees → Type 0) (old new : State) (f : RowFault) (e : AuditFault) → (is_of_medium f ≡ true → MayFail old new) → e ≡ writing_fault_by f → AuditFaultSays Wrong old new e

@@ -1,0 +1,26 @@
+use Rattle.std.specs.Prelude.{Vec}
+use Rattle.std.specs.declared.alloc.Global.{Global}
+use Rattle.pool_split.specs.declared.claim.Credit.{Credit}
+use Rattle.society_book.proofs.lemmas.together.StepLemmas.{looks_then}
+use Rattle.society_closings.proofs.lemmas.cuts.CutLists.{lists_fewer}
+use Rattle.society_closings.specs.Choosing.{PaysTallied}
+use Rattle.society_closings.specs.CutWorks.{ListsWorks, wants, wants_for}
+use Rattle.society_core.specs.Points.{is_tallied}
+use Rattle.sqlite.specs.Held.{state}
+use Rattle.sqlite_trees.specs.Tree.{Trees}
+use Rattle.society_closings.proofs.paying.credits_of_order.Goals as goal
+
+pub returns-clause-looks : goal.returns-clause-looks
+returns-clause-looks g c =
+    let o = c.args.office.now in
+    let order = c.args.order.now in
+    let tally = c.in_ok-tally.tally in
+    let works = c.in_ok-works.works in
+    let wanted = c.add_order.new.self in
+    let old = state g.S.Store c.args.tx.now.conn.now in
+    let one = state g.S.Store c.add_order.new.tx.conn.now in
+    let two = state g.S.Store c.works.new.tx.conn.now in
+    let new = state g.S.Store c.credits_for.new.tx.conn.now in
+    looks_then old one new tally c.credits_for.result _ (λ db (y : Vec Credit Global). ListsWorks (wants wanted) db works × PaysTallied o order tally works db y.items) _ c.in_ok-tally.ensures.looks
+    (looks_then one two new works c.credits_for.result _ _ _ c.in_ok-works.ensures.looks c.credits_for.ensures.looks (λ y listed pays. (listed, pays)))
+    (λ y tallied found b holds reached. found.1 (lists_fewer (wants wanted) (wants_for order.cut (is_tallied tally)) old.now.trees works c.in_ok-tally.ensures.wants found.0) b holds reached (tallied o b holds).0)
