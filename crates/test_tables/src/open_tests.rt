@@ -1,14 +1,17 @@
 //! Databases in memory that are audited, and stores that are found again.
+ghost use Rattle.std.specs.Prelude.{◌≡◌};
+
 use crate::checks::told;
 use crate::left::{
     CLOSED_AT_A_CUT, ONE_WAITS, Opened, REVISIONS, YEAR_BEGUN, left_by, office, opened,
 };
 use book_audit::{AuditFault, audit};
+use book_derivation::derive;
 use share_rules::Office;
 use society_core::Store;
 use society_opening::{OpenFault, open_after_crash, reopen};
 use society_rows::{FrontRow, Idle, put_front};
-use sqlite::{Alter, Connection};
+use sqlite::{Alter, Connection, Transaction};
 use std::alloc::Global;
 use std::process::Abort;
 use std::test::Fail;
@@ -70,6 +73,55 @@ fn a_sound_database_passes_an_audit_and_a_stray_row_is_damage(rt: HostRuntime) -
             return Err(Fail::new("no transaction"));
         };
         told(&rt, row, &audited(alloc, &mut conn)?, &(true, false));
+    }
+    Ok(())
+}
+
+/// Takes all rows out of a table.
+fn empty_table<S: Alter>(tx: &mut Transaction<'_, S>, text: &str) -> Result<(), Fail>
+    ensures { tx.new.conn.ghost_name ≡ tx.old.conn.ghost_name }
+{
+    tx.execute(text, &[]).ok().ok_or("a deletion")?;
+    Ok(())
+}
+
+/// Takes all that is derived of a book out of its tables.
+fn take_derived<S: Alter>(tx: &mut Transaction<'_, S>) -> Result<(), Fail>
+    ensures { tx.new.conn.ghost_name ≡ tx.old.conn.ghost_name }
+{
+    empty_table(tx, "DELETE FROM fronts")?;
+    empty_table(tx, "DELETE FROM verdicts")?;
+    empty_table(tx, "DELETE FROM versions")?;
+    empty_table(tx, "DELETE FROM recordings")?;
+    empty_table(tx, "DELETE FROM credits")?;
+    empty_table(tx, "DELETE FROM balances")
+}
+
+/// What an audit says of a database without what is derived of its book, and what it says once that is derived again.
+fn derived_again<S: Alter>(alloc: Global, conn: &mut Idle<S>) -> Result<(bool, bool), Fail> {
+    let office = office(900)?;
+    let mut tx = conn.connection.transaction();
+    take_derived(&mut tx)?;
+    let without = is_sound(audit(alloc, &mut tx, &office))?;
+    let derived = is_sound(derive(alloc, &mut tx, &office))?;
+    let again = is_sound(audit(alloc, &mut tx, &office))?;
+    tx.rollback();
+    Ok((without, derived && again))
+}
+
+#[test]
+fn what_is_derived_again_is_sound(rt: HostRuntime) -> Result<(), Fail> {
+    let alloc = rt.alloc();
+    for (row, steps) in [
+        ("a number waits", ONE_WAITS),
+        ("files without works, a pool", CLOSED_AT_A_CUT),
+        ("a number of a year", YEAR_BEGUN),
+        ("revisions of one and of two digits", REVISIONS),
+    ] {
+        let Ok(mut conn) = Idle::new(left_by(alloc, steps)?) else {
+            return Err(Fail::new("no transaction"));
+        };
+        told(&rt, row, &derived_again(alloc, &mut conn)?, &(false, true));
     }
     Ok(())
 }
